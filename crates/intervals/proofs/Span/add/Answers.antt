@@ -1,0 +1,10 @@
+use Rattle.std.proofs.Common.{arith}
+use Rattle.std.proofs.lemmas.Int.{ints}
+use Rattle.intervals.proofs.Sums.{same_ends, sum_reached}
+use Rattle.intervals.proofs.Span.add.Goals as goal
+
+pub returns-clause-ends : goal.returns-clause-ends
+returns-clause-ends c = same_ends _ _ _ _ (omega (arith, ints)) (omega (arith, ints))
+
+pub returns-clause-reached : goal.returns-clause-reached
+returns-clause-reached c = rw (returns-clause-ends c) (sum_reached c.args.self c.args.other c.requires.self_of_lint.ordered c.requires.other_of_lint.ordered)
