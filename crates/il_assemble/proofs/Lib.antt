@@ -1,0 +1,12 @@
+pub mod Leads
+pub mod Fetch
+pub mod Simples
+pub mod Clean
+pub mod Actions
+pub mod Lines
+pub mod Bytes
+pub mod Numbers
+pub mod Elaborating
+pub mod Resolving
+pub mod Working
+pub mod Writing

@@ -1,0 +1,21 @@
+-- The worked programs, computed.
+use Rattle.std.proofs.Common.{refl}
+use Rattle.scan_code.specs.Table.{no_turns}
+use Rattle.il_assemble.specs.Examples.{ExamplesHold}
+
+pub examples_hold : ExamplesHold
+unfolding no_turns
+examples_hold = record {
+  divide_elaborates = refl;
+  divide_means = refl;
+  divide_is_coded = refl;
+  divide_runs = refl;
+  name_is_unknown = refl;
+  number_is_no_truth = refl;
+  counted_means = refl;
+  counted_runs = refl;
+  forms_mean = refl;
+  forms_run = refl;
+  forms_mean_without_the_input = refl;
+  forms_run_without_acting = refl;
+}

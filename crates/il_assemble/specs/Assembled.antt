@@ -1,0 +1,38 @@
+-- What the assembler answers: the image of a program that elaborates, or the program's first static fault.
+use Rattle.std.specs.Prelude.{◌≡◌, ◌≢◌, ◌<◌, ◌⊎◌, Ok, Err, map, length, List, ℤ}
+use Rattle.scan_code.specs.declared.image.Image.{Image}
+use Rattle.point_types.specs.declared.variable.Var.{Var}
+use Rattle.il_reader.specs.declared.tree.Program.{Program as Tree}
+use Rattle.il_assemble.specs.declared.fault.AsmFault.{AsmFault}
+use Rattle.il_assemble.specs.declared.fault.AsmFaultKind.TheVariants as kind
+use Rattle.il_assemble.specs.Meaning.{Program}
+use Rattle.il_assemble.specs.Code.{image_of}
+use Rattle.il_assemble.specs.Correct.{AreVariables, IsWell, DoesWhatItMeans}
+use Rattle.il_assemble.specs.Elaboration.{elaborated}
+use Rattle.il_assemble.specs.Word.{out_of_memory}
+
+-- no static fault holds: the image is that of the resolved program's code, and the machine on it does what the program means
+pub record IsAssembled (tree : Tree) (image : Image) : Type 0 where
+  pub program : Program
+  pub resolved : elaborated tree ≡ Ok program
+  pub coded : image ≡ image_of program
+  pub right : DoesWhatItMeans program image
+  pub short : length image.code < 65536
+
+abbrev pub WhatElaboratesIsWell : Type 0
+WhatElaboratesIsWell = (tree : Tree) (program : Program) → elaborated tree ≡ Ok program → IsWell program
+
+-- want of memory is no fault of a program
+abbrev pub StaticFaultsWantNoMemory : Type 0
+StaticFaultsWantNoMemory = (tree : Tree) (fault : AsmFault) → elaborated tree ≡ Err fault → fault.kind ≢ kind.OutOfMemory
+
+-- the first static fault holds, or memory was refused
+abbrev pub IsRefused : Tree → AsmFault → Type 0
+IsRefused tree fault = (elaborated tree ≡ Err fault) ⊎ (fault ≡ out_of_memory)
+
+-- each declared variable's start value lies in its range
+abbrev pub start_of : Var → ℤ
+start_of v = v.start
+
+abbrev pub StartsAreInRange : Type 0
+StartsAreInRange = (variables : List Var) → AreVariables variables (map start_of variables)

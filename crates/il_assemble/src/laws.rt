@@ -1,0 +1,54 @@
+ghost use Rattle.std.specs.Prelude.{◌≡◌, ◌+◌};
+ghost use Rattle.il_assemble.specs.Assembled.{StartsAreInRange, StaticFaultsWantNoMemory, WhatElaboratesIsWell};
+ghost use Rattle.il_assemble.specs.Examples.{ExamplesHold};
+ghost use Rattle.il_assemble.specs.Correct.{CodeIsOfBytes, CodeDoesWhatTheProgramMeans, EachEndIsTheMeaning, NumberedCountersFindTheirLimits, RunsThatAreOverStayOver, SizesDependOnTheFormAlone};
+
+/// The machine on the code of a program does what the program means: it ends with the same variables and outputs, or stops with the same fault.
+pub fn code_does_what_the_program_means()
+    ensures { CodeDoesWhatTheProgramMeans }
+{}
+
+/// A run that is over stays over, so each program has one end.
+pub fn runs_that_are_over_stay_over()
+    ensures { RunsThatAreOverStayOver }
+{}
+
+/// So each end of the machine's run, after however many instructions, is what the program means.
+pub fn each_end_is_the_meaning()
+    ensures { EachEndIsTheMeaning }
+{}
+
+/// The code of a program is of bytes, and so few that each address takes two of them.
+pub fn code_is_of_bytes()
+    ensures { CodeIsOfBytes }
+{}
+
+/// The size of a line's code depends on its form alone, wherever the labels stand.
+pub fn sizes_depend_on_the_form_alone()
+    ensures { SizesDependOnTheFormAlone }
+{}
+
+/// Where counters are numbered in order, and the table is of their limits in order, each finds its own.
+pub fn numbered_counters_find_their_limits()
+    ensures { NumberedCountersFindTheirLimits }
+{}
+
+/// What elaborates is well formed.
+pub fn what_elaborates_is_well()
+    ensures { WhatElaboratesIsWell }
+{}
+
+/// Each variable's start value lies in its declared range.
+pub fn starts_are_in_range()
+    ensures { StartsAreInRange }
+{}
+
+/// Worked programs: what they elaborate to, what they mean, their code, and how the machine ends on it.
+pub fn examples_hold()
+    ensures { ExamplesHold }
+{}
+
+/// Want of memory is no static fault.
+pub fn static_faults_want_no_memory()
+    ensures { StaticFaultsWantNoMemory }
+{}

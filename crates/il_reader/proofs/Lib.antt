@@ -1,0 +1,12 @@
+pub mod DraftLemmas
+pub mod LexerLemmas
+pub mod ReaderLemmas
+pub mod TypingLemmas
+pub mod Drafts
+pub mod Back
+pub mod Forth
+pub mod Bytes
+pub mod Live
+pub mod Fresh
+pub mod Completion
+pub mod Lines

@@ -1,0 +1,320 @@
+-- The line at fault.
+use Rattle.std.proofs.Common.{◌≡◌, ℕ, zero, suc, ◌+◌, Bool, true, false, List, [], ◌∷◌, ◌++◌, Option, Some, None, Result, Ok, Err, refl, sym, ap, ◌∙◌, subst, if◌then◌else◌, nat_eq, arith, eqb-true}
+use Rattle.il_reader.specs.declared.fault.ReadFault.{ReadFault}
+use Rattle.il_reader.specs.declared.fault.ReadFaultKind.{ReadFaultKind}
+use Rattle.il_reader.specs.declared.fault.ReadFaultKind.TheVariants as fault
+use Rattle.il_reader.specs.declared.token.Token.{Token}
+use Rattle.il_reader.specs.declared.token.Token.TheVariants as token
+use Rattle.il_reader.specs.declared.tree.Program.{Program}
+use Rattle.il_reader.specs.declared.lexer.Lexed.{Lexed}
+use Rattle.il_reader.specs.declared.lexer.Mode.{Mode}
+use Rattle.il_reader.specs.declared.lexer.Mode.TheVariants as mode
+use Rattle.il_reader.specs.declared.reader.Reader.{Reader}
+use Rattle.il_reader.specs.declared.state.State.TheVariants as state
+use Rattle.il_reader.specs.Tokens.{lexed, at_end, line_behind, word_token, word_ended, first_byte, ended_by}
+use Rattle.il_reader.specs.Grammar.{IsProgramText}
+use Rattle.il_reader.specs.Reading.{Move, stepped, taken, state_read, byte_read, byte_fed, fed_on, fed, opening, Outcome, Reads, AtFault, TooSoon, end_reached, end_read, judged, outcome}
+use Rattle.il_reader.specs.Laws.{lines_up_to, line_ends, last_line, Begins, FaultIsInTheFirstLine, EarlyEndIsInTheLastLine}
+use Rattle.il_reader.proofs.Bytes.{read_is_program, program_is_read}
+use Rattle.il_reader.proofs.Live.{live_fed}
+use Rattle.il_reader.proofs.Completion.{Ends_at, IsCalm, calm_ends}
+
+-- One byte, whatever stands behind it.
+
+-- a refusal in a line
+abbrev FailsIn : ℕ → Result Reader ReadFault → Type 0
+FailsIn n x = (k : ReadFaultKind) × (x ≡ Err (record { line = n; kind = k }))
+
+-- how a byte is read doesn't hang on the rest but for the kind of its fault
+abbrev Same : ℕ → Result Reader ReadFault → Result Reader ReadFault → Type 0
+Same n (Ok r) y = y ≡ Ok r
+Same n (Err f) y = (f.line ≡ n) × FailsIn n y
+
+same_state : (r : Reader) (b : ℕ) (us vs : List ℕ) (x : Lexed) (m : Move) → Same r.line (state_read r b us x m) (state_read r b vs x m)
+same_state r b us vs x (Ok s) = refl
+same_state r b us vs x (Err k) = (refl, (_, refl))
+
+same_read : (r : Reader) (b : ℕ) (us vs : List ℕ) (x : Result Lexed ReadFaultKind) → Same r.line (byte_read r b us x) (byte_read r b vs x)
+same_read r b us vs (Ok x) = same_state r b us vs x (taken r.state x r.line)
+same_read r b us vs (Err k) = (refl, (_, refl))
+
+same_byte : (r : Reader) (b : ℕ) (us vs : List ℕ) → Same r.line (byte_fed r b us) (byte_fed r b vs)
+same_byte r b us vs = same_read r b us vs (lexed r.mode b)
+
+-- Bytes behind bytes.
+
+fed_append : (a b : List ℕ) (r q : Reader) → fed r a ≡ Ok q → fed r (a ++ b) ≡ fed q b
+fed_append [] b r q e = let same : r ≡ q = cc in ap (λ z. fed z b) same
+fed_append (c ∷ a) b r q e = go (λ r' e. fed_append a b r' q e) (byte_fed r c a) (same_byte r c a (a ++ b)) e
+  where
+    go : ((r' : Reader) → fed r' a ≡ Ok q → fed r' (a ++ b) ≡ fed q b) → (x : Result Reader ReadFault) → Same r.line x (byte_fed r c (a ++ b)) → fed_on x (λ r'. fed r' a) ≡ Ok q → fed_on (byte_fed r c (a ++ b)) (λ r'. fed r' (a ++ b)) ≡ fed q b
+    go on (Ok r') s e = ap (λ z. fed_on z (λ r'. fed r' (a ++ b))) s ∙ on r' e
+    go on (Err f) s e = absurd (no e)
+      where
+        no : Err f ≡ Ok q → ⊥
+        no e = cc
+
+fails_append : (a b : List ℕ) (r : Reader) (f : ReadFault) → fed r a ≡ Err f → FailsIn f.line (fed r (a ++ b))
+fails_append [] b r f e = absurd (no e)
+  where
+    no : Ok r ≡ Err f → ⊥
+    no e = cc
+fails_append (c ∷ a) b r f e = go (λ r' e. fails_append a b r' f e) (byte_fed r c a) (same_byte r c a (a ++ b)) e
+  where
+    go : ((r' : Reader) → fed r' a ≡ Err f → FailsIn f.line (fed r' (a ++ b))) → (x : Result Reader ReadFault) → Same r.line x (byte_fed r c (a ++ b)) → fed_on x (λ r'. fed r' a) ≡ Err f → FailsIn f.line (fed_on (byte_fed r c (a ++ b)) (λ r'. fed r' (a ++ b)))
+    go on (Ok r') s e = subst (λ z. FailsIn f.line (fed_on z (λ r'. fed r' (a ++ b)))) (sym s) (on r' e)
+    go on (Err g) (l, (k, s)) e =
+        let same : g ≡ f = cc in
+        let line : r.line ≡ f.line = sym l ∙ ap (λ z. z.line) same in
+        (k, ap (λ z. fed_on z (λ r'. fed r' (a ++ b))) s ∙ ap (λ z. Err (record { line = z; kind = k })) line)
+
+-- What a line end leaves open.
+
+abbrev CalmLexed : Result Lexed ReadFaultKind → Type 0
+CalmLexed (Ok x) = IsCalm x.mode
+CalmLexed (Err k) = Unit {0}
+
+calm_word : (t : Option Token) → CalmLexed (word_ended t 10)
+calm_word None = tt
+calm_word (Some t) = tt
+
+calm_number : (gap : Bool) (n : _) → CalmLexed (if gap then Err fault.Literal else ended_by (token.Number n) (first_byte 10))
+calm_number true n = tt
+calm_number false n = tt
+
+calm_lexed : (q : Mode) → CalmLexed (lexed q 10)
+calm_lexed mode.Clear = tt
+calm_lexed (mode.Word w) = calm_word (word_token w)
+calm_lexed (mode.Number negative n gap) = calm_number gap n
+calm_lexed (mode.Sign negative) = tt
+calm_lexed mode.Bracket = tt
+calm_lexed mode.Comment = tt
+calm_lexed mode.Star = tt
+calm_lexed mode.Carriage = tt
+calm_lexed mode.Colon = tt
+calm_lexed mode.Dot = tt
+
+abbrev CalmReader : Result Reader ReadFault → Type 0
+CalmReader (Ok r) = IsCalm r.mode
+CalmReader (Err f) = Unit {0}
+
+calm_state : (r : Reader) (b : ℕ) (us : List ℕ) (x : Lexed) (m : Move) → IsCalm x.mode → CalmReader (state_read r b us x m)
+calm_state r b us x (Ok s) h = h
+calm_state r b us x (Err k) h = tt
+
+calm_read : (r : Reader) (b : ℕ) (us : List ℕ) (x : Result Lexed ReadFaultKind) → CalmLexed x → CalmReader (byte_read r b us x)
+calm_read r b us (Ok x) h = calm_state r b us x (taken r.state x r.line) h
+calm_read r b us (Err k) h = tt
+
+calm_byte : (r : Reader) (us : List ℕ) → CalmReader (byte_fed r 10 us)
+calm_byte r us = calm_read r 10 us (lexed r.mode 10) (calm_lexed r.mode)
+
+calm_after : (r q : Reader) (b : ℕ) (us : List ℕ) → nat_eq b 10 ≡ true → byte_fed r b us ≡ Ok q → IsCalm q.mode
+calm_after r q b us c e =
+    let same : 10 ≡ b = sym (eqb-true b 10 c) in
+    let h : CalmReader (byte_fed r b us) = subst (λ z. CalmReader (byte_fed r z us)) same (calm_byte r us) in
+    subst CalmReader e h
+
+-- the line behind a byte that is read, and the line of the byte
+line_state : (r q : Reader) (b : ℕ) (us : List ℕ) (x : Lexed) (m : Move) → state_read r b us x m ≡ Ok q → (q.line ≡ line_behind b r.line) × (q.last ≡ r.line)
+line_state r q b us x (Ok s) e = (sym (ap line_in e), sym (ap last_in e))
+  where
+    line_in : Result Reader ReadFault → ℕ
+    line_in (Ok z) = z.line
+    line_in (Err f) = 0
+
+    last_in : Result Reader ReadFault → ℕ
+    last_in (Ok z) = z.last
+    last_in (Err f) = 0
+line_state r q b us x (Err k) e = absurd (cc)
+
+line_read : (r q : Reader) (b : ℕ) (us : List ℕ) (x : Result Lexed ReadFaultKind) → byte_read r b us x ≡ Ok q → (q.line ≡ line_behind b r.line) × (q.last ≡ r.line)
+line_read r q b us (Ok x) e = line_state r q b us x (taken r.state x r.line) e
+line_read r q b us (Err k) e = absurd (cc)
+
+line_byte : (r q : Reader) (b : ℕ) (us : List ℕ) → byte_fed r b us ≡ Ok q → (q.line ≡ line_behind b r.line) × (q.last ≡ r.line)
+line_byte r q b us e = line_read r q b us (lexed r.mode b) e
+
+-- behind k lines: nothing has happened, or nothing but a comment is open
+abbrev Calmed : ℕ → Mode → Mode → Type 0
+Calmed zero q q' = q ≡ q'
+Calmed (suc k) q q' = IsCalm q'
+
+calmed : (k : ℕ) (q q' : Mode) → IsCalm q → Calmed k q q' → IsCalm q'
+calmed zero q q' h e = subst IsCalm e h
+calmed (suc k) q q' h e = e
+
+fed_cons : (r q : Reader) (b : ℕ) (us cs : List ℕ) → byte_fed r b us ≡ Ok q → fed r (b ∷ cs) ≡ fed q cs
+fed_cons r q b us cs e = ap (λ z. fed_on z (λ r'. fed r' cs)) (moved (byte_fed r b us) (same_byte r b us cs) e)
+  where
+    moved : (x : Result Reader ReadFault) → Same r.line x (byte_fed r b cs) → x ≡ Ok q → byte_fed r b cs ≡ Ok q
+    moved (Ok r') s e = s ∙ e
+    moved (Err f) s e = absurd (no e)
+      where
+        no : Err f ≡ Ok q → ⊥
+        no e = cc
+
+lines_end : (k b : ℕ) (bs : List ℕ) → nat_eq b 10 ≡ true → lines_up_to (suc k) (b ∷ bs) ≡ b ∷ lines_up_to k bs
+lines_end k b bs c = ap (λ z. b ∷ (if z then lines_up_to k bs else lines_up_to (suc k) bs)) c
+
+lines_on : (k b : ℕ) (bs : List ℕ) → nat_eq b 10 ≡ false → lines_up_to (suc k) (b ∷ bs) ≡ b ∷ lines_up_to (suc k) bs
+lines_on k b bs c = ap (λ z. b ∷ (if z then lines_up_to k bs else lines_up_to (suc k) bs)) c
+
+-- Where a text fails: k whole lines are read, and the next one isn't.
+abbrev Located : Reader → List ℕ → ℕ → Type 0
+Located r text m =
+    (k : ℕ) × (q : Reader) × (m ≡ k + r.line) × Calmed k r.mode q.mode × (fed r (lines_up_to k text) ≡ Ok q) × FailsIn m (fed r (lines_up_to (suc k) text))
+
+located : (text : List ℕ) (r : Reader) (f : ReadFault) → fed r text ≡ Err f → Located r text f.line
+located [] r f h = absurd (no h)
+  where
+    no : Ok r ≡ Err f → ⊥
+    no h = cc
+located (b ∷ bs) r f h = go (λ r' h. located bs r' f h) (byte_fed r b bs) refl (same_byte r b bs (if nat_eq b 10 then lines_up_to 0 bs else lines_up_to 1 bs)) h
+  where
+    go : ((r' : Reader) → fed r' bs ≡ Err f → Located r' bs f.line) → (x : Result Reader ReadFault) → byte_fed r b bs ≡ x → Same r.line x (byte_fed r b (if nat_eq b 10 then lines_up_to 0 bs else lines_up_to 1 bs)) → fed_on x (λ r'. fed r' bs) ≡ Err f → Located r (b ∷ bs) f.line
+    go on (Err g) e (l, (k, s)) h =
+        let same : g ≡ f = cc in
+        let line : r.line ≡ f.line = sym l ∙ ap (λ z. z.line) same in
+        (0, r, omega arith, refl, refl, (k, ap (λ z. fed_on z (λ r'. fed r' (if nat_eq b 10 then lines_up_to 0 bs else lines_up_to 1 bs))) s ∙ ap (λ z. Err (record { line = z; kind = k })) line))
+    go on (Ok r') e s h = place (nat_eq b 10) refl (on r' h)
+      where
+        by_byte : (cs : List ℕ) → fed r (b ∷ cs) ≡ fed r' cs
+        by_byte cs = fed_cons r r' b bs cs e
+
+        next : r'.line ≡ line_behind b r.line
+        next = (line_byte r r' b bs e).0
+
+        place : (c : Bool) → nat_eq b 10 ≡ c → Located r' bs f.line → Located r (b ∷ bs) f.line
+        place true c (k, q, l, calm, x, y) =
+            let here : r'.line ≡ suc r.line = next ∙ ap (λ z. if z then suc r.line else r.line) c in
+            (suc k, q, (l ∙ ap (λ z. k + z) here) ∙ omega arith, calmed k r'.mode q.mode (calm_after r r' b bs c e) calm, ap (fed r) (lines_end k b bs c) ∙ by_byte (lines_up_to k bs) ∙ x, subst (FailsIn f.line) (sym (ap (fed r) (lines_end (suc k) b bs c) ∙ by_byte (lines_up_to (suc k) bs))) y)
+        place false c (zero, q, l, calm, x, y) =
+            let here : r'.line ≡ r.line = next ∙ ap (λ z. if z then suc r.line else r.line) c in
+            (0, r, l ∙ ap (λ z. 0 + z) here, refl, refl, subst (FailsIn f.line) (sym (ap (fed r) (lines_on 0 b bs c) ∙ by_byte (lines_up_to 1 bs))) y)
+        place false c (suc k, q, l, calm, x, y) =
+            let here : r'.line ≡ r.line = next ∙ ap (λ z. if z then suc r.line else r.line) c in
+            (suc k, q, l ∙ ap (λ z. suc k + z) here, calm, ap (fed r) (lines_on k b bs c) ∙ by_byte (lines_up_to (suc k) bs) ∙ x, subst (FailsIn f.line) (sym (ap (fed r) (lines_on (suc k) b bs c) ∙ by_byte (lines_up_to (suc (suc k)) bs))) y)
+
+-- Where a text is fed to its end, its whole lines are.
+abbrev Kept : ℕ → Reader → List ℕ → Type 0
+Kept k r text = (q : Reader) × Calmed k r.mode q.mode × (fed r (lines_up_to k text) ≡ Ok q)
+
+kept : (text : List ℕ) (r q : Reader) → fed r text ≡ Ok q → Kept (line_ends text) r text
+kept [] r q h = (r, refl, refl)
+kept (b ∷ bs) r q h = go (λ r' h. kept bs r' q h) (byte_fed r b bs) refl h
+  where
+    go : ((r' : Reader) → fed r' bs ≡ Ok q → Kept (line_ends bs) r' bs) → (x : Result Reader ReadFault) → byte_fed r b bs ≡ x → fed_on x (λ r'. fed r' bs) ≡ Ok q → Kept (line_ends (b ∷ bs)) r (b ∷ bs)
+    go on (Err f) e h = absurd (no h)
+      where
+        no : Err f ≡ Ok q → ⊥
+        no h = cc
+    go on (Ok r') e h = place (nat_eq b 10) refl (line_ends bs) refl (on r' h)
+      where
+        by_byte : (cs : List ℕ) → fed r (b ∷ cs) ≡ fed r' cs
+        by_byte cs = fed_cons r r' b bs cs e
+
+        place : (c : Bool) → nat_eq b 10 ≡ c → (k : ℕ) → line_ends bs ≡ k → Kept k r' bs → Kept (line_ends (b ∷ bs)) r (b ∷ bs)
+        place true c k g (x, calm, y) =
+            let next : suc k ≡ line_ends (b ∷ bs) = ap suc (sym g) ∙ ap (λ z. if z then suc (line_ends bs) else line_ends bs) (sym c) in
+            subst (λ z. Kept z r (b ∷ bs)) next (x, calmed k r'.mode x.mode (calm_after r r' b bs c e) calm, ap (fed r) (lines_end k b bs c) ∙ by_byte (lines_up_to k bs) ∙ y)
+        place false c zero g (x, calm, y) =
+            let next : zero ≡ line_ends (b ∷ bs) = sym g ∙ ap (λ z. if z then suc (line_ends bs) else line_ends bs) (sym c) in
+            subst (λ z. Kept z r (b ∷ bs)) next (r, refl, refl)
+        place false c (suc k) g (x, calm, y) =
+            let next : suc k ≡ line_ends (b ∷ bs) = sym g ∙ ap (λ z. if z then suc (line_ends bs) else line_ends bs) (sym c) in
+            subst (λ z. Kept z r (b ∷ bs)) next (x, calm, ap (fed r) (lines_on k b bs c) ∙ by_byte (lines_up_to (suc k) bs) ∙ y)
+
+-- the line of the last byte
+last_is : (bs : List ℕ) (b : ℕ) (r q : Reader) → fed r (b ∷ bs) ≡ Ok q → q.last ≡ last_line r.line (b ∷ bs)
+last_is [] b r q h = go (byte_fed r b []) refl h
+  where
+    go : (x : Result Reader ReadFault) → byte_fed r b [] ≡ x → fed_on x (λ r'. fed r' []) ≡ Ok q → q.last ≡ r.line
+    go (Ok r') e h = (line_byte r q b [] (e ∙ h)).1
+    go (Err f) e h = absurd (no h)
+      where
+        no : Err f ≡ Ok q → ⊥
+        no h = cc
+last_is (c ∷ bs) b r q h = go (λ r' h. last_is bs c r' q h) (byte_fed r b (c ∷ bs)) refl h
+  where
+    go : ((r' : Reader) → fed r' (c ∷ bs) ≡ Ok q → q.last ≡ last_line r'.line (c ∷ bs)) → (x : Result Reader ReadFault) → byte_fed r b (c ∷ bs) ≡ x → fed_on x (λ r'. fed r' (c ∷ bs)) ≡ Ok q → q.last ≡ last_line (if nat_eq b 10 then suc r.line else r.line) (c ∷ bs)
+    go on (Ok r') e h = on r' h ∙ ap (λ z. last_line z (c ∷ bs)) (line_byte r r' b (c ∷ bs) e).0
+    go on (Err f) e h = absurd (no h)
+      where
+        no : Err f ≡ Ok q → ⊥
+        no h = cc
+
+last_of : (text : List ℕ) (q : Reader) → fed opening text ≡ Ok q → q.last ≡ last_line 1 text
+last_of [] q h = let same : opening ≡ q = cc in ap (λ z. z.last) (sym same)
+last_of (b ∷ bs) q h = last_is bs b opening q h
+
+-- The theorems.
+
+begins : (a : List ℕ) (q : Reader) → fed opening a ≡ Ok q → IsCalm q.mode → Begins a
+begins a q e h = finish (calm_ends q.line q.last q.mode q.state (live_fed a opening q e tt) h)
+  where
+    finish : Ends_at q → Begins a
+    finish (rest, p, n, l, g) = (rest, p, read_is_program (a ++ rest) p (ap judged (fed_append a rest opening q e ∙ g)))
+
+begins_none : (a : List ℕ) (n : ℕ) → FailsIn n (fed opening a) → (rest : List ℕ) (p : Program) → IsProgramText (a ++ rest) p → ⊥
+begins_none a n (k, e) rest p h = go (fails_append a rest opening (record { line = n; kind = k }) e)
+  where
+    go : FailsIn n (fed opening (a ++ rest)) → ⊥
+    go (j, g) =
+        let refused : outcome (a ++ rest) ≡ AtFault (record { line = n; kind = j }) = ap judged g in
+        let read : outcome (a ++ rest) ≡ Reads p = program_is_read (a ++ rest) p h in
+        cc
+
+early_reached : (l : ℕ) (m : Move) (f : ReadFault) → end_reached l m ≡ TooSoon f → f.line ≡ l
+early_reached l (Ok (state.Over p)) f h = absurd (cc)
+early_reached l (Ok _) f h = ap line_in (sym h)
+  where
+    line_in : Outcome → ℕ
+    line_in (TooSoon g) = g.line
+    line_in _ = 0
+early_reached l (Err k) f h = ap line_in (sym h)
+  where
+    line_in : Outcome → ℕ
+    line_in (TooSoon g) = g.line
+    line_in _ = 0
+
+early_read : (r : Reader) (t : Result (Option Token) ReadFaultKind) (f : ReadFault) → end_read r t ≡ TooSoon f → f.line ≡ r.last
+early_read r (Ok t) f h = early_reached r.last (stepped r.state t r.line) f h
+early_read r (Err k) f h = ap line_in (sym h)
+  where
+    line_in : Outcome → ℕ
+    line_in (TooSoon g) = g.line
+    line_in _ = 0
+
+no_fault_reached : (l : ℕ) (m : Move) (f : ReadFault) → end_reached l m ≡ AtFault f → ⊥
+no_fault_reached l (Ok (state.Over p)) f h = cc
+no_fault_reached l (Ok _) f h = cc
+no_fault_reached l (Err k) f h = cc
+
+no_fault_at_end : (r : Reader) (t : Result (Option Token) ReadFaultKind) (f : ReadFault) → end_read r t ≡ AtFault f → ⊥
+no_fault_at_end r (Ok t) f h = no_fault_reached r.last (stepped r.state t r.line) f h
+no_fault_at_end r (Err k) f h = cc
+
+pub fault_is_in_the_first_line : FaultIsInTheFirstLine
+fault_is_in_the_first_line text f h = go (fed opening text) refl h
+  where
+    go : (x : Result Reader ReadFault) → fed opening text ≡ x → judged x ≡ AtFault f → (k : ℕ) × (f.line ≡ suc k) × Begins (lines_up_to k text) × ((rest : List ℕ) (p : Program) → IsProgramText (lines_up_to f.line text ++ rest) p → ⊥)
+    go (Ok q) e h = absurd (no_fault_at_end q (at_end q.mode) f h)
+    go (Err g) e h = found (located text opening g e)
+      where
+        found : Located opening text g.line → (k : ℕ) × (f.line ≡ suc k) × Begins (lines_up_to k text) × ((rest : List ℕ) (p : Program) → IsProgramText (lines_up_to f.line text ++ rest) p → ⊥)
+        found (k, q, l, calm, x, y) =
+            let same : g ≡ f = cc in
+            let lines : g.line ≡ f.line = ap (λ z. z.line) same in
+            let line : f.line ≡ suc k = omega arith in
+            (k, line, begins (lines_up_to k text) q x (calmed k mode.Clear q.mode tt calm), begins_none (lines_up_to f.line text) g.line (subst (λ z. FailsIn g.line (fed opening (lines_up_to z text))) (sym line) y))
+
+pub early_end_is_in_the_last_line : EarlyEndIsInTheLastLine
+early_end_is_in_the_last_line text f h = go (fed opening text) refl h
+  where
+    go : (x : Result Reader ReadFault) → fed opening text ≡ x → judged x ≡ TooSoon f → (f.line ≡ last_line 1 text) × Begins (lines_up_to (line_ends text) text)
+    go (Err g) e h = absurd (cc)
+    go (Ok q) e h = (early_read q (at_end q.mode) f h ∙ last_of text q e, found (kept text opening q e))
+      where
+        found : Kept (line_ends text) opening text → Begins (lines_up_to (line_ends text) text)
+        found (r, calm, x) = begins (lines_up_to (line_ends text) text) r x (calmed (line_ends text) mode.Clear r.mode tt calm)

@@ -1,0 +1,211 @@
+use crate::fault::{ReadFault, ReadFaultKind};
+use crate::lexer::{Lexed, Mode};
+use crate::state::State;
+use crate::token::Token;
+use crate::tree::Program;
+use std::alloc::{AllocError, Global};
+
+/// The most bytes of a text.
+const TEXT_LIMIT: usize = 1_048_576;
+
+/// How a text stands between two of its bytes.
+#[derive(Drop, Debug)]
+pub struct Reader {
+    /// The line of the next byte.
+    pub line: u32,
+    /// The line of the last byte, 1 before the first.
+    pub last: u32,
+    pub mode: Mode,
+    pub state: State,
+}
+
+impl Reader {
+    ghost use Rattle.std.specs.Prelude.{◌≡◌, ◌<◌, ◌^◌, IfOk};
+    ghost use Rattle.il_reader.specs.Reading.{answered, byte_fed, judged};
+
+    /// Reads one byte, before the rest of the text.
+    fn feed(
+        self,
+        alloc: Global,
+        byte: u8,
+        rest: &[u8],
+    ) -> Result<Result<Reader, ReadFault>, AllocError>
+        requires { self.line < 2 ^ 31 }
+        ensures { IfOk result (λ fed. fed ≡ byte_fed self byte rest.now) }
+    {
+        let Reader {
+            line,
+            last: _,
+            mode,
+            state,
+        } = self;
+        let lexed = match mode.feed(byte) {
+            Ok(lexed) => lexed,
+            Err(kind) => return Ok(Err(ReadFault { line, kind })),
+        };
+        match state.take(alloc, &lexed, line)? {
+            Ok(state) => Ok(Ok(Reader {
+                line: line_after(byte, line),
+                last: line,
+                mode: lexed.mode,
+                state,
+            })),
+            Err(kind) => {
+                let kind = kind_before(kind, lexed, rest);
+                Ok(Err(ReadFault { line, kind }))
+            }
+        }
+    }
+
+    /// The answer at the end of the text.
+    fn finish(self, alloc: Global) -> Result<Result<Program, ReadFault>, AllocError>
+        ensures { IfOk result (λ answer. answer ≡ answered (judged (Ok self))) }
+    {
+        let Reader {
+            line,
+            last,
+            mode,
+            state,
+        } = self;
+        let token = match mode.finish() {
+            Ok(token) => token,
+            Err(kind) => return Ok(Err(ReadFault { line: last, kind })),
+        };
+        match state.step_if(alloc, token, line)? {
+            Ok(State::Over(program)) => Ok(Ok(program)),
+            _ => Ok(Err(ReadFault {
+                line: last,
+                kind: ReadFaultKind::Header,
+            })),
+        }
+    }
+}
+
+/// Reads the text of a program (IEC 61131-3 edition 2, 3.2): its tree, or the first line that is at
+/// fault. Takes time linear in the text.
+///
+/// # Errors
+/// A text of more than 1,048,576 bytes is TooLong in line 1. Else the line is the first with which the
+/// text begins no program, and the kind that of its leftmost fault; a text that ends too soon is at
+/// fault in the line of its last byte. OutOfMemory, with line 0, says nothing about the text.
+pub fn read(alloc: Global, text: &str) -> Result<Program, ReadFault>
+    ensures { IsAnswer text.now result }
+{
+    if text.len() > TEXT_LIMIT {
+        return Err(ReadFault {
+            line: 1,
+            kind: ReadFaultKind::TooLong,
+        });
+    }
+    let Ok(answer) = read_bytes(alloc, text.as_bytes()) else {
+        return Err(ReadFault {
+            line: 0,
+            kind: ReadFaultKind::OutOfMemory,
+        });
+    };
+    answer
+}
+
+ghost use Rattle.std.specs.Prelude.{◌≡◌, ◌≤◌, ◌<◌, ◌^◌, IfOk, length};
+ghost use Rattle.il_reader.specs.Reading.{IsAnswer, answered, colon_follows, is_colon, is_label, kind_at, outcome};
+ghost use Rattle.il_reader.specs.Tokens.{line_behind};
+
+fn read_bytes(alloc: Global, text: &[u8]) -> Result<Result<Program, ReadFault>, AllocError>
+    requires { length text.now ≤ 1048576 }
+    ensures { IfOk result (λ answer. answer ≡ answered (outcome text.now)) }
+{
+    let mut reader = Reader {
+        line: 1,
+        last: 1,
+        mode: Mode::Clear,
+        state: State::Start,
+    };
+    let mut rest = text;
+    while let [byte, after @ ..] = rest {
+        match reader.feed(alloc, *byte, after)? {
+            Ok(next) => reader = next,
+            Err(fault) => return Ok(Err(fault)),
+        }
+        rest = after;
+    }
+    reader.finish(alloc)
+}
+
+// The line behind a byte.
+fn line_after(byte: u8, line: u32) -> u32
+    requires { line < 2 ^ 31 }
+    ensures { result ≡ line_behind byte line }
+{
+    if byte == b'\n' { line + 1 } else { line }
+}
+
+// A name where an instruction begins is a label where a colon follows it, else no operator.
+fn kind_before(kind: ReadFaultKind, lexed: Lexed, rest: &[u8]) -> ReadFaultKind
+    ensures { result ≡ kind_at kind lexed rest.now }
+{
+    match kind {
+        ReadFaultKind::Label => {
+            if begins_colon(lexed, rest) {
+                ReadFaultKind::Label
+            } else {
+                ReadFaultKind::Operator
+            }
+        }
+        other => other,
+    }
+}
+
+// Whether a colon follows the token that has ended.
+fn begins_colon(lexed: Lexed, rest: &[u8]) -> bool
+    ensures { result ≡ is_label lexed rest.now }
+{
+    let Lexed {
+        ended: _,
+        own,
+        mode,
+    } = lexed;
+    match own {
+        Some(_) => false,
+        None => has_colon(mode, rest),
+    }
+}
+
+// Whether the next token is a colon.
+fn has_colon(mode: Mode, rest: &[u8]) -> bool
+    ensures { result ≡ colon_follows mode rest.now }
+{
+    let mut open = mode;
+    let mut rest = rest;
+    while let [byte, after @ ..] = rest {
+        match open.feed(*byte) {
+            Ok(
+                Lexed {
+                    ended: None,
+                    own: None,
+                    mode,
+                },
+            ) => open = mode,
+            Ok(
+                Lexed {
+                    ended: Some(token),
+                    ..
+                },
+            ) => return is_colon_token(token),
+            _ => return false,
+        }
+        rest = after;
+    }
+    match open.finish() {
+        Ok(Some(token)) => is_colon_token(token),
+        _ => false,
+    }
+}
+
+fn is_colon_token(token: Token) -> bool
+    ensures { result ≡ is_colon token }
+{
+    match token {
+        Token::Colon => true,
+        _ => false,
+    }
+}

@@ -1,0 +1,10 @@
+pub mod Headers
+pub mod Feeding
+pub mod Streams
+pub mod Numbers
+pub mod Requests
+pub mod Responses
+pub mod Answering
+pub mod Rests
+pub mod Sending
+pub mod Receiving

@@ -1,0 +1,11 @@
+pub mod Bytes
+pub mod Fault
+pub mod Frame
+pub mod Held
+pub mod Framing
+pub mod Message
+pub mod Link
+pub mod InMemory
+pub mod Served
+pub mod Reading
+pub mod Exchange

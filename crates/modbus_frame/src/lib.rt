@@ -1,0 +1,30 @@
+//! Modbus over TCP: frames, the messages in them, and links that carry them.
+#![tactic(auto)]
+
+mod exchange;
+mod fault;
+mod frame;
+mod framer;
+pub mod laws;
+mod link;
+mod mem_link;
+mod message;
+mod pdu;
+mod request;
+mod response;
+mod words;
+
+pub use exchange::{FrameReader, send};
+pub use fault::FrameFault;
+pub use frame::{Frame, write_frame};
+pub use framer::{Fed, Framer};
+pub use link::{Down, Link, LinkFault};
+pub use mem_link::MemLink;
+pub use message::{Exception, ReplyFault, Request, Response};
+pub use pdu::Pdu;
+pub use request::{parse_request, request_pdu};
+pub use response::{exception_pdu, parse_response, response_pdu};
+pub use words::Words;
+
+#[cfg(test)]
+mod tests;

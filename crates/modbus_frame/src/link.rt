@@ -1,0 +1,98 @@
+ghost use Rattle.std.specs.Prelude.{◌≡◌};
+ghost use Rattle.modbus_frame.specs.Fault.{link_fault_word};
+ghost use Rattle.modbus_frame.specs.declared.link.LinkFault.TheVariants.{Frame};
+
+use crate::fault::FrameFault;
+use thiserror::Error;
+
+/// What carries the bytes of frames both ways, as a connection does.
+///
+/// A contract sees, where a link tells them, its calls and failures so far, the bytes to come and the bytes sent.
+pub trait Link {
+    ghost use Rattle.std.specs.Prelude.{ℕ, List, Option, ◌<◌, ◌≤◌, length, IfOk};
+    ghost use Rattle.std.specs.Io.KnownBytes.{Keeps, ReadConsumes, WriteAppends};
+    ghost use Rattle.modbus_frame.specs.Link.{CountsBy, CountsDown};
+
+    /// How many reads and writes were made.
+    ghost calls: { Self → Option ℕ };
+
+    /// How many of them answered [`Down`].
+    ghost failures: { Self → Option ℕ };
+
+    /// The bytes that reads will give.
+    ghost coming: { Self → Option (List ℕ) };
+
+    /// The bytes that writes took.
+    ghost sent: { Self → Option (List ℕ) };
+
+    /// Puts the next bytes to come into the front of the buffer, and gives their number: none only where none are to
+    /// come. [`Down`] takes nothing.
+    fn read(&mut self, into: &mut [u8]) -> Result<usize, Down>
+        requires { 0 < length into.old }
+        ensures fits { IfOk result (λ n. n ≤ length into.old) }
+        ensures reads { ReadConsumes (coming self.old) (coming self.new) result into.new }
+        ensures keeps { Keeps (sent self.old) (sent self.new) }
+        ensures failures { CountsDown (failures self.old) (failures self.new) result }
+        ensures calls { CountsBy 1 (calls self.old) (calls self.new) };
+
+    /// Sends bytes of the front of the buffer, and gives their number. [`Down`] sends nothing.
+    fn write(&mut self, from: &[u8]) -> Result<usize, Down>
+        requires { 0 < length from.now }
+        ensures fits { IfOk result (λ n. n ≤ length from.now) }
+        ensures writes { WriteAppends (sent self.old) (sent self.new) result from.now }
+        ensures keeps { Keeps (coming self.old) (coming self.new) }
+        ensures failures { CountsDown (failures self.old) (failures self.new) result }
+        ensures calls { CountsBy 1 (calls self.old) (calls self.new) };
+}
+
+/// A link failed at this call.
+#[derive(Clone, Copy, Debug, PartialEq, Eq, Error)]
+#[error("Down")]
+pub struct Down;
+
+/// Why work over a link ended.
+#[derive(Clone, Copy, Debug, PartialEq, Eq, Error)]
+pub enum LinkFault {
+    /// A read failed.
+    #[error("Read")]
+    Read,
+    /// A write failed.
+    #[error("Write")]
+    Write,
+    /// The bytes that came are no frames.
+    #[error("Frame")]
+    Frame(FrameFault),
+    /// The bytes ended before a reply or inside a frame.
+    #[error("End")]
+    End,
+    /// One call used up its reads and writes.
+    #[error("Turns")]
+    Turns,
+    /// There was no memory.
+    #[error("OutOfMemory")]
+    OutOfMemory,
+}
+
+impl LinkFault {
+    /// The fault's name, as programs print it.
+    pub fn word(self) -> &'static str
+        ensures { result.now ≡ link_fault_word self }
+    {
+        match self {
+            LinkFault::Read => "Read",
+            LinkFault::Write => "Write",
+            LinkFault::Frame(_) => "Frame",
+            LinkFault::End => "End",
+            LinkFault::Turns => "Turns",
+            LinkFault::OutOfMemory => "OutOfMemory",
+        }
+    }
+}
+
+impl From<FrameFault> for LinkFault {
+    ghost from_gives = { λ fault e. e ≡ Frame fault };
+
+    fn from(fault: FrameFault) -> LinkFault {
+        LinkFault::Frame(fault)
+    }
+}

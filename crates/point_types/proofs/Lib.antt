@@ -1,0 +1,9 @@
+pub mod Encodings
+pub mod Forms
+pub mod NameLemmas
+pub mod Numbers
+pub mod Powers
+pub mod Readings
+pub mod RoundTrips
+pub mod Spellings
+pub mod Uniqueness

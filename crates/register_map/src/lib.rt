@@ -1,0 +1,19 @@
+//! Finds the map of a SunSpec device in its Modbus registers: where each information model lies.
+//!
+//! [`discover`] reads a device through [`Registers`], [`chain`] reads a list of words. Both give a [`Map`] of [`Block`]s.
+#![tactic(auto)]
+
+mod access;
+mod discovery;
+pub mod laws;
+mod layout;
+mod memory;
+mod words;
+
+pub use access::{ReadFault, Registers};
+pub use discovery::{chain, discover};
+pub use layout::{Block, MOST_MODELS, Map, MapFault};
+pub use memory::{MemRegisters, PlannedFault};
+
+#[cfg(test)]
+mod tests;

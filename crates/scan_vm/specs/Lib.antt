@@ -1,0 +1,5 @@
+pub mod Outcome
+pub mod Progress
+pub mod Step
+pub mod Trap
+pub mod Trial

@@ -1,0 +1,4 @@
+pub mod LineLemmas
+pub mod OutcomeLemmas
+pub mod ReportLemmas
+pub mod SourceLemmas

@@ -1,0 +1,4 @@
+pub mod Input
+pub mod Outcome
+pub mod Report
+pub mod Told

@@ -1,0 +1,32 @@
+ghost use Rattle.std.specs.Prelude.{◌≡◌, ◌≤◌, length, string_bytes, IfOk, IfSome, IsOkUnless};
+
+use std::alloc::Global;
+use std::io::{ErrorKind, Read};
+
+/// The most bytes that a file may have.
+const LARGEST_FILE: u64 = 16_777_216;
+
+/// Why a file isn't taken: it can't be read to its end, isn't UTF-8, or has too many bytes; or
+/// memory was refused.
+#[derive(Clone, Copy, PartialEq, Eq, Debug)]
+pub enum SourceFault {
+    Unusable,
+    OutOfMemory,
+}
+
+/// The text of a file, read to its end.
+pub fn read_text<R: Read + Drop>(alloc: Global, reader: R) -> Result<String, SourceFault>
+    ensures small { IfOk result (λ text. length (string_bytes text) ≤ LARGEST_FILE) }
+    ensures whole { IfOk result (λ text. IfSome (R.remaining reader) (λ bytes. string_bytes text ≡ bytes)) }
+{
+    let mut bytes = Vec::new(alloc);
+    match reader.take(LARGEST_FILE + 1).read_to_end(&mut bytes) {
+        Ok(_) if bytes.len() as u64 > LARGEST_FILE => Err(SourceFault::Unusable),
+        Ok(_) => match String::from_utf8(bytes) {
+            Ok(text) => Ok(text),
+            Err(_) => Err(SourceFault::Unusable),
+        },
+        Err(fault) if fault.kind() == ErrorKind::OutOfMemory => Err(SourceFault::OutOfMemory),
+        Err(_) => Err(SourceFault::Unusable),
+    }
+}
