@@ -1,0 +1,5 @@
+pub mod Entries
+pub mod Placed
+pub mod Whole
+pub mod Trees
+pub mod Lookup

@@ -1,0 +1,11 @@
+use Rattle.std.proofs.Common.{◌≡◌, [], ◌++◌, drop}
+use Rattle.serde_json.specs.View.{items_view}
+use Rattle.model_defs.specs.Definition.{broken_among, descriptions_of}
+use Rattle.model_defs.specs.Descriptions.{descriptions_view}
+use Rattle.model_defs.proofs.reader.read_points.Given as goal
+
+-- what remains to be read behind the points so far
+abbrev pub invariant-loop-tree : goal.invariant-loop-tree
+invariant-loop-tree l =
+    (broken_among [] (items_view l.trees.items) ≡ broken_among (descriptions_view l.points.entries) (items_view (drop l.tree-index l.trees.items)))
+    × (descriptions_of (items_view l.trees.items) ≡ descriptions_view l.points.entries ++ descriptions_of (items_view (drop l.tree-index l.trees.items)))

@@ -1,0 +1,6 @@
+pub mod Definition
+pub mod Descriptions
+pub mod Fault
+pub mod Layout
+pub mod Shipped
+pub mod Examples
