@@ -246,7 +246,7 @@ label_within address (line ∷ lines) a label =
     either h true = past_grows a (lines_code address (line ∷ lines))
     either h false = h
 
-long_as_past : (is : List Op) (a : ℕ) → a + length (spelled_all is) ≡ past a is
+pub long_as_past : (is : List Op) (a : ℕ) → a + length (spelled_all is) ≡ past a is
 long_as_past [] a = omega arith
 long_as_past (i ∷ is) a = let e = long_as_past is (a + length (spelled i)) in omega (arith, e, length-append (spelled i) (spelled_all is))
 

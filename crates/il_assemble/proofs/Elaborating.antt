@@ -1,134 +1,278 @@
 -- What elaborates is well formed, and its image is the one that the two passes make.
-use Rattle.std.proofs.Common.{◌≡◌, ◌≢◌, ◌⊎◌, inl, inr, ⊎_elim, ℕ, zero, suc, ◌+◌, ◌<◌, ◌≤◌, Bool, true, false, not, ◌&&◌, if◌then◌else◌, ℤ, pos, negsuc, List, [], ◌∷◌, ◌++◌, length, map, Option, Some, None, option_map, Result, Ok, Err, slice_get, nat_le, int_le, IsTrue, refl, sym, ap, ◌∙◌, subst, arith, leb-true, le-leb, true≢false, All}
-use Rattle.std.specs.Option.{ok_or}
+use Rattle.std.proofs.Common.{◌≡◌, ◌≢◌, ◌⊎◌, inl, inr, ⊎_elim, ℕ, zero, suc, ◌+◌, ◌<◌, ◌≤◌, Bool, true, false, not, ◌&&◌, ◌||◌, if◌then◌else◌, ℤ, pos, negsuc, List, [], ◌∷◌, ◌++◌, length, map, position, Option, Some, None, option_map, option_and_then, Result, Ok, Err, slice_get, nat_le, nat_eq, int_le, IsTrue, refl, sym, ap, ◌∙◌, subst, arith, leb-true, le-leb, true≢false, All, get_or, unwrap_or, length-append}
 use Rattle.std.proofs.lemmas.List.{length-map}
 use Rattle.std.proofs.lemmas.List.Quantifiers.{position-Some}
+use Rattle.std.proofs.lemmas.Bool.{ne_eqb}
+use Rattle.std.proofs.lemmas.Bool.Decides.{eqb_tells}
 use Rattle.point_types.specs.declared.il_type.IlType.{IlType}
 use Rattle.point_types.specs.declared.variable.Var.{Var}
-use Rattle.point_types.specs.Value.{low_of, high_of, is_within, is_bool, ◌>>=◌}
+use Rattle.point_types.specs.Value.{low_of, high_of, is_within, ◌>>=◌}
 use Rattle.scan_code.specs.declared.image.Image.{Image}
+use Rattle.scan_code.specs.declared.image.Tag.{Tag}
+use Rattle.scan_code.specs.declared.op.Op.{Op}
+use Rattle.scan_code.specs.declared.op.Op.TheVariants as does
 use Rattle.scan_code.specs.Spelling.{spelled_all}
 use Rattle.il_reader.specs.declared.tree.Program.{Program as Tree}
 use Rattle.il_reader.specs.declared.tree.Variable.{Variable}
+use Rattle.il_reader.specs.declared.tree.External.{External}
 use Rattle.il_reader.specs.declared.tree.Statement.{Statement}
 use Rattle.il_reader.specs.declared.tree.Action.{Action}
 use Rattle.il_reader.specs.declared.tree.Action.TheVariants as action
-use Rattle.il_reader.specs.declared.tree.Simple.TheVariants as simple
-use Rattle.il_reader.specs.declared.tree.Operand.{Operand}
-use Rattle.il_reader.specs.declared.tree.Operand.TheVariants.{Named, Number}
 use Rattle.il_assemble.specs.declared.fault.AsmFault.{AsmFault}
 use Rattle.il_assemble.specs.declared.fault.AsmFaultKind.{AsmFaultKind}
 use Rattle.il_assemble.specs.declared.fault.AsmFaultKind.TheVariants as kind
-use Rattle.il_assemble.specs.declared.instruction.Instruction.{Instruction}
-use Rattle.il_assemble.specs.declared.instruction.Instruction.TheVariants as instruction
-use Rattle.il_assemble.specs.declared.instruction.Line.{Line as Kept}
-use Rattle.il_assemble.specs.Kept.{meant, meant_action}
-use Rattle.scan_code.specs.declared.image.Tag.{Tag}
-use Rattle.il_assemble.specs.Meaning.{Program, Line}
+use Rattle.il_assemble.specs.Meaning.{Program, Line, has_label}
 use Rattle.il_assemble.specs.Meaning as resolved
-use Rattle.il_assemble.specs.Code.{action_code, lines_code, past, label_address, image_of}
-use Rattle.il_assemble.specs.Correct.{Has, IsSource, IsAction, AreLines, IsDeclared, IsWell, DoesWhatItMeans}
-use Rattle.il_assemble.specs.Elaboration.{at_line, is_called, place_of, wanted_type, running_after, is_literal_of, source_of, resolved_simple, resolved_action, Located, located, resolved_lines, most_variables, most_code, too_long, unless_extra, counted, bounded, measured, declared_var, line_of, program_of, elaborated}
-use Rattle.il_assemble.specs.Assembled.{IsAssembled, StartsAreInRange, StaticFaultsWantNoMemory, WhatElaboratesIsWell}
+use Rattle.il_assemble.specs.Code.{action_code, lines_code, past, label_address, code_of_program, image_of, version_of}
+use Rattle.il_assemble.specs.Correct.{Has, IsAction, IsCounted, AreLines, IsDeclared, IsWell, DoesWhatItMeans, stands}
+use Rattle.il_assemble.specs.Limit.{most_names, most_nested, most_counted, most_code}
+use Rattle.il_assemble.specs.Names.{Scope, known_as, tags_of, uses_of}
+use Rattle.il_assemble.specs.Typing.{loaded_type, type_after_line}
+use Rattle.il_assemble.specs.StaticFault.{at_line, unless, lowest, store_fault, is_count, is_labelled, is_labelled_so, label_place, jump_fault, checked_simple, checked_line, checked_lines}
+use Rattle.il_assemble.specs.Elaboration.{place_known, resolved_simple, target, resolved_action, label_of, resolved_line, turns_of, limits_of, resolved_lines, too_long, unless_variable, unless_external, is_nested_within, is_action_within, nested, counted, behind, measured, declared_var, scope_of, program_of, elaborated}
+use Rattle.il_assemble.specs.Kept.{address_in, addresses_of}
+use Rattle.il_assemble.specs.Assembled.{IsAssembled, StartsAreInRange, WhatElaboratesIsWell}
+use Rattle.il_assemble.specs.Written.{written}
 use Rattle.il_assemble.proofs.Leads.{past_append}
-use Rattle.il_assemble.proofs.Bytes.{code_is_of_bytes}
-use Rattle.il_assemble.proofs.Writing.{bytes_from}
+use Rattle.il_assemble.proofs.Bytes.{code_is_of_bytes, long_as_past}
 use Rattle.il_assemble.proofs.Lines.{same_size, code_does_what_the_program_means, each_end_is_the_meaning}
+use Rattle.il_assemble.proofs.Sound.{first_ok, at_line_ok, unless_none, lowest_none, both, known_there, store_well, simple_well, simple_depth}
 
-bind_ok : {A B E : Type 0} (x : Result A E) (f : A → Result B E) (b : B) → (x >>= f) ≡ Ok b → (a : A) × (x ≡ Ok a) × (f a ≡ Ok b)
-bind_ok (Ok a) f b e = (a, refl, e)
-bind_ok (Err fault) f b e = cc
+-- Labels.
 
-at_line_ok : {A : Type 0} (line : ℕ) (x : Result A AsmFaultKind) (a : A) → at_line line x ≡ Ok a → x ≡ Ok a
-at_line_ok line (Ok b) a e = let g : b ≡ a = cc in ap Ok g
-at_line_ok line (Err fault) a e = cc
+-- a line that has a label
+abbrev HasLabel : Option Statement → Type 0
+HasLabel o = Has (option_and_then (λ (s : Statement). s.label) o)
 
--- a declared name's place lies among the variables
+labelled : (name : List ℕ) (ss : List Statement) (j : ℕ) → position (is_labelled name) ss ≡ Some j → HasLabel (slice_get ss j)
+labelled name [] j e = cc
+labelled name (s ∷ ss) j e =
+    let h = position-Some (is_labelled name) (s ∷ ss) j s e in
+    at (s ∷ ss) j s h.0 h.1
+  where
+    some : (o : Option (List ℕ)) → is_labelled_so name o ≡ true → Has o
+    some None h = cc
+    some (Some label) h = tt
 
-got_map : {A B : Type 0} (f : A → B) (xs : List A) (i : ℕ) → i < length xs → Has (slice_get (map f xs) i)
-got_map f [] i h = absurd (omega arith)
-got_map f (x ∷ xs) zero h = tt
-got_map f (x ∷ xs) (suc i) h = got_map f xs i (omega arith)
+    at : (xs : List Statement) (k : ℕ) (d : Statement) → k < length xs → is_labelled name (get_or xs k d) ≡ true → HasLabel (slice_get xs k)
+    at [] k d h t = absurd (omega arith)
+    at (x ∷ xs) zero d h t = some x.label t
+    at (x ∷ xs) (suc k) d h t = at xs k d (omega arith) t
 
-placed : (variables : List Variable) (name : List ℕ) (i : ℕ) → place_of variables name ≡ Some i → Has (slice_get (map declared_var variables) i)
-placed [] name i e = cc
-placed (v ∷ vs) name i e = got_map declared_var (v ∷ vs) i (position-Some (is_called name) (v ∷ vs) i v e).0
+same_number : (a : ℕ) → nat_eq a a ≡ true
+same_number a = ⊎_elim (λ h. h.0) (λ h. absurd (h.1 refl)) (eqb_tells a a)
 
-module _ (variables : List Variable) (p : Program) (same : p.variables ≡ map declared_var variables) where
-  known : (name : List ℕ) (i : ℕ) → place_of variables name ≡ Some i → Has (slice_get p.variables i)
-  known name i e = subst (λ (ds : List Var). Has (slice_get ds i)) (sym same) (placed variables name i e)
+other_number : (a b : ℕ) → a < b → nat_eq a b ≡ false
+other_number a b h = ne_eqb a b (λ e. omega (arith, e, h))
 
-  named_well : (name : List ℕ) (o : Option ℕ) → place_of variables name ≡ o → (x : resolved.Source) → ok_or (option_map resolved.Variable o) kind.UnknownName ≡ Ok x → IsSource p x
-  named_well name None e x f = cc
-  named_well name (Some i) e x f = let g : resolved.Variable i ≡ x = cc in subst (IsSource p) g (known name i e)
+not_later : (place j : ℕ) (o : Option (List ℕ)) → place < j → has_label (label_of place o) j ≡ false
+not_later place j None h = refl
+not_later place j (Some name) h = other_number place j h
 
-  typed_well : (wanted : IlType) (n : ℤ) (bool within : Bool) → is_within (low_of wanted) (high_of wanted) n ≡ within → (x : resolved.Source) → (if not bool && within then Ok (resolved.Constant (record { kind = wanted; number = n })) else Err kind.LiteralType) ≡ Ok x → IsSource p x
-  typed_well wanted n false true e x f = let g : resolved.Constant (record { kind = wanted; number = n }) ≡ x = cc in subst (IsSource p) g e
-  typed_well wanted n false false e x f = cc
-  typed_well wanted n true within e x f = cc
+here_labelled : (place : ℕ) (o : Option (List ℕ)) → Has o → has_label (label_of place o) place ≡ true
+here_labelled place None h = absurd h
+here_labelled place (Some name) h = same_number place
 
-  source_well : (wanted : IlType) (operand : Operand) (x : resolved.Source) → source_of variables wanted operand ≡ Ok x → IsSource p x
-  source_well wanted (Named name) x e = named_well name (place_of variables name) refl x e
-  source_well wanted (Number n) x e = typed_well wanted n (is_bool wanted) (is_within (low_of wanted) (high_of wanted) n) refl x e
+-- the lines before a place: no label of it or behind it stands there, and each before it does
+record IsBefore (g : Scope) (place : ℕ) (earlier : List Line) : Type 0 where
+  later : (j : ℕ) → place ≤ j → stands j earlier ≡ false
+  each : (j : ℕ) → j < place → HasLabel (slice_get g.statements j) → stands j earlier ≡ true
 
-  store_well : (negated : Bool) (name : List ℕ) (o : Option ℕ) → place_of variables name ≡ o → (earlier : List Line) (a : resolved.Action) → (ok_or (option_map resolved.InVariable o) kind.UnknownName >>= λ place. Ok (resolved.Store negated place)) ≡ Ok a → IsAction p earlier (Some a)
-  store_well negated name None e earlier a f = cc
-  store_well negated name (Some i) e earlier a f = let g : resolved.Store negated (resolved.InVariable i) ≡ a = cc in subst (λ (b : resolved.Action). IsAction p earlier (Some b)) g (known name i e)
+or_false : (a b : Bool) → a ≡ false → b ≡ false → (a || b) ≡ false
+or_false a b h k = ap (λ x. x || b) h ∙ k
 
-  action_well : (wanted : IlType) (action : Action) (earlier : List Line) (a : resolved.Action) → resolved_action variables wanted action ≡ Ok a → IsAction p earlier (Some a)
-  action_well wanted (action.Compute (simple.Load negated operand)) earlier a e =
-      let t = bind_ok (resolved_simple variables wanted (simple.Load negated operand)) (λ t. Ok (resolved.Compute t)) a e in
-      let x = bind_ok (source_of variables wanted operand) (λ x. Ok (resolved.Load negated x)) t.0 t.1 in
-      let u : resolved.Load negated x.0 ≡ t.0 = cc in
-      let v : resolved.Compute t.0 ≡ a = cc in
-      let g : resolved.Compute (resolved.Load negated x.0) ≡ a = ap resolved.Compute u ∙ v in
-      subst (λ (b : resolved.Action). IsAction p earlier (Some b)) g (source_well wanted operand x.0 x.1, omega arith)
-  action_well wanted (action.Compute (simple.Apply o negated operand)) earlier a e =
-      let t = bind_ok (resolved_simple variables wanted (simple.Apply o negated operand)) (λ t. Ok (resolved.Compute t)) a e in
-      let x = bind_ok (source_of variables wanted operand) (λ x. Ok (resolved.Apply o negated x)) t.0 t.1 in
-      let u : resolved.Apply o negated x.0 ≡ t.0 = cc in
-      let v : resolved.Compute t.0 ≡ a = cc in
-      let g : resolved.Compute (resolved.Apply o negated x.0) ≡ a = ap resolved.Compute u ∙ v in
-      subst (λ (b : resolved.Action). IsAction p earlier (Some b)) g (source_well wanted operand x.0 x.1, omega arith)
-  action_well wanted (action.Store negated name) earlier a e = store_well negated name (place_of variables name) refl earlier a e
+or_left : (a b : Bool) → a ≡ true → (a || b) ≡ true
+or_left a b h = ap (λ x. x || b) h
 
-  -- the lines of a body, by those before them
-  lines_well : (running : Option IlType) (ss : List Statement) (earlier : List Line) (ls : List Located) → resolved_lines variables running ss ≡ Ok ls → AreLines p earlier (map line_of ls)
-  lines_well running [] earlier ls e = let g : [] ≡ ls = cc in subst (λ (ls : List Located). AreLines p earlier (map line_of ls)) g tt
-  lines_well running (s ∷ ss) earlier ls e =
-      let wanted = wanted_type variables running ss s.action in
-      let after = running_after variables wanted running s.action in
-      let x = bind_ok (at_line s.line (resolved_action variables wanted s.action)) (λ a. resolved_lines variables after ss >>= λ lines. Ok (located s.line a ∷ lines)) ls e in
-      let y = bind_ok (resolved_lines variables after ss) (λ lines. Ok (located s.line x.0 ∷ lines)) ls x.2 in
-      let a = at_line_ok s.line (resolved_action variables wanted s.action) x.0 x.1 in
-      let l = located s.line x.0 in
-      let g : l ∷ y.0 ≡ ls = cc in
-      subst (λ (ls : List Located). AreLines p earlier (map line_of ls)) g
-      (action_well wanted s.action (line_of l ∷ earlier) x.0 a, lines_well after ss (line_of l ∷ earlier) y.0 y.1)
+or_right : (a b : Bool) → b ≡ true → (a || b) ≡ true
+or_right true b h = refl
+or_right false b h = h
 
--- The size of the code.
+module _ (g : Scope) where
+  -- a line is added
+  longer : (place : ℕ) (earlier : List Line) (line : Line) (s : Statement) → line.label ≡ label_of place s.label → slice_get g.statements place ≡ Some s → IsBefore g place earlier → IsBefore g (place + 1) (line ∷ earlier)
+  longer place earlier line s e at before = record {
+    later = λ j h. or_false (has_label line.label j) (stands j earlier) (ap (λ l. has_label l j) e ∙ not_later place j s.label (omega (arith, h))) (before.later j (omega (arith, h)));
+    each = λ j h t. either j (le-cases j h) t;
+  }
+    where
+      le-cases : (j : ℕ) → j < place + 1 → (j < place) ⊎ (j ≡ place)
+      le-cases j h = ⊎_elim (λ k. inl k) (λ k. inr (omega (arith, h, k))) (below j place)
+        where
+          below : (a b : ℕ) → (a < b) ⊎ (b ≤ a)
+          below a zero = inr (omega arith)
+          below zero (suc b) = inl (omega arith)
+          below (suc a) (suc b) = ⊎_elim (λ k. inl (omega (arith, k))) (λ k. inr (omega (arith, k))) (below a b)
 
-bounded_ok : (line a b : ℕ) (fits : Bool) → nat_le a most_code ≡ fits → (if fits then Ok a else Err (too_long line)) ≡ Ok b → (a ≡ b) × (a ≤ 65535)
-bounded_ok line a b true e f = (cc, leb-true a most_code e)
-bounded_ok line a b false e f = cc
+      now : (j : ℕ) → j ≡ place → HasLabel (slice_get g.statements j) → has_label line.label j ≡ true
+      now j q t =
+          let u : HasLabel (slice_get g.statements place) = subst (λ (k : ℕ). HasLabel (slice_get g.statements k)) q t in
+          let v : Has s.label = subst HasLabel at u in
+          ap (λ l. has_label l j) e ∙ ap (λ k. has_label (label_of place s.label) k) q ∙ here_labelled place s.label v
 
--- the address behind the code of the lines, wherever labels stand
-measured_ok : (end_line a : ℕ) (ls : List Located) (size : ℕ) (address : ℕ → ℕ) → measured end_line a ls ≡ Ok size → (past a (lines_code address (map line_of ls)) ≡ size) × (size ≤ 65535)
-measured_ok end_line a [] size address e = let h = bounded_ok end_line (a + 1) size (nat_le (a + 1) most_code) refl e in (h.0, omega (arith, h.0, h.1))
-measured_ok end_line a (l ∷ ls) size address e =
-    let c = action_code (λ label. 0) l.resolved.action in
-    let b = bind_ok (bounded l.line (past a c)) (λ b. measured end_line b ls) size e in
-    let h = bounded_ok l.line (past a c) b.0 (nat_le (past a c) most_code) refl b.1 in
-    let r = measured_ok end_line b.0 ls size address b.2 in
-    let rest = lines_code address (map line_of ls) in
-    let at_next : past a (action_code address l.resolved.action) ≡ b.0 = same_size address l.resolved.action a ∙ h.0 in
-    (past_append a (action_code address l.resolved.action) rest ∙ ap (λ n. past n rest) at_next ∙ r.0, r.1)
+      either : (j : ℕ) → (j < place) ⊎ (j ≡ place) → HasLabel (slice_get g.statements j) → stands j (line ∷ earlier) ≡ true
+      either j (inl h) t = or_right (has_label line.label j) (stands j earlier) (before.each j h t)
+      either j (inr q) t = or_left (has_label line.label j) (stands j earlier) (now j q t)
+
+  -- Jumps.
+
+  targeted : (label : List ℕ) (j : ℕ) → label_place g label ≡ Some j → (target g label ≡ j) × HasLabel (slice_get g.statements j)
+  targeted label j e = (ap (λ o. unwrap_or o 0) e, labelled label g.statements j e)
+
+  jump_well : (place : ℕ) (earlier : List Line) → IsBefore g (place + 1) earlier → (label : List ℕ) (o : Option ℕ) → label_place g label ≡ o → jump_fault place None o ≡ None → stands (target g label) earlier ≡ false
+  jump_well place earlier before label None e f = cc
+  jump_well place earlier before label (Some j) e f =
+      let t = targeted label j e in
+      let h = leb-true (place + 1) j (unless_none (nat_le (place + 1) j) kind.BackwardJump f) in
+      ap (λ k. stands k earlier) t.0 ∙ before.later j h
+
+  repeat_well : (place : ℕ) (earlier : List Line) → IsBefore g (place + 1) earlier → (label : List ℕ) (turns : ℕ) (o : Option ℕ) → label_place g label ≡ o → jump_fault place (Some turns) o ≡ None → (stands (target g label) earlier ≡ true) × (is_count turns ≡ true)
+  repeat_well place earlier before label turns None e f = cc
+  repeat_well place earlier before label turns (Some j) e f =
+      let t = targeted label j e in
+      let n = lowest_none (unless (is_count turns) kind.LiteralType) (unless (nat_le j place) kind.ForwardLoop) f in
+      let h = leb-true j place (unless_none (nat_le j place) kind.ForwardLoop n.1) in
+      (ap (λ k. stands k earlier) t.0 ∙ before.each j (omega (arith, h)) t.1, unless_none (is_count turns) kind.LiteralType n.0)
+
+  -- Lines.
+
+  count_within : (turns : ℕ) → is_count turns ≡ true → (0 < turns) × (turns < 256)
+  count_within turns e =
+      let b = both (nat_le 1 turns) (nat_le turns 255) e in
+      (omega (arith, leb-true 1 turns b.0), omega (arith, leb-true turns 255 b.1))
+
+  abbrev limits : List ℕ
+  limits = limits_of g.statements
+
+  line_well : (place counter : ℕ) (running : Option IlType) (rest : List Statement) (line : ℕ) (earlier : List Line) (a : Option Action)
+      → IsBefore g (place + 1) earlier → ((k : ℕ) → slice_get limits (counter + k) ≡ slice_get (turns_of a ++ limits_of rest) k)
+      → is_action_within a ≡ true → checked_line g place running rest line a ≡ Ok tt
+      → IsAction (program_of g) earlier (option_map (resolved_action g counter running rest) a)
+  line_well place counter running rest line earlier None before counts shallow e = tt
+  line_well place counter running rest line earlier (Some (action.Compute s)) before counts shallow e =
+      let loaded = loaded_type g rest in
+      (simple_well g line running loaded (written s) e, omega (arith, simple_depth g running loaded (written s) 100 shallow))
+  line_well place counter running rest line earlier (Some (action.Store n name)) before counts shallow e =
+      store_well g (known_as g name) (known_there g name) (at_line_ok line (store_fault g (known_as g name)) e)
+  line_well place counter running rest line earlier (Some (action.Set v name)) before counts shallow e =
+      store_well g (known_as g name) (known_there g name) (at_line_ok line (store_fault g (known_as g name)) e)
+  line_well place counter running rest line earlier (Some (action.Jump c label None)) before counts shallow e =
+      jump_well place earlier before label (label_place g label) refl (at_line_ok line (jump_fault place None (label_place g label)) e)
+  line_well place counter running rest line earlier (Some (action.Jump c label (Some turns))) before counts shallow e =
+      let r = repeat_well place earlier before label turns (label_place g label) refl (at_line_ok line (jump_fault place (Some turns) (label_place g label)) e) in
+      let n = count_within turns r.1 in
+      let same : counter + 0 ≡ counter = omega arith in
+      (r.0, record { listed = ap (λ k. slice_get limits k) (sym same) ∙ counts 0; some = n.0; few = n.1 })
+  line_well place counter running rest line earlier (Some (action.Return c)) before counts shallow e = tt
+
+  later_count : (xs ys : List ℕ) (k n : ℕ) → n ≡ length xs + k → slice_get (xs ++ ys) n ≡ slice_get ys k
+  later_count [] ys k n e = let q : n ≡ k = omega (arith, e) in ap (λ m. slice_get ys m) q
+  later_count (x ∷ xs) ys k zero e = absurd (omega (arith, e))
+  later_count (x ∷ xs) ys k (suc n) e = later_count xs ys k n (omega (arith, e))
+
+  if_ok : (b : Bool) (x : Result (Unit {0}) AsmFault) (f : AsmFault) → (if b then x else Err f) ≡ Ok tt → (b ≡ true) × (x ≡ Ok tt)
+  if_ok true x f e = (refl, e)
+  if_ok false x f e = cc
+
+  lines_well : (place counter : ℕ) (running : Option IlType) (ss : List Statement) (earlier : List Line)
+      → IsBefore g place earlier → ((k : ℕ) → slice_get g.statements (place + k) ≡ slice_get ss k) → ((k : ℕ) → slice_get limits (counter + k) ≡ slice_get (limits_of ss) k)
+      → nested ss ≡ Ok tt → checked_lines g place running ss ≡ Ok tt
+      → AreLines (program_of g) earlier (resolved_lines g place counter running ss)
+  lines_well place counter running [] earlier before here counts shallow e = tt
+  lines_well place counter running (s ∷ ss) earlier before here counts shallow e =
+      let after = type_after_line g running ss s.action in
+      let next = counter + length (turns_of s.action) in
+      let line = resolved_line g place counter running ss s in
+      let d = if_ok (is_action_within s.action) (nested ss) (too_long s.line) shallow in
+      let c = first_ok (checked_line g place running ss s.line s.action) (checked_lines g (place + 1) after ss) e in
+      let zero_more : place + 0 ≡ place = omega arith in
+      let at : slice_get g.statements place ≡ Some s = ap (λ k. slice_get g.statements k) (sym zero_more) ∙ here 0 in
+      let now = longer place earlier line s refl at before in
+      let here_next : (k : ℕ) → slice_get g.statements ((place + 1) + k) ≡ slice_get ss k = λ k. (let q : (place + 1) + k ≡ place + suc k = omega arith in ap (λ n. slice_get g.statements n) q ∙ here (suc k)) in
+      let counts_next : (k : ℕ) → slice_get limits (next + k) ≡ slice_get (limits_of ss) k = λ k. (let q : next + k ≡ counter + (length (turns_of s.action) + k) = omega arith in ap (λ n. slice_get limits n) q ∙ counts (length (turns_of s.action) + k) ∙ later_count (turns_of s.action) (limits_of ss) k (length (turns_of s.action) + k) refl) in (
+        line_well place counter running ss s.line (line ∷ earlier) s.action now counts d.0 c.0,
+        lines_well (place + 1) next after ss (line ∷ earlier) now here_next counts_next d.1 c.1,
+      )
+
+  -- Sizes.
+
+  -- the address behind a line's code, wherever labels stand
+  behind_is : (address : ℕ → ℕ) (a : ℕ) (act : Option resolved.Action) → past a (action_code address act) ≡ behind a act
+  behind_is address a act = same_size address act a ∙ sym (long_as_past (action_code (λ label. 0) act) a)
+
+  measured_ok : (end_line a place counter : ℕ) (running : Option IlType) (ss : List Statement) (address : ℕ → ℕ) → counter ≤ 256 → measured g end_line a counter running ss ≡ Ok tt
+      → (past a (lines_code address (resolved_lines g place counter running ss)) ≤ 65535) × (counter + length (limits_of ss) ≤ 256)
+  measured_ok end_line a place counter running [] address few e =
+      let h = leb-true (a + 1) most_code (if_ok (nat_le (a + 1) most_code) (Ok tt) (too_long end_line) e).0 in
+      (omega (arith, h), omega (arith, few))
+  measured_ok end_line a place counter running (s ∷ ss) address few e =
+      let act = option_map (resolved_action g counter running ss) s.action in
+      let next = counter + length (turns_of s.action) in
+      let after = type_after_line g running ss s.action in
+      let b = behind a act in
+      let x = if_ok (nat_le next most_counted && nat_le b most_code) (measured g end_line b next after ss) (too_long s.line) e in
+      let y = both (nat_le next most_counted) (nat_le b most_code) x.0 in
+      let r = measured_ok end_line b (place + 1) next after ss address (leb-true next most_counted y.0) x.1 in
+      let rest = lines_code address (resolved_lines g (place + 1) next after ss) in
+      let q : past a (action_code address act ++ rest) ≡ past b rest = past_append a (action_code address act) rest ∙ ap (λ n. past n rest) (behind_is address a act) in
+      (omega (arith, q, r.0), omega (arith, r.1, length-append (turns_of s.action) (limits_of ss)))
+
+  -- Addresses.
+
+  address_found : (a place counter : ℕ) (running : Option IlType) (ss : List Statement) (k : ℕ) → HasLabel (slice_get ss k)
+      → label_address (resolved_lines g place counter running ss) a (place + k) ≡ address_in (addresses_of g a counter running ss) k
+  address_found a place counter running [] k h = absurd h
+  address_found a place counter running (s ∷ ss) zero h =
+      let q : place + 0 ≡ place = omega arith in
+      let next = label_address (resolved_lines g (place + 1) (counter + length (turns_of s.action)) (type_after_line g running ss s.action) ss) (past a (action_code (λ l. 0) (option_map (resolved_action g counter running ss) s.action))) in
+      ap (λ n. if has_label (label_of place s.label) n then a else next n) q ∙ ap (λ b. if b then a else next place) (here_labelled place s.label h)
+  address_found a place counter running (s ∷ ss) (suc k) h =
+      let act = option_map (resolved_action g counter running ss) s.action in
+      let next = counter + length (turns_of s.action) in
+      let after = type_after_line g running ss s.action in
+      let lines = resolved_lines g (place + 1) next after ss in
+      let q : place + suc k ≡ (place + 1) + k = omega arith in
+      ap (λ b. if b then a else label_address lines (past a (action_code (λ l. 0) act)) (place + suc k)) (not_later place (place + suc k) s.label (omega arith))
+      ∙ ap (λ n. label_address lines (past a (action_code (λ l. 0) act)) n) q
+      ∙ ap (λ n. label_address lines n ((place + 1) + k)) (behind_is (λ l. 0) a act)
+      ∙ address_found (behind a act) (place + 1) next after ss k h
+
+  -- the code of a line, where addresses are alike at each label
+  line_same : (A B : ℕ → ℕ) → ((j : ℕ) → HasLabel (slice_get g.statements j) → A j ≡ B j) → (place counter : ℕ) (running : Option IlType) (rest : List Statement) (line : ℕ) (a : Option Action) → checked_line g place running rest line a ≡ Ok tt
+      → action_code A (option_map (resolved_action g counter running rest) a) ≡ action_code B (option_map (resolved_action g counter running rest) a)
+  line_same A B same place counter running rest line None e = refl
+  line_same A B same place counter running rest line (Some (action.Compute s)) e = refl
+  line_same A B same place counter running rest line (Some (action.Store n name)) e = refl
+  line_same A B same place counter running rest line (Some (action.Set v name)) e = refl
+  line_same A B same place counter running rest line (Some (action.Jump c label None)) e =
+      ap (λ n. does.Jump c n ∷ []) (at_label label (label_place g label) refl (at_line_ok line (jump_fault place None (label_place g label)) e))
+    where
+      at_label : (label : List ℕ) (o : Option ℕ) → label_place g label ≡ o → jump_fault place None o ≡ None → A (target g label) ≡ B (target g label)
+      at_label label None q f = cc
+      at_label label (Some j) q f = let t = targeted label j q in ap A t.0 ∙ same j t.1 ∙ sym (ap B t.0)
+  line_same A B same place counter running rest line (Some (action.Jump c label (Some turns))) e =
+      ap (λ n. does.Repeat c counter turns n ∷ []) (at_label label (label_place g label) refl (at_line_ok line (jump_fault place (Some turns) (label_place g label)) e))
+    where
+      at_label : (label : List ℕ) (o : Option ℕ) → label_place g label ≡ o → jump_fault place (Some turns) o ≡ None → A (target g label) ≡ B (target g label)
+      at_label label None q f = cc
+      at_label label (Some j) q f = let t = targeted label j q in ap A t.0 ∙ same j t.1 ∙ sym (ap B t.0)
+  line_same A B same place counter running rest line (Some (action.Return c)) e = refl
+
+  lines_same : (A B : ℕ → ℕ) → ((j : ℕ) → HasLabel (slice_get g.statements j) → A j ≡ B j) → (place counter : ℕ) (running : Option IlType) (ss : List Statement) → checked_lines g place running ss ≡ Ok tt
+      → lines_code A (resolved_lines g place counter running ss) ≡ lines_code B (resolved_lines g place counter running ss)
+  lines_same A B same place counter running [] e = refl
+  lines_same A B same place counter running (s ∷ ss) e =
+      let after = type_after_line g running ss s.action in
+      let next = counter + length (turns_of s.action) in
+      let act = option_map (resolved_action g counter running ss) s.action in
+      let c = first_ok (checked_line g place running ss s.line s.action) (checked_lines g (place + 1) after ss) e in
+      ap (λ front. front ++ lines_code A (resolved_lines g (place + 1) next after ss)) (line_same A B same place counter running ss s.line s.action c.0)
+      ∙ ap (λ back. action_code B act ++ back) (lines_same A B same (place + 1) next after ss c.1)
+
+  pub code_same : checked_lines g 0 None g.statements ≡ Ok tt → lines_code (address_in (addresses_of g 0 0 None g.statements)) (resolved_lines g 0 0 None g.statements) ≡ code_of_program (program_of g)
+  code_same e = lines_same (address_in (addresses_of g 0 0 None g.statements)) (label_address (resolved_lines g 0 0 None g.statements) 0) (λ j h. sym (address_found 0 0 0 None g.statements j h) ∙ (let q : 0 + j ≡ j = omega arith in ap (label_address (resolved_lines g 0 0 None g.statements) 0) q)) 0 0 None g.statements e
 
 -- Declared ranges.
-
-both : (a b : Bool) → IsTrue (a && b) → IsTrue a × IsTrue b
-both true b h = (refl, h)
-both false b h = absurd (true≢false (sym h))
 
 both_true : (a b : Bool) → IsTrue a → IsTrue b → (a && b) ≡ true
 both_true true b h k = k
@@ -169,6 +313,11 @@ pub starts_are_in_range : StartsAreInRange
 starts_are_in_range [] = tt
 starts_are_in_range (v ∷ vs) = let r = ranged v in (both_true _ _ r.start_low r.start_high, starts_are_in_range vs)
 
+all_declared : (ds : List Var) → All IsDeclared ds
+all_declared [] k d l = absurd (omega arith)
+all_declared (v ∷ vs) zero d l = declared v
+all_declared (v ∷ vs) (suc k) d l = all_declared vs k d (omega arith)
+
 -- The whole program.
 
 none_past : {A : Type 0} (xs : List A) (k : ℕ) → slice_get xs k ≡ None → length xs ≤ k
@@ -176,51 +325,68 @@ none_past [] k e = omega arith
 none_past (x ∷ xs) zero e = cc
 none_past (x ∷ xs) (suc k) e = omega (arith, none_past xs k e)
 
-no_extra : (o : Option Variable) (done : Unit {0}) → unless_extra o ≡ Ok done → o ≡ None
-no_extra None done e = refl
-no_extra (Some v) done e = cc
+no_variable : (o : Option Variable) → unless_variable o ≡ Ok tt → o ≡ None
+no_variable None e = refl
+no_variable (Some v) e = cc
 
-counted_ok : (variables : List Variable) (done : Unit {0}) → counted variables ≡ Ok done → length variables ≤ 1024
-counted_ok variables done e = none_past variables 1024 (no_extra (slice_get variables most_variables) done e)
+no_external : (o : Option External) → unless_external o ≡ Ok tt → o ≡ None
+no_external None e = refl
+no_external (Some v) e = cc
 
-all_declared : (ds : List Var) → All IsDeclared ds
-all_declared [] k d l = absurd (omega arith)
-all_declared (v ∷ vs) zero d l = declared v
-all_declared (v ∷ vs) (suc k) d l = all_declared vs k d (omega arith)
+pub few_variables : (vs : List Variable) → unless_variable (slice_get vs most_names) ≡ Ok tt → length vs ≤ 1024
+few_variables vs e = none_past vs 1024 (no_variable (slice_get vs most_names) e)
+
+pub few_externals : (es : List External) → unless_external (slice_get es most_names) ≡ Ok tt → length es ≤ 1024
+few_externals es e = none_past es 1024 (no_external (slice_get es most_names) e)
+
+pub fewer_tags : (es : List External) (us : List (Option Bool)) → length (tags_of es us) ≤ length es
+fewer_tags [] us = omega arith
+fewer_tags (e ∷ es) [] = omega arith
+fewer_tags (e ∷ es) (None ∷ us) = omega (arith, fewer_tags es us)
+fewer_tags (e ∷ es) (Some stored ∷ us) = omega (arith, fewer_tags es us)
 
 -- the parts of an elaboration
-pub record IsElaborated (tree : Tree) (p : Program) : Type 0 where
-  pub lines : List Located
-  pub size : ℕ
-  pub few : length tree.variables ≤ 1024
-  pub resolved : resolved_lines tree.variables None tree.statements ≡ Ok lines
-  pub short : measured tree.end_line 0 lines ≡ Ok size
-  pub is : program_of tree.variables lines ≡ p
+pub record IsElaborated (t : Tree) : Type 0 where
+  pub variables : unless_variable (slice_get t.variables most_names) ≡ Ok tt
+  pub externals : unless_external (slice_get t.externals most_names) ≡ Ok tt
+  pub shallow : nested t.statements ≡ Ok tt
+  pub checked : checked_lines (scope_of t) 0 None t.statements ≡ Ok tt
+  pub short : measured (scope_of t) t.end_line 0 0 None t.statements ≡ Ok tt
 
-pub parts : (tree : Tree) (p : Program) → elaborated tree ≡ Ok p → IsElaborated tree p
-parts tree p e =
-    let a = bind_ok (counted tree.variables) (λ _. resolved_lines tree.variables None tree.statements >>= λ lines. measured tree.end_line 0 lines >>= λ size. Ok (program_of tree.variables lines)) p e in
-    let b = bind_ok (resolved_lines tree.variables None tree.statements) (λ lines. measured tree.end_line 0 lines >>= λ size. Ok (program_of tree.variables lines)) p a.2 in
-    let c = bind_ok (measured tree.end_line 0 b.0) (λ size. Ok (program_of tree.variables b.0)) p b.2 in
-    record { lines = b.0; size = c.0; few = counted_ok tree.variables a.0 a.1; resolved = b.1; short = c.1; is = cc }
+bind_ok : {A B E : Type 0} (x : Result A E) (f : A → Result B E) (b : B) → (x >>= f) ≡ Ok b → (a : A) × (x ≡ Ok a) × (f a ≡ Ok b)
+bind_ok (Ok a) f b e = (a, refl, e)
+bind_ok (Err fault) f b e = cc
 
-well : (tree : Tree) (lines : List Located) (size : ℕ) → length tree.variables ≤ 1024 → resolved_lines tree.variables None tree.statements ≡ Ok lines → measured tree.end_line 0 lines ≡ Ok size → IsWell (program_of tree.variables lines)
-well tree lines size few resolved short =
-    let p = program_of tree.variables lines in
-    let m = measured_ok tree.end_line 0 lines size (label_address p.body 0) short in
+pub parts : (t : Tree) (p : Program) → elaborated t ≡ Ok p → IsElaborated t × (program_of (scope_of t) ≡ p)
+parts t p e =
+    let g = scope_of t in
+    let a = bind_ok (counted t.variables t.externals t.statements) (λ _. checked_lines g 0 None t.statements >>= λ _. measured g t.end_line 0 0 None t.statements >>= λ _. Ok (program_of g)) p e in
+    let b = bind_ok (checked_lines g 0 None t.statements) (λ _. measured g t.end_line 0 0 None t.statements >>= λ _. Ok (program_of g)) p a.2 in
+    let c = bind_ok (measured g t.end_line 0 0 None t.statements) (λ _. Ok (program_of g)) p b.2 in
+    let d = first_ok (unless_variable (slice_get t.variables most_names)) (unless_external (slice_get t.externals most_names) >>= λ _. nested t.statements) a.1 in
+    let f = first_ok (unless_external (slice_get t.externals most_names)) (nested t.statements) d.1 in
+    (record { variables = d.0; externals = f.0; shallow = f.1; checked = b.1; short = c.1 }, cc)
+
+from_start : {A : Type 0} (xs : List A) (k : ℕ) → slice_get xs (0 + k) ≡ slice_get xs k
+from_start xs k = let q : 0 + k ≡ k = omega arith in ap (λ n. slice_get xs n) q
+
+pub well : (t : Tree) → IsElaborated t → IsWell (program_of (scope_of t))
+well t x =
+    let g = scope_of t in
+    let p = program_of g in
+    let m = measured_ok g t.end_line 0 0 0 None t.statements (label_address p.body 0) (omega arith) x.short in
+    let nothing : IsBefore g 0 [] = record { later = λ j h. refl; each = λ j h k. absurd (omega (arith, h)) } in
     record {
       declared = all_declared p.variables;
-      lines = lines_well tree.variables p refl None tree.statements [] lines resolved;
-      few_variables = omega (arith, length-map tree.variables declared_var);
-      few_tags = omega arith;
-      few_limits = omega arith;
-      short = omega (arith, m.0, m.1);
+      lines = lines_well g 0 0 None t.statements [] nothing (λ k. from_start t.statements k) (λ k. from_start (limits_of t.statements) k) x.shallow x.checked;
+      few_variables = omega (arith, length-map t.variables declared_var, few_variables t.variables x.variables);
+      few_tags = omega (arith, fewer_tags t.externals g.uses, few_externals t.externals x.externals);
+      few_limits = omega (arith, m.1);
+      short = omega (arith, m.0);
     }
 
 pub what_elaborates_is_well : WhatElaboratesIsWell
-what_elaborates_is_well tree p e =
-    let x = parts tree p e in
-    subst IsWell x.is (well tree x.lines x.size x.few x.resolved x.short)
+what_elaborates_is_well t p e = let x = parts t p e in subst IsWell x.1 (well t x.0)
 
 -- the image of a well-formed program does what it means
 does_what_it_means : (p : Program) → IsWell p → DoesWhatItMeans p (image_of p)
@@ -231,114 +397,48 @@ does_what_it_means p well = record {
   each_end = λ readings variables reads ranges. each_end_is_the_meaning p readings variables well reads ranges;
 }
 
+elaborates : (t : Tree) → IsElaborated t → elaborated t ≡ Ok (program_of (scope_of t))
+elaborates t x =
+    let g = scope_of t in
+    ap (λ r. (r >>= λ _. unless_external (slice_get t.externals most_names) >>= λ _. nested t.statements) >>= λ _. checked_lines g 0 None t.statements >>= λ _. measured g t.end_line 0 0 None t.statements >>= λ _. Ok (program_of g)) x.variables
+    ∙ ap (λ r. (r >>= λ _. nested t.statements) >>= λ _. checked_lines g 0 None t.statements >>= λ _. measured g t.end_line 0 0 None t.statements >>= λ _. Ok (program_of g)) x.externals
+    ∙ ap (λ r. r >>= λ _. checked_lines g 0 None t.statements >>= λ _. measured g t.end_line 0 0 None t.statements >>= λ _. Ok (program_of g)) x.shallow
+    ∙ ap (λ r. r >>= λ _. measured g t.end_line 0 0 None t.statements >>= λ _. Ok (program_of g)) x.checked
+    ∙ ap (λ r. r >>= λ _. Ok (program_of g)) x.short
+
 -- what the passes make is the image
-pub passes_assemble : (tree : Tree) (lines : List Located) (size : ℕ) → counted tree.variables ≡ Ok tt → resolved_lines tree.variables None tree.statements ≡ Ok lines → measured tree.end_line 0 lines ≡ Ok size → (image : Image) → image ≡ image_of (program_of tree.variables lines) → IsAssembled tree image
-passes_assemble tree lines size few resolved short image e =
-    let p = program_of tree.variables lines in
-    let w = well tree lines size (counted_ok tree.variables tt few) resolved short in
+pub passes_assemble : (t : Tree) → IsElaborated t → (image : Image) → image ≡ image_of (program_of (scope_of t)) → IsAssembled t image
+passes_assemble t x image e =
+    let p = program_of (scope_of t) in
+    let w = well t x in
     record {
       program = p;
-      resolved = ap (λ x. x >>= λ _. resolved_lines tree.variables None tree.statements >>= λ lines. measured tree.end_line 0 lines >>= λ size. Ok (program_of tree.variables lines)) few
-          ∙ ap (λ x. x >>= λ lines. measured tree.end_line 0 lines >>= λ size. Ok (program_of tree.variables lines)) resolved
-          ∙ ap (λ x. x >>= λ size. Ok (program_of tree.variables lines)) short;
+      resolved = elaborates t x;
       coded = e;
       right = subst (DoesWhatItMeans p) (sym e) (does_what_it_means p w);
       short = subst (λ (i : Image). length i.code < 65536) (sym e) (code_is_of_bytes p w).1;
     }
 
--- no line of these forms names an address
-no_address : (address : ℕ → ℕ) (lines : List Kept) → lines_code address (map line_of (map meant lines)) ≡ lines_code (λ label. 0) (map line_of (map meant lines))
-no_address address [] = refl
-no_address address (l ∷ ls) = ap (λ front. front ++ lines_code address (map line_of (map meant ls))) (one l.instruction)
-    ∙ ap (λ back. action_code (λ label. 0) (Some (meant_action l.instruction)) ++ back) (no_address address ls)
-  where
-    one : (i : Instruction) → action_code address (Some (meant_action i)) ≡ action_code (λ label. 0) (Some (meant_action i))
-    one (instruction.Load negated x) = refl
-    one (instruction.Apply o negated x) = refl
-    one (instruction.Store negated place) = refl
+pub few_counted : (g : Scope) (end_line : ℕ) (ss : List Statement) → measured g end_line 0 0 None ss ≡ Ok tt → length (limits_of ss) ≤ 256
+few_counted g end_line ss e = let m = measured_ok g end_line 0 0 0 None ss (λ l. 0) (omega arith) e in omega (arith, m.1)
 
-pub image_assembled : (variables : List Variable) (lines : List Kept) (vars : List Var) (tags : List Tag) (code : List ℕ) → vars ≡ map declared_var variables → tags ≡ [] → code ≡ bytes_from lines → record { version = 1; vars = vars; tags = tags; code = code } ≡ image_of (program_of variables (map meant lines))
-image_assembled variables lines vars tags code e f g =
-    let h : code ≡ spelled_all (lines_code (label_address (map line_of (map meant lines)) 0) (map line_of (map meant lines))) = g ∙ sym (ap spelled_all (no_address (label_address (map line_of (map meant lines)) 0) lines)) in
-    λ i. record { version = 1; vars = e i; tags = f i; code = h i }
+-- what a program's lines see, by the uses that were found
+abbrev pub seen_with : Tree → List (Option Bool) → Scope
+seen_with t uses = record { variables = t.variables; externals = t.externals; uses = uses; statements = t.statements }
 
--- Want of memory is no static fault.
+-- what the passes make from the uses of externals and the addresses of lines
+abbrev Made : Tree → List (Option Bool) → Type 0
+Made t uses =
+    checked_lines (seen_with t uses) 0 None t.statements ≡ Ok tt → measured (seen_with t uses) t.end_line 0 0 None t.statements ≡ Ok tt
+    → (addresses : List ℕ) → addresses ≡ addresses_of (seen_with t uses) 0 0 None t.statements
+    → (version : ℕ) (vars : List Var) (tags : List Tag) (code : List ℕ) → version ≡ version_of (limits_of t.statements) → vars ≡ map declared_var t.variables → tags ≡ tags_of t.externals uses
+    → code ≡ spelled_all (lines_code (address_in addresses) (resolved_lines (seen_with t uses) 0 0 None t.statements))
+    → IsAssembled t (record { version = version; vars = vars; tags = tags; code = code })
 
-bind_err : {A B E : Type 0} (x : Result A E) (f : A → Result B E) (e : E) → (x >>= f) ≡ Err e → (x ≡ Err e) ⊎ ((a : A) × (f a ≡ Err e))
-bind_err (Ok a) f e h = inr (a, h)
-bind_err (Err d) f e h = inl (let g : d ≡ e = cc in ap Err g)
-
-abbrev IsStatic : AsmFaultKind → Type 0
-IsStatic k = k ≢ kind.OutOfMemory
-
-static_name : {A : Type 0} (o : Option A) (k : AsmFaultKind) → ok_or o kind.UnknownName ≡ Err k → IsStatic k
-static_name None k e = λ h. cc
-static_name (Some a) k e = cc
-
-static_literal : {A : Type 0} (b : Bool) (a : A) (k : AsmFaultKind) → (if b then Ok a else Err kind.LiteralType) ≡ Err k → IsStatic k
-static_literal true a k e = cc
-static_literal false a k e = λ h. cc
-
-static_source : (variables : List Variable) (wanted : IlType) (operand : Operand) (k : AsmFaultKind) → source_of variables wanted operand ≡ Err k → IsStatic k
-static_source variables wanted (Named name) k e = static_name (option_map resolved.Variable (place_of variables name)) k e
-static_source variables wanted (Number n) k e = static_literal (is_literal_of wanted n) (resolved.Constant (record { kind = wanted; number = n })) k e
-
-once : {A B E : Type 0} (x : Result A E) (f : A → B) (e : E) → (x >>= λ a. Ok (f a)) ≡ Err e → x ≡ Err e
-once (Ok a) f e h = cc
-once (Err d) f e h = let g : d ≡ e = cc in ap Err g
-
-twice : {A B C E : Type 0} (x : Result A E) (f : A → B) (g : B → C) (e : E) → ((x >>= λ a. Ok (f a)) >>= λ b. Ok (g b)) ≡ Err e → x ≡ Err e
-twice x f g e h = once x f e (once (x >>= λ a. Ok (f a)) g e h)
-
-static_action : (variables : List Variable) (wanted : IlType) (action : Action) (k : AsmFaultKind) → resolved_action variables wanted action ≡ Err k → IsStatic k
-static_action variables wanted (action.Compute (simple.Load negated operand)) k e = static_source variables wanted operand k (twice (source_of variables wanted operand) (λ x. resolved.Load negated x) resolved.Compute k e)
-static_action variables wanted (action.Compute (simple.Apply o negated operand)) k e = static_source variables wanted operand k (twice (source_of variables wanted operand) (λ x. resolved.Apply o negated x) resolved.Compute k e)
-static_action variables wanted (action.Store negated name) k e =
-    static_name (option_map resolved.InVariable (place_of variables name)) k (once (ok_or (option_map resolved.InVariable (place_of variables name)) kind.UnknownName) (λ place. resolved.Store negated place) k e)
-
-static_line : {A : Type 0} (line : ℕ) (x : Result A AsmFaultKind) (fault : AsmFault) → ((k : AsmFaultKind) → x ≡ Err k → IsStatic k) → at_line line x ≡ Err fault → IsStatic fault.kind
-static_line line (Ok a) fault h e = cc
-static_line line (Err k) fault h e = let g : record { line = line; kind = k } ≡ fault = cc in subst (λ (f : AsmFault). IsStatic f.kind) g (h k refl)
-
-static_lines : (variables : List Variable) (running : Option IlType) (ss : List Statement) (fault : AsmFault) → resolved_lines variables running ss ≡ Err fault → IsStatic fault.kind
-static_lines variables running [] fault e = cc
-static_lines variables running (s ∷ ss) fault e =
-    let wanted = wanted_type variables running ss s.action in
-    let after = running_after variables wanted running s.action in
-    let one = at_line s.line (resolved_action variables wanted s.action) in
-    ⊎_elim
-    (λ h. static_line s.line (resolved_action variables wanted s.action) fault (static_action variables wanted s.action) h)
-    (λ h. static_lines variables after ss fault (once (resolved_lines variables after ss) (λ lines. located s.line h.0 ∷ lines) fault h.1))
-    (bind_err one (λ a. resolved_lines variables after ss >>= λ lines. Ok (located s.line a ∷ lines)) fault e)
-
-static_length : (line : ℕ) (fault : AsmFault) → too_long line ≡ fault → IsStatic fault.kind
-static_length line fault e = subst (λ (f : AsmFault). IsStatic f.kind) e (λ h. cc)
-
-static_bound : (line a : ℕ) (fits : Bool) (fault : AsmFault) → (if fits then Ok a else Err (too_long line)) ≡ Err fault → IsStatic fault.kind
-static_bound line a true fault e = cc
-static_bound line a false fault e = static_length line fault cc
-
-static_measure : (end_line a : ℕ) (ls : List Located) (fault : AsmFault) → measured end_line a ls ≡ Err fault → IsStatic fault.kind
-static_measure end_line a [] fault e = static_bound end_line (a + 1) (nat_le (a + 1) most_code) fault e
-static_measure end_line a (l ∷ ls) fault e =
-    let b = past a (action_code (λ label. 0) l.resolved.action) in
-    ⊎_elim
-    (λ h. static_bound l.line b (nat_le b most_code) fault h)
-    (λ h. static_measure end_line h.0 ls fault h.1)
-    (bind_err (bounded l.line b) (λ b. measured end_line b ls) fault e)
-
-static_count : (o : Option Variable) (fault : AsmFault) → unless_extra o ≡ Err fault → IsStatic fault.kind
-static_count None fault e = cc
-static_count (Some v) fault e = static_length v.line fault cc
-
-pub static_faults_want_no_memory : StaticFaultsWantNoMemory
-static_faults_want_no_memory tree fault e =
-    let measure : List Located → Result Program AsmFault = λ lines. measured tree.end_line 0 lines >>= λ size. Ok (program_of tree.variables lines) in
-    let lines = resolved_lines tree.variables None tree.statements in
-    ⊎_elim
-    (λ h. static_count (slice_get tree.variables most_variables) fault h)
-    (λ h. ⊎_elim
-    (λ k. static_lines tree.variables None tree.statements fault k)
-    (λ k. static_measure tree.end_line 0 k.0 fault (once (measured tree.end_line 0 k.0) (λ size. program_of tree.variables k.0) fault k.1))
-    (bind_err lines measure fault h.1))
-    (bind_err (counted tree.variables) (λ _. lines >>= measure) fault e)
+pub made : (t : Tree) (uses : List (Option Bool)) → uses ≡ uses_of t.variables t.externals t.statements
+    → unless_variable (slice_get t.variables most_names) ≡ Ok tt → unless_external (slice_get t.externals most_names) ≡ Ok tt → nested t.statements ≡ Ok tt → Made t uses
+made t uses e variables externals shallow =
+    subst (Made t) (sym e) (λ checked short addresses found version vars tags code v w x y.
+    let bytes : code ≡ spelled_all (code_of_program (program_of (scope_of t))) = y ∙ ap (λ ns. spelled_all (lines_code (address_in ns) (resolved_lines (scope_of t) 0 0 None t.statements))) found ∙ ap spelled_all (code_same (scope_of t) checked) in
+    passes_assemble t (record { variables = variables; externals = externals; shallow = shallow; checked = checked; short = short }) (record { version = version; vars = vars; tags = tags; code = code })
+    (λ i. record { version = v i; vars = w i; tags = x i; code = bytes i }))

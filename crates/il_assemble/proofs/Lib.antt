@@ -1,3 +1,5 @@
+pub mod Forms
+pub mod Writing
 pub mod Leads
 pub mod Fetch
 pub mod Simples
@@ -6,7 +8,8 @@ pub mod Actions
 pub mod Lines
 pub mod Bytes
 pub mod Numbers
+pub mod Sound
 pub mod Elaborating
-pub mod Resolving
+pub mod Unstored
 pub mod Working
-pub mod Writing
+pub mod Rules

@@ -6,12 +6,16 @@ use Rattle.il_assemble.specs.Examples.{ExamplesHold}
 pub examples_hold : ExamplesHold
 unfolding no_turns
 examples_hold = record {
-  divide_elaborates = refl;
+  next_gives_the_type = refl;
+  deferred_gives_the_type = refl;
+  presence_is_an_input = refl;
+  name_is_unknown = refl;
+  number_is_no_truth = refl;
+  input_is_no_output = refl;
+  comparison_gives_bool = refl;
   divide_means = refl;
   divide_is_coded = refl;
   divide_runs = refl;
-  name_is_unknown = refl;
-  number_is_no_truth = refl;
   counted_means = refl;
   counted_runs = refl;
   forms_mean = refl;

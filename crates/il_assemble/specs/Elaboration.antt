@@ -1,181 +1,207 @@
 -- From a program as it is written to the resolved program, whose names are places and whose literals have types, or to its first static fault.
 -- IEC 61131-3 (edition 2), 2.2.1 numeric literals, 2.4.1 representation of variables, 3.2 instructions.
-use Rattle.std.specs.Prelude.{ℕ, ◌+◌, Bool, true, false, ◌&&◌, not, ℤ, List, [], ◌∷◌, map, position, if◌then◌else◌, Result, Ok, Err, Option, Some, None, option_map, option_and_then, unwrap_or, slice_get, nat_le}
-use Rattle.std.specs.Option.{ok_or}
-use Rattle.std.specs.Str.{bytes_eq}
+use Rattle.std.specs.Prelude.{ℕ, suc, ◌+◌, Bool, true, false, ◌&&◌, ℤ, List, [], ◌∷◌, ◌++◌, length, map, if◌then◌else◌, Result, Ok, Err, Option, Some, None, option_map, unwrap_or, slice_get, nat_le, ◌-◌}
 use Rattle.point_types.specs.declared.il_type.IlType.{IlType}
 use Rattle.point_types.specs.declared.il_type.IlType.TheVariants as il
-use Rattle.point_types.specs.declared.operator.Operator.{Operator}
-use Rattle.point_types.specs.declared.operator.Operator.TheVariants as op
 use Rattle.point_types.specs.declared.variable.Var.{Var}
-use Rattle.point_types.specs.Value.{low_of, high_of, is_within, is_bool, ◌>>=◌}
+use Rattle.point_types.specs.Value.{truth, ◌>>=◌}
+use Rattle.scan_code.specs.Spelling.{spelled_all}
 use Rattle.il_reader.specs.declared.tree.Program.{Program as Tree}
 use Rattle.il_reader.specs.declared.tree.Variable.{Variable}
+use Rattle.il_reader.specs.declared.tree.External.{External}
 use Rattle.il_reader.specs.declared.tree.Statement.{Statement}
 use Rattle.il_reader.specs.declared.tree.Action.{Action}
 use Rattle.il_reader.specs.declared.tree.Action.TheVariants as action
-use Rattle.il_reader.specs.declared.tree.Simple.{Simple}
-use Rattle.il_reader.specs.declared.tree.Simple.TheVariants as simple
 use Rattle.il_reader.specs.declared.tree.Operand.{Operand}
-use Rattle.il_reader.specs.declared.tree.Operand.TheVariants.{Named, Number}
+use Rattle.il_reader.specs.declared.tree.Operand.TheVariants.{Named, Truth, Number, Typed}
 use Rattle.il_assemble.specs.declared.fault.AsmFault.{AsmFault}
 use Rattle.il_assemble.specs.declared.fault.AsmFaultKind.{AsmFaultKind}
 use Rattle.il_assemble.specs.declared.fault.AsmFaultKind.TheVariants as kind
+use Rattle.il_assemble.specs.declared.names.Known.{Known}
+use Rattle.il_assemble.specs.declared.names.Known.TheVariants as known
 use Rattle.il_assemble.specs.Meaning.{Program, Line, Source, Place}
 use Rattle.il_assemble.specs.Meaning as resolved
-use Rattle.il_assemble.specs.Code.{action_code, past}
+use Rattle.il_assemble.specs.Code.{action_code}
+use Rattle.il_assemble.specs.Limit.{most_names, most_nested, most_counted, most_code}
+use Rattle.il_assemble.specs.Names.{Scope, known_as, tag_place, tags_of, uses_of}
+use Rattle.il_assemble.specs.Typing.{or_dint, type_beside, whole_type, loaded_type, loaded_inner_type, type_after, type_inside, type_after_line}
+use Rattle.il_assemble.specs.StaticFault.{label_place, checked_lines}
+use Rattle.il_assemble.specs.Written.{Written, Load, Apply, Defer, Limit, Select, Invert, Absolute, Convert, Inner, Close, Then, written}
 
--- a fault of a line
-abbrev pub at_line : {A : Type 0} → ℕ → Result A AsmFaultKind → Result A AsmFault
-at_line line (Ok a) = Ok a
-at_line line (Err kind) = Err (record { line = line; kind = kind })
+-- Each instruction resolves to one; where a fault holds, to any.
 
--- Names.
+-- where a name's value comes from
+abbrev pub source_known : Scope → Option Known → Source
+source_known g None = resolved.Variable 0
+source_known g (Some (known.Variable i)) = resolved.Variable i
+source_known g (Some (known.External i)) = resolved.Input (tag_place g.uses i)
+source_known g (Some (known.Presence i)) = resolved.Presence (tag_place g.uses i)
 
-abbrev pub is_called : List ℕ → Variable → Bool
-is_called name v = bytes_eq v.var.name name
+-- an operand, where an untyped number takes the type wanted
+abbrev pub source_of : Scope → IlType → Operand → Source
+source_of g wanted (Named name) = source_known g (known_as g name)
+source_of g wanted (Truth b) = resolved.Constant (truth b)
+source_of g wanted (Number n) = resolved.Constant (record { kind = wanted; number = n })
+source_of g wanted (Typed kind n) = resolved.Constant (record { kind = kind; number = n })
 
--- a name's place among the declared variables
-abbrev pub place_of : List Variable → List ℕ → Option ℕ
-place_of variables name = position (is_called name) variables
+-- where a value is stored
+abbrev pub place_known : Scope → Option Known → Place
+place_known g None = resolved.InVariable 0
+place_known g (Some (known.Variable i)) = resolved.InVariable i
+place_known g (Some (known.External i)) = resolved.InOutput (tag_place g.uses i)
+place_known g (Some (known.Presence i)) = resolved.InVariable 0
 
-abbrev pub declared_type : Variable → IlType
-declared_type v = v.var.kind
+abbrev pub first_source : Scope → IlType → Option Operand → Option Source
+first_source g wanted None = None
+first_source g wanted (Some operand) = Some (source_of g wanted operand)
 
--- the type of a known name
-abbrev pub named_type : List Variable → List ℕ → Option IlType
-named_type variables name = option_and_then (λ i. option_map declared_type (slice_get variables i)) (place_of variables name)
+abbrev mutual
+  -- an instruction, by the running type before it and the type of a literal that it loads
+  pub resolved_simple : Scope → Option IlType → IlType → Written → resolved.Simple
+  resolved_simple g running loaded (Load negated operand) = resolved.Load negated (source_of g loaded operand)
+  resolved_simple g running loaded (Apply o negated operand) = resolved.Apply o negated (source_of g (or_dint running) operand)
+  resolved_simple g running loaded (Defer o negated first inner) =
+      resolved.Defer o negated (first_source g (or_dint running) first) (resolved_inner g (type_inside g running first) (whole_type running) inner)
+  resolved_simple g running loaded (Limit input most) = resolved.Limit (source_of g (or_dint running) input) (source_of g (or_dint running) most)
+  resolved_simple g running loaded (Select a b) = resolved.Select (source_of g (type_beside g b) a) (source_of g (type_beside g a) b)
+  resolved_simple g running loaded Invert = resolved.Invert
+  resolved_simple g running loaded Absolute = resolved.Absolute
+  resolved_simple g running loaded (Convert from to) = resolved.Convert from to
 
--- Types of literals.
+  -- the lines inside parentheses; a literal loaded first takes the type that is given where no next instruction gives one, a later one DINT
+  pub resolved_inner : Scope → Option IlType → IlType → Inner → resolved.Inner
+  resolved_inner g running else_type Close = resolved.Close
+  resolved_inner g running else_type (Then line head tail) =
+      resolved.Then (resolved_simple g running (loaded_inner_type g else_type tail) head)
+      (resolved_inner g (type_after g running (loaded_inner_type g else_type tail) head) il.Dint tail)
 
-abbrev pub operand_name : Operand → Option (List ℕ)
-operand_name (Named name) = Some name
-operand_name (Number n) = None
+-- Lines.
 
--- the name that is an instruction's first operand
-abbrev pub first_name : Action → Option (List ℕ)
-first_name (action.Compute (simple.Load negated operand)) = operand_name operand
-first_name (action.Compute (simple.Apply o negated operand)) = operand_name operand
-first_name (action.Store negated name) = Some name
+-- a jump goes to the place of its label's line
+abbrev pub target : Scope → List ℕ → ℕ
+target g label = unwrap_or (label_place g label) 0
 
--- the type of the next instruction's first operand, where that is a known name
-abbrev pub next_type : List Variable → List Statement → Option IlType
-next_type variables [] = None
-next_type variables (s ∷ ss) = option_and_then (named_type variables) (first_name s.action)
+-- where so many counted jumps stand before the line
+abbrev pub resolved_action : Scope → ℕ → Option IlType → List Statement → Action → resolved.Action
+resolved_action g counter running rest (action.Compute simple) = resolved.Compute (resolved_simple g running (loaded_type g rest) (written simple))
+resolved_action g counter running rest (action.Store negated name) = resolved.Store negated (place_known g (known_as g name))
+resolved_action g counter running rest (action.Set value name) = resolved.Set value (place_known g (known_as g name))
+resolved_action g counter running rest (action.Jump condition label None) = resolved.Jump condition (target g label)
+resolved_action g counter running rest (action.Jump condition label (Some turns)) = resolved.Repeat condition (target g label) counter turns
+resolved_action g counter running rest (action.Return condition) = resolved.Return condition
 
--- the type that a literal of an instruction takes: where it is loaded, by the next instruction; else the running type; DINT where there is none
-abbrev pub wanted_type : List Variable → Option IlType → List Statement → Action → IlType
-wanted_type variables running rest (action.Compute (simple.Load negated operand)) = unwrap_or (next_type variables rest) il.Dint
-wanted_type variables running rest (action.Compute (simple.Apply o negated operand)) = unwrap_or running il.Dint
-wanted_type variables running rest (action.Store negated name) = il.Dint
+-- a labelled line has its own place among the lines as its label
+abbrev pub label_of : ℕ → Option (List ℕ) → Option ℕ
+label_of place None = None
+label_of place (Some name) = Some place
 
-abbrev pub operand_type : List Variable → IlType → Operand → IlType
-operand_type variables wanted (Named name) = unwrap_or (named_type variables name) wanted
-operand_type variables wanted (Number n) = wanted
+abbrev pub resolved_line : Scope → ℕ → ℕ → Option IlType → List Statement → Statement → Line
+resolved_line g place counter running rest s = record {
+  label = label_of place s.label;
+  action = option_map (resolved_action g counter running rest) s.action;
+}
 
-abbrev pub is_comparison : Operator → Bool
-is_comparison op.And = false
-is_comparison op.Or = false
-is_comparison op.Xor = false
-is_comparison op.Add = false
-is_comparison op.Sub = false
-is_comparison op.Mul = false
-is_comparison op.Div = false
-is_comparison op.Mod = false
-is_comparison op.Gt = true
-is_comparison op.Ge = true
-is_comparison op.Eq = true
-is_comparison op.Ne = true
-is_comparison op.Le = true
-is_comparison op.Lt = true
-is_comparison op.Min = false
-is_comparison op.Max = false
+-- how often a counted jump is taken at most
+abbrev pub turns_of : Option Action → List ℕ
+turns_of None = []
+turns_of (Some (action.Compute simple)) = []
+turns_of (Some (action.Store negated name)) = []
+turns_of (Some (action.Set value name)) = []
+turns_of (Some (action.Jump condition label None)) = []
+turns_of (Some (action.Jump condition label (Some turns))) = turns ∷ []
+turns_of (Some (action.Return condition)) = []
 
--- the running type behind an instruction: a load has its operand's, a comparison BOOL, all others keep it
-abbrev pub running_after : List Variable → IlType → Option IlType → Action → Option IlType
-running_after variables wanted running (action.Compute (simple.Load negated operand)) = Some (operand_type variables wanted operand)
-running_after variables wanted running (action.Compute (simple.Apply o negated operand)) = if is_comparison o then Some il.Bool else running
-running_after variables wanted running (action.Store negated name) = running
+abbrev pub limits_of : List Statement → List ℕ
+limits_of [] = []
+limits_of (s ∷ ss) = turns_of s.action ++ limits_of ss
 
--- Instructions.
-
--- a number isn't BOOL
-abbrev pub is_literal_of : IlType → ℤ → Bool
-is_literal_of kind n = not (is_bool kind) && is_within (low_of kind) (high_of kind) n
-
-abbrev pub source_of : List Variable → IlType → Operand → Result Source AsmFaultKind
-source_of variables wanted (Named name) = ok_or (option_map resolved.Variable (place_of variables name)) kind.UnknownName
-source_of variables wanted (Number n) =
-    if is_literal_of wanted n then Ok (resolved.Constant (record { kind = wanted; number = n })) else Err kind.LiteralType
-
-abbrev pub resolved_simple : List Variable → IlType → Simple → Result resolved.Simple AsmFaultKind
-resolved_simple variables wanted (simple.Load negated operand) = source_of variables wanted operand >>= λ x. Ok (resolved.Load negated x)
-resolved_simple variables wanted (simple.Apply o negated operand) = source_of variables wanted operand >>= λ x. Ok (resolved.Apply o negated x)
-
-abbrev pub resolved_action : List Variable → IlType → Action → Result resolved.Action AsmFaultKind
-resolved_action variables wanted (action.Compute simple) = resolved_simple variables wanted simple >>= λ t. Ok (resolved.Compute t)
-resolved_action variables wanted (action.Store negated name) =
-    ok_or (option_map resolved.InVariable (place_of variables name)) kind.UnknownName >>= λ place. Ok (resolved.Store negated place)
-
--- a line of the resolved program, and where it stands in the text
-pub record Located : Type 0 where
-  pub line : ℕ
-  pub resolved : Line
-
-abbrev pub located : ℕ → resolved.Action → Located
-located line action = record { line = line; resolved = record { label = None; action = Some action } }
-
--- the first statement at fault gives the fault
-abbrev pub resolved_lines : List Variable → Option IlType → List Statement → Result (List Located) AsmFault
-resolved_lines variables running [] = Ok []
-resolved_lines variables running (s ∷ ss) =
-    let wanted = wanted_type variables running ss s.action in
-    at_line s.line (resolved_action variables wanted s.action)
-    >>= λ action. resolved_lines variables (running_after variables wanted running s.action) ss
-    >>= λ lines. Ok (located s.line action ∷ lines)
+-- the lines, where so many lines and counted jumps stand before them
+abbrev pub resolved_lines : Scope → ℕ → ℕ → Option IlType → List Statement → List Line
+resolved_lines g place counter running [] = []
+resolved_lines g place counter running (s ∷ ss) =
+    resolved_line g place counter running ss s
+    ∷ resolved_lines g (place + 1) (counter + length (turns_of s.action)) (type_after_line g running ss s.action) ss
 
 -- Limits.
-
-abbrev pub most_variables : ℕ
-most_variables = 1024
-
-abbrev pub most_code : ℕ
-most_code = 65535
 
 abbrev pub too_long : ℕ → AsmFault
 too_long line = record { line = line; kind = kind.TooLong }
 
-abbrev pub unless_extra : Option Variable → Result (Unit {0}) AsmFault
-unless_extra None = Ok tt
-unless_extra (Some extra) = Err (too_long extra.line)
+abbrev pub unless_variable : Option Variable → Result (Unit {0}) AsmFault
+unless_variable None = Ok tt
+unless_variable (Some extra) = Err (too_long extra.line)
 
--- a variable more than there may be is at fault, before any instruction
-abbrev pub counted : List Variable → Result (Unit {0}) AsmFault
-counted variables = unless_extra (slice_get variables most_variables)
+abbrev pub unless_external : Option External → Result (Unit {0}) AsmFault
+unless_external None = Ok tt
+unless_external (Some extra) = Err (too_long extra.line)
 
-abbrev pub bounded : ℕ → ℕ → Result ℕ AsmFault
-bounded line address = if nat_le address most_code then Ok address else Err (too_long line)
+-- whether so many parentheses stand in one another at most
+abbrev mutual
+  pub is_nested_within : ℕ → Written → Bool
+  is_nested_within room (Load negated operand) = true
+  is_nested_within room (Apply o negated operand) = true
+  is_nested_within room (Defer o negated first inner) = nat_le 1 room && is_inner_within (room - 1) inner
+  is_nested_within room (Limit input most) = true
+  is_nested_within room (Select a b) = true
+  is_nested_within room Invert = true
+  is_nested_within room Absolute = true
+  is_nested_within room (Convert from to) = true
 
--- the address behind the code of the lines that begins at an address, the last END among it; or the line whose code passes the limit
-abbrev pub measured : ℕ → ℕ → List Located → Result ℕ AsmFault
-measured end_line a [] = bounded end_line (a + 1)
-measured end_line a (l ∷ ls) = bounded l.line (past a (action_code (λ label. 0) l.resolved.action)) >>= λ b. measured end_line b ls
+  pub is_inner_within : ℕ → Inner → Bool
+  is_inner_within room Close = true
+  is_inner_within room (Then line head tail) = is_nested_within room head && is_inner_within room tail
+
+abbrev pub is_action_within : Option Action → Bool
+is_action_within None = true
+is_action_within (Some (action.Compute simple)) = is_nested_within most_nested (written simple)
+is_action_within (Some (action.Store negated name)) = true
+is_action_within (Some (action.Set value name)) = true
+is_action_within (Some (action.Jump condition label turns)) = true
+is_action_within (Some (action.Return condition)) = true
+
+abbrev pub nested : List Statement → Result (Unit {0}) AsmFault
+nested [] = Ok tt
+nested (s ∷ ss) = if is_action_within s.action then nested ss else Err (too_long s.line)
+
+-- more variables, externals or parentheses than a text may have are at fault before any instruction
+abbrev pub counted : List Variable → List External → List Statement → Result (Unit {0}) AsmFault
+counted variables externals statements =
+    unless_variable (slice_get variables most_names) >>= λ _. unless_external (slice_get externals most_names) >>= λ _. nested statements
+
+-- the address behind the code of a line that begins at an address
+abbrev pub behind : ℕ → Option resolved.Action → ℕ
+behind a action = a + length (spelled_all (action_code (λ label. 0) action))
+
+-- the line whose code passes the limit, or that has a counted jump more than there may be; the line of the program's end where the last END passes it
+abbrev pub measured : Scope → ℕ → ℕ → ℕ → Option IlType → List Statement → Result (Unit {0}) AsmFault
+measured g end_line a counter running [] = if nat_le (a + 1) most_code then Ok tt else Err (too_long end_line)
+measured g end_line a counter running (s ∷ ss) =
+    let b = behind a (option_map (resolved_action g counter running ss) s.action) in
+    let next = counter + length (turns_of s.action) in
+    if nat_le next most_counted && nat_le b most_code
+    then measured g end_line b next (type_after_line g running ss s.action) ss
+    else Err (too_long s.line)
 
 -- The whole program.
 
 abbrev pub declared_var : Variable → Var
 declared_var v = v.var
 
-abbrev pub line_of : Located → Line
-line_of l = l.resolved
+abbrev pub scope_of : Tree → Scope
+scope_of t = record { variables = t.variables; externals = t.externals; uses = uses_of t.variables t.externals t.statements; statements = t.statements }
 
-abbrev pub program_of : List Variable → List Located → Program
-program_of variables lines = record { variables = map declared_var variables; tags = []; limits = []; body = map line_of lines }
+abbrev pub program_of : Scope → Program
+program_of g = record {
+  variables = map declared_var g.variables;
+  tags = tags_of g.externals g.uses;
+  limits = limits_of g.statements;
+  body = resolved_lines g 0 0 None g.statements;
+}
 
 -- code that is too long comes after all other faults
 abbrev pub elaborated : Tree → Result Program AsmFault
 elaborated t =
-    counted t.variables
-    >>= λ _. resolved_lines t.variables None t.statements
-    >>= λ lines. measured t.end_line 0 lines
-    >>= λ size. Ok (program_of t.variables lines)
+    counted t.variables t.externals t.statements
+    >>= λ _. checked_lines (scope_of t) 0 None t.statements
+    >>= λ _. measured (scope_of t) t.end_line 0 0 None t.statements
+    >>= λ _. Ok (program_of (scope_of t))

@@ -1,5 +1,5 @@
 -- Worked programs: what they elaborate to, what they mean, their code, and how the machine ends on it.
-use Rattle.std.specs.Prelude.{◌≡◌, ℕ, ℤ, pos, negsuc, List, [], ◌∷◌, Ok, Err, Some, None, true, false, refl, codes}
+use Rattle.std.specs.Prelude.{◌≡◌, ℕ, ℤ, pos, negsuc, List, [], ◌∷◌, Err, Some, None, true, false, refl, codes}
 use Rattle.point_types.specs.declared.il_type.IlType.TheVariants as il
 use Rattle.point_types.specs.declared.operator.Operator.TheVariants as op
 use Rattle.point_types.specs.declared.operator.Condition.TheVariants as when
@@ -8,15 +8,16 @@ use Rattle.point_types.specs.declared.reading.Reading.TheVariants as reading
 use Rattle.point_types.specs.declared.reading.Cause.TheVariants as cause
 use Rattle.point_types.specs.declared.variable.Var.{Var}
 use Rattle.point_types.specs.Value.{Value}
-use Rattle.il_reader.specs.declared.tree.Program.{Program as Tree}
-use Rattle.il_reader.specs.declared.tree.Action.TheVariants as action
-use Rattle.il_reader.specs.declared.tree.Simple.TheVariants as simple
 use Rattle.il_reader.specs.declared.tree.Operand.TheVariants.{Named, Number}
 use Rattle.scan_code.specs.Machine.{Ending, Ended, Trapped, Unfinished, BadCode, NoDeferred, At_fault, opening, run}
 use Rattle.il_assemble.specs.declared.fault.AsmFaultKind.TheVariants as kind
-use Rattle.il_assemble.specs.Meaning.{Program, Line, Action, Compute, Store, Set, Jump, Repeat, Load, Apply, Defer, Limit, Select, Convert, Close, Then, Variable, Presence, Constant, InVariable, InOutput, Outcome, Done, Fails, meaning}
+use Rattle.il_assemble.specs.Meaning.{Program, Line, Action, Compute, Store, Set, Jump, Repeat, Load, Apply, Defer, Limit, Select, Convert, Close, Then, Variable, Input, Presence, Constant, InVariable, InOutput, Outcome, Done, Fails, meaning}
 use Rattle.il_assemble.specs.Code.{image_of}
-use Rattle.il_assemble.specs.Elaboration.{elaborated}
+use Rattle.il_assemble.specs.Names.{Scope, known_as}
+use Rattle.il_assemble.specs.Typing.{type_after}
+use Rattle.il_assemble.specs.StaticFault.{checked_simple, store_fault}
+use Rattle.il_assemble.specs.Elaboration.{resolved_inner, source_of}
+use Rattle.il_assemble.specs.Written as form
 
 abbrev pub whole : ℤ → Value
 whole n = record { kind = il.Int; number = n }
@@ -31,19 +32,6 @@ abbrev pub int_b : Var
 int_b = record { name = codes "b"; kind = il.Int; low = negsuc 32767; high = pos 32767; start = pos 0; ranged = refl }
 
 -- LD a / DIV 3 / ADD a / ST b
-abbrev pub divide_tree : Tree
-divide_tree = record {
-  name = codes "p";
-  variables = record { line = 3; var = int_a } ∷ record { line = 4; var = int_b } ∷ [];
-  statements =
-      record { line = 6; action = action.Compute (simple.Load false (Named (codes "a"))) }
-      ∷ record { line = 7; action = action.Compute (simple.Apply op.Div false (Number (pos 3))) }
-      ∷ record { line = 8; action = action.Compute (simple.Apply op.Add false (Named (codes "a"))) }
-      ∷ record { line = 9; action = action.Store false (codes "b") }
-      ∷ [];
-  end_line = 10;
-}
-
 abbrev pub divide : Program
 divide = record {
   variables = int_a ∷ int_b ∷ [];
@@ -57,29 +45,21 @@ divide = record {
       ∷ [];
 }
 
--- LD q, which isn't declared
-abbrev pub unknown_tree : Tree
-unknown_tree = record {
-  name = codes "p";
-  variables = [];
-  statements = record { line = 4; action = action.Compute (simple.Load false (Named (codes "q"))) } ∷ [];
-  end_line = 5;
-}
-
 abbrev pub bit : Var
 bit = record { name = codes "b"; kind = il.Bool; low = pos 0; high = pos 1; start = pos 0; ranged = refl }
 
--- LD b / AND 1, where b is BOOL
-abbrev pub number_tree : Tree
-number_tree = record {
-  name = codes "p";
-  variables = record { line = 3; var = bit } ∷ [];
-  statements =
-      record { line = 5; action = action.Compute (simple.Load false (Named (codes "b"))) }
-      ∷ record { line = 6; action = action.Compute (simple.Apply op.And false (Number (pos 1))) }
-      ∷ [];
-  end_line = 7;
+-- what lines see where a, b and bit are declared, and the external w, which is loaded
+abbrev pub seen : Scope
+seen = record {
+  variables = record { line = 3; var = int_a } ∷ record { line = 4; var = int_b } ∷ record { line = 5; var = bit } ∷ [];
+  externals = record { line = 6; name = codes "u"; kind = il.Dint } ∷ record { line = 7; name = codes "w"; kind = il.Dint } ∷ [];
+  uses = None ∷ Some false ∷ [];
+  statements = [];
 }
+
+-- LD 4 / MUL w, inside parentheses behind an INT
+abbrev pub product : form.Inner
+product = form.Then 8 (form.Load false (Number (pos 4))) (form.Then 9 (form.Apply op.Mul false (Named (codes "w"))) form.Close)
 
 -- the variables and outputs at the end of a run, or its fault
 abbrev pub end_of : Ending → Outcome
@@ -157,12 +137,16 @@ abbrev pub at_first : ℤ → List ℤ
 at_first b = b ∷ pos 0 ∷ pos 0 ∷ pos 0 ∷ []
 
 pub record ExamplesHold : Type 0 where
-  pub divide_elaborates : elaborated divide_tree ≡ Ok divide
+  pub next_gives_the_type : resolved_inner seen None il.Int product ≡ Then (Load false (Constant (record { kind = il.Dint; number = pos 4 }))) (Then (Apply op.Mul false (Input 0)) Close)
+  pub deferred_gives_the_type : resolved_inner seen None il.Int (form.Then 8 (form.Load false (Number (pos 4))) form.Close) ≡ Then (Load false (Constant (whole (pos 4)))) Close
+  pub presence_is_an_input : source_of seen il.Dint (Named (codes "w_ok")) ≡ Presence 0
+  pub name_is_unknown : checked_simple seen 4 None il.Dint (form.Load false (Named (codes "q"))) ≡ Err (record { line = 4; kind = kind.UnknownName })
+  pub number_is_no_truth : checked_simple seen 6 (Some il.Bool) il.Dint (form.Apply op.And false (Number (pos 1))) ≡ Err (record { line = 6; kind = kind.LiteralType })
+  pub input_is_no_output : store_fault seen (known_as seen (codes "w")) ≡ Some kind.LoadAndStore
+  pub comparison_gives_bool : type_after seen (Some il.Int) il.Dint (form.Defer op.Lt false None product) ≡ Some il.Bool
   pub divide_means : meaning divide [] (pos 7 ∷ pos 0 ∷ []) ≡ Done (pos 7 ∷ pos 9 ∷ []) []
   pub divide_is_coded : (image_of divide).code ≡ divide_code
   pub divide_runs : machine_end 20 divide [] (pos 7 ∷ pos 0 ∷ []) ≡ Done (pos 7 ∷ pos 9 ∷ []) []
-  pub name_is_unknown : elaborated unknown_tree ≡ Err (record { line = 4; kind = kind.UnknownName })
-  pub number_is_no_truth : elaborated number_tree ≡ Err (record { line = 6; kind = kind.LiteralType })
   pub counted_means : meaning (counted 9) [] (pos 5 ∷ []) ≡ Done (pos 70 ∷ []) []
   pub counted_runs : machine_end 200 (counted 9) [] (pos 5 ∷ []) ≡ Done (pos 70 ∷ []) []
   pub forms_mean : meaning forms present (at_first (pos 1)) ≡ Done (pos 1 ∷ pos 0 ∷ pos 100 ∷ pos 99 ∷ []) (None ∷ Some (pos 1) ∷ [])

@@ -1,31 +1,36 @@
--- How the assembler keeps the resolved lines between its two passes.
-use Rattle.std.specs.Prelude.{◌≡◌, ◌⊎◌, Result, Ok, Err, MatchResult}
-use Rattle.il_assemble.specs.declared.instruction.Source.{Source}
-use Rattle.il_assemble.specs.declared.instruction.Source.TheVariants as source
-use Rattle.il_assemble.specs.declared.instruction.Instruction.{Instruction}
-use Rattle.il_assemble.specs.declared.instruction.Instruction.TheVariants as instruction
-use Rattle.il_assemble.specs.declared.instruction.Line.{Line}
-use Rattle.il_assemble.specs.declared.fault.AsmFault.{AsmFault}
+-- How the code keeps what the definitions speak of.
+use Rattle.std.specs.Prelude.{ℕ, ◌+◌, List, [], ◌∷◌, length, Option, option_map, slice_get, unwrap_or}
+use Rattle.point_types.specs.declared.il_type.IlType.{IlType}
+use Rattle.il_reader.specs.declared.tree.Statement.{Statement}
+use Rattle.il_assemble.specs.declared.source.Source.{Source}
+use Rattle.il_assemble.specs.declared.source.Source.TheVariants as source
+use Rattle.il_assemble.specs.declared.source.Place.{Place}
+use Rattle.il_assemble.specs.declared.source.Place.TheVariants as place
+use Rattle.il_assemble.specs.declared.scope.Scope.{Scope as Kept}
 use Rattle.il_assemble.specs.Meaning as resolved
-use Rattle.il_assemble.specs.Elaboration.{Located, located}
-use Rattle.il_assemble.specs.Word.{out_of_memory}
+use Rattle.il_assemble.specs.Names.{Scope}
+use Rattle.il_assemble.specs.Typing.{type_after_line}
+use Rattle.il_assemble.specs.Elaboration.{behind, resolved_action, turns_of}
 
 abbrev pub meant_source : Source → resolved.Source
-meant_source (source.Variable place) = resolved.Variable place
+meant_source (source.Variable i) = resolved.Variable i
+meant_source (source.Input i) = resolved.Input i
+meant_source (source.Presence i) = resolved.Presence i
 meant_source (source.Constant kind n) = resolved.Constant (record { kind = kind; number = n })
 
-abbrev pub meant_action : Instruction → resolved.Action
-meant_action (instruction.Load negated x) = resolved.Compute (resolved.Load negated (meant_source x))
-meant_action (instruction.Apply o negated x) = resolved.Compute (resolved.Apply o negated (meant_source x))
-meant_action (instruction.Store negated place) = resolved.Store negated (resolved.InVariable place)
+abbrev pub meant_place : Place → resolved.Place
+meant_place (place.Variable i) = resolved.InVariable i
+meant_place (place.Output i) = resolved.InOutput i
 
-abbrev pub meant : Line → Located
-meant l = located l.line (meant_action l.instruction)
+abbrev pub seen : Kept → Scope
+seen s = record { variables = s.variables.now; externals = s.externals.now; uses = s.uses.now; statements = s.statements.now }
 
--- what is kept stands for what the definition gives, or the fault is the definition's
-abbrev pub Answers : {A B E : Type 0} → (A → B) → Result B E → Result A E → Type 0
-Answers stands given answer = MatchResult answer (λ kept. given ≡ Ok (stands kept)) (λ fault. given ≡ Err fault)
+-- where each line begins; 0 where that isn't known yet
+abbrev pub address_in : List ℕ → ℕ → ℕ
+address_in addresses place = unwrap_or (slice_get addresses place) 0
 
--- or memory was refused
-abbrev pub AnswersOrWantsMemory : {A B : Type 0} → (A → B) → Result B AsmFault → Result A AsmFault → Type 0
-AnswersOrWantsMemory stands given answer = MatchResult answer (λ kept. given ≡ Ok (stands kept)) (λ fault. (given ≡ Err fault) ⊎ (fault ≡ out_of_memory))
+-- where each line's code begins, from an address on
+abbrev pub addresses_of : Scope → ℕ → ℕ → Option IlType → List Statement → List ℕ
+addresses_of g a counter running [] = []
+addresses_of g a counter running (s ∷ ss) =
+    a ∷ addresses_of g (behind a (option_map (resolved_action g counter running ss) s.action)) (counter + length (turns_of s.action)) (type_after_line g running ss s.action) ss

@@ -3,6 +3,12 @@ pub mod Code
 pub mod Correct
 pub mod Elaboration
 pub mod Examples
+pub mod ImageRule
 pub mod Kept
+pub mod Limit
 pub mod Meaning
+pub mod Names
+pub mod StaticFault
+pub mod Typing
 pub mod Word
+pub mod Written

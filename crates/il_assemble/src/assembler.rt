@@ -1,54 +1,84 @@
-ghost use Rattle.std.specs.Prelude.{◌≡◌, IfOk, IfErr, map};
+ghost use Rattle.std.specs.Prelude.{◌≡◌, ◌≤◌, length, IfOk, IfErr, map};
 ghost use Rattle.il_assemble.specs.Assembled.{IsAssembled, IsRefused};
-ghost use Rattle.il_assemble.specs.Elaboration.{counted, declared_var};
+ghost use Rattle.il_assemble.specs.Code.{version_of};
+ghost use Rattle.il_assemble.specs.Elaboration.{declared_var, limits_of};
+ghost use Rattle.il_assemble.specs.Limit.{most_names};
+ghost use Rattle.il_assemble.specs.Names.{unused, uses_of};
 
-use crate::emit::emit;
-use crate::fault::{AsmFault, AsmFaultKind};
+use crate::check::check_lines;
+use crate::emit::{count_turns, emit_lines};
+use crate::fault::AsmFault;
+use crate::limits::{check_nesting, count_externals, count_variables};
 use crate::measure::measure;
-use crate::resolve::resolve;
-use il_reader::{Program, Variable};
+use crate::scope::Scope;
+use crate::uses::{note_uses, tags};
+use il_reader::{External, Program, Statement, Variable};
 use point_types::{Items, Var};
 use scan_code::Image;
 use std::alloc::{AllocError, Global};
-
-/// The most variables of a program.
-const MOST_VARIABLES: usize = 1024;
 
 /// Assembles a program (IEC 61131-3 edition 2, 3.2) into the image that a scan runs.
 ///
 /// The machine's run over the image ends with the variables and outputs that the program means, or traps with
 /// its fault, whatever its variables and inputs are. A fault names the first line at fault and the lowest
-/// kind there; code that is too long comes after all others; line 0 is want of memory. A program of more
-/// variables than a reader lets pass is too long at the first one past the limit.
+/// kind there; code that is too long and a counted jump too many come after all others; line 0 is want of
+/// memory. A program of more variables, externals or nested parentheses than a reader lets pass is too long
+/// at the first one past the limit.
 pub fn assemble(alloc: Global, program: &Program) -> Result<Image, AsmFault>
     ensures assembled { IfOk result (IsAssembled program.now) }
     ensures refused { IfErr result (IsRefused program.now) }
 {
     let variables = program.variables.as_slice();
-    count(variables)?;
-    let lines = resolve(alloc, variables, program.statements.as_slice())?;
-    let size = measure(lines.as_slice(), program.end_line)?;
-    let mut code = Vec::with_capacity(alloc, size)?;
-    emit(&mut code, lines.as_slice())?;
+    let externals = program.externals.as_slice();
+    let statements = program.statements.as_slice();
+    count_variables(variables)?;
+    count_externals(externals)?;
+    check_nesting(statements)?;
+    let uses = find_uses(alloc, variables, externals, statements)?;
+    let scope = Scope {
+        variables,
+        externals,
+        uses: uses.as_slice(),
+        statements,
+    };
+    check_lines(scope, statements)?;
+    let addresses = measure(alloc, scope, statements, program.end_line)?;
+    let mut code = Vec::new(alloc);
+    emit_lines(&mut code, scope, addresses.as_slice(), statements)?;
     Ok(Image {
-        version: 1,
+        version: version(statements),
         vars: Items::from_vec(declared(alloc, variables)?),
-        tags: Items::new(alloc),
+        tags: Items::from_vec(tags(alloc, externals, uses.as_slice())?),
         code: Items::from_vec(code),
     })
 }
 
-/// Whether there are no more variables than a program may have.
-fn count(variables: &[Variable]) -> Result<(), AsmFault>
-    ensures { result ≡ counted variables.now }
+/// Whether each external is stored by its first use; none where it isn't used.
+fn find_uses(
+    alloc: Global,
+    variables: &[Variable],
+    externals: &[External],
+    statements: &[Statement],
+) -> Result<Vec<Option<bool>>, AllocError>
+    requires few_variables { length variables.now ≤ most_names }
+    requires few_externals { length externals.now ≤ most_names }
+    ensures { IfOk result (λ uses. uses.items ≡ uses_of variables.now externals.now statements.now) }
 {
-    match variables.get(MOST_VARIABLES) {
-        Some(past) => Err(AsmFault {
-            line: past.line,
-            kind: AsmFaultKind::TooLong,
-        }),
-        None => Ok(()),
-    }
+    let mut uses = unused(alloc, externals)?;
+    let scope = Scope {
+        variables,
+        externals,
+        uses: &[],
+        statements: &[],
+    };
+    note_uses(scope, uses.as_mut_slice(), statements);
+    Ok(uses)
+}
+
+fn unused(alloc: Global, externals: &[External]) -> Result<Vec<Option<bool>>, AllocError>
+    ensures { IfOk result (λ uses. uses.items ≡ map unused externals.now) }
+{
+    externals.iter().map(|_| None).collect(alloc)
 }
 
 /// The variables of the image, in the order of their declarations.
@@ -58,260 +88,14 @@ fn declared(alloc: Global, variables: &[Variable]) -> Result<Vec<Var>, AllocErro
     variables.iter().map(|variable| variable.var).collect(alloc)
 }
 
-#[cfg(test)]
-mod tests {
-    use super::*;
-    use il_reader::{Action, Operand, Simple, Statement};
-    use point_types::{IlType, Name, Operator};
-    use std::test::Fail;
-
-    fn name(text: &str) -> Result<Name, Fail> {
-        Ok(Name::from_bytes(text.as_bytes()).ok_or("a name")?)
-    }
-
-    fn int(line: u32, name: Name) -> Variable {
-        Variable {
-            line,
-            var: Var {
-                name,
-                kind: IlType::Int,
-                low: -32768,
-                high: 32767,
-                start: 0,
-            },
+/// The version of the image: counted jumps came with the second one.
+fn version(statements: &[Statement]) -> u8
+    ensures { result ≡ version_of (limits_of statements.now) }
+{
+    for statement in statements {
+        if count_turns(&statement.action) > 0 {
+            return 2;
         }
     }
-
-    fn truth(line: u32, name: Name) -> Variable {
-        Variable {
-            line,
-            var: Var {
-                name,
-                kind: IlType::Bool,
-                low: 0,
-                high: 1,
-                start: 0,
-            },
-        }
-    }
-
-    fn load(line: u32, operand: Operand) -> Statement {
-        Statement {
-            line,
-            action: Action::Compute(Simple::Load {
-                negated: false,
-                operand,
-            }),
-        }
-    }
-
-    fn apply(line: u32, operator: Operator, operand: Operand) -> Statement {
-        Statement {
-            line,
-            action: Action::Compute(Simple::Apply {
-                operator,
-                negated: false,
-                operand,
-            }),
-        }
-    }
-
-    fn store(line: u32, name: Name) -> Statement {
-        Statement {
-            line,
-            action: Action::Store {
-                negated: false,
-                name,
-            },
-        }
-    }
-
-    fn fault_of(
-        alloc: Global,
-        variables: Vec<Variable>,
-        statements: Vec<Statement>,
-        end_line: u32,
-    ) -> Result<Option<AsmFault>, Fail> {
-        let program = Program {
-            name: name("p")?,
-            variables: Items::from_vec(variables),
-            statements: Items::from_vec(statements),
-            end_line,
-        };
-        Ok(assemble(alloc, &program).err())
-    }
-
-    #[test]
-    fn straight_line(rt: HostRuntime) -> Result<(), Fail> {
-        let (a, b) = (name("a")?, name("b")?);
-        let program = Program {
-            name: name("p")?,
-            variables: Items::from_vec(vec![in rt.alloc(); int(3, a), int(4, b)]?),
-            statements: Items::from_vec(vec![in rt.alloc();
-                load(6, Operand::Named(a)),
-                apply(7, Operator::Div, Operand::Number(3)),
-                apply(8, Operator::Add, Operand::Named(a)),
-                store(9, b),
-            ]?),
-            end_line: 10,
-        };
-        let image = assemble(rt.alloc(), &program)?;
-        let code = [
-            0x01, 0x00, 0x00, 0x0C, 0x05, 0x02, 0x00, 0x00, 0x00, 0x00, 0x00, 0x00, 0x00, 0x03,
-            0x14, 0x0C, 0x01, 0x00, 0x00, 0x11, 0x06, 0x00, 0x01, 0x00,
-        ];
-        assert_eq!(rt; image.code.as_slice(), code.as_slice());
-        assert_eq!(rt; image.version, 1);
-        assert_eq!(rt; image.vars.len(), 2);
-        assert_eq!(rt; image.tags.len(), 0);
-        Ok(())
-    }
-
-    #[test]
-    fn a_loaded_literal_takes_the_next_type(rt: HostRuntime) -> Result<(), Fail> {
-        let a = name("a")?;
-        let program = Program {
-            name: name("p")?,
-            variables: Items::from_vec(vec![in rt.alloc(); int(3, a)]?),
-            statements: Items::from_vec(vec![in rt.alloc();
-                load(5, Operand::Number(1)),
-                store(6, a),
-                load(7, Operand::Number(1)),
-            ]?),
-            end_line: 8,
-        };
-        let image = assemble(rt.alloc(), &program)?;
-        let code = [
-            0x05, 0x02, 0x00, 0x00, 0x00, 0x00, 0x00, 0x00, 0x00, 0x01, 0x06, 0x00, 0x00, 0x05,
-            0x03, 0x00, 0x00, 0x00, 0x00, 0x00, 0x00, 0x00, 0x01, 0x00,
-        ];
-        assert_eq!(rt; image.code.as_slice(), code.as_slice());
-        Ok(())
-    }
-
-    #[test]
-    fn an_undeclared_name(rt: HostRuntime) -> Result<(), Fail> {
-        let statements = vec![in rt.alloc(); load(4, Operand::Named(name("q")?))]?;
-        let fault = fault_of(rt.alloc(), Vec::new(rt.alloc()), statements, 5)?;
-        let unknown = AsmFault {
-            line: 4,
-            kind: AsmFaultKind::UnknownName,
-        };
-        assert_eq!(rt; fault, Some(unknown));
-        Ok(())
-    }
-
-    #[test]
-    fn a_number_where_bool_is_wanted(rt: HostRuntime) -> Result<(), Fail> {
-        let b = name("b")?;
-        let statements = vec![in rt.alloc();
-            load(5, Operand::Named(b)),
-            apply(6, Operator::And, Operand::Number(1)),
-            store(7, name("q")?),
-        ]?;
-        let variables = vec![in rt.alloc(); truth(3, b)]?;
-        let fault = fault_of(rt.alloc(), variables, statements, 8)?;
-        let literal = AsmFault {
-            line: 6,
-            kind: AsmFaultKind::LiteralType,
-        };
-        assert_eq!(rt; fault, Some(literal));
-        Ok(())
-    }
-
-    #[test]
-    fn a_literal_out_of_its_type(rt: HostRuntime) -> Result<(), Fail> {
-        let a = name("a")?;
-        let statements = vec![in rt.alloc();
-            load(5, Operand::Named(a)),
-            apply(6, Operator::Sub, Operand::Number(32768)),
-        ]?;
-        let variables = vec![in rt.alloc(); int(3, a)]?;
-        let fault = fault_of(rt.alloc(), variables, statements, 7)?;
-        let literal = AsmFault {
-            line: 6,
-            kind: AsmFaultKind::LiteralType,
-        };
-        assert_eq!(rt; fault, Some(literal));
-        Ok(())
-    }
-
-    #[test]
-    fn code_past_its_limit(rt: HostRuntime) -> Result<(), Fail> {
-        let a = name("a")?;
-        let one = Statement {
-            line: 6,
-            action: Action::Compute(Simple::Load {
-                negated: false,
-                operand: Operand::Named(a),
-            }),
-        };
-        let variables = vec![in rt.alloc(); int(3, a)]?;
-        let statements = vec![in rt.alloc(); one; 21844]?;
-        assert_eq!(rt; fault_of(rt.alloc(), variables, statements, 9)?, None);
-
-        let variables = vec![in rt.alloc(); int(3, a)]?;
-        let statements = vec![in rt.alloc(); one; 21845]?;
-        let at_end = AsmFault {
-            line: 9,
-            kind: AsmFaultKind::TooLong,
-        };
-        assert_eq!(rt;
-            fault_of(rt.alloc(), variables, statements, 9)?,
-            Some(at_end)
-        );
-
-        let variables = vec![in rt.alloc(); int(3, a)]?;
-        let mut statements = vec![in rt.alloc(); one; 21845]?;
-        statements.push(Statement { line: 7, ..one })?;
-        let at_last = AsmFault {
-            line: 7,
-            kind: AsmFaultKind::TooLong,
-        };
-        assert_eq!(rt;
-            fault_of(rt.alloc(), variables, statements, 9)?,
-            Some(at_last)
-        );
-        Ok(())
-    }
-
-    #[test]
-    fn a_variable_more_than_there_may_be(rt: HostRuntime) -> Result<(), Fail> {
-        let a = name("a")?;
-        let mut variables = Vec::new(rt.alloc());
-        for line in 1..=1025 {
-            variables.push(int(line, a))?;
-        }
-        let fault = fault_of(rt.alloc(), variables, Vec::new(rt.alloc()), 2000)?;
-        let extra = AsmFault {
-            line: 1025,
-            kind: AsmFaultKind::TooLong,
-        };
-        assert_eq!(rt; fault, Some(extra));
-        Ok(())
-    }
-
-    #[test]
-    fn words_of_faults(rt: HostRuntime) -> Result<(), Fail> {
-        for kind in [
-            AsmFaultKind::UnknownName,
-            AsmFaultKind::UnknownLabel,
-            AsmFaultKind::BackwardJump,
-            AsmFaultKind::LoadAndStore,
-            AsmFaultKind::LiteralType,
-            AsmFaultKind::TooLong,
-            AsmFaultKind::OutOfMemory,
-            AsmFaultKind::ForwardLoop,
-        ] {
-            let printed = format!(in rt.alloc(); "{kind}")?;
-            assert_eq!(rt; printed.as_str(), kind.word());
-        }
-        let fault = AsmFault {
-            line: 6,
-            kind: AsmFaultKind::UnknownName,
-        };
-        let printed = format!(in rt.alloc(); "{fault}")?;
-        assert_eq!(rt; printed.as_str(), "UnknownName line 6");
-        Ok(())
-    }
+    1
 }

@@ -86,3 +86,33 @@ impl<T: Drop> From<AllocFailed<T>> for AsmFault {
         }
     }
 }
+
+#[cfg(test)]
+mod tests {
+    use super::*;
+    use std::test::Fail;
+
+    #[test]
+    fn words_of_faults(rt: HostRuntime) -> Result<(), Fail> {
+        for kind in [
+            AsmFaultKind::UnknownName,
+            AsmFaultKind::UnknownLabel,
+            AsmFaultKind::BackwardJump,
+            AsmFaultKind::LoadAndStore,
+            AsmFaultKind::LiteralType,
+            AsmFaultKind::TooLong,
+            AsmFaultKind::OutOfMemory,
+            AsmFaultKind::ForwardLoop,
+        ] {
+            let printed = format!(in rt.alloc(); "{kind}")?;
+            assert_eq!(rt; printed.as_str(), kind.word());
+        }
+        let fault = AsmFault {
+            line: 6,
+            kind: AsmFaultKind::UnknownName,
+        };
+        let printed = format!(in rt.alloc(); "{fault}")?;
+        assert_eq!(rt; printed.as_str(), "UnknownName line 6");
+        Ok(())
+    }
+}

@@ -1,6 +1,6 @@
-ghost use Rattle.std.specs.Prelude.{◌≡◌, ◌+◌};
 ghost use Rattle.il_assemble.specs.Assembled.{StartsAreInRange, StaticFaultsWantNoMemory, WhatElaboratesIsWell};
 ghost use Rattle.il_assemble.specs.Examples.{ExamplesHold};
+ghost use Rattle.il_assemble.specs.ImageRule.{ImagesAreWithinLimits, NamesStayDifferent};
 ghost use Rattle.il_assemble.specs.Correct.{CodeIsOfBytes, CodeDoesWhatTheProgramMeans, EachEndIsTheMeaning, NumberedCountersFindTheirLimits, RunsThatAreOverStayOver, SizesDependOnTheFormAlone};
 
 /// The machine on the code of a program does what the program means: it ends with the same variables and outputs, or stops with the same fault.
@@ -43,12 +43,22 @@ pub fn starts_are_in_range()
     ensures { StartsAreInRange }
 {}
 
-/// Worked programs: what they elaborate to, what they mean, their code, and how the machine ends on it.
+/// Want of memory is no static fault.
+pub fn static_faults_want_no_memory()
+    ensures { StaticFaultsWantNoMemory }
+{}
+
+/// Worked programs: how they resolve, what they mean, their code, and how the machine ends on it.
 pub fn examples_hold()
     ensures { ExamplesHold }
 {}
 
-/// Want of memory is no static fault.
-pub fn static_faults_want_no_memory()
-    ensures { StaticFaultsWantNoMemory }
+/// An assembled image has version 1 or 2, at most 1,024 variables and tags, and at most 65,535 bytes of code.
+pub fn images_are_within_limits()
+    ensures { ImagesAreWithinLimits }
+{}
+
+/// Where no name of a program is declared twice, none stands in its image twice.
+pub fn names_stay_different()
+    ensures { NamesStayDifferent }
 {}

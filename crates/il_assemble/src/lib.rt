@@ -2,14 +2,20 @@
 #![tactic(auto)]
 
 pub mod assembler;
+mod check;
 mod emit;
 pub mod fault;
-mod instruction;
+mod jumps;
 pub mod laws;
-mod literal;
+mod limits;
 mod measure;
 mod names;
-mod resolve;
+mod scope;
+mod source;
+#[cfg(test)]
+mod tests;
+mod typing;
+mod uses;
 
 pub use assembler::assemble;
 pub use fault::{AsmFault, AsmFaultKind};

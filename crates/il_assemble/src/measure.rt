@@ -1,65 +1,51 @@
-ghost use Rattle.std.specs.Prelude.{◌≡◌, ℕ, ◌+◌, ◌≤◌, length, map, Some};
-ghost use Rattle.scan_code.specs.Spelling.{spelled};
-ghost use Rattle.il_assemble.specs.Code.{action_code, load_of, past};
-ghost use Rattle.il_assemble.specs.Elaboration.{bounded, measured, most_code};
-ghost use Rattle.il_assemble.specs.Kept.{meant, meant_action, meant_source};
+ghost use Rattle.std.specs.Prelude.{◌≡◌, ◌⊎◌, None, Ok, Err, IfOk, IfErr};
+ghost use Rattle.il_assemble.specs.Elaboration.{measured};
+ghost use Rattle.il_assemble.specs.Kept.{addresses_of, seen};
+ghost use Rattle.il_assemble.specs.Word.{out_of_memory};
 
-use crate::fault::{AsmFault, AsmFaultKind};
-use crate::instruction::{Instruction, Line, Source};
-use point_types::IlType;
+use crate::emit::{count_turns, emit_line};
+use crate::fault::AsmFault;
+use crate::limits::{MOST_CODE, MOST_COUNTED, too_long};
+use crate::scope::Scope;
+use crate::typing::type_after_line;
+use il_reader::Statement;
+use std::alloc::Global;
 
-/// The most bytes that code has.
-const MOST_CODE: usize = 65535;
-
-/// How many bytes a load takes: its code byte, and a place, a truth value, or a type and a number.
-fn load_size(source: Source) -> usize
-    ensures { result ≡ length (spelled (load_of (meant_source source))) }
+/// The first pass: where each line's code begins, by writing it with no address known; or the line whose
+/// code passes the limit, or that has a counted jump more than there may be.
+pub(crate) fn measure(
+    alloc: Global,
+    scope: Scope<'_>,
+    statements: &[Statement],
+    end_line: u32,
+) -> Result<Vec<u16>, AsmFault>
+    ensures short { IfOk result (λ _. measured (seen scope.entry) end_line 0 0 None statements.now ≡ Ok tt) }
+    ensures addresses { IfOk result (λ addresses. addresses.items ≡ addresses_of (seen scope.entry) 0 0 None statements.now) }
+    ensures refused { IfErr result (λ fault. (measured (seen scope.entry) end_line 0 0 None statements.now ≡ Err fault) ⊎ (fault ≡ out_of_memory)) }
 {
-    match source {
-        Source::Variable(_) => 3,
-        Source::Constant(IlType::Bool, _) => 2,
-        Source::Constant(_, _) => 10,
+    let mut addresses = Vec::new(alloc);
+    let mut code = Vec::new(alloc);
+    let mut counter = 0;
+    let mut running = None;
+    let mut rest = statements;
+    while let [statement, after @ ..] = rest {
+        let action = &statement.action;
+        addresses.push(code.len() as u16)?;
+        let counted = counter + count_turns(action);
+        if counted > MOST_COUNTED {
+            return Err(too_long(statement.line));
+        }
+        emit_line(&mut code, scope, &[], counter, running, after, action)?;
+        if code.len() > MOST_CODE {
+            return Err(too_long(statement.line));
+        }
+        running = type_after_line(scope, running, after, action);
+        counter = counted;
+        rest = after;
     }
-}
-
-/// How many bytes the code of an instruction takes; its form alone decides.
-fn size(instruction: Instruction) -> usize
-    ensures size { (address : ℕ)
-        → past address (action_code (λ label. 0) (Some (meant_action instruction))) ≡ address + result }
-    ensures small { result ≤ 13 }
-{
-    match instruction {
-        Instruction::Load { negated, source } => load_size(source) + usize::from(negated),
-        Instruction::Apply {
-            negated,
-            source,
-            ..
-        } => 1 + load_size(source) + usize::from(negated) + 1,
-        Instruction::Store { negated, .. } => 3 + 2 * usize::from(negated),
-    }
-}
-
-/// An address that code may reach.
-fn bounded(line: u32, address: usize) -> Result<usize, AsmFault>
-    ensures { result ≡ bounded line address }
-{
-    if address <= MOST_CODE {
-        Ok(address)
+    if code.len() < MOST_CODE {
+        Ok(addresses)
     } else {
-        Err(AsmFault {
-            line,
-            kind: AsmFaultKind::TooLong,
-        })
+        Err(too_long(end_line))
     }
-}
-
-/// How many bytes the code of a program takes, or the fault of the line whose code passes the limit.
-pub(crate) fn measure(lines: &[Line], end_line: u32) -> Result<usize, AsmFault>
-    ensures { result ≡ measured end_line 0 (map meant lines.now) }
-{
-    let mut address = 0;
-    for line in lines {
-        address = bounded(line.line, address + size(line.instruction))?;
-    }
-    bounded(end_line, address + 1)
 }

@@ -1,14 +1,80 @@
-ghost use Rattle.std.specs.Prelude.{◌≡◌};
-ghost use Rattle.il_assemble.specs.Elaboration.{place_of};
+ghost use Rattle.std.specs.Prelude.{◌≡◌, position};
+ghost use Rattle.il_assemble.specs.Kept.{seen};
+ghost use Rattle.il_assemble.specs.Names.{is_called, is_external, is_presence_of, known_as, known_type, named_type};
 
-use il_reader::Variable;
-use point_types::Name;
+use crate::scope::Scope;
+use il_reader::{External, Variable};
+use point_types::{IlType, Name};
 
-/// The place of a name among the declared variables.
-pub(crate) fn place_of(variables: &[Variable], name: &Name) -> Option<usize>
-    ensures { result ≡ place_of variables.now name.now }
+/// What a name stands for: the variable at a place, the external at a place, or whether that external has
+/// a value of its own.
+#[derive(Clone, Copy)]
+pub(crate) enum Known {
+    Variable(usize),
+    External(usize),
+    Presence(usize),
+}
+
+/// What stands behind the name of a presence's external.
+const PRESENCE: &[u8] = b"_ok";
+
+/// Whether a name is an external's with the ending of a presence.
+fn is_presence_of(name: &Name, external: &External) -> bool
+    ensures { result ≡ is_presence_of name.now external.now }
+{
+    match name.as_bytes().strip_prefix(external.name.as_bytes()) {
+        Some(ending) => ending == PRESENCE,
+        None => false,
+    }
+}
+
+fn variable_place(variables: &[Variable], name: &Name) -> Option<usize>
+    ensures { result ≡ position (is_called name.now) variables.now }
 {
     variables
         .iter()
         .position(|variable| variable.var.name.as_bytes() == name.as_bytes())
+}
+
+fn external_place(externals: &[External], name: &Name) -> Option<usize>
+    ensures { result ≡ position (is_external name.now) externals.now }
+{
+    externals
+        .iter()
+        .position(|external| external.name.as_bytes() == name.as_bytes())
+}
+
+fn presence_place(externals: &[External], name: &Name) -> Option<usize>
+    ensures { result ≡ position (is_presence_of name.now) externals.now }
+{
+    externals
+        .iter()
+        .position(|external| is_presence_of(name, external))
+}
+
+/// What a name stands for.
+pub(crate) fn known_as(scope: Scope<'_>, name: &Name) -> Option<Known>
+    ensures { result ≡ known_as (seen scope.entry) name.now }
+{
+    if let Some(place) = variable_place(scope.variables, name) {
+        return Some(Known::Variable(place));
+    }
+    if let Some(place) = external_place(scope.externals, name) {
+        return Some(Known::External(place));
+    }
+    match presence_place(scope.externals, name) {
+        Some(place) => Some(Known::Presence(place)),
+        None => None,
+    }
+}
+
+/// The type of a known name.
+pub(crate) fn named_type(scope: Scope<'_>, name: &Name) -> Option<IlType>
+    ensures { result ≡ named_type (seen scope.entry) name.now }
+{
+    match known_as(scope, name)? {
+        Known::Variable(place) => scope.variables.get(place).map(|variable| variable.var.kind),
+        Known::External(place) => scope.externals.get(place).map(|external| external.kind),
+        Known::Presence(_) => Some(IlType::Bool),
+    }
 }

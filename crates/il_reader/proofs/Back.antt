@@ -1,125 +1,92 @@
--- From reading to the grammar: what remains to be read of a text, for each state.
-use Rattle.std.proofs.Common.{◌≡◌, ℕ, Bool, true, false, ℤ, pos, List, [], ◌∷◌, Option, Some, None, Ok, Err, refl, sym, ap, ◌∙◌, subst, append_assoc, if◌then◌else◌}
+-- From reading to the grammar: what a token and what remains behind it are for the state before it.
+use Rattle.std.proofs.Common.{◌≡◌, ℕ, Bool, true, false, ℤ, List, [], ◌∷◌, ◌++◌, Option, Some, None, Ok, Err, inl, inr, refl, sym, ap, ◌∙◌, subst, append_assoc, if◌then◌else◌, option_map}
+use Rattle.std.proofs.lemmas.List.{append-nil}
 use Rattle.point_types.specs.declared.il_type.IlType.{IlType}
 use Rattle.point_types.specs.declared.operator.Operator.{Operator}
+use Rattle.point_types.specs.declared.operator.Condition.{Condition}
+use Rattle.point_types.specs.Value.{is_bool}
 use Rattle.il_reader.specs.declared.fault.ReadFaultKind.TheVariants as fault
+use Rattle.il_reader.specs.declared.token.Keyword.{Keyword}
 use Rattle.il_reader.specs.declared.token.Keyword.TheVariants as word
 use Rattle.il_reader.specs.declared.token.Token.{Token}
 use Rattle.il_reader.specs.declared.token.Token.TheVariants as token
 use Rattle.il_reader.specs.declared.tree.Action.{Action}
 use Rattle.il_reader.specs.declared.tree.Action.TheVariants as action
+use Rattle.il_reader.specs.declared.tree.Simple.{Simple}
 use Rattle.il_reader.specs.declared.tree.Simple.TheVariants as simple
 use Rattle.il_reader.specs.declared.tree.Operand.{Operand}
-use Rattle.il_reader.specs.declared.tree.Operand.TheVariants as operand
 use Rattle.il_reader.specs.declared.tree.Program.{Program}
 use Rattle.il_reader.specs.declared.tree.Statement.{Statement}
 use Rattle.il_reader.specs.declared.typing.Entry.{Entry}
 use Rattle.il_reader.specs.declared.typing.Typing.{Typing}
 use Rattle.il_reader.specs.declared.draft.Draft.{Draft}
-use Rattle.il_reader.specs.declared.state.Stage.{Stage}
-use Rattle.il_reader.specs.declared.state.Stage.TheVariants as stage
+use Rattle.il_reader.specs.declared.draft.Head.{Head}
+use Rattle.il_reader.specs.declared.stage.BlockStage.{BlockStage}
+use Rattle.il_reader.specs.declared.stage.BlockStage.TheVariants as block
+use Rattle.il_reader.specs.declared.stage.PartStage.{PartStage}
+use Rattle.il_reader.specs.declared.stage.PartStage.TheVariants as part
+use Rattle.il_reader.specs.declared.stage.Pair.{Pair}
+use Rattle.il_reader.specs.declared.stage.Pair.TheVariants as pair
+use Rattle.il_reader.specs.declared.stage.Stage.{Stage}
+use Rattle.il_reader.specs.declared.stage.Stage.TheVariants as stage
 use Rattle.il_reader.specs.declared.state.State.{State}
 use Rattle.il_reader.specs.declared.state.State.TheVariants as state
-use Rattle.il_reader.specs.Declaration.{typing_of, among, room, is_read_type}
-use Rattle.il_reader.specs.Reading.{Move, goes, names_of, with_entry, with_variables, with_statement, titled_draft, start_step, titled_step, declare_step, declared_step, in_block_step, behind_name_step, behind_comma_step, behind_colon_step, behind_type_step, started_step, behind_assign_step, behind_start_step, line_step, between_step, operand_of, instruction_step, loaded, applied, stored, whole_step, over_step, within_step, step, onward}
-use Rattle.il_reader.specs.Grammar.{Placed, placed, past, IsNext, IsEnd, operand_token, IsAction, IsBody, Declaration, AreOthers, IsStart, IsTyped, AreDeclarations, AreBlocks, IsProgram}
-use Rattle.il_reader.proofs.Drafts.{with_entries, after, after_blocks, finished, names_more, names_one, names_after, finished_is}
-
--- tokens in turn
-abbrev pub run : State → List Placed → Move
-run s [] = Ok s
-run s (placed t m ∷ ts) = onward (step s t m) (λ s'. run s' ts)
-
--- What remains.
-
-abbrev pub RestBody : Draft → List Placed → Program → Type 0
-RestBody d ts p = (body : List Statement) × (e : ℕ) × IsBody body e ts × (p ≡ finished d body e)
-
-abbrev pub RestWhole : Draft → List Placed → Program → Type 0
-RestWhole d ts p = (b : List Placed) × IsEnd ts b × RestBody d b p
-
-abbrev pub RestTop : Draft → List Placed → Program → Type 0
-RestTop d ts p = (bs : List (List Declaration)) × (body : List Statement) × (e : ℕ) × (c : List Placed) × AreBlocks (names_of d) bs ts c × IsBody body e c × (p ≡ finished (after_blocks d bs) body e)
-
-abbrev pub RestBlock : Draft → List Placed → Program → Type 0
-RestBlock d ts p = (xs : List Declaration) × (b : List Placed) × AreDeclarations (names_of d) xs ts b × RestTop (after d xs) b p
-
-abbrev pub RestNamed : Draft → List Placed → Program → Type 0
-RestNamed d ts p =
-    (es : List Entry) × (y : Typing) × (start : Option ℤ) × (a f : List Placed) × AreOthers (names_of d) es ts a × IsTyped y start a f × RestBlock (with_variables (with_entries d es) y) f p
-
-abbrev pub RestClosed : Draft → Typing → List Placed → Program → Type 0
-RestClosed d y ts p = (l : ℕ) × (b : List Placed) × IsNext token.Semicolon l ts b × RestBlock (with_variables d y) b p
-
-abbrev pub RestWithin : Stage → Draft → List Placed → Program → Type 0
-RestWithin stage.BetweenBlocks d ts p = RestTop d ts p
-RestWithin stage.InBlock d ts p = RestBlock d ts p
-RestWithin stage.BehindName d ts p = RestNamed d ts p
-RestWithin stage.BehindComma d ts p =
-    (e : Entry) × (a : List Placed) × (among e.name (names_of d) ≡ false) × (room (names_of d) ≡ true) × IsNext (token.Name e.name) e.line ts a × RestNamed (with_entry d e.line e.name) a p
-RestWithin stage.BehindColon d ts p =
-    (k : IlType) × (j : ℕ) × (y : Typing) × (start : Option ℤ) × (a f : List Placed) × IsNext (token.Keyword (word.Type k)) j ts a × (is_read_type k ≡ true) × IsStart k y start a f × RestBlock (with_variables d y) f p
-RestWithin (stage.BehindType k) d ts p = (y : Typing) × (start : Option ℤ) × (f : List Placed) × IsStart k y start ts f × RestBlock (with_variables d y) f p
-RestWithin (stage.BehindAssign k) d ts p =
-    (n : ℤ) × (j : ℕ) × (y : Typing) × (a : List Placed) × IsNext (token.Number n) j ts a × (typing_of k n ≡ Some y) × RestClosed d y a p
-RestWithin (stage.BehindStart y) d ts p = RestClosed d y ts p
-RestWithin stage.AtLine d ts p = RestBody d ts p
-RestWithin (stage.BehindLoad l negated) d ts p =
-    (x : Operand) × (m : ℕ) × (a : List Placed) × (ts ≡ placed (operand_token x) m ∷ a) × RestWhole (with_statement d l (action.Compute (simple.Load negated x))) a p
-RestWithin (stage.BehindOperator l o) d ts p =
-    (x : Operand) × (m : ℕ) × (a : List Placed) × (ts ≡ placed (operand_token x) m ∷ a) × RestWhole (with_statement d l (action.Compute (simple.Apply o false x))) a p
-RestWithin (stage.BehindStore l negated) d ts p =
-    (n : List ℕ) × (m : ℕ) × (a : List Placed) × (ts ≡ placed (token.Name n) m ∷ a) × RestWhole (with_statement d l (action.Store negated n)) a p
-RestWithin stage.BehindInstruction d ts p = RestWhole d ts p
-
-abbrev pub Rest : State → List Placed → Program → Type 0
-Rest state.Start ts p = IsProgram ts p
-Rest state.Titled ts p = (n : List ℕ) × (j : ℕ) × (b : List Placed) × IsNext (token.Name n) j ts b × RestTop (titled_draft n) b p
-Rest (state.Within s d) ts p = RestWithin s d ts p
-Rest (state.Over q) ts p = (past ts ≡ []) × (p ≡ q)
-
-abbrev pub Back : Move → List Placed → Program → Type 0
-Back (Ok s) ts p = Rest s ts p
-Back (Err k) ts p = ⊥
+use Rattle.il_reader.specs.Declaration.{among, is_taken, has_room, with_name, value_of, whole, begun, bounded, started, made}
+use Rattle.il_reader.specs.Reading.{Move, goes, declares, continues, with_entry, with_variables, with_externals, with_label, with_statement, titled_draft, start_step, titled_step, over_step, declare_step, in_block_step, behind_name_step, behind_comma_step, ranged_step, typed_step, behind_colon_step, behind_external_step, behind_range_step, behind_type_step, behind_open_step, behind_low_step, behind_dots_step, behind_high_step, behind_assign_step, behind_start_step, operand_of, done_step, simple_step, begin_step, line_step, behind_label_step, at_instruction_step, between_step, paired, behind_pair_step, behind_first_step, behind_store_step, behind_set_step, behind_jump_step, is_loop, turns_of, behind_brace_step, turns_step, behind_loop_step, behind_turns_step, behind_pragma_step, whole_step, block_step, part_step, within_step, state_step, with_fault, step, onward}
+use Rattle.il_reader.specs.Grammar.{Placed, placed, past, IsNext, IsEnd, IsAction, IsLabelled, IsLine, labels_with, IsBody, Nature, OfVariable, OfExternal, Declaration, Block, entries_of, with_entries, with_declarations, IsFree, AreOthers, IsSubrange, IsRange, IsStart, IsNature, IsTyped, AreDeclarations, block_token, AreBlocks, IsProgram}
+use Rattle.il_reader.proofs.Drafts.{listed, closed, after_one, after, after_blocks, finished, scope_one, scope_after, labels_after, finished_is}
+use Rattle.il_reader.proofs.Rest.{run, RestBody, RestWhole, RestAction, RestLabelled, RestOperand, RestName, RestPart, RestTop, RestIn, RestNamed, RestClosed, RestRange, RestHigh, RestDots, RestLow, RestOpen, RestBlock, RestWithin, Rest, Back}
 
 -- Line ends that are blanks.
 
-body_past : (body : List Statement) (e m : ℕ) (ts : List Placed) → IsBody body e ts → IsBody body e (placed token.LineEnd m ∷ ts)
-body_past [] e m ts h = h
-body_past (s ∷ body) e m ts h = h
+body_past : (labels : List (List ℕ)) (body : List Statement) (e m : ℕ) (ts : List Placed) → IsBody labels body e ts → IsBody labels body e (placed token.LineEnd m ∷ ts)
+body_past labels [] e m ts h = h
+body_past labels (s ∷ body) e m ts h = h
 
-declarations_past : (earlier : List (List ℕ)) (xs : List Declaration) (m : ℕ) (ts b : List Placed) → AreDeclarations earlier xs ts b → AreDeclarations earlier xs (placed token.LineEnd m ∷ ts) b
-declarations_past earlier [] m ts b h = h
-declarations_past earlier (x ∷ xs) m ts b h = h
+declarations_past : (x : Bool) (d : Draft) (ys : List Declaration) (m : ℕ) (ts b : List Placed) → AreDeclarations x d.scope ys ts b → AreDeclarations x d.scope ys (placed token.LineEnd m ∷ ts) b
+declarations_past x d [] m ts b h = h
+declarations_past x d (y ∷ ys) m ts b h = h
 
 top_past : (d : Draft) (m : ℕ) (ts : List Placed) (p : Program) → RestTop d ts p → RestTop d (placed token.LineEnd m ∷ ts) p
-top_past d m ts p ([], body, e, c, q, h, w) = ([], body, e, placed token.LineEnd m ∷ ts, refl, body_past body e m ts (subst (λ z. IsBody body e z) (sym q) h), w)
-top_past d m ts p (xs ∷ bs, body, e, c, q, h, w) = (xs ∷ bs, body, e, c, q, h, w)
+top_past d m ts p ([], body, e, c, q, h, w) = ([], body, e, placed token.LineEnd m ∷ ts, refl, body_past d.labels body e m ts (subst (λ z. IsBody d.labels body e z) (sym q) h), w)
+top_past d m ts p (x ∷ bs, body, e, c, q, h, w) = (x ∷ bs, body, e, c, q, h, w)
 
-block_past : (d : Draft) (m : ℕ) (ts : List Placed) (p : Program) → RestBlock d ts p → RestBlock d (placed token.LineEnd m ∷ ts) p
-block_past d m ts p (xs, b, h, w) = (xs, b, declarations_past (names_of d) xs m ts b h, w)
+in_past : (x : Bool) (d : Draft) (m : ℕ) (ts : List Placed) (p : Program) → RestIn x d ts p → RestIn x d (placed token.LineEnd m ∷ ts) p
+in_past x d m ts p (ys, b, h, w) = (ys, b, declarations_past x d ys m ts b h, w)
 
-typed_past : (y : Typing) (start : Option ℤ) (m : ℕ) (ts f : List Placed) → IsTyped y start ts f → IsTyped y start (placed token.LineEnd m ∷ ts) f
-typed_past y start m ts f h = h
+typed_past : (x : Bool) (n : Nature) (m : ℕ) (ts f : List Placed) → IsTyped x n ts f → IsTyped x n (placed token.LineEnd m ∷ ts) f
+typed_past x n m ts f h = h
 
-named_past : (d : Draft) (m : ℕ) (ts : List Placed) (p : Program) → RestNamed d ts p → RestNamed d (placed token.LineEnd m ∷ ts) p
-named_past d m ts p ([], y, start, a, f, q, h, w) =
-    ([], y, start, placed token.LineEnd m ∷ ts, f, refl, typed_past y start m ts f (subst (λ z. IsTyped y start z f) (sym q) h), w)
-named_past d m ts p (e ∷ es, y, start, a, f, q, h, w) = (e ∷ es, y, start, a, f, q, h, w)
+named_past : (x : Bool) (d : Draft) (m : ℕ) (ts : List Placed) (p : Program) → RestNamed x d ts p → RestNamed x d (placed token.LineEnd m ∷ ts) p
+named_past x d m ts p ([], n, a, f, q, h, w) = ([], n, placed token.LineEnd m ∷ ts, f, refl, typed_past x n m ts f (subst (λ z. IsTyped x n z f) (sym q) h), w)
+named_past x d m ts p (e ∷ es, n, a, f, q, h, w) = (e ∷ es, n, a, f, q, h, w)
 
-start_past : (k : IlType) (y : Typing) (start : Option ℤ) (m : ℕ) (ts f : List Placed) → IsStart k y start ts f → IsStart k y start (placed token.LineEnd m ∷ ts) f
-start_past k y None m ts f h = h
-start_past k y (Some n) m ts f h = h
+nature_past : (x : Bool) (n : Nature) (m : ℕ) (ts f : List Placed) → IsNature x n ts f → IsNature x n (placed token.LineEnd m ∷ ts) f
+nature_past false (OfVariable y) m ts f h = h
+nature_past true (OfExternal k) m ts f h = h
+nature_past true (OfVariable y) m ts f h = absurd h
+nature_past false (OfExternal k) m ts f h = absurd h
+
+start_past : (y z : Typing) (m : ℕ) (ts f : List Placed) → IsStart y z ts f → IsStart y z (placed token.LineEnd m ∷ ts) f
+start_past y z m ts f (inl h) = inl h
+start_past y z m ts f (inr h) = inr h
+
+range_past : (y : Typing) (d : Draft) (m : ℕ) (ts : List Placed) (p : Program) → RestRange y d ts p → RestRange y d (placed token.LineEnd m ∷ ts) p
+range_past y d m ts p (z, f, h, w) = (z, f, start_past y z m ts f h, w)
+
+type_past : (w : Typing) (d : Draft) (m : ℕ) (ts : List Placed) (p : Program) → RestBlock (block.BehindType w) d ts p → RestBlock (block.BehindType w) d (placed token.LineEnd m ∷ ts) p
+type_past w d m ts p (y, b, inl (e, q), r) = (y, placed token.LineEnd m ∷ ts, inl (e, refl), range_past y d m ts p (subst (λ z. RestRange y d z p) (sym q) r))
+type_past w d m ts p (y, b, inr h, r) = (y, b, inr h, r)
 
 body_line : (d : Draft) (m : ℕ) (ts : List Placed) (p : Program) → RestBody d ts p → RestBody d (placed token.LineEnd m ∷ ts) p
-body_line d m ts p (body, e, h, w) = (body, e, body_past body e m ts h, w)
+body_line d m ts p (body, e, h, w) = (body, e, body_past d.labels body e m ts h, w)
 
 -- The head.
 
 back_start : (t : Token) (m : ℕ) (ts : List Placed) (p : Program) → Back (start_step t) ts p → Rest state.Start (placed t m ∷ ts) p
 back_start token.LineEnd m ts p h = h
 back_start (token.Keyword word.Program) m ts p (n, j, b, h, (bs, body, e, c, q, i, w)) =
-    subst (λ z. IsProgram (placed (token.Keyword word.Program) m ∷ ts) z) (sym (w ∙ finished_is n bs body e)) (m, j, ts, b, c, bs, refl, h, q, i, refl)
+    subst (λ z. IsProgram (placed (token.Keyword word.Program) m ∷ ts) z) (sym (w ∙ finished_is n bs body e)) (m, j, ts, b, c, bs, refl, h, q, i, refl, refl)
 back_start (token.Keyword _) m ts p h = absurd h
 back_start _ m ts p h = absurd h
 
@@ -128,171 +95,324 @@ back_titled token.LineEnd m ts p h = h
 back_titled (token.Name n) m ts p h = (n, m, ts, refl, h)
 back_titled _ m ts p h = absurd h
 
+back_over : (q : Program) (t : Token) (m : ℕ) (ts : List Placed) (p : Program) → Back (over_step q t) ts p → Rest (state.Over q) (placed t m ∷ ts) p
+back_over q token.LineEnd m ts p h = h
+back_over q _ m ts p h = absurd h
+
 -- Declarations.
 
--- one more name, fresh and with room
-abbrev Declared : Draft → List ℕ → ℕ → List Placed → Program → Type 0
-Declared d n m ts p = (among n (names_of d) ≡ false) × (room (names_of d) ≡ true) × RestNamed (with_entry d m n) ts p
+-- one more name, free and with room
+abbrev Declared : Bool → Draft → List ℕ → ℕ → List Placed → Program → Type 0
+Declared x d n m ts p = IsFree x d.scope n × RestNamed x (with_entry x d m n) ts p
 
-back_declare : (d : Draft) (n : List ℕ) (m : ℕ) (ts : List Placed) (p : Program) → Back (declare_step d n m) ts p → Declared d n m ts p
-back_declare d n m ts p h = go (room (names_of d)) (among n (names_of d)) refl refl h
+back_declare : (x : Bool) (d : Draft) (n : List ℕ) (m : ℕ) (ts : List Placed) (p : Program) → Back (declare_step x d n m) ts p → Declared x d n m ts p
+back_declare x d n m ts p h = go (has_room x d.scope) (is_taken x n d.scope) refl refl h
   where
-    go : (r a : Bool) → room (names_of d) ≡ r → among n (names_of d) ≡ a → Back (if r then (if a then Err fault.Duplicate else goes stage.BehindName (with_entry d m n)) else Err fault.TooLong) ts p → Declared d n m ts p
-    go true false e f h = (f, e, h)
+    go : (r a : Bool) → has_room x d.scope ≡ r → is_taken x n d.scope ≡ a → Back (if r then (if a then Err fault.Duplicate else declares (block.BehindName x) (with_entry x d m n)) else Err fault.TooLong) ts p → Declared x d n m ts p
+    go true false e f h = ((f, e), h)
     go true true e f h = absurd h
     go false a e f h = absurd h
 
-declared_block : (d : Draft) (n : List ℕ) (m : ℕ) (ts : List Placed) (p : Program) → Declared d n m ts p → RestBlock d (placed (token.Name n) m ∷ ts) p
-declared_block d n m ts p (fresh, free, (es, y, start, a, f, others, typed, (xs, b, more, w))) =
-    (x ∷ xs, b, (f, (ts, a, fresh, free, refl, subst (λ z. AreOthers z es ts a) (names_more d m n) others, typed), subst (λ z. AreDeclarations z xs f b) (names_one d x) more), w)
+declared_in : (x : Bool) (d : Draft) (n : List ℕ) (m : ℕ) (ts : List Placed) (p : Program) → Declared x d n m ts p → RestIn x d (placed (token.Name n) m ∷ ts) p
+declared_in x d n m ts p (free, (es, nature, a, f, others, typed, (ys, b, more, w))) =
+    (y ∷ ys, b, (f, (ts, a, free, refl, others, typed), subst (λ z. AreDeclarations x z ys f b) (scope_one x d y) more), w)
   where
-    x : Declaration
-    x = record { first = record { line = m; name = n }; others = es; typing = y; start = start }
+    y : Declaration
+    y = record { first = record { line = m; name = n }; others = es; nature = nature }
 
-back_in_block : (d : Draft) (t : Token) (m : ℕ) (ts : List Placed) (p : Program) → Back (in_block_step d t m) ts p → RestBlock d (placed t m ∷ ts) p
-back_in_block d token.LineEnd m ts p h = block_past d m ts p h
-back_in_block d (token.Keyword word.EndVar) m ts p h = ([], ts, (m, refl), h)
-back_in_block d (token.Name n) m ts p h = declared_block d n m ts p (back_declare d n m ts p h)
-back_in_block d (token.Keyword _) m ts p h = absurd h
-back_in_block d _ m ts p h = absurd h
+back_in_block : (x : Bool) (d : Draft) (t : Token) (m : ℕ) (ts : List Placed) (p : Program) → Back (in_block_step x d t m) ts p → RestIn x d (placed t m ∷ ts) p
+back_in_block x d token.LineEnd m ts p h = in_past x d m ts p h
+back_in_block x d (token.Keyword word.EndVar) m ts p h = ([], ts, (m, refl), h)
+back_in_block x d (token.Name n) m ts p h = declared_in x d n m ts p (back_declare x d n m ts p h)
+back_in_block x d (token.Keyword _) m ts p h = absurd h
+back_in_block x d _ m ts p h = absurd h
 
-back_behind_name : (d : Draft) (t : Token) (m : ℕ) (ts : List Placed) (p : Program) → Back (behind_name_step d t) ts p → RestNamed d (placed t m ∷ ts) p
-back_behind_name d token.LineEnd m ts p h = named_past d m ts p h
-back_behind_name d token.Comma m ts p h = go (room (names_of d)) refl h
+back_behind_name : (x : Bool) (d : Draft) (t : Token) (m : ℕ) (ts : List Placed) (p : Program) → Back (behind_name_step x d t) ts p → RestNamed x d (placed t m ∷ ts) p
+back_behind_name x d token.LineEnd m ts p h = named_past x d m ts p h
+back_behind_name x d token.Comma m ts p h = go (has_room x d.scope) h
   where
-    go : (r : Bool) → room (names_of d) ≡ r → Back (if r then goes stage.BehindComma d else Err fault.TooLong) ts p → RestNamed d (placed token.Comma m ∷ ts) p
-    go true e (x, a, fresh, free, next, (es, y, start, b, f, others, typed, w)) =
-        (x ∷ es, y, start, b, f, (m, ts, a, fresh, free, refl, next, subst (λ z. AreOthers z es a b) (names_more d x.line x.name) others), typed, w)
-    go false e h = absurd h
-back_behind_name d token.Colon m ts p (k, j, y, start, a, f, h, i, q, w) = ([], y, start, placed token.Colon m ∷ ts, f, refl, (k, m, j, ts, a, refl, h, i, q), w)
-back_behind_name d _ m ts p h = absurd h
+    go : (r : Bool) → Back (if r then declares (block.BehindComma x) d else Err fault.TooLong) ts p → RestNamed x d (placed token.Comma m ∷ ts) p
+    go true (e, a, free, next, (es, n, b, f, others, typed, w)) = (e ∷ es, n, b, f, (m, ts, a, free, refl, next, others), typed, w)
+    go false h = absurd h
+back_behind_name x d token.Colon m ts p (n, f, h, w) = ([], n, placed token.Colon m ∷ ts, f, refl, (m, ts, refl, h), w)
+back_behind_name x d _ m ts p h = absurd h
 
-back_behind_comma : (d : Draft) (t : Token) (m : ℕ) (ts : List Placed) (p : Program) → Back (behind_comma_step d t m) ts p → RestWithin stage.BehindComma d (placed t m ∷ ts) p
-back_behind_comma d token.LineEnd m ts p h = h
-back_behind_comma d (token.Name n) m ts p h = go (back_declare d n m ts p h)
+back_behind_comma : (x : Bool) (d : Draft) (t : Token) (m : ℕ) (ts : List Placed) (p : Program) → Back (behind_comma_step x d t m) ts p → RestBlock (block.BehindComma x) d (placed t m ∷ ts) p
+back_behind_comma x d token.LineEnd m ts p h = h
+back_behind_comma x d (token.Name n) m ts p h = go (back_declare x d n m ts p h)
   where
-    go : Declared d n m ts p → RestWithin stage.BehindComma d (placed (token.Name n) m ∷ ts) p
-    go (fresh, free, w) = (record { line = m; name = n }, ts, fresh, free, refl, w)
-back_behind_comma d _ m ts p h = absurd h
+    go : Declared x d n m ts p → RestBlock (block.BehindComma x) d (placed (token.Name n) m ∷ ts) p
+    go (free, w) = (record { line = m; name = n }, ts, free, refl, w)
+back_behind_comma x d _ m ts p h = absurd h
 
-back_behind_colon : (d : Draft) (t : Token) (m : ℕ) (ts : List Placed) (p : Program) → Back (behind_colon_step d t) ts p → RestWithin stage.BehindColon d (placed t m ∷ ts) p
-back_behind_colon d token.LineEnd m ts p h = h
-back_behind_colon d (token.Keyword (word.Type k)) m ts p h = go (is_read_type k) refl h
+back_typed : (x : Bool) (d : Draft) (k : IlType) (m : ℕ) (ts : List Placed) (p : Program) → Back (typed_step x d k) ts p → RestBlock (block.BehindColon x) d (placed (token.Keyword (word.Type k)) m ∷ ts) p
+back_typed true d k m ts p (l, b, h, w) = (OfExternal k, b, (m, l, ts, refl, h), w)
+back_typed false d k m ts p h = go (whole k) refl h
   where
-    go : (r : Bool) → is_read_type k ≡ r → Back (if r then goes (stage.BehindType k) d else Err fault.Declaration) ts p → RestWithin stage.BehindColon d (placed (token.Keyword (word.Type k)) m ∷ ts) p
-    go true e (y, start, f, h, w) = (k, m, y, start, ts, f, refl, e, h, w)
-    go false e h = absurd h
-back_behind_colon d (token.Keyword _) m ts p h = absurd h
-back_behind_colon d _ m ts p h = absurd h
-
--- the end of a declaration
-back_declared : (d : Draft) (o : Option Typing) (ts : List Placed) (p : Program) → Back (declared_step d o) ts p → (y : Typing) × (o ≡ Some y) × RestBlock (with_variables d y) ts p
-back_declared d (Some y) ts p h = (y, refl, h)
-back_declared d None ts p h = absurd h
-
-back_behind_type : (k : IlType) (d : Draft) (t : Token) (m : ℕ) (ts : List Placed) (p : Program) → Back (behind_type_step k d t) ts p → RestWithin (stage.BehindType k) d (placed t m ∷ ts) p
-back_behind_type k d token.LineEnd m ts p (y, start, f, h, w) = (y, start, f, start_past k y start m ts f h, w)
-back_behind_type k d token.Assign m ts p (n, j, y, a, h, e, (l, b, i, w)) = (y, Some n, b, (m, j, l, ts, a, refl, h, e, i), w)
-back_behind_type k d token.Semicolon m ts p h = go (back_declared d (typing_of k (pos 0)) ts p h)
-  where
-    go : (y : Typing) × (typing_of k (pos 0) ≡ Some y) × RestBlock (with_variables d y) ts p → RestWithin (stage.BehindType k) d (placed token.Semicolon m ∷ ts) p
-    go (y, e, w) = (y, None, ts, (m, e, refl), w)
-back_behind_type k d _ m ts p h = absurd h
-
-back_behind_assign : (k : IlType) (d : Draft) (t : Token) (m : ℕ) (ts : List Placed) (p : Program) → Back (behind_assign_step k d t) ts p → RestWithin (stage.BehindAssign k) d (placed t m ∷ ts) p
-back_behind_assign k d token.LineEnd m ts p h = h
-back_behind_assign k d (token.Number n) m ts p h = go (typing_of k n) refl h
-  where
-    go : (o : Option Typing) → typing_of k n ≡ o → Back (started_step d o) ts p → RestWithin (stage.BehindAssign k) d (placed (token.Number n) m ∷ ts) p
-    go (Some y) e h = (n, m, y, ts, refl, e, h)
+    go : (o : Option Typing) → whole k ≡ o → Back (ranged_step d block.BehindType o) ts p → RestBlock (block.BehindColon false) d (placed (token.Keyword (word.Type k)) m ∷ ts) p
+    go (Some w) e (y, b, r, (z, f, s, q)) = (OfVariable z, f, (k, w, y, m, ts, b, refl, e, r, s), q)
     go None e h = absurd h
-back_behind_assign k d _ m ts p h = absurd h
 
-back_behind_start : (y : Typing) (d : Draft) (t : Token) (m : ℕ) (ts : List Placed) (p : Program) → Back (behind_start_step y d t) ts p → RestClosed d y (placed t m ∷ ts) p
-back_behind_start y d token.LineEnd m ts p h = h
-back_behind_start y d token.Semicolon m ts p h = (m, ts, refl, h)
-back_behind_start y d _ m ts p h = absurd h
+back_behind_colon : (x : Bool) (d : Draft) (t : Token) (m : ℕ) (ts : List Placed) (p : Program) → Back (behind_colon_step x d t) ts p → RestBlock (block.BehindColon x) d (placed t m ∷ ts) p
+back_behind_colon x d token.LineEnd m ts p (n, f, h, w) = (n, f, nature_past x n m ts f h, w)
+back_behind_colon x d (token.Keyword (word.Type k)) m ts p h = back_typed x d k m ts p h
+back_behind_colon x d (token.Keyword _) m ts p h = absurd h
+back_behind_colon x d _ m ts p h = absurd h
 
--- The body.
+back_behind_external : (k : IlType) (d : Draft) (t : Token) (m : ℕ) (ts : List Placed) (p : Program) → Back (behind_external_step k d t) ts p → RestBlock (block.BehindExternal k) d (placed t m ∷ ts) p
+back_behind_external k d token.LineEnd m ts p h = h
+back_behind_external k d token.Semicolon m ts p h = (m, ts, refl, h)
+back_behind_external k d _ m ts p h = absurd h
 
--- an instruction of line l, and the lines behind it
-statement_body : (d : Draft) (l : ℕ) (x : Action) (ts a : List Placed) (p : Program) → past ts ≡ ts → IsAction l x ts a → RestWhole (with_statement d l x) a p → RestBody d ts p
-statement_body d l x ts a p e h (b, q, (body, end, i, w)) =
-    (s ∷ body, end, (a, b, subst (λ z. IsAction l x z a) (sym e) h, q, i), w ∙ ap (λ z. record { name = d.name; variables = d.variables; statements = z; end_line = end }) (append_assoc d.statements (s ∷ []) body))
+back_behind_range : (y : Typing) (d : Draft) (t : Token) (m : ℕ) (ts : List Placed) (p : Program) → Back (behind_range_step y d t) ts p → RestRange y d (placed t m ∷ ts) p
+back_behind_range y d token.LineEnd m ts p h = range_past y d m ts p h
+back_behind_range y d token.Assign m ts p (t, z, j, b, h, e, (l, f, i, w)) = (z, f, inr (t, m, j, l, ts, b, refl, h, e, i), w)
+back_behind_range y d token.Semicolon m ts p h = (y, ts, inl (m, refl, refl), h)
+back_behind_range y d _ m ts p h = absurd h
+
+-- no subrange
+range_type : (w : Typing) (d : Draft) (ts : List Placed) (p : Program) → RestRange w d ts p → RestBlock (block.BehindType w) d ts p
+range_type w d ts p h = (w, ts, inl (refl, refl), h)
+
+back_behind_type : (w : Typing) (d : Draft) (t : Token) (m : ℕ) (ts : List Placed) (p : Program) → Back (behind_type_step w d t) ts p → RestBlock (block.BehindType w) d (placed t m ∷ ts) p
+back_behind_type w d token.LineEnd m ts p h = type_past w d m ts p h
+back_behind_type w d token.Open m ts p h = go (is_bool w.kind) refl h
+  where
+    go : (c : Bool) → is_bool w.kind ≡ c → Back (if c then Err fault.Declaration else declares (block.BehindOpen w.kind) d) ts p → RestBlock (block.BehindType w) d (placed token.Open m ∷ ts) p
+    go true e h = absurd h
+    go false e (t, z, n, b, h, f, (i, c, k, (u, y, j, g, q, r, (l, o, s, v)))) = (y, o, inr (t, u, z, m, n, i, j, l, ts, b, c, g, e, refl, h, f, k, q, r, s), v)
+back_behind_type w d t m ts p h = range_type w d (placed t m ∷ ts) p (back_behind_range w d t m ts p h)
+
+back_behind_open : (k : IlType) (d : Draft) (t : Token) (m : ℕ) (ts : List Placed) (p : Program) → Back (behind_open_step k d t) ts p → RestOpen k d (placed t m ∷ ts) p
+back_behind_open k d token.LineEnd m ts p h = h
+back_behind_open k d t m ts p h = go (made (begun k) (value_of k t)) refl h
+  where
+    go : (o : Option Typing) → made (begun k) (value_of k t) ≡ o → Back (ranged_step d block.BehindLow o) ts p → RestOpen k d (placed t m ∷ ts) p
+    go (Some z) e h = (t, z, m, ts, refl, e, h)
+    go None e h = absurd h
+
+back_behind_low : (z : Typing) (d : Draft) (t : Token) (m : ℕ) (ts : List Placed) (p : Program) → Back (behind_low_step z d t) ts p → RestLow z d (placed t m ∷ ts) p
+back_behind_low z d token.LineEnd m ts p h = h
+back_behind_low z d token.Dots m ts p h = (m, ts, refl, h)
+back_behind_low z d _ m ts p h = absurd h
+
+back_behind_dots : (z : Typing) (d : Draft) (t : Token) (m : ℕ) (ts : List Placed) (p : Program) → Back (behind_dots_step z d t) ts p → RestDots z d (placed t m ∷ ts) p
+back_behind_dots z d token.LineEnd m ts p h = h
+back_behind_dots z d t m ts p h = go (made (bounded z) (value_of z.kind t)) refl h
+  where
+    go : (o : Option Typing) → made (bounded z) (value_of z.kind t) ≡ o → Back (ranged_step d block.BehindHigh o) ts p → RestDots z d (placed t m ∷ ts) p
+    go (Some y) e h = (t, y, m, ts, refl, e, h)
+    go None e h = absurd h
+
+back_behind_high : (y : Typing) (d : Draft) (t : Token) (m : ℕ) (ts : List Placed) (p : Program) → Back (behind_high_step y d t) ts p → RestHigh y d (placed t m ∷ ts) p
+back_behind_high y d token.LineEnd m ts p h = h
+back_behind_high y d token.Close m ts p h = (m, ts, refl, h)
+back_behind_high y d _ m ts p h = absurd h
+
+back_behind_assign : (y : Typing) (d : Draft) (t : Token) (m : ℕ) (ts : List Placed) (p : Program) → Back (behind_assign_step y d t) ts p → RestBlock (block.BehindAssign y) d (placed t m ∷ ts) p
+back_behind_assign y d token.LineEnd m ts p h = h
+back_behind_assign y d t m ts p h = go (made (started y) (value_of y.kind t)) refl h
+  where
+    go : (o : Option Typing) → made (started y) (value_of y.kind t) ≡ o → Back (ranged_step d block.BehindStart o) ts p → RestBlock (block.BehindAssign y) d (placed t m ∷ ts) p
+    go (Some z) e h = (t, z, m, ts, refl, e, h)
+    go None e h = absurd h
+
+back_behind_start : (z : Typing) (d : Draft) (t : Token) (m : ℕ) (ts : List Placed) (p : Program) → Back (behind_start_step z d t) ts p → RestClosed z d (placed t m ∷ ts) p
+back_behind_start z d token.LineEnd m ts p h = h
+back_behind_start z d token.Semicolon m ts p h = (m, ts, refl, h)
+back_behind_start z d _ m ts p h = absurd h
+
+back_block : (s : BlockStage) (d : Draft) (t : Token) (m : ℕ) (ts : List Placed) (p : Program) → Back (block_step s d t m) ts p → RestBlock s d (placed t m ∷ ts) p
+back_block (block.InBlock x) d t m ts p h = back_in_block x d t m ts p h
+back_block (block.BehindName x) d t m ts p h = back_behind_name x d t m ts p h
+back_block (block.BehindComma x) d t m ts p h = back_behind_comma x d t m ts p h
+back_block (block.BehindColon x) d t m ts p h = back_behind_colon x d t m ts p h
+back_block (block.BehindExternal k) d t m ts p h = back_behind_external k d t m ts p h
+back_block (block.BehindType w) d t m ts p h = back_behind_type w d t m ts p h
+back_block (block.BehindOpen k) d t m ts p h = back_behind_open k d t m ts p h
+back_block (block.BehindLow z) d t m ts p h = back_behind_low z d t m ts p h
+back_block (block.BehindDots z) d t m ts p h = back_behind_dots z d t m ts p h
+back_block (block.BehindHigh y) d t m ts p h = back_behind_high y d t m ts p h
+back_block (block.BehindRange y) d t m ts p h = back_behind_range y d t m ts p h
+back_block (block.BehindAssign y) d t m ts p h = back_behind_assign y d t m ts p h
+back_block (block.BehindStart z) d t m ts p h = back_behind_start z d t m ts p h
+
+-- Instructions.
+
+pub back_operand : (d : Draft) (h : Head) (f : Operand → Simple) (t : Token) (m : ℕ) (ts : List Placed) (p : Program) → Back (simple_step d h (option_map f (operand_of t))) ts p → RestOperand d h f (placed t m ∷ ts) p
+back_operand d h f t m ts p w = go (operand_of t) refl w
+  where
+    go : (o : Option Operand) → operand_of t ≡ o → Back (simple_step d h (option_map f o)) ts p → RestOperand d h f (placed t m ∷ ts) p
+    go (Some x) e w = (t, x, m, ts, e, refl, w)
+    go None e w = absurd w
+
+back_pair : (d : Draft) (h : Head) (o : Pair) (t : Token) (m : ℕ) (ts : List Placed) (p : Program) → Back (behind_pair_step h o d (operand_of t)) ts p → RestPart (part.BehindPair o) d h (placed t m ∷ ts) p
+back_pair d h o t m ts p w = go (operand_of t) refl w
+  where
+    go : (q : Option Operand) → operand_of t ≡ q → Back (behind_pair_step h o d q) ts p → RestPart (part.BehindPair o) d h (placed t m ∷ ts) p
+    go (Some x) e (u, y, i, n, a, f, g, w) = (t, u, x, y, m, i, n, a, e, f, ap (λ z. placed t m ∷ z) g, w)
+    go None e w = absurd w
+
+back_first : (d : Draft) (h : Head) (o : Pair) (x : Operand) (t : Token) (m : ℕ) (ts : List Placed) (p : Program) → Back (behind_first_step h o x d t) ts p → RestPart (part.BehindFirst o x) d h (placed t m ∷ ts) p
+back_first d h o x token.Comma m ts p (u, y, n, a, e, g, w) = (u, y, m, n, a, e, ap (λ z. placed token.Comma m ∷ z) g, w)
+back_first d h o x _ m ts p w = absurd w
+
+back_store : (d : Draft) (h : Head) (negated : Bool) (t : Token) (m : ℕ) (ts : List Placed) (p : Program) → Back (behind_store_step h negated d t) ts p → RestName d h (action.Store negated) (placed t m ∷ ts) p
+back_store d h negated (token.Name n) m ts p w = (n, m, ts, refl, w)
+back_store d h negated _ m ts p w = absurd w
+
+back_set : (d : Draft) (h : Head) (value : Bool) (t : Token) (m : ℕ) (ts : List Placed) (p : Program) → Back (behind_set_step h value d t) ts p → RestName d h (action.Set value) (placed t m ∷ ts) p
+back_set d h value (token.Name n) m ts p w = (n, m, ts, refl, w)
+back_set d h value _ m ts p w = absurd w
+
+back_jump : (d : Draft) (h : Head) (c : Condition) (turns : Option ℕ) (t : Token) (m : ℕ) (ts : List Placed) (p : Program) → Back (behind_jump_step h c turns d t) ts p → RestName d h (λ n. action.Jump c n turns) (placed t m ∷ ts) p
+back_jump d h c turns (token.Name n) m ts p w = (n, m, ts, refl, w)
+back_jump d h c turns _ m ts p w = absurd w
+
+back_brace : (d : Draft) (h : Head) (t : Token) (m : ℕ) (ts : List Placed) (p : Program) → Back (behind_brace_step h d t) ts p → RestPart part.BehindBrace d h (placed t m ∷ ts) p
+back_brace d h (token.Name w) m ts p r = go (is_loop w) refl r
+  where
+    go : (b : Bool) → is_loop w ≡ b → Back (if b then continues h part.BehindLoop d else Err fault.Word) ts p → RestPart part.BehindBrace d h (placed (token.Name w) m ∷ ts) p
+    go true e (n, v, turns, c, i, j, k, q, a, f, g, r) = (w, n, v, turns, c, m, i, j, k, q, a, e, f, ap (λ z. placed (token.Name w) m ∷ z) g, r)
+    go false e r = absurd r
+back_brace d h _ m ts p r = absurd r
+
+back_loop : (d : Draft) (h : Head) (t : Token) (m : ℕ) (ts : List Placed) (p : Program) → Back (behind_loop_step h d t) ts p → RestPart part.BehindLoop d h (placed t m ∷ ts) p
+back_loop d h (token.Decimal v) m ts p r = go (turns_of v) refl r
+  where
+    go : (o : Option ℕ) → turns_of v ≡ o → Back (turns_step h d o) ts p → RestPart part.BehindLoop d h (placed (token.Decimal v) m ∷ ts) p
+    go (Some turns) e (n, c, j, k, q, a, g, r) = (n, v, turns, c, m, j, k, q, a, e, ap (λ z. placed (token.Decimal v) m ∷ z) g, r)
+    go None e r = absurd r
+back_loop d h _ m ts p r = absurd r
+
+back_turns : (d : Draft) (h : Head) (turns : ℕ) (t : Token) (m : ℕ) (ts : List Placed) (p : Program) → Back (behind_turns_step h turns d t) ts p → RestPart (part.BehindTurns turns) d h (placed t m ∷ ts) p
+back_turns d h turns token.CloseBrace m ts p (n, c, k, q, a, g, r) = (n, c, m, k, q, a, ap (λ z. placed token.CloseBrace m ∷ z) g, r)
+back_turns d h turns _ m ts p r = absurd r
+
+back_pragma : (d : Draft) (h : Head) (turns : ℕ) (t : Token) (m : ℕ) (ts : List Placed) (p : Program) → Back (behind_pragma_step h turns d t) ts p → RestPart (part.BehindPragma turns) d h (placed t m ∷ ts) p
+back_pragma d h turns (token.Keyword (word.Jump c)) m ts p (n, q, a, g, r) = (n, c, m, q, a, ap (λ z. placed (token.Keyword (word.Jump c)) m ∷ z) g, r)
+back_pragma d h turns (token.Keyword _) m ts p r = absurd r
+back_pragma d h turns _ m ts p r = absurd r
+
+back_part : (s : PartStage) (d : Draft) (h : Head) (t : Token) (m : ℕ) (ts : List Placed) (p : Program) → Back (part_step h s d t) ts p → RestPart s d h (placed t m ∷ ts) p
+back_part (part.BehindLoad negated) d h t m ts p w = back_operand d h (simple.Load negated) t m ts p w
+back_part (part.BehindOperator o negated) d h t m ts p w = back_operand d h (simple.Apply o negated) t m ts p w
+back_part (part.BehindPair o) d h t m ts p w = back_pair d h o t m ts p w
+back_part (part.BehindFirst o x) d h t m ts p w = back_first d h o x t m ts p w
+back_part (part.BehindFirstComma o x) d h t m ts p w = back_operand d h (paired o x) t m ts p w
+back_part (part.BehindStore negated) d h t m ts p w = back_store d h negated t m ts p w
+back_part (part.BehindSet value) d h t m ts p w = back_set d h value t m ts p w
+back_part (part.BehindJump c turns) d h t m ts p w = back_jump d h c turns t m ts p w
+back_part part.BehindBrace d h t m ts p w = back_brace d h t m ts p w
+back_part part.BehindLoop d h t m ts p w = back_loop d h t m ts p w
+back_part (part.BehindTurns turns) d h t m ts p w = back_turns d h turns t m ts p w
+back_part (part.BehindPragma turns) d h t m ts p w = back_pragma d h turns t m ts p w
+
+-- the first token of an instruction, an operand behind it
+first_operand : (d : Draft) (h : Head) (m : ℕ) (k : Keyword) (f : Operand → Simple) (ts : List Placed) (p : Program) → ((t : Token) (x : Operand) (n : ℕ) (a : List Placed) → operand_of t ≡ Some x → ts ≡ placed t n ∷ a → IsAction m (action.Compute (f x)) (placed (token.Keyword k) m ∷ ts) a) → RestOperand d h f ts p → RestAction d h m (placed (token.Keyword k) m ∷ ts) p
+first_operand d h m k f ts p is (t, x, n, a, e, g, w) = (action.Compute (f x), a, is t x n a e g, w)
+
+back_begin : (d : Draft) (h : Head) (t : Token) (m : ℕ) (ts : List Placed) (p : Program) → Back (begin_step d h t) ts p → RestAction d h m (placed t m ∷ ts) p
+back_begin d h (token.Keyword (word.Load negated)) m ts p (t, x, n, a, e, g, w) = (action.Compute (simple.Load negated x), a, (t, n, e, ap (λ z. placed (token.Keyword (word.Load negated)) m ∷ z) g), w)
+back_begin d h (token.Keyword (word.Store negated)) m ts p (n, k, a, g, w) = (action.Store negated n, a, (k, ap (λ z. placed (token.Keyword (word.Store negated)) m ∷ z) g), w)
+back_begin d h (token.Keyword (word.Set value)) m ts p (n, k, a, g, w) = (action.Set value n, a, (k, ap (λ z. placed (token.Keyword (word.Set value)) m ∷ z) g), w)
+back_begin d h (token.Keyword (word.Jump c)) m ts p (n, k, a, g, w) = (action.Jump c n None, a, (k, ap (λ z. placed (token.Keyword (word.Jump c)) m ∷ z) g), w)
+back_begin d h (token.Keyword (word.Return c)) m ts p w = (action.Return c, ts, refl, w)
+back_begin d h (token.Keyword (word.Apply o negated)) m ts p (t, x, n, a, e, g, w) = (action.Compute (simple.Apply o negated x), a, (t, n, e, ap (λ z. placed (token.Keyword (word.Apply o negated)) m ∷ z) g), w)
+back_begin d h (token.Keyword word.Limit) m ts p (t, u, x, y, k, i, n, a, e, f, g, w) = (action.Compute (simple.Limit x y), a, (t, u, k, i, n, e, f, ap (λ z. placed (token.Keyword word.Limit) m ∷ z) g), w)
+back_begin d h (token.Keyword word.Select) m ts p (t, u, x, y, k, i, n, a, e, f, g, w) = (action.Compute (simple.Select x y), a, (t, u, k, i, n, e, f, ap (λ z. placed (token.Keyword word.Select) m ∷ z) g), w)
+back_begin d h (token.Keyword word.Not) m ts p w = (action.Compute simple.Invert, ts, refl, w)
+back_begin d h (token.Keyword word.Absolute) m ts p w = (action.Compute simple.Absolute, ts, refl, w)
+back_begin d h (token.Keyword (word.Convert j k)) m ts p w = (action.Compute (simple.Convert j k), ts, refl, w)
+back_begin d h token.OpenBrace m ts p (w, n, v, turns, c, g, i, j, k, q, a, e, f, r, s) =
+    (action.Jump c n (Some turns), a, (w, v, g, i, j, k, q, e, f, ap (λ z. placed token.OpenBrace m ∷ z) r), s)
+back_begin d h (token.Keyword _) m ts p w = absurd w
+back_begin d h _ m ts p w = absurd w
+
+-- Lines.
+
+-- a line without a label, and the lines behind it
+action_body : (d : Draft) (m : ℕ) (ts : List Placed) (p : Program) → past ts ≡ ts → RestAction d (record { line = m; label = None }) m ts p → RestBody d ts p
+action_body d m ts p e (x, a, h, (b, q, (body, end, i, w))) =
+    (s ∷ body, end, (a, b, subst (λ z. IsAction m x z a) (sym e) h, q, i), w ∙ ap (λ z. record { name = d.name; variables = d.variables; externals = d.externals; statements = z; end_line = end }) (append_assoc d.statements (s ∷ []) body))
   where
     s : Statement
-    s = record { line = l; action = x }
+    s = record { line = m; label = None; action = Some x }
+
+-- a line with a label
+labelled_body : (d : Draft) (n : List ℕ) (m : ℕ) (ts : List Placed) (p : Program) → among n d.labels ≡ false → RestWithin (stage.BehindLabel m n) d ts p → RestBody d (placed (token.Name n) m ∷ ts) p
+labelled_body d n m ts p fresh (k, c, e, (x, a, h, (b, q, (body, end, i, w)))) =
+    (s ∷ body, end, (a, b, (k, c, fresh, ap (λ z. placed (token.Name n) m ∷ z) e, h), q, i), w ∙ ap (λ z. record { name = d.name; variables = d.variables; externals = d.externals; statements = z; end_line = end }) (append_assoc d.statements (s ∷ []) body))
+  where
+    s : Statement
+    s = record { line = m; label = Some n; action = x }
 
 back_line : (d : Draft) (t : Token) (m : ℕ) (ts : List Placed) (p : Program) → Back (line_step d t m) ts p → RestBody d (placed t m ∷ ts) p
 back_line d token.LineEnd m ts p h = body_line d m ts p h
 back_line d (token.Keyword word.EndProgram) m ts p (q, w) =
-    ([], m, (ts, refl, q), w ∙ ap (λ z. record { name = d.name; variables = d.variables; statements = z; end_line = m }) (sym (Rattle.std.proofs.lemmas.List.append-nil d.statements)))
-back_line d (token.Keyword (word.Load negated)) m ts p (x, k, a, e, w) =
-    statement_body d m (action.Compute (simple.Load negated x)) (placed (token.Keyword (word.Load negated)) m ∷ ts) a p refl (k, ap (λ z. placed (token.Keyword (word.Load negated)) m ∷ z) e) w
-back_line d (token.Keyword (word.Store negated)) m ts p (n, k, a, e, w) =
-    statement_body d m (action.Store negated n) (placed (token.Keyword (word.Store negated)) m ∷ ts) a p refl (k, ap (λ z. placed (token.Keyword (word.Store negated)) m ∷ z) e) w
-back_line d (token.Keyword (word.Apply o)) m ts p (x, k, a, e, w) =
-    statement_body d m (action.Compute (simple.Apply o false x)) (placed (token.Keyword (word.Apply o)) m ∷ ts) a p refl (k, refl, ap (λ z. placed (token.Keyword (word.Apply o)) m ∷ z) e) w
-back_line d (token.Keyword _) m ts p h = absurd h
-back_line d _ m ts p h = absurd h
+    ([], m, (ts, refl, q), w ∙ ap (λ z. record { name = d.name; variables = d.variables; externals = d.externals; statements = z; end_line = m }) (sym (append-nil d.statements)))
+back_line d (token.Name n) m ts p h = go (among n d.labels) refl h
+  where
+    go : (b : Bool) → among n d.labels ≡ b → Back (if b then Err fault.Duplicate else goes (stage.BehindLabel m n) d) ts p → RestBody d (placed (token.Name n) m ∷ ts) p
+    go true e h = absurd h
+    go false e h = labelled_body d n m ts p e h
+back_line d (token.Keyword k) m ts p h = action_body d m (placed (token.Keyword k) m ∷ ts) p refl (back_begin d (record { line = m; label = None }) (token.Keyword k) m ts p h)
+back_line d t m ts p h = action_body d m (placed t m ∷ ts) p refl (back_begin d (record { line = m; label = None }) t m ts p h)
 
 body_top : (d : Draft) (ts : List Placed) (p : Program) → RestBody d ts p → RestTop d ts p
 body_top d ts p (body, e, h, w) = ([], body, e, ts, refl, h, w)
 
+block_next : (x : Bool) (m : ℕ) (ts : List Placed) → IsNext (block_token x) m (placed (block_token x) m ∷ ts) ts
+block_next false m ts = refl
+block_next true m ts = refl
+
+back_blocks : (x : Bool) (d : Draft) (m : ℕ) (ts : List Placed) (p : Program) → RestIn x d ts p → RestTop d (placed (block_token x) m ∷ ts) p
+back_blocks x d m ts p (ys, b, h, (bs, body, e, c, q, i, w)) =
+    (record { external = x; declarations = ys } ∷ bs, body, e, c, (m, ts, b, block_next x m ts, h, subst (λ z. AreBlocks z bs b c) (scope_after x ys d) q), subst (λ z. IsBody z body e c) (labels_after x ys d) i, w)
+
 back_between : (d : Draft) (t : Token) (m : ℕ) (ts : List Placed) (p : Program) → Back (between_step d t m) ts p → RestTop d (placed t m ∷ ts) p
 back_between d token.LineEnd m ts p h = top_past d m ts p h
-back_between d (token.Keyword word.Var) m ts p (xs, b, h, (bs, body, e, c, q, i, w)) =
-    (xs ∷ bs, body, e, c, (m, ts, b, refl, h, subst (λ z. AreBlocks z bs b c) (names_after xs d) q), i, w)
-back_between d (token.Keyword word.VarExternal) m ts p h = absurd h
+back_between d (token.Keyword word.Var) m ts p h = back_blocks false d m ts p h
+back_between d (token.Keyword word.VarExternal) m ts p h = back_blocks true d m ts p h
 back_between d (token.Keyword k) m ts p h = body_top d (placed (token.Keyword k) m ∷ ts) p (back_line d (token.Keyword k) m ts p h)
 back_between d t m ts p h = body_top d (placed t m ∷ ts) p (back_line d t m ts p h)
 
-back_load : (d : Draft) (l : ℕ) (negated : Bool) (t : Token) (m : ℕ) (ts : List Placed) (p : Program) → Back (instruction_step d l (loaded negated (operand_of t))) ts p → RestWithin (stage.BehindLoad l negated) d (placed t m ∷ ts) p
-back_load d l negated (token.Name n) m ts p h = (operand.Named n, m, ts, refl, h)
-back_load d l negated (token.Number n) m ts p h = (operand.Number n, m, ts, refl, h)
-back_load d l negated (token.Keyword (word.Truth b)) m ts p h = absurd h
-back_load d l negated (token.Keyword _) m ts p h = absurd h
-back_load d l negated _ m ts p h = absurd h
+back_label : (l : ℕ) (n : List ℕ) (d : Draft) (t : Token) (m : ℕ) (ts : List Placed) (p : Program) → Back (behind_label_step l n d t) ts p → RestWithin (stage.BehindLabel l n) d (placed t m ∷ ts) p
+back_label l n d token.Colon m ts p h = (m, ts, refl, h)
+back_label l n d _ m ts p h = absurd h
 
-back_operator : (d : Draft) (l : ℕ) (o : Operator) (t : Token) (m : ℕ) (ts : List Placed) (p : Program) → Back (instruction_step d l (applied o t (operand_of t))) ts p → RestWithin (stage.BehindOperator l o) d (placed t m ∷ ts) p
-back_operator d l o (token.Name n) m ts p h = (operand.Named n, m, ts, refl, h)
-back_operator d l o (token.Number n) m ts p h = (operand.Number n, m, ts, refl, h)
-back_operator d l o (token.Keyword (word.Truth b)) m ts p h = absurd h
-back_operator d l o (token.Keyword _) m ts p h = absurd h
-back_operator d l o _ m ts p h = absurd h
+action_labelled : (d : Draft) (h : Head) (m : ℕ) (ts : List Placed) (p : Program) → RestAction d h m ts p → RestLabelled d h ts p
+action_labelled d h m ts p (x, a, i, w) = (Some x, a, (m, i), w)
 
-back_store : (d : Draft) (l : ℕ) (negated : Bool) (t : Token) (m : ℕ) (ts : List Placed) (p : Program) → Back (instruction_step d l (stored negated t)) ts p → RestWithin (stage.BehindStore l negated) d (placed t m ∷ ts) p
-back_store d l negated (token.Name n) m ts p h = (n, m, ts, refl, h)
-back_store d l negated _ m ts p h = absurd h
+back_instruction : (h : Head) (d : Draft) (t : Token) (m : ℕ) (ts : List Placed) (p : Program) → Back (at_instruction_step h d t) ts p → RestLabelled d h (placed t m ∷ ts) p
+back_instruction h d token.LineEnd m ts p w = (None, placed token.LineEnd m ∷ ts, refl, (ts, (m, refl), w))
+back_instruction h d t m ts p w = action_labelled d h m (placed t m ∷ ts) p (back_begin d h t m ts p w)
 
 back_whole : (d : Draft) (t : Token) (m : ℕ) (ts : List Placed) (p : Program) → Back (whole_step d t) ts p → RestWhole d (placed t m ∷ ts) p
 back_whole d token.LineEnd m ts p h = (ts, (m, refl), h)
 back_whole d _ m ts p h = absurd h
 
-back_over : (q : Program) (t : Token) (m : ℕ) (ts : List Placed) (p : Program) → Back (over_step q t) ts p → Rest (state.Over q) (placed t m ∷ ts) p
-back_over q token.LineEnd m ts p h = h
-back_over q _ m ts p h = absurd h
-
 back_within : (s : Stage) (d : Draft) (t : Token) (m : ℕ) (ts : List Placed) (p : Program) → Back (within_step s d t m) ts p → RestWithin s d (placed t m ∷ ts) p
 back_within stage.BetweenBlocks d t m ts p h = back_between d t m ts p h
-back_within stage.InBlock d t m ts p h = back_in_block d t m ts p h
-back_within stage.BehindName d t m ts p h = back_behind_name d t m ts p h
-back_within stage.BehindComma d t m ts p h = back_behind_comma d t m ts p h
-back_within stage.BehindColon d t m ts p h = back_behind_colon d t m ts p h
-back_within (stage.BehindType k) d t m ts p h = back_behind_type k d t m ts p h
-back_within (stage.BehindAssign k) d t m ts p h = back_behind_assign k d t m ts p h
-back_within (stage.BehindStart y) d t m ts p h = back_behind_start y d t m ts p h
+back_within (stage.Block s) d t m ts p h = back_block s d t m ts p h
 back_within stage.AtLine d t m ts p h = back_line d t m ts p h
-back_within (stage.BehindLoad l negated) d t m ts p h = back_load d l negated t m ts p h
-back_within (stage.BehindOperator l o) d t m ts p h = back_operator d l o t m ts p h
-back_within (stage.BehindStore l negated) d t m ts p h = back_store d l negated t m ts p h
+back_within (stage.BehindLabel l n) d t m ts p h = back_label l n d t m ts p h
+back_within (stage.AtInstruction g) d t m ts p h = back_instruction g d t m ts p h
+back_within (stage.Part g s) d t m ts p h = back_part s d g t m ts p h
 back_within stage.BehindInstruction d t m ts p h = back_whole d t m ts p h
 
+back_state : (s : State) (t : Token) (m : ℕ) (ts : List Placed) (p : Program) → Back (state_step s t m) ts p → Rest s (placed t m ∷ ts) p
+back_state state.Start t m ts p h = back_start t m ts p h
+back_state state.Titled t m ts p h = back_titled t m ts p h
+back_state (state.Within s d) t m ts p h = back_within s d t m ts p h
+back_state (state.Over q) t m ts p h = back_over q t m ts p h
+
+without_fault : (t : Token) (move : Move) (ts : List Placed) (p : Program) → Back (with_fault t move) ts p → Back move ts p
+without_fault t (Ok s) ts p h = h
+without_fault t (Err k) ts p h = absurd h
+
 back : (s : State) (t : Token) (m : ℕ) (ts : List Placed) (p : Program) → Back (step s t m) ts p → Rest s (placed t m ∷ ts) p
-back state.Start t m ts p h = back_start t m ts p h
-back state.Titled t m ts p h = back_titled t m ts p h
-back (state.Within s d) t m ts p h = back_within s d t m ts p h
-back (state.Over q) t m ts p h = back_over q t m ts p h
+back s t m ts p h = back_state s t m ts p (without_fault t (state_step s t m) ts p h)
 
 -- The tokens that a state reads to a program are what remains for it.
 pub run_back : (s : State) (ts : List Placed) (p : Program) → run s ts ≡ Ok (state.Over p) → Rest s ts p

@@ -1,128 +1,255 @@
 -- Each state can still come to a whole program, where no token is open.
-use Rattle.std.proofs.Common.{◌≡◌, ℕ, true, false, pos, List, [], ◌∷◌, ◌++◌, length, Some, None, Ok, Err, refl, ap, ◌∙◌, if◌then◌else◌, arith, ◌+◌, ◌≤◌}
-use Rattle.std.specs.Prelude.{codes}
+use Rattle.std.proofs.Common.{◌≡◌, ℕ, zero, suc, Bool, true, false, ◌&&◌, ℤ, pos, List, [], ◌∷◌, ◌++◌, length, Some, None, Ok, Err, refl, sym, ap, ◌∙◌, if◌then◌else◌, arith, ◌+◌, ◌≤◌}
+use Rattle.std.proofs.lemmas.Int.{ints}
+use Rattle.std.specs.Prelude.{codes, int_le, negsuc}
 use Rattle.point_types.specs.declared.il_type.IlType.{IlType}
 use Rattle.point_types.specs.declared.il_type.IlType.TheVariants as il
 use Rattle.point_types.specs.Keyword.{is_reserved, plain_words, conversions}
+use Rattle.point_types.specs.Value.{low_of, high_of, is_within, is_ranged, is_bool, number_of}
 use Rattle.il_reader.specs.declared.fault.ReadFaultKind.TheVariants as fault
+use Rattle.il_reader.specs.declared.token.Keyword.TheVariants as word
+use Rattle.il_reader.specs.declared.token.Token.{Token}
 use Rattle.il_reader.specs.declared.token.Token.TheVariants as token
 use Rattle.il_reader.specs.declared.tree.Program.{Program}
 use Rattle.il_reader.specs.declared.typing.Typing.{Typing}
 use Rattle.il_reader.specs.declared.draft.Draft.{Draft}
+use Rattle.il_reader.specs.declared.draft.Head.{Head}
+use Rattle.il_reader.specs.declared.lexer.Lexed.{Lexed}
 use Rattle.il_reader.specs.declared.lexer.Mode.{Mode}
 use Rattle.il_reader.specs.declared.lexer.Mode.TheVariants as mode
 use Rattle.il_reader.specs.declared.reader.Reader.{Reader}
-use Rattle.il_reader.specs.declared.state.Stage.TheVariants as stage
+use Rattle.il_reader.specs.declared.stage.BlockStage.{BlockStage}
+use Rattle.il_reader.specs.declared.stage.BlockStage.TheVariants as block
+use Rattle.il_reader.specs.declared.stage.PartStage.{PartStage}
+use Rattle.il_reader.specs.declared.stage.PartStage.TheVariants as part
+use Rattle.il_reader.specs.declared.stage.Stage.TheVariants as stage
 use Rattle.il_reader.specs.declared.state.State.{State}
 use Rattle.il_reader.specs.declared.state.State.TheVariants as state
-use Rattle.il_reader.specs.Declaration.{typing_of, among, room}
+use Rattle.il_reader.specs.Declaration.{is_taken, has_room, value_of, truth_value, whole_value, typing_of, bounded, started, made}
 use Rattle.il_reader.specs.Tokens.{keyword, word_ended}
-use Rattle.il_reader.specs.Reading.{Move, goes, names_of, with_entry, declared_step, started_step, onward, stepped, state_read, byte_read, fed_on, fed}
+use Rattle.il_reader.specs.Reading.{Move, goes, declares, with_entry, with_fault, ranged_step, step, onward, stepped, state_read, byte_read, fed_on, fed}
+use Rattle.il_reader.proofs.TypingLemmas.{typing_is}
+use Rattle.il_reader.proofs.Forth.{literal, dots_same, assign_same}
 use Rattle.il_reader.proofs.Live.{IsLive}
 use Rattle.il_reader.proofs.Fresh.{letters, fresh_for, fresh_length, is_fresh, in_word, fed_letters, word_is_name}
-
-abbrev pub clear : ℕ → ℕ → State → Reader
-clear n l s = record { line = n; last = l; mode = mode.Clear; state = s }
+use Rattle.il_reader.proofs.Numerals.{clear, Prints, prints_number}
 
 -- some bytes lead from a state, where no token is open, to the end of a program
 abbrev pub Ends_at : Reader → Type 0
 Ends_at r = (text : List ℕ) × (p : Program) × (n l : ℕ) × (fed r text ≡ Ok (clear n l (state.Over p)))
 
-line_ends : (d : Draft) (n l : ℕ) → Ends_at (clear n l (state.Within stage.AtLine d))
+abbrev in_block : BlockStage → Draft → State
+in_block s d = state.Within (stage.Block s) d
+
+-- by one more token
+printed_ends : (text : List ℕ) (t : Token) (s s' : State) (n l : ℕ) → Prints text t → step s t n ≡ Ok s' → Ends_at (clear n n s') → Ends_at (clear n l s)
+printed_ends text t s s' n l prints e (rest, p, i, j, h) = (text ++ (32 ∷ rest), p, i, j, prints n l s s' rest e ∙ h)
+
+-- Literals of a range.
+
+prints_truth : (b : Bool) → (t : List ℕ) × Prints t (token.Keyword (word.Truth b))
 unfolding keyword is_reserved plain_words conversions
-line_ends d n l = (codes "END_PROGRAM\n", _, _, _, refl)
+prints_truth true = (codes "TRUE", λ n l s s' rest e. ap (λ z. fed_on (state_read (record { line = n; last = n; mode = mode.Word (codes "true") false; state = s }) 32 (record { ended = Some (token.Keyword (word.Truth true)); own = None; mode = mode.Clear }) (onward z (λ s''. stepped s'' None n))) (λ r'. fed r' rest)) e)
+prints_truth false = (codes "FALSE", λ n l s s' rest e. ap (λ z. fed_on (state_read (record { line = n; last = n; mode = mode.Word (codes "false") false; state = s }) 32 (record { ended = Some (token.Keyword (word.Truth false)); own = None; mode = mode.Clear }) (onward z (λ s''. stepped s'' None n))) (λ r'. fed r' rest)) e)
 
-between_ends : (d : Draft) (n l : ℕ) → Ends_at (clear n l (state.Within stage.BetweenBlocks d))
+abbrev Literal : IlType → ℤ → Type 0
+Literal k v = (text : List ℕ) × (t : Token) × Prints text t × (value_of k t ≡ Some v)
+
+in_lint : (k : IlType) (low high v : ℤ) → is_ranged k low high v ≡ true → is_within (low_of il.Lint) (high_of il.Lint) v ≡ true
+in_lint il.Bool low high v h = grind (arith, ints)
+in_lint il.Sint low high v h = grind (arith, ints)
+in_lint il.Int low high v h = grind (arith, ints)
+in_lint il.Dint low high v h = grind (arith, ints)
+in_lint il.Lint low high v h = grind (arith, ints)
+in_lint il.Usint low high v h = grind (arith, ints)
+in_lint il.Uint low high v h = grind (arith, ints)
+in_lint il.Udint low high v h = grind (arith, ints)
+
+is_truth : (low high v : ℤ) → is_ranged il.Bool low high v ≡ true → (b : Bool) × (number_of b ≡ v)
+is_truth low high (pos zero) h = (false, refl)
+is_truth low high (pos (suc zero)) h = (true, refl)
+is_truth low high (pos (suc (suc m))) h = absurd (grind (arith, ints))
+is_truth low high (negsuc m) h = absurd (grind (arith, ints))
+
+truth_literal : (low high v : ℤ) → is_ranged il.Bool low high v ≡ true → Literal il.Bool v
+truth_literal low high v h = go (is_truth low high v h)
+  where
+    with_text : (b : Bool) → number_of b ≡ v → (t : List ℕ) × Prints t (token.Keyword (word.Truth b)) → Literal il.Bool v
+    with_text b e (t, prints) = (t, token.Keyword (word.Truth b), prints, ap (λ z. Some z) e)
+
+    go : (b : Bool) × (number_of b ≡ v) → Literal il.Bool v
+    go (b, e) = with_text b e (prints_truth b)
+
+number_literal : (k : IlType) (v : ℤ) → is_bool k ≡ false → (t : List ℕ) × Prints t (token.Number v) → Literal k v
+number_literal k v e (t, prints) = (t, token.Number v, prints, ap (λ z. if z then None else Some v) e)
+
+literal_for : (k : IlType) (low high v : ℤ) → is_ranged k low high v ≡ true → Literal k v
+literal_for il.Bool low high v h = truth_literal low high v h
+literal_for il.Sint low high v h = number_literal il.Sint v refl (prints_number v (in_lint il.Sint low high v h))
+literal_for il.Int low high v h = number_literal il.Int v refl (prints_number v (in_lint il.Int low high v h))
+literal_for il.Dint low high v h = number_literal il.Dint v refl (prints_number v (in_lint il.Dint low high v h))
+literal_for il.Lint low high v h = number_literal il.Lint v refl (prints_number v (in_lint il.Lint low high v h))
+literal_for il.Usint low high v h = number_literal il.Usint v refl (prints_number v (in_lint il.Usint low high v h))
+literal_for il.Uint low high v h = number_literal il.Uint v refl (prints_number v (in_lint il.Uint low high v h))
+literal_for il.Udint low high v h = number_literal il.Udint v refl (prints_number v (in_lint il.Udint low high v h))
+
+-- a range whose low end is in the type goes on to the type's high end
+to_high : (lo hi low high start : ℤ) → (int_le lo low && (int_le low start && int_le start high) && int_le high hi) ≡ true → (int_le lo low && (int_le low low && int_le low hi) && int_le hi hi) ≡ true
+to_high lo hi low high start h = grind (arith, ints)
+
+at_high : (lo hi low high start : ℤ) → (int_le lo low && (int_le low start && int_le start high) && int_le high hi) ≡ true → (int_le lo low && (int_le low hi && int_le hi hi) && int_le hi hi) ≡ true
+at_high lo hi low high start h = grind (arith, ints)
+
+-- Declarations.
+
+block_ends : (x : Bool) (d : Draft) (n l : ℕ) → Ends_at (clear n l (in_block (block.InBlock x) d))
 unfolding keyword is_reserved plain_words conversions
-between_ends d n l = (codes "END_PROGRAM\n", _, _, _, refl)
+block_ends x d n l = (codes "END_VAR END_PROGRAM\n", _, _, _, refl)
 
-block_ends : (d : Draft) (n l : ℕ) → Ends_at (clear n l (state.Within stage.InBlock d))
-unfolding keyword is_reserved plain_words conversions
-block_ends d n l = (codes "END_VAR END_PROGRAM\n", _, _, _, refl)
-
--- 0 lies in every type
-zero_fits : (k : IlType) → (y : Typing) × (typing_of k (pos 0) ≡ Some y)
-zero_fits il.Bool = (_, refl)
-zero_fits il.Sint = (_, refl)
-zero_fits il.Int = (_, refl)
-zero_fits il.Dint = (_, refl)
-zero_fits il.Lint = (_, refl)
-zero_fits il.Usint = (_, refl)
-zero_fits il.Uint = (_, refl)
-zero_fits il.Udint = (_, refl)
-
-start_ends : (y : Typing) (d : Draft) (n l : ℕ) → Ends_at (clear n l (state.Within (stage.BehindStart y) d))
+start_ends : (y : Typing) (d : Draft) (n l : ℕ) → Ends_at (clear n l (in_block (block.BehindStart y) d))
 unfolding keyword is_reserved plain_words conversions
 start_ends y d n l = (codes ";END_VAR END_PROGRAM\n", _, _, _, refl)
 
-after_one_byte : (b : ℕ) (r r' : Reader) → ((rest : List ℕ) → fed r (b ∷ rest) ≡ fed r' rest) → Ends_at r' → Ends_at r
-after_one_byte b r r' step (text, p, n, l, e) = (b ∷ text, p, n, l, step text ∙ e)
-
-type_ends : (k : IlType) (d : Draft) (n l : ℕ) → Ends_at (clear n l (state.Within (stage.BehindType k) d))
-type_ends k d n l = go (zero_fits k)
-  where
-    go : (y : Typing) × (typing_of k (pos 0) ≡ Some y) → Ends_at (clear n l (state.Within (stage.BehindType k) d))
-    go (y, e) =
-        after_one_byte 59 (clear n l (state.Within (stage.BehindType k) d)) (clear n n (state.Within stage.InBlock (Rattle.il_reader.specs.Reading.with_variables d y))) (λ rest. ap (λ z. fed_on (state_read (clear n l (state.Within (stage.BehindType k) d)) 59 rest (record { ended = None; own = Some token.Semicolon; mode = mode.Clear }) (declared_step d z)) (λ r'. fed r' rest)) e) (block_ends (Rattle.il_reader.specs.Reading.with_variables d y) n n)
-
-assign_ends : (k : IlType) (d : Draft) (n l : ℕ) → Ends_at (clear n l (state.Within (stage.BehindAssign k) d))
-assign_ends k d n l = go (zero_fits k)
-  where
-    go : (y : Typing) × (typing_of k (pos 0) ≡ Some y) → Ends_at (clear n l (state.Within (stage.BehindAssign k) d))
-    go (y, e) = join (start_ends y d n n)
-      where
-        join : Ends_at (clear n n (state.Within (stage.BehindStart y) d)) → Ends_at (clear n l (state.Within (stage.BehindAssign k) d))
-        join (text, p, i, j, h) =
-            (48 ∷ 32 ∷ text, p, i, j, ap (λ z. fed_on (state_read (record { line = n; last = n; mode = mode.Number false (pos 0) false; state = state.Within (stage.BehindAssign k) d }) 32 text (record { ended = Some (token.Number (pos 0)); own = None; mode = mode.Clear }) (onward (started_step d z) (λ s'. stepped s' None n))) (λ r'. fed r' text)) e ∙ h)
-
-colon_ends : (d : Draft) (n l : ℕ) → Ends_at (clear n l (state.Within stage.BehindColon d))
+range_ends : (y : Typing) (d : Draft) (n l : ℕ) → Ends_at (clear n l (in_block (block.BehindRange y) d))
 unfolding keyword is_reserved plain_words conversions
-colon_ends d n l = (codes "INT;END_VAR END_PROGRAM\n", _, _, _, refl)
+range_ends y d n l = (codes ";END_VAR END_PROGRAM\n", _, _, _, refl)
 
-name_ends : (d : Draft) (n l : ℕ) → Ends_at (clear n l (state.Within stage.BehindName d))
+type_ends : (y : Typing) (d : Draft) (n l : ℕ) → Ends_at (clear n l (in_block (block.BehindType y) d))
 unfolding keyword is_reserved plain_words conversions
-name_ends d n l = (codes ":INT;END_VAR END_PROGRAM\n", _, _, _, refl)
+type_ends y d n l = (codes ";END_VAR END_PROGRAM\n", _, _, _, refl)
+
+external_ends : (k : IlType) (d : Draft) (n l : ℕ) → Ends_at (clear n l (in_block (block.BehindExternal k) d))
+unfolding keyword is_reserved plain_words conversions
+external_ends k d n l = (codes ";END_VAR END_PROGRAM\n", _, _, _, refl)
+
+high_ends : (y : Typing) (d : Draft) (n l : ℕ) → Ends_at (clear n l (in_block (block.BehindHigh y) d))
+unfolding keyword is_reserved plain_words conversions
+high_ends y d n l = (codes ");END_VAR END_PROGRAM\n", _, _, _, refl)
+
+assign_ends : (y : Typing) (d : Draft) (n l : ℕ) → Ends_at (clear n l (in_block (block.BehindAssign y) d))
+assign_ends y d n l = go (literal_for y.kind y.low y.high y.start y.ranged)
+  where
+    same : Typing
+    same = record { kind = y.kind; low = y.low; high = y.high; start = y.start; ranged = y.ranged }
+
+    is_same : Some same ≡ started y y.start
+    is_same = typing_is y.kind y.low y.high y.start y.ranged y.low y.high y.start refl refl refl
+
+    go : Literal y.kind y.start → Ends_at (clear n l (in_block (block.BehindAssign y) d))
+    go (text, t, prints, e) =
+        let makes : made (started y) (value_of y.kind t) ≡ Some same = ap (made (started y)) e ∙ sym is_same in
+        printed_ends text t (in_block (block.BehindAssign y) d) (in_block (block.BehindStart same) d) n l prints (ap (with_fault t) (assign_same y d t (literal y.kind t (started y) same makes)) ∙ ap (λ z. with_fault t (ranged_step d block.BehindStart z)) makes) (start_ends same d n n)
+
+dots_ends : (z : Typing) (d : Draft) (n l : ℕ) → Ends_at (clear n l (in_block (block.BehindDots z) d))
+dots_ends z d n l = go (literal_for z.kind z.low (high_of z.kind) (high_of z.kind) (at_high (low_of z.kind) (high_of z.kind) z.low z.high z.start z.ranged))
+  where
+    is_whole : is_ranged z.kind z.low (high_of z.kind) z.low ≡ true
+    is_whole = to_high (low_of z.kind) (high_of z.kind) z.low z.high z.start z.ranged
+
+    up : Typing
+    up = record { kind = z.kind; low = z.low; high = high_of z.kind; start = z.low; ranged = is_whole }
+
+    is_up : Some up ≡ bounded z (high_of z.kind)
+    is_up = typing_is z.kind z.low (high_of z.kind) z.low is_whole z.low (high_of z.kind) z.low refl refl refl
+
+    go : Literal z.kind (high_of z.kind) → Ends_at (clear n l (in_block (block.BehindDots z) d))
+    go (text, t, prints, e) =
+        let makes : made (bounded z) (value_of z.kind t) ≡ Some up = ap (made (bounded z)) e ∙ sym is_up in
+        printed_ends text t (in_block (block.BehindDots z) d) (in_block (block.BehindHigh up) d) n l prints (ap (with_fault t) (dots_same z d t (literal z.kind t (bounded z) up makes)) ∙ ap (λ w. with_fault t (ranged_step d block.BehindHigh w)) makes) (high_ends up d n n)
+
+low_ends : (z : Typing) (d : Draft) (n l : ℕ) → Ends_at (clear n l (in_block (block.BehindLow z) d))
+low_ends z d n l = go (dots_ends z d n n)
+  where
+    go : Ends_at (clear n n (in_block (block.BehindDots z) d)) → Ends_at (clear n l (in_block (block.BehindLow z) d))
+    go (text, p, i, j, h) = (46 ∷ 46 ∷ text, p, i, j, h)
+
+open_ends : (k : IlType) (d : Draft) (n l : ℕ) → Ends_at (clear n l (in_block (block.BehindOpen k) d))
+unfolding keyword is_reserved plain_words conversions
+open_ends il.Bool d n l = (codes "FALSE..FALSE);END_VAR END_PROGRAM\n", _, _, _, refl)
+open_ends il.Sint d n l = (codes "0..0);END_VAR END_PROGRAM\n", _, _, _, refl)
+open_ends il.Int d n l = (codes "0..0);END_VAR END_PROGRAM\n", _, _, _, refl)
+open_ends il.Dint d n l = (codes "0..0);END_VAR END_PROGRAM\n", _, _, _, refl)
+open_ends il.Lint d n l = (codes "0..0);END_VAR END_PROGRAM\n", _, _, _, refl)
+open_ends il.Usint d n l = (codes "0..0);END_VAR END_PROGRAM\n", _, _, _, refl)
+open_ends il.Uint d n l = (codes "0..0);END_VAR END_PROGRAM\n", _, _, _, refl)
+open_ends il.Udint d n l = (codes "0..0);END_VAR END_PROGRAM\n", _, _, _, refl)
+
+colon_ends : (x : Bool) (d : Draft) (n l : ℕ) → Ends_at (clear n l (in_block (block.BehindColon x) d))
+unfolding keyword is_reserved plain_words conversions
+colon_ends true d n l = (codes "INT;END_VAR END_PROGRAM\n", _, _, _, refl)
+colon_ends false d n l = (codes "INT;END_VAR END_PROGRAM\n", _, _, _, refl)
+
+name_ends : (x : Bool) (d : Draft) (n l : ℕ) → Ends_at (clear n l (in_block (block.BehindName x) d))
+unfolding keyword is_reserved plain_words conversions
+name_ends true d n l = (codes ":INT;END_VAR END_PROGRAM\n", _, _, _, refl)
+name_ends false d n l = (codes ":INT;END_VAR END_PROGRAM\n", _, _, _, refl)
 
 -- a fresh name, where there is room for one
-comma_name : (d : Draft) (n l : ℕ) (rest : List ℕ) → room (names_of d) ≡ true → fed (clear n l (state.Within stage.BehindComma d)) (113 ∷ (letters (fresh_for (names_of d)) ++ (32 ∷ rest))) ≡ fed (clear n n (state.Within stage.BehindName (with_entry d n (113 ∷ letters (fresh_for (names_of d)))))) rest
-comma_name d n l rest free =
-    fed_letters (fresh_for (names_of d)) (113 ∷ []) n s (32 ∷ rest) few ∙ ap (λ z. fed_on (byte_read (in_word n w s) 32 rest (word_ended z 32)) (λ r'. fed r' rest)) (word_is_name (fresh_for (names_of d)) (fresh_length (names_of d))) ∙ ap (λ z. fed_on (state_read (in_word n w s) 32 rest named (onward (if z then (if among w (names_of d) then Err fault.Duplicate else goes stage.BehindName (with_entry d n w)) else Err fault.TooLong) (λ s'. stepped s' None n))) (λ r'. fed r' rest)) free ∙ ap (λ z. fed_on (state_read (in_word n w s) 32 rest named (onward (if z then Err fault.Duplicate else goes stage.BehindName (with_entry d n w)) (λ s'. stepped s' None n))) (λ r'. fed r' rest)) (is_fresh (names_of d) free)
+comma_name : (x : Bool) (d : Draft) (n l : ℕ) (rest : List ℕ) → has_room x d.scope ≡ true → fed (clear n l (in_block (block.BehindComma x) d)) (113 ∷ (letters (fresh_for d.scope) ++ (32 ∷ rest))) ≡ fed (clear n n (in_block (block.BehindName x) (with_entry x d n (113 ∷ letters (fresh_for d.scope))))) rest
+comma_name x d n l rest free =
+    fed_letters (fresh_for d.scope) (113 ∷ []) n s (32 ∷ rest) few ∙ ap (λ z. fed_on (byte_read (in_word n w s) 32 (word_ended z 32)) (λ r'. fed r' rest)) (word_is_name (fresh_for d.scope) (fresh_length d.scope)) ∙ ap (λ z. fed_on (state_read (in_word n w s) 32 named (onward (with_fault (token.Name w) (if z then (if is_taken x w d.scope then Err fault.Duplicate else declares (block.BehindName x) (with_entry x d n w)) else Err fault.TooLong)) (λ s'. stepped s' None n))) (λ r'. fed r' rest)) free ∙ ap (λ z. fed_on (state_read (in_word n w s) 32 named (onward (with_fault (token.Name w) (if z then Err fault.Duplicate else declares (block.BehindName x) (with_entry x d n w))) (λ s'. stepped s' None n))) (λ r'. fed r' rest)) (is_fresh x d.scope free)
   where
     s : State
-    s = state.Within stage.BehindComma d
+    s = in_block (block.BehindComma x) d
 
     w : List ℕ
-    w = 113 ∷ letters (fresh_for (names_of d))
+    w = 113 ∷ letters (fresh_for d.scope)
 
-    named : Rattle.il_reader.specs.declared.lexer.Lexed.Lexed
+    named : Lexed
     named = record { ended = Some (token.Name w); own = None; mode = mode.Clear }
 
-    few : length {A = ℕ} (113 ∷ []) + length (letters (fresh_for (names_of d))) ≤ 32
-    few = let h = fresh_length (names_of d) in omega arith
+    few : length {A = ℕ} (113 ∷ []) + length (letters (fresh_for d.scope)) ≤ 32
+    few = let h = fresh_length d.scope in omega arith
 
-comma_ends : (d : Draft) (n l : ℕ) → room (names_of d) ≡ true → Ends_at (clear n l (state.Within stage.BehindComma d))
-comma_ends d n l free = join (name_ends (with_entry d n (113 ∷ letters (fresh_for (names_of d)))) n n)
+comma_ends : (x : Bool) (d : Draft) (n l : ℕ) → has_room x d.scope ≡ true → Ends_at (clear n l (in_block (block.BehindComma x) d))
+comma_ends x d n l free = join (name_ends x (with_entry x d n (113 ∷ letters (fresh_for d.scope))) n n)
   where
-    join : Ends_at (clear n n (state.Within stage.BehindName (with_entry d n (113 ∷ letters (fresh_for (names_of d)))))) → Ends_at (clear n l (state.Within stage.BehindComma d))
-    join (text, p, i, j, h) = (113 ∷ (letters (fresh_for (names_of d)) ++ (32 ∷ text)), p, i, j, comma_name d n l text free ∙ h)
+    join : Ends_at (clear n n (in_block (block.BehindName x) (with_entry x d n (113 ∷ letters (fresh_for d.scope))))) → Ends_at (clear n l (in_block (block.BehindComma x) d))
+    join (text, p, i, j, h) = (113 ∷ (letters (fresh_for d.scope) ++ (32 ∷ text)), p, i, j, comma_name x d n l text free ∙ h)
+
+in_block_ends : (s : BlockStage) (d : Draft) (n l : ℕ) → IsLive (in_block s d) → Ends_at (clear n l (in_block s d))
+in_block_ends (block.InBlock x) d n l h = block_ends x d n l
+in_block_ends (block.BehindName x) d n l h = name_ends x d n l
+in_block_ends (block.BehindComma x) d n l h = comma_ends x d n l h
+in_block_ends (block.BehindColon x) d n l h = colon_ends x d n l
+in_block_ends (block.BehindExternal k) d n l h = external_ends k d n l
+in_block_ends (block.BehindType y) d n l h = type_ends y d n l
+in_block_ends (block.BehindOpen k) d n l h = open_ends k d n l
+in_block_ends (block.BehindLow y) d n l h = low_ends y d n l
+in_block_ends (block.BehindDots y) d n l h = dots_ends y d n l
+in_block_ends (block.BehindHigh y) d n l h = high_ends y d n l
+in_block_ends (block.BehindRange y) d n l h = range_ends y d n l
+in_block_ends (block.BehindAssign y) d n l h = assign_ends y d n l
+in_block_ends (block.BehindStart y) d n l h = start_ends y d n l
+
+-- The body.
+
+part_ends : (s : PartStage) (g : Head) (d : Draft) (n l : ℕ) → Ends_at (clear n l (state.Within (stage.Part g s) d))
+unfolding keyword is_reserved plain_words conversions
+part_ends (part.BehindLoad negated) g d n l = (codes "a\nEND_PROGRAM\n", _, _, _, refl)
+part_ends (part.BehindOperator o negated) g d n l = (codes "a\nEND_PROGRAM\n", _, _, _, refl)
+part_ends (part.BehindPair o) g d n l = (codes "a,a\nEND_PROGRAM\n", _, _, _, refl)
+part_ends (part.BehindFirst o x) g d n l = (codes ",a\nEND_PROGRAM\n", _, _, _, refl)
+part_ends (part.BehindFirstComma o x) g d n l = (codes "a\nEND_PROGRAM\n", _, _, _, refl)
+part_ends (part.BehindStore negated) g d n l = (codes "a\nEND_PROGRAM\n", _, _, _, refl)
+part_ends (part.BehindSet value) g d n l = (codes "a\nEND_PROGRAM\n", _, _, _, refl)
+part_ends (part.BehindJump c turns) g d n l = (codes "a\nEND_PROGRAM\n", _, _, _, refl)
+part_ends part.BehindBrace g d n l = (codes "LOOP 1}JMP a\nEND_PROGRAM\n", _, _, _, refl)
+part_ends part.BehindLoop g d n l = (codes "1}JMP a\nEND_PROGRAM\n", _, _, _, refl)
+part_ends (part.BehindTurns turns) g d n l = (codes "}JMP a\nEND_PROGRAM\n", _, _, _, refl)
+part_ends (part.BehindPragma turns) g d n l = (codes "JMP a\nEND_PROGRAM\n", _, _, _, refl)
 
 -- the completion
 pub clear_ends : (s : State) (n l : ℕ) → IsLive s → Ends_at (clear n l s)
 unfolding keyword is_reserved plain_words conversions
 clear_ends state.Start n l h = (codes "PROGRAM p END_PROGRAM\n", _, _, _, refl)
 clear_ends state.Titled n l h = (codes "p END_PROGRAM\n", _, _, _, refl)
-clear_ends (state.Within stage.BetweenBlocks d) n l h = between_ends d n l
-clear_ends (state.Within stage.InBlock d) n l h = block_ends d n l
-clear_ends (state.Within stage.BehindName d) n l h = name_ends d n l
-clear_ends (state.Within stage.BehindComma d) n l h = comma_ends d n l h
-clear_ends (state.Within stage.BehindColon d) n l h = colon_ends d n l
-clear_ends (state.Within (stage.BehindType k) d) n l h = type_ends k d n l
-clear_ends (state.Within (stage.BehindAssign k) d) n l h = assign_ends k d n l
-clear_ends (state.Within (stage.BehindStart y) d) n l h = start_ends y d n l
-clear_ends (state.Within stage.AtLine d) n l h = line_ends d n l
-clear_ends (state.Within (stage.BehindLoad m negated) d) n l h = (codes "a\nEND_PROGRAM\n", _, _, _, refl)
-clear_ends (state.Within (stage.BehindOperator m o) d) n l h = (codes "a\nEND_PROGRAM\n", _, _, _, refl)
-clear_ends (state.Within (stage.BehindStore m negated) d) n l h = (codes "a\nEND_PROGRAM\n", _, _, _, refl)
+clear_ends (state.Within stage.BetweenBlocks d) n l h = (codes "END_PROGRAM\n", _, _, _, refl)
+clear_ends (state.Within (stage.Block s) d) n l h = in_block_ends s d n l h
+clear_ends (state.Within stage.AtLine d) n l h = (codes "END_PROGRAM\n", _, _, _, refl)
+clear_ends (state.Within (stage.BehindLabel m v) d) n l h = (codes ":\nEND_PROGRAM\n", _, _, _, refl)
+clear_ends (state.Within (stage.AtInstruction g) d) n l h = (codes "\nEND_PROGRAM\n", _, _, _, refl)
+clear_ends (state.Within (stage.Part g s) d) n l h = part_ends s g d n l
 clear_ends (state.Within stage.BehindInstruction d) n l h = (codes "\nEND_PROGRAM\n", _, _, _, refl)
 clear_ends (state.Over p) n l h = ([], p, n, l, refl)
 

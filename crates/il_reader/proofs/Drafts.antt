@@ -1,86 +1,108 @@
--- Drafts that grow by declarations, and their names.
-use Rattle.std.proofs.Common.{◌≡◌, ℕ, List, [], ◌∷◌, ◌++◌, map, refl, sym, ap, ◌∙◌, append_assoc}
+-- Drafts that grow by declarations, and what is declared by then.
+use Rattle.std.proofs.Common.{◌≡◌, ℕ, Bool, true, false, List, [], ◌∷◌, ◌++◌, map, refl, sym, ap, ◌∙◌, append_assoc}
 use Rattle.std.proofs.lemmas.List.{append-nil}
 use Rattle.il_reader.specs.declared.tree.Program.{Program}
 use Rattle.il_reader.specs.declared.tree.Statement.{Statement}
 use Rattle.il_reader.specs.declared.tree.Variable.{Variable}
+use Rattle.il_reader.specs.declared.tree.External.{External}
 use Rattle.il_reader.specs.declared.typing.Entry.{Entry}
 use Rattle.il_reader.specs.declared.typing.Typing.{Typing}
+use Rattle.il_reader.specs.declared.scope.Scope.{Scope}
 use Rattle.il_reader.specs.declared.draft.Draft.{Draft}
-use Rattle.il_reader.specs.Declaration.{variable_of, entry_name, variable_name}
-use Rattle.il_reader.specs.Reading.{names_of, with_entry, with_variables, titled_draft}
-use Rattle.il_reader.specs.Grammar.{Declaration, entries_of, entry_names, block_names, block_variables, variables_of}
+use Rattle.il_reader.specs.Declaration.{with_name, variable_of, external_of}
+use Rattle.il_reader.specs.Reading.{with_entry, with_variables, with_externals, titled_draft}
+use Rattle.il_reader.specs.Grammar.{Nature, OfVariable, OfExternal, Declaration, Block, entries_of, with_entries, with_declarations, variables_with, externals_with, block_variables, block_externals, variables_of, externals_of}
 
-abbrev pub with_entries : Draft → List Entry → Draft
-with_entries d [] = d
-with_entries d (e ∷ es) = with_entries (with_entry d e.line e.name) es
+-- behind some names of a declaration
+abbrev pub listed : Bool → Draft → List Entry → Draft
+listed x d [] = d
+listed x d (e ∷ es) = listed x (with_entry x d e.line e.name) es
+
+-- behind the end of a declaration
+abbrev pub closed : Draft → Nature → Draft
+closed d (OfVariable y) = with_variables d y
+closed d (OfExternal k) = with_externals d k
 
 -- behind a declaration, a block, all blocks
-abbrev pub after_one : Draft → Declaration → Draft
-after_one d x = with_variables (with_entries d (entries_of x)) x.typing
+abbrev pub after_one : Bool → Draft → Declaration → Draft
+after_one x d y = closed (listed x d (entries_of y)) y.nature
 
-abbrev pub after : Draft → List Declaration → Draft
-after d [] = d
-after d (x ∷ xs) = after (after_one d x) xs
+abbrev pub after : Bool → Draft → List Declaration → Draft
+after x d [] = d
+after x d (y ∷ ys) = after x (after_one x d y) ys
 
-abbrev pub after_blocks : Draft → List (List Declaration) → Draft
+abbrev pub after_blocks : Draft → List Block → Draft
 after_blocks d [] = d
-after_blocks d (xs ∷ bs) = after_blocks (after d xs) bs
+after_blocks d (b ∷ bs) = after_blocks (after b.external d b.declarations) bs
 
 abbrev pub finished : Draft → List Statement → ℕ → Program
-finished d body e = record { name = d.name; variables = d.variables; statements = d.statements ++ body; end_line = e }
+finished d body e = record { name = d.name; variables = d.variables; externals = d.externals; statements = d.statements ++ body; end_line = e }
 
-map_append : {A B : Type 0} (f : A → B) (xs ys : List A) → map f (xs ++ ys) ≡ map f xs ++ map f ys
-map_append f [] ys = refl
-map_append f (x ∷ xs) ys = ap (λ z. f x ∷ z) (map_append f xs ys)
+-- The names.
 
-map_map : (y : Typing) (es : List Entry) → map variable_name (map (variable_of y) es) ≡ map entry_name es
-map_map y [] = refl
-map_map y (e ∷ es) = ap (λ z. e.name ∷ z) (map_map y es)
+pub scope_listed : (x : Bool) (es : List Entry) (d : Draft) → (listed x d es).scope ≡ with_entries x d.scope es
+scope_listed x [] d = refl
+scope_listed x (e ∷ es) d = scope_listed x es (with_entry x d e.line e.name)
 
-pub names_more : (d : Draft) (m : ℕ) (n : List ℕ) → names_of (with_entry d m n) ≡ names_of d ++ n ∷ []
-names_more d m n =
-    ap (λ z. map variable_name d.variables ++ z) (map_append entry_name d.pending (record { line = m; name = n } ∷ [])) ∙ sym (append_assoc (map variable_name d.variables) (map entry_name d.pending) (n ∷ []))
+scope_closed : (d : Draft) (n : Nature) → (closed d n).scope ≡ d.scope
+scope_closed d (OfVariable y) = refl
+scope_closed d (OfExternal k) = refl
 
-pub names_closed : (d : Draft) (y : Typing) → names_of (with_variables d y) ≡ names_of d
-names_closed d y =
-    append-nil _ ∙ map_append variable_name d.variables (map (variable_of y) d.pending) ∙ ap (λ z. map variable_name d.variables ++ z) (map_map y d.pending)
+pub scope_one : (x : Bool) (d : Draft) (y : Declaration) → (after_one x d y).scope ≡ with_entries x d.scope (entries_of y)
+scope_one x d y = scope_closed (listed x d (entries_of y)) y.nature ∙ scope_listed x (entries_of y) d
 
-pub names_entries : (es : List Entry) (d : Draft) → names_of (with_entries d es) ≡ names_of d ++ entry_names es
-names_entries [] d = sym (append-nil (names_of d))
-names_entries (e ∷ es) d =
-    names_entries es (with_entry d e.line e.name) ∙ ap (λ z. z ++ entry_names es) (names_more d e.line e.name) ∙ append_assoc (names_of d) (e.name ∷ []) (entry_names es)
+pub scope_after : (x : Bool) (ys : List Declaration) (d : Draft) → (after x d ys).scope ≡ with_declarations x d.scope ys
+scope_after x [] d = refl
+scope_after x (y ∷ ys) d = scope_after x ys (after_one x d y) ∙ ap (λ z. with_declarations x z ys) (scope_one x d y)
 
-pub names_one : (d : Draft) (x : Declaration) → names_of (after_one d x) ≡ names_of d ++ entry_names (entries_of x)
-names_one d x = names_closed (with_entries d (entries_of x)) x.typing ∙ names_entries (entries_of x) d
+pub labels_listed : (x : Bool) (es : List Entry) (d : Draft) → (listed x d es).labels ≡ d.labels
+labels_listed x [] d = refl
+labels_listed x (e ∷ es) d = labels_listed x es (with_entry x d e.line e.name)
 
-pub names_after : (xs : List Declaration) (d : Draft) → names_of (after d xs) ≡ names_of d ++ block_names xs
-names_after [] d = sym (append-nil (names_of d))
-names_after (x ∷ xs) d =
-    names_after xs (after_one d x) ∙ ap (λ z. z ++ block_names xs) (names_one d x) ∙ append_assoc (names_of d) (entry_names (entries_of x)) (block_names xs)
+labels_closed : (d : Draft) (n : Nature) → (closed d n).labels ≡ d.labels
+labels_closed d (OfVariable y) = refl
+labels_closed d (OfExternal k) = refl
+
+pub labels_after : (x : Bool) (ys : List Declaration) (d : Draft) → (after x d ys).labels ≡ d.labels
+labels_after x [] d = refl
+labels_after x (y ∷ ys) d = labels_after x ys (after_one x d y) ∙ labels_closed (listed x d (entries_of y)) y.nature ∙ labels_listed x (entries_of y) d
+
+pub labels_blocks : (bs : List Block) (d : Draft) → (after_blocks d bs).labels ≡ d.labels
+labels_blocks [] d = refl
+labels_blocks (b ∷ bs) d = labels_blocks bs (after b.external d b.declarations) ∙ labels_after b.external b.declarations d
 
 -- What a program has of its draft.
 
-with_same : (es : List Entry) (d : Draft) → with_entries d es ≡ record { name = d.name; variables = d.variables; pending = d.pending ++ es; statements = d.statements }
-with_same [] d = ap (λ z. record { name = d.name; variables = d.variables; pending = z; statements = d.statements }) (sym (append-nil d.pending))
-with_same (e ∷ es) d =
-    with_same es (with_entry d e.line e.name) ∙ ap (λ z. record { name = d.name; variables = d.variables; pending = z; statements = d.statements }) (append_assoc d.pending (e ∷ []) es)
+-- a draft with nothing pending
+abbrev opened : List ℕ → Scope → List Variable → List External → Draft
+opened n s vs es = record { name = n; scope = s; variables = vs; externals = es; pending = []; labels = []; statements = [] }
 
-abbrev opened : List ℕ → List Variable → List Statement → Draft
-opened n vs ss = record { name = n; variables = vs; pending = []; statements = ss }
+listed_same : (x : Bool) (es : List Entry) (d : Draft) → listed x d es ≡ record d { scope = with_entries x d.scope es; pending = d.pending ++ es }
+listed_same x [] d = ap (λ z. record d { pending = z }) (sym (append-nil d.pending))
+listed_same x (e ∷ es) d =
+    listed_same x es (with_entry x d e.line e.name) ∙ ap (λ z. record d { scope = with_entries x (with_name x d.scope e.name) es; pending = z }) (append_assoc d.pending (e ∷ []) es)
 
-one_same : (n : List ℕ) (vs : List Variable) (ss : List Statement) (x : Declaration) → after_one (opened n vs ss) x ≡ opened n (vs ++ map (variable_of x.typing) (entries_of x)) ss
-one_same n vs ss x = ap (λ z. with_variables z x.typing) (with_same (entries_of x) (opened n vs ss))
+closed_same : (n : List ℕ) (s : Scope) (vs : List Variable) (es : List External) (ps : List Entry) (m : Nature) → closed (record (opened n s vs es) { pending = ps }) m ≡ opened n s (vs ++ variables_with m ps) (es ++ externals_with m ps)
+closed_same n s vs es ps (OfVariable y) = ap (λ z. opened n s (vs ++ map (variable_of y) ps) z) (sym (append-nil es))
+closed_same n s vs es ps (OfExternal k) = ap (λ z. opened n s z (es ++ map (external_of k) ps)) (sym (append-nil vs))
 
-after_same : (xs : List Declaration) (n : List ℕ) (vs : List Variable) (ss : List Statement) → after (opened n vs ss) xs ≡ opened n (vs ++ block_variables xs) ss
-after_same [] n vs ss = ap (λ z. opened n z ss) (sym (append-nil vs))
-after_same (x ∷ xs) n vs ss =
-    ap (λ z. after z xs) (one_same n vs ss x) ∙ after_same xs n (vs ++ map (variable_of x.typing) (entries_of x)) ss ∙ ap (λ z. opened n z ss) (append_assoc vs (map (variable_of x.typing) (entries_of x)) (block_variables xs))
+one_same : (x : Bool) (n : List ℕ) (s : Scope) (vs : List Variable) (es : List External) (y : Declaration) → after_one x (opened n s vs es) y ≡ opened n (with_entries x s (entries_of y)) (vs ++ variables_with y.nature (entries_of y)) (es ++ externals_with y.nature (entries_of y))
+one_same x n s vs es y =
+    ap (λ z. closed z y.nature) (listed_same x (entries_of y) (opened n s vs es)) ∙ closed_same n (with_entries x s (entries_of y)) vs es (entries_of y) y.nature
 
-blocks_same : (bs : List (List Declaration)) (n : List ℕ) (vs : List Variable) (ss : List Statement) → after_blocks (opened n vs ss) bs ≡ opened n (vs ++ variables_of bs) ss
-blocks_same [] n vs ss = ap (λ z. opened n z ss) (sym (append-nil vs))
-blocks_same (xs ∷ bs) n vs ss =
-    ap (λ z. after_blocks z bs) (after_same xs n vs ss) ∙ blocks_same bs n (vs ++ block_variables xs) ss ∙ ap (λ z. opened n z ss) (append_assoc vs (block_variables xs) (variables_of bs))
+after_same : (x : Bool) (ys : List Declaration) (n : List ℕ) (s : Scope) (vs : List Variable) (es : List External) → after x (opened n s vs es) ys ≡ opened n (with_declarations x s ys) (vs ++ block_variables ys) (es ++ block_externals ys)
+after_same x [] n s vs es = ap (λ z. opened n s z es) (sym (append-nil vs)) ∙ ap (λ z. opened n s (vs ++ []) z) (sym (append-nil es))
+after_same x (y ∷ ys) n s vs es =
+    ap (λ z. after x z ys) (one_same x n s vs es y) ∙ after_same x ys n (with_entries x s (entries_of y)) (vs ++ variables_with y.nature (entries_of y)) (es ++ externals_with y.nature (entries_of y)) ∙ ap (λ z. opened n (with_declarations x (with_entries x s (entries_of y)) ys) z ((es ++ externals_with y.nature (entries_of y)) ++ block_externals ys)) (append_assoc vs (variables_with y.nature (entries_of y)) (block_variables ys)) ∙ ap (λ z. opened n (with_declarations x (with_entries x s (entries_of y)) ys) (vs ++ (variables_with y.nature (entries_of y) ++ block_variables ys)) z) (append_assoc es (externals_with y.nature (entries_of y)) (block_externals ys))
 
-pub finished_is : (n : List ℕ) (bs : List (List Declaration)) (body : List Statement) (e : ℕ) → finished (after_blocks (titled_draft n) bs) body e ≡ record { name = n; variables = variables_of bs; statements = body; end_line = e }
-finished_is n bs body e = ap (λ z. finished z body e) (blocks_same bs n [] [])
+abbrev scope_behind : Scope → List Block → Scope
+scope_behind s [] = s
+scope_behind s (b ∷ bs) = scope_behind (with_declarations b.external s b.declarations) bs
+
+blocks_same : (bs : List Block) (n : List ℕ) (s : Scope) (vs : List Variable) (es : List External) → after_blocks (opened n s vs es) bs ≡ opened n (scope_behind s bs) (vs ++ variables_of bs) (es ++ externals_of bs)
+blocks_same [] n s vs es = ap (λ z. opened n s z es) (sym (append-nil vs)) ∙ ap (λ z. opened n s (vs ++ []) z) (sym (append-nil es))
+blocks_same (b ∷ bs) n s vs es =
+    ap (λ z. after_blocks z bs) (after_same b.external b.declarations n s vs es) ∙ blocks_same bs n (with_declarations b.external s b.declarations) (vs ++ block_variables b.declarations) (es ++ block_externals b.declarations) ∙ ap (λ z. opened n (scope_behind s (b ∷ bs)) z ((es ++ block_externals b.declarations) ++ externals_of bs)) (append_assoc vs (block_variables b.declarations) (variables_of bs)) ∙ ap (λ z. opened n (scope_behind s (b ∷ bs)) (vs ++ (block_variables b.declarations ++ variables_of bs)) z) (append_assoc es (block_externals b.declarations) (externals_of bs))
+
+pub finished_is : (n : List ℕ) (bs : List Block) (body : List Statement) (e : ℕ) → finished (after_blocks (titled_draft n) bs) body e ≡ record { name = n; variables = variables_of bs; externals = externals_of bs; statements = body; end_line = e }
+finished_is n bs body e = ap (λ z. finished z body e) (blocks_same bs n Rattle.il_reader.specs.Declaration.empty_scope [] [])

@@ -1,29 +1,40 @@
 -- From the grammar to reading: what spells a program is read to that program.
-use Rattle.std.proofs.Common.{◌≡◌, ℕ, true, false, ℤ, List, [], ◌∷◌, ◌++◌, Option, Some, None, Ok, Err, refl, sym, ap, ◌∙◌, subst, append_assoc, if◌then◌else◌}
+use Rattle.std.proofs.Common.{◌≡◌, ℕ, Bool, true, false, ℤ, List, [], ◌∷◌, ◌++◌, Option, Some, None, Ok, Err, inl, inr, refl, sym, ap, ◌∙◌, subst, append_assoc, if◌then◌else◌, option_map}
 use Rattle.std.proofs.lemmas.List.{append-nil}
 use Rattle.point_types.specs.declared.il_type.IlType.{IlType}
+use Rattle.point_types.specs.declared.operator.Condition.{Condition}
+use Rattle.point_types.specs.Value.{is_bool}
 use Rattle.il_reader.specs.declared.fault.ReadFaultKind.TheVariants as fault
+use Rattle.il_reader.specs.declared.token.Keyword.{Keyword}
 use Rattle.il_reader.specs.declared.token.Keyword.TheVariants as word
 use Rattle.il_reader.specs.declared.token.Token.{Token}
 use Rattle.il_reader.specs.declared.token.Token.TheVariants as token
 use Rattle.il_reader.specs.declared.tree.Action.{Action}
 use Rattle.il_reader.specs.declared.tree.Action.TheVariants as action
+use Rattle.il_reader.specs.declared.tree.Simple.{Simple}
 use Rattle.il_reader.specs.declared.tree.Simple.TheVariants as simple
-use Rattle.il_reader.specs.declared.tree.Operand.TheVariants as operand
+use Rattle.il_reader.specs.declared.tree.Operand.{Operand}
 use Rattle.il_reader.specs.declared.tree.Program.{Program}
 use Rattle.il_reader.specs.declared.tree.Statement.{Statement}
 use Rattle.il_reader.specs.declared.typing.Entry.{Entry}
 use Rattle.il_reader.specs.declared.typing.Typing.{Typing}
 use Rattle.il_reader.specs.declared.draft.Draft.{Draft}
-use Rattle.il_reader.specs.declared.state.Stage.{Stage}
-use Rattle.il_reader.specs.declared.state.Stage.TheVariants as stage
+use Rattle.il_reader.specs.declared.draft.Head.{Head}
+use Rattle.il_reader.specs.declared.stage.BlockStage.{BlockStage}
+use Rattle.il_reader.specs.declared.stage.BlockStage.TheVariants as block
+use Rattle.il_reader.specs.declared.stage.PartStage.{PartStage}
+use Rattle.il_reader.specs.declared.stage.PartStage.TheVariants as part
+use Rattle.il_reader.specs.declared.stage.Pair.{Pair}
+use Rattle.il_reader.specs.declared.stage.Pair.TheVariants as pair
+use Rattle.il_reader.specs.declared.stage.Stage.{Stage}
+use Rattle.il_reader.specs.declared.stage.Stage.TheVariants as stage
 use Rattle.il_reader.specs.declared.state.State.{State}
 use Rattle.il_reader.specs.declared.state.State.TheVariants as state
-use Rattle.il_reader.specs.Declaration.{among, room}
-use Rattle.il_reader.specs.Reading.{Move, goes, names_of, with_entry, with_variables, with_statement, titled_draft, declared_step, started_step, line_step, between_step, step, onward}
-use Rattle.il_reader.specs.Grammar.{Placed, placed, past, IsNext, IsEnd, operand_token, IsAction, IsBody, Declaration, AreOthers, IsStart, IsTyped, IsDeclaration, AreDeclarations, AreBlocks, IsProgram}
-use Rattle.il_reader.proofs.Drafts.{with_entries, after_one, after, after_blocks, finished, names_more, names_one, names_after, finished_is}
-use Rattle.il_reader.proofs.Back.{run}
+use Rattle.il_reader.specs.Declaration.{among, is_taken, has_room, with_name, value_of, whole, begun, bounded, started, made}
+use Rattle.il_reader.specs.Reading.{Move, goes, declares, continues, with_entry, with_variables, with_externals, with_label, with_statement, titled_draft, program_of, ranged_step, behind_type_step, behind_range_step, behind_open_step, behind_dots_step, behind_assign_step, operand_of, simple_step, begin_step, line_step, at_instruction_step, between_step, paired, behind_pair_step, is_loop, turns_of, turns_step, with_fault, step, onward}
+use Rattle.il_reader.specs.Grammar.{Placed, placed, past, IsNext, IsEnd, IsSimple, IsJump, IsAction, IsLabelled, IsLine, labels_with, IsBody, Nature, OfVariable, OfExternal, Declaration, Block, entries_of, with_entries, with_declarations, IsFree, AreOthers, IsSubrange, IsRange, IsStart, IsNature, IsTyped, IsDeclaration, AreDeclarations, block_token, AreBlocks, externals_of, IsProgram}
+use Rattle.il_reader.proofs.Drafts.{listed, closed, after_one, after, after_blocks, finished, scope_one, scope_after, labels_after, finished_is}
+use Rattle.il_reader.proofs.Rest.{run}
 
 -- Line ends that are blanks.
 
@@ -38,28 +49,102 @@ run_next s skips t l from to h = run_past s skips from ∙ ap (run s) h
 abbrev at : Stage → Draft → State
 at s d = state.Within s d
 
--- The body.
+abbrev in_block : BlockStage → Draft → State
+in_block s d = state.Within (stage.Block s) d
 
-action_run : (d : Draft) (l : ℕ) (x : Action) (from to : List Placed) → IsAction l x from to → run (at stage.AtLine d) from ≡ run (at stage.BehindInstruction (with_statement d l x)) to
-action_run d l (action.Compute (simple.Load negated (operand.Named n))) from to (m, e) = ap (run (at stage.AtLine d)) e
-action_run d l (action.Compute (simple.Load negated (operand.Number n))) from to (m, e) = ap (run (at stage.AtLine d)) e
-action_run d l (action.Compute (simple.Apply o negated (operand.Named n))) from to (m, f, e) =
-    ap (run (at stage.AtLine d)) e ∙ ap (λ z. run (at stage.BehindInstruction (with_statement d l (action.Compute (simple.Apply o z (operand.Named n))))) to) (sym f)
-action_run d l (action.Compute (simple.Apply o negated (operand.Number n))) from to (m, f, e) =
-    ap (run (at stage.AtLine d)) e ∙ ap (λ z. run (at stage.BehindInstruction (with_statement d l (action.Compute (simple.Apply o z (operand.Number n))))) to) (sym f)
-action_run d l (action.Store negated n) from to (m, e) = ap (run (at stage.AtLine d)) e
+abbrev in_part : PartStage → Draft → Head → State
+in_part s d h = state.Within (stage.Part h s) d
+
+-- what a token does that is followed by others
+moved : (s next : State) (t : Token) (m : ℕ) (from to : List Placed) → from ≡ placed t m ∷ to → step s t m ≡ Ok next → run s from ≡ run next to
+moved s next t m from to e h = ap (run s) e ∙ ap (λ z. onward z (λ s'. run s' to)) h
+
+-- Instructions.
+
+abbrev done : Draft → Head → Action → State
+done d h x = at stage.BehindInstruction (with_statement d h (Some x))
+
+operand_run : (d : Draft) (h : Head) (f : Operand → Simple) (t : Token) (x : Operand) (m : ℕ) (to : List Placed) → operand_of t ≡ Some x → onward (with_fault t (simple_step d h (option_map f (operand_of t)))) (λ s'. run s' to) ≡ run (done d h (action.Compute (f x))) to
+operand_run d h f t x m to e = ap (λ z. onward (with_fault t (simple_step d h (option_map f z))) (λ s'. run s' to)) e
+
+pair_run : (d : Draft) (h : Head) (o : Pair) (t u : Token) (x y : Operand) (m i n : ℕ) (to : List Placed) → operand_of t ≡ Some x → operand_of u ≡ Some y → run (in_part (part.BehindPair o) d h) (placed t m ∷ placed token.Comma i ∷ placed u n ∷ to) ≡ run (done d h (action.Compute (paired o x y))) to
+pair_run d h o t u x y m i n to e f =
+    ap (λ z. onward (with_fault t (behind_pair_step h o d z)) (λ s'. run s' (placed token.Comma i ∷ placed u n ∷ to))) e ∙ operand_run d h (paired o x) u y n to f
+
+-- a state that begins an instruction as the line's beginning and the place behind a label do
+abbrev Begins : State → Draft → Head → ℕ → Type 0
+Begins s d h m = ((k : Keyword) → (k ≡ word.EndProgram → ⊥) → step s (token.Keyword k) m ≡ with_fault (token.Keyword k) (begin_step d h (token.Keyword k))) × (step s token.OpenBrace m ≡ with_fault token.OpenBrace (begin_step d h token.OpenBrace))
+
+simple_run : (s : State) (d : Draft) (h : Head) (m : ℕ) → Begins s d h m → (x : Simple) (from to : List Placed) → IsSimple m x from to → run s from ≡ run (done d h (action.Compute x)) to
+simple_run s d h m (b, c) (simple.Load negated x) from to (t, n, e, g) =
+    moved s (in_part (part.BehindLoad negated) d h) (token.Keyword (word.Load negated)) m from (placed t n ∷ to) g (b (word.Load negated) (λ h. cc)) ∙ operand_run d h (simple.Load negated) t x n to e
+simple_run s d h m (b, c) (simple.Apply o negated x) from to (t, n, e, g) =
+    moved s (in_part (part.BehindOperator o negated) d h) (token.Keyword (word.Apply o negated)) m from (placed t n ∷ to) g (b (word.Apply o negated) (λ h. cc)) ∙ operand_run d h (simple.Apply o negated) t x n to e
+simple_run s d h m (b, c) (simple.Limit x y) from to (t, u, k, i, n, e, f, g) =
+    moved s (in_part (part.BehindPair pair.Limit) d h) (token.Keyword word.Limit) m from (placed t k ∷ placed token.Comma i ∷ placed u n ∷ to) g (b word.Limit (λ h. cc)) ∙ pair_run d h pair.Limit t u x y k i n to e f
+simple_run s d h m (b, c) (simple.Select x y) from to (t, u, k, i, n, e, f, g) =
+    moved s (in_part (part.BehindPair pair.Select) d h) (token.Keyword word.Select) m from (placed t k ∷ placed token.Comma i ∷ placed u n ∷ to) g (b word.Select (λ h. cc)) ∙ pair_run d h pair.Select t u x y k i n to e f
+simple_run s d h m (b, c) simple.Invert from to g = moved s (done d h (action.Compute simple.Invert)) (token.Keyword word.Not) m from to g (b word.Not (λ h. cc))
+simple_run s d h m (b, c) simple.Absolute from to g = moved s (done d h (action.Compute simple.Absolute)) (token.Keyword word.Absolute) m from to g (b word.Absolute (λ h. cc))
+simple_run s d h m (b, c) (simple.Convert j k) from to g = moved s (done d h (action.Compute (simple.Convert j k))) (token.Keyword (word.Convert j k)) m from to g (b (word.Convert j k) (λ h. cc))
+simple_run s d h m (b, c) _ from to g = absurd g
+
+jump_run : (s : State) (d : Draft) (h : Head) (m : ℕ) → Begins s d h m → (c : Condition) (n : List ℕ) (turns : Option ℕ) (from to : List Placed) → IsJump m c n turns from to → run s from ≡ run (done d h (action.Jump c n turns)) to
+jump_run s d h m (b, o) c n None from to (k, g) =
+    moved s (in_part (part.BehindJump c None) d h) (token.Keyword (word.Jump c)) m from (placed (token.Name n) k ∷ to) g (b (word.Jump c) (λ h. cc))
+jump_run s d h m (b, o) c n (Some turns) from to (w, v, g, i, j, k, q, e, f, r) =
+    moved s (in_part part.BehindBrace d h) token.OpenBrace m from (placed (token.Name w) g ∷ placed (token.Decimal v) i ∷ placed token.CloseBrace j ∷ placed (token.Keyword (word.Jump c)) k ∷ placed (token.Name n) q ∷ to) r o ∙ ap (λ z. onward (with_fault (token.Name w) (if z then continues h part.BehindLoop d else Err fault.Word)) (λ s'. run s' (placed (token.Decimal v) i ∷ placed token.CloseBrace j ∷ placed (token.Keyword (word.Jump c)) k ∷ placed (token.Name n) q ∷ to))) e ∙ ap (λ z. onward (with_fault (token.Decimal v) (turns_step h d z)) (λ s'. run s' (placed token.CloseBrace j ∷ placed (token.Keyword (word.Jump c)) k ∷ placed (token.Name n) q ∷ to))) f
+
+action_run : (s : State) (d : Draft) (h : Head) (m : ℕ) → Begins s d h m → (x : Action) (from to : List Placed) → IsAction m x from to → run s from ≡ run (done d h x) to
+action_run s d h m b (action.Compute x) from to i = simple_run s d h m b x from to i
+action_run s d h m (b, c) (action.Store negated n) from to (k, g) = moved s (in_part (part.BehindStore negated) d h) (token.Keyword (word.Store negated)) m from (placed (token.Name n) k ∷ to) g (b (word.Store negated) (λ h. cc))
+action_run s d h m (b, c) (action.Set value n) from to (k, g) = moved s (in_part (part.BehindSet value) d h) (token.Keyword (word.Set value)) m from (placed (token.Name n) k ∷ to) g (b (word.Set value) (λ h. cc))
+action_run s d h m b (action.Jump c n turns) from to i = jump_run s d h m b c n turns from to i
+action_run s d h m (b, c) (action.Return o) from to g = moved s (done d h (action.Return o)) (token.Keyword (word.Return o)) m from to g (b (word.Return o) (λ h. cc))
 
 ended_run : (d : Draft) (a b : List Placed) → IsEnd a b → run (at stage.BehindInstruction d) a ≡ run (at stage.AtLine d) b
 ended_run d a b (k, e) = ap (run (at stage.BehindInstruction d)) e
 
-abbrev over : Draft → List Statement → ℕ → Move
-over d ss e = Ok (state.Over (record { name = d.name; variables = d.variables; statements = ss; end_line = e }))
+line_begins : (d : Draft) (m : ℕ) → Begins (at stage.AtLine d) d (record { line = m; label = None }) m
+line_begins d m = (go, refl)
+  where
+    go : (k : Keyword) → (k ≡ word.EndProgram → ⊥) → step (at stage.AtLine d) (token.Keyword k) m ≡ with_fault (token.Keyword k) (begin_step d (record { line = m; label = None }) (token.Keyword k))
+    go word.EndProgram h = absurd (h refl)
+    go _ h = refl
 
-body_run : (body : List Statement) (d : Draft) (e : ℕ) (from : List Placed) → IsBody body e from → run (at stage.AtLine d) from ≡ over d (d.statements ++ body) e
+instruction_begins : (d : Draft) (h : Head) (m : ℕ) → Begins (at (stage.AtInstruction h) d) d h m
+instruction_begins d h m = ((λ k n. refl), refl)
+
+labelled_run : (d : Draft) (h : Head) (x : Option Action) (from a to : List Placed) → IsLabelled x from a → IsEnd a to → run (at (stage.AtInstruction h) d) from ≡ run (at stage.AtLine (with_statement d h x)) to
+labelled_run d h None from a to e (k, q) = ap (run (at (stage.AtInstruction h) d)) (e ∙ q)
+labelled_run d h (Some x) from a to (m, i) q = action_run (at (stage.AtInstruction h) d) d h m (instruction_begins d h m) x from a i ∙ ended_run (with_statement d h (Some x)) a to q
+
+-- the draft behind a line
+abbrev with_line : Draft → ℕ → Option (List ℕ) → Option Action → Draft
+with_line d l None x = with_statement d (record { line = l; label = None }) x
+with_line d l (Some n) x = with_statement (with_label d n) (record { line = l; label = Some n }) x
+
+line_run : (d : Draft) (l : ℕ) (label : Option (List ℕ)) (x : Option Action) (from a to : List Placed) → IsLine d.labels l label x from a → IsEnd a to → run (at stage.AtLine d) from ≡ run (at stage.AtLine (with_line d l label x)) to
+line_run d l None None from a to h q = absurd h
+line_run d l None (Some x) from a to h q =
+    action_run (at stage.AtLine d) d (record { line = l; label = None }) l (line_begins d l) x from a h ∙ ended_run (with_statement d (record { line = l; label = None }) (Some x)) a to q
+line_run d l (Some n) x from a to (m, b, fresh, e, h) q =
+    moved (at stage.AtLine d) (at (stage.BehindLabel l n) d) (token.Name n) l from (placed token.Colon m ∷ b) e (ap (λ z. with_fault (token.Name n) (if z then Err fault.Duplicate else goes (stage.BehindLabel l n) d)) fresh) ∙ labelled_run (with_label d n) (record { line = l; label = Some n }) x b a to h q
+
+abbrev over : Draft → List Statement → ℕ → Move
+over d ss e = Ok (state.Over (record { name = d.name; variables = d.variables; externals = d.externals; statements = ss; end_line = e }))
+
+body_run : (body : List Statement) (d : Draft) (e : ℕ) (from : List Placed) → IsBody d.labels body e from → run (at stage.AtLine d) from ≡ over d (d.statements ++ body) e
 body_run [] d e from (a, h, q) =
-    run_next (at stage.AtLine d) (λ j. refl) (token.Keyword word.EndProgram) e from a h ∙ run_past (state.Over (record { name = d.name; variables = d.variables; statements = d.statements; end_line = e })) (λ j. refl) a ∙ ap (run (state.Over (record { name = d.name; variables = d.variables; statements = d.statements; end_line = e }))) q ∙ ap (λ z. over d z e) (sym (append-nil d.statements))
+    run_next (at stage.AtLine d) (λ j. refl) (token.Keyword word.EndProgram) e from a h ∙ run_past (state.Over (program_of d e)) (λ j. refl) a ∙ ap (run (state.Over (program_of d e))) q ∙ ap (λ z. over d z e) (sym (append-nil d.statements))
 body_run (s ∷ body) d e from (a, b, h, q, r) =
-    run_past (at stage.AtLine d) (λ j. refl) from ∙ action_run d s.line s.action (past from) a h ∙ ended_run (with_statement d s.line s.action) a b q ∙ body_run body (with_statement d s.line s.action) e b r ∙ ap (λ z. over d z e) (append_assoc d.statements (s ∷ []) body)
+    run_past (at stage.AtLine d) (λ j. refl) from ∙ line_run d s.line s.label s.action (past from) a b h q ∙ behind (λ d' h. body_run body d' e b h) s.label r
+  where
+    behind : ((d' : Draft) → IsBody d'.labels body e b → run (at stage.AtLine d') b ≡ over d' (d'.statements ++ body) e) → (label : Option (List ℕ)) → IsBody (labels_with d.labels label) body e b → run (at stage.AtLine (with_line d s.line label s.action)) b ≡ over d (d.statements ++ (record { line = s.line; label = label; action = s.action }) ∷ body) e
+    behind on None r =
+        on (with_statement d (record { line = s.line; label = None }) s.action) r ∙ ap (λ z. over d z e) (append_assoc d.statements ((record { line = s.line; label = None; action = s.action }) ∷ []) body)
+    behind on (Some n) r =
+        on (with_statement (with_label d n) (record { line = s.line; label = Some n }) s.action) r ∙ ap (λ z. over d z e) (append_assoc d.statements ((record { line = s.line; label = Some n; action = s.action }) ∷ []) body)
 
 -- The body begins where no block does.
 
@@ -72,14 +157,32 @@ BeginsBody _ = Unit {0}
 abbrev HasHead : List Placed → Type 0
 HasHead ts = (t : Token) × (m : ℕ) × (a : List Placed) × (ts ≡ placed t m ∷ a) × BeginsBody t
 
-action_head : (l : ℕ) (x : Action) (from to : List Placed) → IsAction l x from to → HasHead from
-action_head l (action.Compute (simple.Load negated x)) from to (m, e) = (token.Keyword (word.Load negated), l, placed (operand_token x) m ∷ to, e, tt)
-action_head l (action.Compute (simple.Apply o negated x)) from to (m, f, e) = (token.Keyword (word.Apply o), l, placed (operand_token x) m ∷ to, e, tt)
-action_head l (action.Store negated n) from to (m, e) = (token.Keyword (word.Store negated), l, placed (token.Name n) m ∷ to, e, tt)
+simple_head : (l : ℕ) (x : Simple) (from to : List Placed) → IsSimple l x from to → HasHead from
+simple_head l (simple.Load negated x) from to (t, m, e, g) = (_, l, _, g, tt)
+simple_head l (simple.Apply o negated x) from to (t, m, e, g) = (_, l, _, g, tt)
+simple_head l (simple.Limit x y) from to (t, u, m, i, n, e, f, g) = (_, l, _, g, tt)
+simple_head l (simple.Select x y) from to (t, u, m, i, n, e, f, g) = (_, l, _, g, tt)
+simple_head l simple.Invert from to g = (_, l, _, g, tt)
+simple_head l simple.Absolute from to g = (_, l, _, g, tt)
+simple_head l (simple.Convert j k) from to g = (_, l, _, g, tt)
+simple_head l _ from to g = absurd g
 
-body_head : (body : List Statement) (e : ℕ) (from : List Placed) → IsBody body e from → HasHead (past from)
-body_head [] e from (a, h, q) = (token.Keyword word.EndProgram, e, a, h, tt)
-body_head (s ∷ body) e from (a, b, h, q, r) = action_head s.line s.action (past from) a h
+action_head : (l : ℕ) (x : Action) (from to : List Placed) → IsAction l x from to → HasHead from
+action_head l (action.Compute x) from to h = simple_head l x from to h
+action_head l (action.Store negated n) from to (m, g) = (_, l, _, g, tt)
+action_head l (action.Set value n) from to (m, g) = (_, l, _, g, tt)
+action_head l (action.Jump c n None) from to (m, g) = (_, l, _, g, tt)
+action_head l (action.Jump c n (Some turns)) from to (w, v, a, i, j, k, q, e, f, g) = (_, l, _, g, tt)
+action_head l (action.Return c) from to g = (_, l, _, g, tt)
+
+line_head : (labels : List (List ℕ)) (l : ℕ) (label : Option (List ℕ)) (x : Option Action) (from to : List Placed) → IsLine labels l label x from to → HasHead from
+line_head labels l None None from to h = absurd h
+line_head labels l None (Some x) from to h = action_head l x from to h
+line_head labels l (Some n) x from to (m, a, fresh, g, h) = (_, l, _, g, tt)
+
+body_head : (labels : List (List ℕ)) (body : List Statement) (e : ℕ) (from : List Placed) → IsBody labels body e from → HasHead (past from)
+body_head labels [] e from (a, h, q) = (token.Keyword word.EndProgram, e, a, h, tt)
+body_head labels (s ∷ body) e from (a, b, h, q, r) = line_head labels s.line s.label s.action (past from) a h
 
 between_same : (d : Draft) (t : Token) (m : ℕ) → BeginsBody t → between_step d t m ≡ line_step d t m
 between_same d token.LineEnd m h = absurd h
@@ -90,43 +193,98 @@ between_same d _ m h = refl
 
 between_run : (d : Draft) (from : List Placed) → HasHead (past from) → run (at stage.BetweenBlocks d) from ≡ run (at stage.AtLine d) from
 between_run d from (t, m, a, e, h) =
-    run_next (at stage.BetweenBlocks d) (λ j. refl) t m from a e ∙ ap (λ z. onward z (λ s'. run s' a)) (between_same d t m h) ∙ sym (run_next (at stage.AtLine d) (λ j. refl) t m from a e)
+    run_next (at stage.BetweenBlocks d) (λ j. refl) t m from a e ∙ ap (λ z. onward (with_fault t z) (λ s'. run s' a)) (between_same d t m h) ∙ sym (run_next (at stage.AtLine d) (λ j. refl) t m from a e)
 
 -- Declarations.
 
-declared_run : (d : Draft) (from : Stage) (n : List ℕ) (m : ℕ) (to : List Placed) → among n (names_of d) ≡ false → room (names_of d) ≡ true → onward (if room (names_of d) then (if among n (names_of d) then Err fault.Duplicate else goes stage.BehindName (with_entry d m n)) else Err fault.TooLong) (λ s'. run s' to) ≡ run (at stage.BehindName (with_entry d m n)) to
-declared_run d from n m to fresh free =
-    ap (λ z. onward (if z then (if among n (names_of d) then Err fault.Duplicate else goes stage.BehindName (with_entry d m n)) else Err fault.TooLong) (λ s'. run s' to)) free ∙ ap (λ z. onward (if z then Err fault.Duplicate else goes stage.BehindName (with_entry d m n)) (λ s'. run s' to)) fresh
+declared_run : (x : Bool) (d : Draft) (n : List ℕ) (m : ℕ) (to : List Placed) → IsFree x d.scope n → onward (with_fault (token.Name n) (if has_room x d.scope then (if is_taken x n d.scope then Err fault.Duplicate else declares (block.BehindName x) (with_entry x d m n)) else Err fault.TooLong)) (λ s'. run s' to) ≡ run (in_block (block.BehindName x) (with_entry x d m n)) to
+declared_run x d n m to (fresh, free) =
+    ap (λ z. onward (with_fault (token.Name n) (if z then (if is_taken x n d.scope then Err fault.Duplicate else declares (block.BehindName x) (with_entry x d m n)) else Err fault.TooLong)) (λ s'. run s' to)) free ∙ ap (λ z. onward (with_fault (token.Name n) (if z then Err fault.Duplicate else declares (block.BehindName x) (with_entry x d m n))) (λ s'. run s' to)) fresh
 
-others_run : (es : List Entry) (d : Draft) (from to : List Placed) → AreOthers (names_of d) es from to → run (at stage.BehindName d) from ≡ run (at stage.BehindName (with_entries d es)) to
-others_run [] d from to h = ap (run (at stage.BehindName d)) h
-others_run (e ∷ es) d from to (i, a, b, fresh, free, h, g, more) =
-    run_next (at stage.BehindName d) (λ j. refl) token.Comma i from a h ∙ ap (λ z. onward (if z then goes stage.BehindComma d else Err fault.TooLong) (λ s'. run s' a)) free ∙ run_next (at stage.BehindComma d) (λ j. refl) (token.Name e.name) e.line a b g ∙ declared_run d stage.BehindComma e.name e.line b fresh free ∙ others_run es (with_entry d e.line e.name) b to (subst (λ z. AreOthers z es b to) (sym (names_more d e.line e.name)) more)
+others_run : (x : Bool) (es : List Entry) (d : Draft) (from to : List Placed) → AreOthers x d.scope es from to → run (in_block (block.BehindName x) d) from ≡ run (in_block (block.BehindName x) (listed x d es)) to
+others_run x [] d from to h = ap (run (in_block (block.BehindName x) d)) h
+others_run x (e ∷ es) d from to (i, a, b, (fresh, free), h, g, more) =
+    run_next (in_block (block.BehindName x) d) (λ j. refl) token.Comma i from a h ∙ ap (λ z. onward (with_fault token.Comma (if z then declares (block.BehindComma x) d else Err fault.TooLong)) (λ s'. run s' a)) free ∙ run_next (in_block (block.BehindComma x) d) (λ j. refl) (token.Name e.name) e.line a b g ∙ declared_run x d e.name e.line b (fresh, free) ∙ others_run x es (with_entry x d e.line e.name) b to more
 
-start_run : (k : IlType) (y : Typing) (start : Option ℤ) (d : Draft) (from to : List Placed) → IsStart k y start from to → run (at (stage.BehindType k) d) from ≡ run (at stage.InBlock (with_variables d y)) to
-start_run k y None d from to (i, e, h) =
-    run_next (at (stage.BehindType k) d) (λ j. refl) token.Semicolon i from to h ∙ ap (λ z. onward (declared_step d z) (λ s'. run s' to)) e
-start_run k y (Some n) d from to (i, j, l, a, b, h, g, e, q) =
-    run_next (at (stage.BehindType k) d) (λ j. refl) token.Assign i from a h ∙ run_next (at (stage.BehindAssign k) d) (λ j. refl) (token.Number n) j a b g ∙ ap (λ z. onward (started_step d z) (λ s'. run s' b)) e ∙ run_next (at (stage.BehindStart y) d) (λ j. refl) token.Semicolon l b to q
+-- a literal that makes a range isn't a line's end, and doesn't begin a subrange
+abbrev pub IsLiteral : Token → Type 0
+IsLiteral token.LineEnd = ⊥
+IsLiteral _ = Unit {0}
 
-typed_run : (y : Typing) (start : Option ℤ) (d : Draft) (from to : List Placed) → IsTyped y start from to → run (at stage.BehindName d) from ≡ run (at stage.InBlock (with_variables d y)) to
-typed_run y start d from to (k, i, j, a, b, h, g, e, q) =
-    run_next (at stage.BehindName d) (λ j. refl) token.Colon i from a h ∙ run_next (at stage.BehindColon d) (λ j. refl) (token.Keyword (word.Type k)) j a b g ∙ ap (λ z. onward (if z then goes (stage.BehindType k) d else Err fault.Declaration) (λ s'. run s' b)) e ∙ start_run k y start d b to q
+pub literal : (k : IlType) (t : Token) (make : ℤ → Option Typing) (z : Typing) → made make (value_of k t) ≡ Some z → IsLiteral t
+literal k token.LineEnd make z e = go (is_bool k) e
+  where
+    go : (b : Bool) → made make (if b then None else None) ≡ Some z → ⊥
+    go true e = absurd (no e)
+      where
+        no : None ≡ Some z → ⊥
+        no e = cc
+    go false e = absurd (no e)
+      where
+        no : None ≡ Some z → ⊥
+        no e = cc
+literal k _ make z e = tt
 
-declaration_run : (x : Declaration) (d : Draft) (from to : List Placed) → IsDeclaration (names_of d) x from to → run (at stage.InBlock d) from ≡ run (at stage.InBlock (after_one d x)) to
-declaration_run x d from to (a, b, fresh, free, h, others, typed) =
-    run_next (at stage.InBlock d) (λ j. refl) (token.Name x.first.name) x.first.line from a h ∙ declared_run d stage.InBlock x.first.name x.first.line a fresh free ∙ others_run x.others (with_entry d x.first.line x.first.name) a b (subst (λ z. AreOthers z x.others a b) (sym (names_more d x.first.line x.first.name)) others) ∙ typed_run x.typing x.start (with_entries (with_entry d x.first.line x.first.name) x.others) b to typed
+open_same : (k : IlType) (d : Draft) (t : Token) → IsLiteral t → behind_open_step k d t ≡ ranged_step d block.BehindLow (made (begun k) (value_of k t))
+open_same k d token.LineEnd h = absurd h
+open_same k d _ h = refl
 
-declarations_run : (xs : List Declaration) (d : Draft) (from to : List Placed) → AreDeclarations (names_of d) xs from to → run (at stage.InBlock d) from ≡ run (at stage.BetweenBlocks (after d xs)) to
-declarations_run [] d from to (l, h) = run_next (at stage.InBlock d) (λ j. refl) (token.Keyword word.EndVar) l from to h
-declarations_run (x ∷ xs) d from to (a, h, more) =
-    declaration_run x d from a h ∙ declarations_run xs (after_one d x) a to (subst (λ z. AreDeclarations z xs a to) (sym (names_one d x)) more)
+pub dots_same : (y : Typing) (d : Draft) (t : Token) → IsLiteral t → behind_dots_step y d t ≡ ranged_step d block.BehindHigh (made (bounded y) (value_of y.kind t))
+dots_same y d token.LineEnd h = absurd h
+dots_same y d _ h = refl
 
-blocks_run : (bs : List (List Declaration)) (d : Draft) (from to : List Placed) (body : List Statement) (e : ℕ) → AreBlocks (names_of d) bs from to → IsBody body e to → run (at stage.BetweenBlocks d) from ≡ Ok (state.Over (finished (after_blocks d bs) body e))
-blocks_run [] d from to body e q h = ap (run (at stage.BetweenBlocks d)) q ∙ between_run d to (body_head body e to h) ∙ body_run body d e to h
-blocks_run (xs ∷ bs) d from to body e (l, a, b, h, g, more) w =
-    run_next (at stage.BetweenBlocks d) (λ j. refl) (token.Keyword word.Var) l from a h ∙ declarations_run xs d a b g ∙ blocks_run bs (after d xs) b to body e (subst (λ z. AreBlocks z bs b to) (sym (names_after xs d)) more) w
+pub assign_same : (y : Typing) (d : Draft) (t : Token) → IsLiteral t → behind_assign_step y d t ≡ ranged_step d block.BehindStart (made (started y) (value_of y.kind t))
+assign_same y d token.LineEnd h = absurd h
+assign_same y d _ h = refl
+
+literal_run : (s : State) (d : Draft) (next : Typing → BlockStage) (k : IlType) (make : ℤ → Option Typing) (t : Token) (z : Typing) (l : ℕ) (from to : List Placed) → ((m : ℕ) → step s token.LineEnd m ≡ Ok s) → ((h : IsLiteral t) → step s t l ≡ with_fault t (ranged_step d next (made make (value_of k t)))) → IsNext t l from to → made make (value_of k t) ≡ Some z → run s from ≡ run (in_block (next z) d) to
+literal_run s d next k make t z l from to skips same h e =
+    run_next s skips t l from to h ∙ ap (λ w. onward w (λ s'. run s' to)) (same (literal k t make z e)) ∙ ap (λ w. onward (with_fault t (ranged_step d next w)) (λ s'. run s' to)) e
+
+range_run : (w y : Typing) (d : Draft) (from to : List Placed) → IsSubrange w.kind y from to → run (in_block (block.BehindType w) d) from ≡ run (in_block (block.BehindRange y) d) to
+range_run w y d from to (t, u, z, g, h, i, j, l, a, b, c, e, number, opens, low, begins, dots, high, ends, close) =
+    run_next (in_block (block.BehindType w) d) (λ m. refl) token.Open g from a opens ∙ ap (λ q. onward (with_fault token.Open (if q then Err fault.Declaration else declares (block.BehindOpen w.kind) d)) (λ s'. run s' a)) number ∙ literal_run (in_block (block.BehindOpen w.kind) d) d block.BehindLow w.kind (begun w.kind) t z h a b (λ m. refl) (λ q. ap (with_fault t) (open_same w.kind d t q)) low begins ∙ run_next (in_block (block.BehindLow z) d) (λ m. refl) token.Dots i b c dots ∙ literal_run (in_block (block.BehindDots z) d) d block.BehindHigh z.kind (bounded z) u y j c e (λ m. refl) (λ q. ap (with_fault u) (dots_same z d u q)) high ends ∙ run_next (in_block (block.BehindHigh y) d) (λ m. refl) token.Close l e to close
+
+start_run : (s : State) (y z : Typing) (d : Draft) (from to : List Placed) → ((m : ℕ) → step s token.LineEnd m ≡ Ok s) → ((m : ℕ) → step s token.Assign m ≡ declares (block.BehindAssign y) d) → ((m : ℕ) → step s token.Semicolon m ≡ declares (block.InBlock false) (with_variables d y)) → IsStart y z from to → run s from ≡ run (in_block (block.InBlock false) (with_variables d z)) to
+start_run s y z d from to skips assigns ends (inl (i, e, h)) =
+    run_next s skips token.Semicolon i from to h ∙ ap (λ w. onward w (λ s'. run s' to)) (ends i) ∙ ap (λ w. run (in_block (block.InBlock false) (with_variables d w)) to) e
+start_run s y z d from to skips assigns ends (inr (t, i, j, l, a, b, h, g, e, q)) =
+    run_next s skips token.Assign i from a h ∙ ap (λ w. onward w (λ s'. run s' a)) (assigns i) ∙ literal_run (in_block (block.BehindAssign y) d) d block.BehindStart y.kind (started y) t z j a b (λ m. refl) (λ w. ap (with_fault t) (assign_same y d t w)) g e ∙ run_next (in_block (block.BehindStart z) d) (λ m. refl) token.Semicolon l b to q
+
+type_run : (w y z : Typing) (d : Draft) (from b to : List Placed) → IsRange w y from b → IsStart y z b to → run (in_block (block.BehindType w) d) from ≡ run (in_block (block.InBlock false) (with_variables d z)) to
+type_run w y z d from b to (inl (e, q)) h =
+    start_run (in_block (block.BehindType w) d) w z d from to (λ m. refl) (λ m. refl) (λ m. refl) (subst (λ v. IsStart w z v to) (sym q) (subst (λ v. IsStart v z b to) (sym e) h))
+type_run w y z d from b to (inr r) h = range_run w y d from b r ∙ start_run (in_block (block.BehindRange y) d) y z d b to (λ m. refl) (λ m. refl) (λ m. refl) h
+
+nature_run : (x : Bool) (n : Nature) (d : Draft) (from to : List Placed) → IsNature x n from to → run (in_block (block.BehindColon x) d) from ≡ run (in_block (block.InBlock x) (closed d n)) to
+nature_run false (OfVariable z) d from to (k, w, y, j, a, b, h, e, r, s) =
+    run_next (in_block (block.BehindColon false) d) (λ m. refl) (token.Keyword (word.Type k)) j from a h ∙ ap (λ v. onward (with_fault (token.Keyword (word.Type k)) (ranged_step d block.BehindType v)) (λ s'. run s' a)) e ∙ type_run w y z d a b to r s
+nature_run true (OfExternal k) d from to (j, l, a, h, g) =
+    run_next (in_block (block.BehindColon true) d) (λ m. refl) (token.Keyword (word.Type k)) j from a h ∙ run_next (in_block (block.BehindExternal k) d) (λ m. refl) token.Semicolon l a to g
+nature_run true (OfVariable y) d from to h = absurd h
+nature_run false (OfExternal k) d from to h = absurd h
+
+typed_run : (x : Bool) (n : Nature) (d : Draft) (from to : List Placed) → IsTyped x n from to → run (in_block (block.BehindName x) d) from ≡ run (in_block (block.InBlock x) (closed d n)) to
+typed_run x n d from to (i, a, h, r) = run_next (in_block (block.BehindName x) d) (λ m. refl) token.Colon i from a h ∙ nature_run x n d a to r
+
+declaration_run : (x : Bool) (y : Declaration) (d : Draft) (from to : List Placed) → IsDeclaration x d.scope y from to → run (in_block (block.InBlock x) d) from ≡ run (in_block (block.InBlock x) (after_one x d y)) to
+declaration_run x y d from to (a, b, free, h, others, typed) =
+    run_next (in_block (block.InBlock x) d) (λ m. refl) (token.Name y.first.name) y.first.line from a h ∙ declared_run x d y.first.name y.first.line a free ∙ others_run x y.others (with_entry x d y.first.line y.first.name) a b others ∙ typed_run x y.nature (listed x (with_entry x d y.first.line y.first.name) y.others) b to typed
+
+declarations_run : (x : Bool) (ys : List Declaration) (d : Draft) (from to : List Placed) → AreDeclarations x d.scope ys from to → run (in_block (block.InBlock x) d) from ≡ run (at stage.BetweenBlocks (after x d ys)) to
+declarations_run x [] d from to (l, h) = run_next (in_block (block.InBlock x) d) (λ m. refl) (token.Keyword word.EndVar) l from to h
+declarations_run x (y ∷ ys) d from to (a, h, more) =
+    declaration_run x y d from a h ∙ declarations_run x ys (after_one x d y) a to (subst (λ z. AreDeclarations x z ys a to) (sym (scope_one x d y)) more)
+
+block_run : (x : Bool) (d : Draft) (l : ℕ) (from to : List Placed) → IsNext (block_token x) l from to → run (at stage.BetweenBlocks d) from ≡ run (in_block (block.InBlock x) d) to
+block_run false d l from to h = run_next (at stage.BetweenBlocks d) (λ m. refl) (token.Keyword word.Var) l from to h
+block_run true d l from to h = run_next (at stage.BetweenBlocks d) (λ m. refl) (token.Keyword word.VarExternal) l from to h
+
+blocks_run : (bs : List Block) (d : Draft) (from to : List Placed) (body : List Statement) (e : ℕ) → AreBlocks d.scope bs from to → IsBody d.labels body e to → run (at stage.BetweenBlocks d) from ≡ Ok (state.Over (finished (after_blocks d bs) body e))
+blocks_run [] d from to body e q h = ap (run (at stage.BetweenBlocks d)) q ∙ between_run d to (body_head d.labels body e to h) ∙ body_run body d e to h
+blocks_run (x ∷ bs) d from to body e (l, a, b, h, g, more) w =
+    block_run x.external d l from a h ∙ declarations_run x.external x.declarations d a b g ∙ blocks_run bs (after x.external d x.declarations) b to body e (subst (λ z. AreBlocks z bs b to) (sym (scope_after x.external x.declarations d)) more) (subst (λ z. IsBody z body e to) (sym (labels_after x.external x.declarations d)) w)
 
 pub run_forth : (ts : List Placed) (p : Program) → IsProgram ts p → run state.Start ts ≡ Ok (state.Over p)
-run_forth ts p (i, j, a, b, c, bs, h, g, q, w, v) =
-    run_next state.Start (λ j. refl) (token.Keyword word.Program) i ts a h ∙ run_next state.Titled (λ j. refl) (token.Name p.name) j a b g ∙ blocks_run bs (titled_draft p.name) b c p.statements p.end_line q w ∙ ap (λ z. Ok (state.Over z)) (finished_is p.name bs p.statements p.end_line ∙ ap (λ z. record { name = p.name; variables = z; statements = p.statements; end_line = p.end_line }) (sym v))
+run_forth ts p (i, j, a, b, c, bs, h, g, q, w, v, u) =
+    run_next state.Start (λ m. refl) (token.Keyword word.Program) i ts a h ∙ run_next state.Titled (λ m. refl) (token.Name p.name) j a b g ∙ blocks_run bs (titled_draft p.name) b c p.statements p.end_line q w ∙ ap (λ z. Ok (state.Over z)) (finished_is p.name bs p.statements p.end_line ∙ ap (λ z. record { name = p.name; variables = z; externals = externals_of bs; statements = p.statements; end_line = p.end_line }) (sym v) ∙ ap (λ z. record { name = p.name; variables = p.variables; externals = z; statements = p.statements; end_line = p.end_line }) (sym u))

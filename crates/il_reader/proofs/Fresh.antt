@@ -1,16 +1,17 @@
--- A name that is not among fewer than 1,024 others.
+-- A name that is at odds with none of at most 1,023 and 1,024 others.
 use Rattle.std.proofs.Common.{◌≡◌, ℕ, zero, suc, ◌+◌, ◌<◌, ◌≤◌, Bool, true, false, ◌&&◌, ◌||◌, List, [], ◌∷◌, ◌++◌, length, map, Option, Some, None, Result, Ok, Err, refl, sym, ap, ◌∙◌, if◌then◌else◌, nat_eq, nat_le, nat_lt, arith, eqb-true, ltb-true, leb-true, le-leb, bytes_eq, append_assoc, length-append, option_map}
 use Rattle.std.proofs.lemmas.List.{append-nil}
 use Rattle.std.proofs.lemmas.Bool.Decides.{nat_tests}
-use Rattle.std.specs.List.{list_all}
+use Rattle.std.specs.List.{list_all, list_any}
 use Rattle.point_types.specs.Keyword.{is_reserved, plain_words, conversions}
 use Rattle.point_types.specs.Name.{folded, is_name_byte, is_parted, is_name, is_name_word, name_of}
 use Rattle.il_reader.specs.declared.fault.ReadFaultKind.TheVariants as fault
 use Rattle.il_reader.specs.declared.token.Token.TheVariants as token
 use Rattle.il_reader.specs.declared.lexer.Mode.TheVariants as mode
 use Rattle.il_reader.specs.declared.reader.Reader.{Reader}
+use Rattle.il_reader.specs.declared.scope.Scope.{Scope}
 use Rattle.il_reader.specs.declared.state.State.{State}
-use Rattle.il_reader.specs.Declaration.{among, room}
+use Rattle.il_reader.specs.Declaration.{among, is_presence, is_among_presences, has_presence_among, is_taken, has_room}
 use Rattle.il_reader.specs.Tokens.{stands, keyword, keyword_or, word_token}
 use Rattle.il_reader.specs.Reading.{byte_read, fed_on, fed}
 
@@ -19,19 +20,28 @@ letters [] = []
 letters (true ∷ w) = 97 ∷ letters w
 letters (false ∷ w) = 98 ∷ letters w
 
+-- the first begins the second
+abbrev begins : List ℕ → List ℕ → Bool
+begins [] v = true
+begins (c ∷ w) [] = false
+begins (c ∷ w) (y ∷ v) = nat_eq c y && begins w v
+
+abbrev begins_some : List ℕ → List (List ℕ) → Bool
+begins_some w ds = list_any (begins w) ds
+
 -- the names that begin with a letter, without it
 abbrev tails : ℕ → List (List ℕ) → List (List ℕ)
 tails c [] = []
 tails c ([] ∷ ds) = tails c ds
 tails c ((y ∷ v) ∷ ds) = if nat_eq c y then v ∷ tails c ds else tails c ds
 
-among_tails : (c : ℕ) (w : List ℕ) (ds : List (List ℕ)) → among (c ∷ w) ds ≡ among w (tails c ds)
-among_tails c w [] = refl
-among_tails c w ([] ∷ ds) = among_tails c w ds
-among_tails c w ((y ∷ v) ∷ ds) = either (among_tails c w ds) (nat_eq c y)
+some_tails : (c : ℕ) (w : List ℕ) (ds : List (List ℕ)) → begins_some (c ∷ w) ds ≡ begins_some w (tails c ds)
+some_tails c w [] = refl
+some_tails c w ([] ∷ ds) = some_tails c w ds
+some_tails c w ((y ∷ v) ∷ ds) = either (some_tails c w ds) (nat_eq c y)
   where
-    either : among (c ∷ w) ds ≡ among w (tails c ds) → (b : Bool) → ((b && bytes_eq w v) || among (c ∷ w) ds) ≡ among w (if b then v ∷ tails c ds else tails c ds)
-    either h true = ap (λ z. bytes_eq w v || z) h
+    either : begins_some (c ∷ w) ds ≡ begins_some w (tails c ds) → (b : Bool) → ((b && begins w v) || begins_some (c ∷ w) ds) ≡ begins_some w (if b then v ∷ tails c ds else tails c ds)
+    either h true = ap (λ z. begins w v || z) h
     either h false = h
 
 tails_length : (c : ℕ) (ds : List (List ℕ)) → length (tails c ds) ≤ length ds
@@ -75,7 +85,7 @@ pick_length (suc k) ds = either (pick_length k (tails 97 ds)) (pick_length k (ta
     either g h true = omega arith
     either g h false = omega arith
 
-picked : (k : ℕ) (ds : List (List ℕ)) → length ds < doubled k → among (letters (pick k ds)) ds ≡ false
+picked : (k : ℕ) (ds : List (List ℕ)) → length ds < doubled k → begins_some (letters (pick k ds)) ds ≡ false
 picked zero [] h = refl
 picked zero (d ∷ ds) h = absurd (omega arith)
 picked (suc k) ds h = either (picked k (tails 97 ds)) (picked k (tails 98 ds)) (nat_le (length (tails 97 ds)) (length (tails 98 ds))) refl
@@ -83,36 +93,153 @@ picked (suc k) ds h = either (picked k (tails 97 ds)) (picked k (tails 98 ds)) (
     all : length (tails 97 ds) + length (tails 98 ds) ≤ length ds
     all = parts ds
 
-    either : (length (tails 97 ds) < doubled k → among (letters (pick k (tails 97 ds))) (tails 97 ds) ≡ false) → (length (tails 98 ds) < doubled k → among (letters (pick k (tails 98 ds))) (tails 98 ds) ≡ false) → (b : Bool) → nat_le (length (tails 97 ds)) (length (tails 98 ds)) ≡ b → among (letters (if b then true ∷ pick k (tails 97 ds) else false ∷ pick k (tails 98 ds))) ds ≡ false
+    either : (length (tails 97 ds) < doubled k → begins_some (letters (pick k (tails 97 ds))) (tails 97 ds) ≡ false) → (length (tails 98 ds) < doubled k → begins_some (letters (pick k (tails 98 ds))) (tails 98 ds) ≡ false) → (b : Bool) → nat_le (length (tails 97 ds)) (length (tails 98 ds)) ≡ b → begins_some (letters (if b then true ∷ pick k (tails 97 ds) else false ∷ pick k (tails 98 ds))) ds ≡ false
     either f g true e =
         let low : length (tails 97 ds) ≤ length (tails 98 ds) = leb-true _ _ e in
         let sums : length (tails 97 ds) + length (tails 98 ds) ≤ length ds = all in
-        among_tails 97 (letters (pick k (tails 97 ds))) ds ∙ f (omega arith)
-    either f g false e = among_tails 98 (letters (pick k (tails 98 ds))) ds ∙ g (few (nat_le (length (tails 97 ds)) (length (tails 98 ds))) refl e)
+        some_tails 97 (letters (pick k (tails 97 ds))) ds ∙ f (omega arith)
+    either f g false e = some_tails 98 (letters (pick k (tails 98 ds))) ds ∙ g (few (nat_le (length (tails 97 ds)) (length (tails 98 ds))) refl e)
       where
         few : (b : Bool) → nat_le (length (tails 97 ds)) (length (tails 98 ds)) ≡ b → b ≡ false → length (tails 98 ds) < doubled k
         few b c d = let sums : length (tails 97 ds) + length (tails 98 ds) ≤ length ds = all in let w : nat_le (length (tails 97 ds)) (length (tails 98 ds)) ≡ false = c ∙ d in grind (arith, le-leb (length (tails 97 ds)) (length (tails 98 ds)))
 
-abbrev pub fresh_for : List (List ℕ) → List Bool
-fresh_for ds = pick 10 (tails 113 ds)
+-- the letters of the fresh name behind its q
+abbrev pub fresh_for : Scope → List Bool
+fresh_for s = pick 11 (tails 113 (s.variables ++ s.externals))
 
-pub fresh_length : (ds : List (List ℕ)) → length (letters (fresh_for ds)) ≡ 10
-fresh_length ds = pick_length 10 (tails 113 ds)
+pub fresh_length : (s : Scope) → length (letters (fresh_for s)) ≡ 11
+fresh_length s = pick_length 11 (tails 113 (s.variables ++ s.externals))
 
-pub is_fresh : (ds : List (List ℕ)) → room ds ≡ true → among (113 ∷ letters (fresh_for ds)) ds ≡ false
-is_fresh ds h =
-    let few : length ds < 1024 = ltb-true _ _ h in
-    let all = tails_length 113 ds in
-    let fewer : length (tails 113 ds) < 1024 = omega arith in
-    among_tails 113 (letters (fresh_for ds)) ds ∙ picked 10 (tails 113 ds) fewer
+both_true : (b c : Bool) → (b && c) ≡ true → (b ≡ true) × (c ≡ true)
+both_true true true h = (refl, refl)
+both_true true false h = absurd (no h)
+  where
+    no : false ≡ true → ⊥
+    no h = cc
+both_true false c h = absurd (no h)
+  where
+    no : false ≡ true → ⊥
+    no h = cc
+
+few_names : (x : Bool) (s : Scope) → has_room x s ≡ true → length (s.variables ++ s.externals) < 2048
+few_names false s h =
+    let f : length s.variables < 1024 = ltb-true _ _ (both_true (nat_lt (length s.variables) 1024) (nat_le (length s.externals) 1024) h).0 in
+    let g : length s.externals ≤ 1024 = leb-true _ _ (both_true (nat_lt (length s.variables) 1024) (nat_le (length s.externals) 1024) h).1 in
+    let all = length-append s.variables s.externals in
+    omega arith
+few_names true s h =
+    let f : length s.variables ≤ 1024 = leb-true _ _ (both_true (nat_le (length s.variables) 1024) (nat_lt (length s.externals) 1024) h).0 in
+    let g : length s.externals < 1024 = ltb-true _ _ (both_true (nat_le (length s.variables) 1024) (nat_lt (length s.externals) 1024) h).1 in
+    let all = length-append s.variables s.externals in
+    omega arith
+
+begins_none : (x : Bool) (s : Scope) → has_room x s ≡ true → begins_some (113 ∷ letters (fresh_for s)) (s.variables ++ s.externals) ≡ false
+begins_none x s h =
+    let few : length (s.variables ++ s.externals) < 2048 = few_names x s h in
+    let all = tails_length 113 (s.variables ++ s.externals) in
+    let fewer : length (tails 113 (s.variables ++ s.externals)) < 2048 = omega arith in
+    some_tails 113 (letters (fresh_for s)) (s.variables ++ s.externals) ∙ picked 11 (tails 113 (s.variables ++ s.externals)) fewer
+
+-- A name that begins no other is at odds with none.
+
+both_false : (b c : Bool) → (b || c) ≡ false → (b ≡ false) × (c ≡ false)
+both_false false false h = (refl, refl)
+both_false false true h = absurd (no h)
+  where
+    no : true ≡ false → ⊥
+    no h = cc
+both_false true c h = absurd (no h)
+  where
+    no : true ≡ false → ⊥
+    no h = cc
+
+not_equal : (n m : List ℕ) → begins n m ≡ false → bytes_eq n m ≡ false
+not_equal [] m h = absurd (no h)
+  where
+    no : true ≡ false → ⊥
+    no h = cc
+not_equal (c ∷ n) [] h = refl
+not_equal (c ∷ n) (y ∷ m) h = either (nat_eq c y) (not_equal n m) h
+  where
+    either : (b : Bool) → (begins n m ≡ false → bytes_eq n m ≡ false) → (b && begins n m) ≡ false → (b && bytes_eq n m) ≡ false
+    either true f h = f h
+    either false f h = refl
+
+no_presence : (n m : List ℕ) → begins n m ≡ false → is_presence m n ≡ false
+no_presence [] m h = absurd (no h)
+  where
+    no : true ≡ false → ⊥
+    no h = cc
+no_presence (c ∷ n) [] h = refl
+no_presence (c ∷ n) (y ∷ m) h = either (nat_eq c y) (no_presence n m) h
+  where
+    either : (b : Bool) → (begins n m ≡ false → is_presence m n ≡ false) → (b && begins n m) ≡ false → (b && is_presence m n) ≡ false
+    either true f h = f h
+    either false f h = refl
+
+no_suffix : (w : List Bool) (p : List ℕ) → is_presence (letters w) p ≡ false
+no_suffix [] [] = refl
+no_suffix (true ∷ w) [] = refl
+no_suffix (false ∷ w) [] = refl
+no_suffix [] (b ∷ p) = refl
+no_suffix (true ∷ w) (b ∷ p) = either (nat_eq b 97) (no_suffix w p)
+  where
+    either : (c : Bool) → is_presence (letters w) p ≡ false → (c && is_presence (letters w) p) ≡ false
+    either true h = h
+    either false h = refl
+no_suffix (false ∷ w) (b ∷ p) = either (nat_eq b 98) (no_suffix w p)
+  where
+    either : (c : Bool) → is_presence (letters w) p ≡ false → (c && is_presence (letters w) p) ≡ false
+    either true h = h
+    either false h = refl
+
+never_presence : (w : List Bool) (p : List ℕ) → is_presence (113 ∷ letters w) p ≡ false
+never_presence w [] = refl
+never_presence w (b ∷ p) = either (nat_eq b 113) (no_suffix w p)
+  where
+    either : (c : Bool) → is_presence (letters w) p ≡ false → (c && is_presence (letters w) p) ≡ false
+    either true h = h
+    either false h = refl
+
+any_none : (f g : List ℕ → Bool) (ds : List (List ℕ)) → ((d : List ℕ) → g d ≡ false → f d ≡ false) → list_any g ds ≡ false → list_any f ds ≡ false
+any_none f g [] h e = refl
+any_none f g (d ∷ ds) h e =
+    ap (λ z. z || list_any f ds) (h d (both_false (g d) (list_any g ds) e).0) ∙ any_none f g ds h (both_false (g d) (list_any g ds) e).1
+
+none_is : (w : List Bool) (ds : List (List ℕ)) → is_among_presences (113 ∷ letters w) ds ≡ false
+none_is w [] = refl
+none_is w (d ∷ ds) = ap (λ z. z || is_among_presences (113 ∷ letters w) ds) (never_presence w d) ∙ none_is w ds
+
+split_some : (w : List ℕ) (ds es : List (List ℕ)) → begins_some w (ds ++ es) ≡ false → (begins_some w ds ≡ false) × (begins_some w es ≡ false)
+split_some w [] es h = (refl, h)
+split_some w (d ∷ ds) es h = go (both_false (begins w d) (begins_some w (ds ++ es)) h).0 (split_some w ds es (both_false (begins w d) (begins_some w (ds ++ es)) h).1)
+  where
+    go : begins w d ≡ false → (begins_some w ds ≡ false) × (begins_some w es ≡ false) → ((begins w d || begins_some w ds) ≡ false) × (begins_some w es ≡ false)
+    go e (f, g) = (ap (λ z. z || begins_some w ds) e ∙ f, g)
+
+all_false : (x a b c d e : Bool) → a ≡ false → b ≡ false → c ≡ false → d ≡ false → e ≡ false → (a || b || c || (x && (d || e))) ≡ false
+all_false true a b c d e p q r s t =
+    ap (λ z. z || b || c || (d || e)) p ∙ ap (λ z. z || c || (d || e)) q ∙ ap (λ z. z || (d || e)) r ∙ ap (λ z. z || e) s ∙ t
+all_false false a b c d e p q r s t = ap (λ z. z || b || c || false) p ∙ ap (λ z. z || c || false) q ∙ ap (λ z. z || false) r
+
+pub is_fresh : (x : Bool) (s : Scope) → has_room x s ≡ true → is_taken x (113 ∷ letters (fresh_for s)) s ≡ false
+is_fresh x s h =
+    go (split_some n s.variables s.externals (begins_none x s h))
+  where
+    n : List ℕ
+    n = 113 ∷ letters (fresh_for s)
+
+    go : (begins_some n s.variables ≡ false) × (begins_some n s.externals ≡ false) → is_taken x n s ≡ false
+    go (e, f) =
+        all_false x (among n s.variables) (among n s.externals) (is_among_presences n s.externals) (has_presence_among n s.variables) (has_presence_among n s.externals) (any_none (bytes_eq n) (begins n) s.variables (not_equal n) e) (any_none (bytes_eq n) (begins n) s.externals (not_equal n) f) (none_is (fresh_for s) s.externals) (any_none (λ p. is_presence p n) (begins n) s.variables (no_presence n) e) (any_none (λ p. is_presence p n) (begins n) s.externals (no_presence n) f)
 
 -- The name's letters are one word, and that is a name.
 
 abbrev pub in_word : ℕ → List ℕ → State → Reader
-in_word n w s = record { line = n; last = n; mode = mode.Word w; state = s }
+in_word n w s = record { line = n; last = n; mode = mode.Word w false; state = s }
 
-one_letter : (b n : ℕ) (r : List ℕ) (s : State) (rest : List ℕ) → length r < 32 → fed_on (byte_read (in_word n r s) b rest (if nat_lt (length r) 32 then stands (mode.Word (r ++ b ∷ [])) else Err fault.Word)) (λ r'. fed r' rest) ≡ fed_on (byte_read (in_word n r s) b rest (stands (mode.Word (r ++ b ∷ [])))) (λ r'. fed r' rest)
-one_letter b n r s rest h = ap (λ z. fed_on (byte_read (in_word n r s) b rest (if z then stands (mode.Word (r ++ b ∷ [])) else Err fault.Word)) (λ r'. fed r' rest)) few
+one_letter : (b n : ℕ) (r : List ℕ) (s : State) (rest : List ℕ) → length r < 32 → fed_on (byte_read (in_word n r s) b (if nat_lt (length r) 32 then stands (mode.Word (r ++ b ∷ []) false) else Err fault.Word)) (λ r'. fed r' rest) ≡ fed_on (byte_read (in_word n r s) b (stands (mode.Word (r ++ b ∷ []) false))) (λ r'. fed r' rest)
+one_letter b n r s rest h = ap (λ z. fed_on (byte_read (in_word n r s) b (if z then stands (mode.Word (r ++ b ∷ []) false) else Err fault.Word)) (λ r'. fed r' rest)) few
   where
     few : nat_lt (length r) 32 ≡ true
     few = grind (arith, nat_tests)
@@ -149,7 +276,7 @@ not_reserved : (w : List ℕ) → is_reserved (113 ∷ w) ≡ false
 unfolding is_reserved plain_words conversions
 not_reserved w = refl
 
-name_letters : (w : List Bool) → length (letters w) ≡ 10 → name_of (113 ∷ letters w) ≡ Some (113 ∷ letters w)
+name_letters : (w : List Bool) → length (letters w) ≡ 11 → name_of (113 ∷ letters w) ≡ Some (113 ∷ letters w)
 name_letters w e =
     ap (λ z. if is_name (113 ∷ z) then Some (113 ∷ z) else None) (folded_letters w) ∙ ap (λ z. if z && is_name_word (113 ∷ letters w) then Some (113 ∷ letters w) else None) short ∙ ap (λ z. if z then Some (113 ∷ letters w) else None) named_word
   where
@@ -160,6 +287,6 @@ name_letters w e =
     named_word =
         ap (λ z. (z && is_parted (letters w)) && Rattle.std.proofs.Common.not (is_reserved (113 ∷ letters w))) (all_letters w) ∙ ap (λ z. z && Rattle.std.proofs.Common.not (is_reserved (113 ∷ letters w))) (parted_letters w) ∙ ap (λ z. Rattle.std.proofs.Common.not z) (not_reserved (letters w))
 
-pub word_is_name : (w : List Bool) → length (letters w) ≡ 10 → word_token (113 ∷ letters w) ≡ Some (token.Name (113 ∷ letters w))
+pub word_is_name : (w : List Bool) → length (letters w) ≡ 11 → word_token (113 ∷ letters w) ≡ Some (token.Name (113 ∷ letters w))
 word_is_name w e =
-    ap (λ z. keyword_or z (113 ∷ letters w)) (no_keyword (letters w)) ∙ ap (λ z. if z then Some token.OtherOperator else option_map token.Name (name_of (113 ∷ letters w))) (not_reserved (letters w)) ∙ ap (option_map token.Name) (name_letters w e)
+    ap (λ z. keyword_or z (113 ∷ letters w)) (no_keyword (letters w)) ∙ ap (option_map token.Name) (name_letters w e)

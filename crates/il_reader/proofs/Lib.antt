@@ -1,12 +1,13 @@
-pub mod DraftLemmas
 pub mod LexerLemmas
 pub mod ReaderLemmas
 pub mod TypingLemmas
 pub mod Drafts
+pub mod Rest
 pub mod Back
 pub mod Forth
 pub mod Bytes
 pub mod Live
 pub mod Fresh
+pub mod Numerals
 pub mod Completion
 pub mod Lines

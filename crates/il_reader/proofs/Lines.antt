@@ -1,5 +1,6 @@
 -- The line at fault.
-use Rattle.std.proofs.Common.{◌≡◌, ℕ, zero, suc, ◌+◌, Bool, true, false, List, [], ◌∷◌, ◌++◌, Option, Some, None, Result, Ok, Err, refl, sym, ap, ◌∙◌, subst, if◌then◌else◌, nat_eq, arith, eqb-true}
+use Rattle.std.proofs.Common.{◌≡◌, ℕ, ℤ, zero, suc, ◌+◌, Bool, true, false, List, [], ◌∷◌, ◌++◌, Option, Some, None, Result, Ok, Err, refl, sym, ap, ◌∙◌, subst, if◌then◌else◌, nat_eq, arith, eqb-true}
+use Rattle.point_types.specs.declared.il_type.IlType.{IlType}
 use Rattle.il_reader.specs.declared.fault.ReadFault.{ReadFault}
 use Rattle.il_reader.specs.declared.fault.ReadFaultKind.{ReadFaultKind}
 use Rattle.il_reader.specs.declared.fault.ReadFaultKind.TheVariants as fault
@@ -7,11 +8,12 @@ use Rattle.il_reader.specs.declared.token.Token.{Token}
 use Rattle.il_reader.specs.declared.token.Token.TheVariants as token
 use Rattle.il_reader.specs.declared.tree.Program.{Program}
 use Rattle.il_reader.specs.declared.lexer.Lexed.{Lexed}
+use Rattle.il_reader.specs.declared.numeral.Spelling.{Spelling}
 use Rattle.il_reader.specs.declared.lexer.Mode.{Mode}
 use Rattle.il_reader.specs.declared.lexer.Mode.TheVariants as mode
 use Rattle.il_reader.specs.declared.reader.Reader.{Reader}
 use Rattle.il_reader.specs.declared.state.State.TheVariants as state
-use Rattle.il_reader.specs.Tokens.{lexed, at_end, line_behind, word_token, word_ended, first_byte, ended_by}
+use Rattle.il_reader.specs.Tokens.{lexed, at_end, line_behind, word_token, word_ended, number_ended}
 use Rattle.il_reader.specs.Grammar.{IsProgramText}
 use Rattle.il_reader.specs.Reading.{Move, stepped, taken, state_read, byte_read, byte_fed, fed_on, fed, opening, Outcome, Reads, AtFault, TooSoon, end_reached, end_read, judged, outcome}
 use Rattle.il_reader.specs.Laws.{lines_up_to, line_ends, last_line, Begins, FaultIsInTheFirstLine, EarlyEndIsInTheLastLine}
@@ -19,54 +21,56 @@ use Rattle.il_reader.proofs.Bytes.{read_is_program, program_is_read}
 use Rattle.il_reader.proofs.Live.{live_fed}
 use Rattle.il_reader.proofs.Completion.{Ends_at, IsCalm, calm_ends}
 
--- One byte, whatever stands behind it.
-
 -- a refusal in a line
 abbrev FailsIn : ℕ → Result Reader ReadFault → Type 0
 FailsIn n x = (k : ReadFaultKind) × (x ≡ Err (record { line = n; kind = k }))
 
--- how a byte is read doesn't hang on the rest but for the kind of its fault
-abbrev Same : ℕ → Result Reader ReadFault → Result Reader ReadFault → Type 0
-Same n (Ok r) y = y ≡ Ok r
-Same n (Err f) y = (f.line ≡ n) × FailsIn n y
+fails_state : (r : Reader) (b : ℕ) (x : Lexed) (m : Move) (f : ReadFault) → state_read r b x m ≡ Err f → f.line ≡ r.line
+fails_state r b x (Ok s) f e = absurd (no e)
+  where
+    no : state_read r b x (Ok s) ≡ Err f → ⊥
+    no e = cc
+fails_state r b x (Err k) f e = sym (ap line_in e)
+  where
+    line_in : Result Reader ReadFault → ℕ
+    line_in (Ok z) = 0
+    line_in (Err g) = g.line
 
-same_state : (r : Reader) (b : ℕ) (us vs : List ℕ) (x : Lexed) (m : Move) → Same r.line (state_read r b us x m) (state_read r b vs x m)
-same_state r b us vs x (Ok s) = refl
-same_state r b us vs x (Err k) = (refl, (_, refl))
+fails_read : (r : Reader) (b : ℕ) (x : Result Lexed ReadFaultKind) (f : ReadFault) → byte_read r b x ≡ Err f → f.line ≡ r.line
+fails_read r b (Ok x) f e = fails_state r b x (taken r.state x r.line) f e
+fails_read r b (Err k) f e = sym (ap line_in e)
+  where
+    line_in : Result Reader ReadFault → ℕ
+    line_in (Ok z) = 0
+    line_in (Err g) = g.line
 
-same_read : (r : Reader) (b : ℕ) (us vs : List ℕ) (x : Result Lexed ReadFaultKind) → Same r.line (byte_read r b us x) (byte_read r b vs x)
-same_read r b us vs (Ok x) = same_state r b us vs x (taken r.state x r.line)
-same_read r b us vs (Err k) = (refl, (_, refl))
-
-same_byte : (r : Reader) (b : ℕ) (us vs : List ℕ) → Same r.line (byte_fed r b us) (byte_fed r b vs)
-same_byte r b us vs = same_read r b us vs (lexed r.mode b)
+-- a byte that is refused is so in its line
+fails_byte : (r : Reader) (b : ℕ) (f : ReadFault) → byte_fed r b ≡ Err f → f.line ≡ r.line
+fails_byte r b f e = fails_read r b (lexed r.mode b) f e
 
 -- Bytes behind bytes.
 
 fed_append : (a b : List ℕ) (r q : Reader) → fed r a ≡ Ok q → fed r (a ++ b) ≡ fed q b
 fed_append [] b r q e = let same : r ≡ q = cc in ap (λ z. fed z b) same
-fed_append (c ∷ a) b r q e = go (λ r' e. fed_append a b r' q e) (byte_fed r c a) (same_byte r c a (a ++ b)) e
+fed_append (c ∷ a) b r q e = go (λ r' e. fed_append a b r' q e) (byte_fed r c) e
   where
-    go : ((r' : Reader) → fed r' a ≡ Ok q → fed r' (a ++ b) ≡ fed q b) → (x : Result Reader ReadFault) → Same r.line x (byte_fed r c (a ++ b)) → fed_on x (λ r'. fed r' a) ≡ Ok q → fed_on (byte_fed r c (a ++ b)) (λ r'. fed r' (a ++ b)) ≡ fed q b
-    go on (Ok r') s e = ap (λ z. fed_on z (λ r'. fed r' (a ++ b))) s ∙ on r' e
-    go on (Err f) s e = absurd (no e)
+    go : ((r' : Reader) → fed r' a ≡ Ok q → fed r' (a ++ b) ≡ fed q b) → (x : Result Reader ReadFault) → fed_on x (λ r'. fed r' a) ≡ Ok q → fed_on x (λ r'. fed r' (a ++ b)) ≡ fed q b
+    go on (Ok r') e = on r' e
+    go on (Err f) e = absurd (no e)
       where
         no : Err f ≡ Ok q → ⊥
         no e = cc
 
-fails_append : (a b : List ℕ) (r : Reader) (f : ReadFault) → fed r a ≡ Err f → FailsIn f.line (fed r (a ++ b))
+fails_append : (a b : List ℕ) (r : Reader) (f : ReadFault) → fed r a ≡ Err f → fed r (a ++ b) ≡ Err f
 fails_append [] b r f e = absurd (no e)
   where
     no : Ok r ≡ Err f → ⊥
     no e = cc
-fails_append (c ∷ a) b r f e = go (λ r' e. fails_append a b r' f e) (byte_fed r c a) (same_byte r c a (a ++ b)) e
+fails_append (c ∷ a) b r f e = go (λ r' e. fails_append a b r' f e) (byte_fed r c) e
   where
-    go : ((r' : Reader) → fed r' a ≡ Err f → FailsIn f.line (fed r' (a ++ b))) → (x : Result Reader ReadFault) → Same r.line x (byte_fed r c (a ++ b)) → fed_on x (λ r'. fed r' a) ≡ Err f → FailsIn f.line (fed_on (byte_fed r c (a ++ b)) (λ r'. fed r' (a ++ b)))
-    go on (Ok r') s e = subst (λ z. FailsIn f.line (fed_on z (λ r'. fed r' (a ++ b)))) (sym s) (on r' e)
-    go on (Err g) (l, (k, s)) e =
-        let same : g ≡ f = cc in
-        let line : r.line ≡ f.line = sym l ∙ ap (λ z. z.line) same in
-        (k, ap (λ z. fed_on z (λ r'. fed r' (a ++ b))) s ∙ ap (λ z. Err (record { line = z; kind = k })) line)
+    go : ((r' : Reader) → fed r' a ≡ Err f → fed r' (a ++ b) ≡ Err f) → (x : Result Reader ReadFault) → fed_on x (λ r'. fed r' a) ≡ Err f → fed_on x (λ r'. fed r' (a ++ b)) ≡ Err f
+    go on (Ok r') e = on r' e
+    go on (Err g) e = e
 
 -- What a line end leaves open.
 
@@ -78,14 +82,17 @@ calm_word : (t : Option Token) → CalmLexed (word_ended t 10)
 calm_word None = tt
 calm_word (Some t) = tt
 
-calm_number : (gap : Bool) (n : _) → CalmLexed (if gap then Err fault.Literal else ended_by (token.Number n) (first_byte 10))
-calm_number true n = tt
-calm_number false n = tt
+calm_number : (k : Option IlType) (s : Spelling) (n : ℤ) (wanting : Bool) → CalmLexed (if wanting then Err fault.Literal else number_ended k s n 10)
+calm_number k s n true = tt
+calm_number k s n false = tt
 
 calm_lexed : (q : Mode) → CalmLexed (lexed q 10)
 calm_lexed mode.Clear = tt
-calm_lexed (mode.Word w) = calm_word (word_token w)
-calm_lexed (mode.Number negative n gap) = calm_number gap n
+calm_lexed (mode.Word w gap) = calm_word (word_token w)
+calm_lexed (mode.Number k s n wanting) = calm_number k s n wanting
+calm_lexed (mode.Typed k) = tt
+calm_lexed mode.And = tt
+calm_lexed mode.AndNot = tt
 calm_lexed (mode.Sign negative) = tt
 calm_lexed mode.Bracket = tt
 calm_lexed mode.Comment = tt
@@ -98,26 +105,26 @@ abbrev CalmReader : Result Reader ReadFault → Type 0
 CalmReader (Ok r) = IsCalm r.mode
 CalmReader (Err f) = Unit {0}
 
-calm_state : (r : Reader) (b : ℕ) (us : List ℕ) (x : Lexed) (m : Move) → IsCalm x.mode → CalmReader (state_read r b us x m)
-calm_state r b us x (Ok s) h = h
-calm_state r b us x (Err k) h = tt
+calm_state : (r : Reader) (b : ℕ) (x : Lexed) (m : Move) → IsCalm x.mode → CalmReader (state_read r b x m)
+calm_state r b x (Ok s) h = h
+calm_state r b x (Err k) h = tt
 
-calm_read : (r : Reader) (b : ℕ) (us : List ℕ) (x : Result Lexed ReadFaultKind) → CalmLexed x → CalmReader (byte_read r b us x)
-calm_read r b us (Ok x) h = calm_state r b us x (taken r.state x r.line) h
-calm_read r b us (Err k) h = tt
+calm_read : (r : Reader) (b : ℕ) (x : Result Lexed ReadFaultKind) → CalmLexed x → CalmReader (byte_read r b x)
+calm_read r b (Ok x) h = calm_state r b x (taken r.state x r.line) h
+calm_read r b (Err k) h = tt
 
-calm_byte : (r : Reader) (us : List ℕ) → CalmReader (byte_fed r 10 us)
-calm_byte r us = calm_read r 10 us (lexed r.mode 10) (calm_lexed r.mode)
+calm_byte : (r : Reader) → CalmReader (byte_fed r 10)
+calm_byte r = calm_read r 10 (lexed r.mode 10) (calm_lexed r.mode)
 
-calm_after : (r q : Reader) (b : ℕ) (us : List ℕ) → nat_eq b 10 ≡ true → byte_fed r b us ≡ Ok q → IsCalm q.mode
-calm_after r q b us c e =
+calm_after : (r q : Reader) (b : ℕ) → nat_eq b 10 ≡ true → byte_fed r b ≡ Ok q → IsCalm q.mode
+calm_after r q b c e =
     let same : 10 ≡ b = sym (eqb-true b 10 c) in
-    let h : CalmReader (byte_fed r b us) = subst (λ z. CalmReader (byte_fed r z us)) same (calm_byte r us) in
+    let h : CalmReader (byte_fed r b) = subst (λ z. CalmReader (byte_fed r z)) same (calm_byte r) in
     subst CalmReader e h
 
 -- the line behind a byte that is read, and the line of the byte
-line_state : (r q : Reader) (b : ℕ) (us : List ℕ) (x : Lexed) (m : Move) → state_read r b us x m ≡ Ok q → (q.line ≡ line_behind b r.line) × (q.last ≡ r.line)
-line_state r q b us x (Ok s) e = (sym (ap line_in e), sym (ap last_in e))
+line_state : (r q : Reader) (b : ℕ) (x : Lexed) (m : Move) → state_read r b x m ≡ Ok q → (q.line ≡ line_behind b r.line) × (q.last ≡ r.line)
+line_state r q b x (Ok s) e = (sym (ap line_in e), sym (ap last_in e))
   where
     line_in : Result Reader ReadFault → ℕ
     line_in (Ok z) = z.line
@@ -126,14 +133,14 @@ line_state r q b us x (Ok s) e = (sym (ap line_in e), sym (ap last_in e))
     last_in : Result Reader ReadFault → ℕ
     last_in (Ok z) = z.last
     last_in (Err f) = 0
-line_state r q b us x (Err k) e = absurd (cc)
+line_state r q b x (Err k) e = absurd (cc)
 
-line_read : (r q : Reader) (b : ℕ) (us : List ℕ) (x : Result Lexed ReadFaultKind) → byte_read r b us x ≡ Ok q → (q.line ≡ line_behind b r.line) × (q.last ≡ r.line)
-line_read r q b us (Ok x) e = line_state r q b us x (taken r.state x r.line) e
-line_read r q b us (Err k) e = absurd (cc)
+line_read : (r q : Reader) (b : ℕ) (x : Result Lexed ReadFaultKind) → byte_read r b x ≡ Ok q → (q.line ≡ line_behind b r.line) × (q.last ≡ r.line)
+line_read r q b (Ok x) e = line_state r q b x (taken r.state x r.line) e
+line_read r q b (Err k) e = absurd (cc)
 
-line_byte : (r q : Reader) (b : ℕ) (us : List ℕ) → byte_fed r b us ≡ Ok q → (q.line ≡ line_behind b r.line) × (q.last ≡ r.line)
-line_byte r q b us e = line_read r q b us (lexed r.mode b) e
+line_byte : (r q : Reader) (b : ℕ) → byte_fed r b ≡ Ok q → (q.line ≡ line_behind b r.line) × (q.last ≡ r.line)
+line_byte r q b e = line_read r q b (lexed r.mode b) e
 
 -- behind k lines: nothing has happened, or nothing but a comment is open
 abbrev Calmed : ℕ → Mode → Mode → Type 0
@@ -144,15 +151,8 @@ calmed : (k : ℕ) (q q' : Mode) → IsCalm q → Calmed k q q' → IsCalm q'
 calmed zero q q' h e = subst IsCalm e h
 calmed (suc k) q q' h e = e
 
-fed_cons : (r q : Reader) (b : ℕ) (us cs : List ℕ) → byte_fed r b us ≡ Ok q → fed r (b ∷ cs) ≡ fed q cs
-fed_cons r q b us cs e = ap (λ z. fed_on z (λ r'. fed r' cs)) (moved (byte_fed r b us) (same_byte r b us cs) e)
-  where
-    moved : (x : Result Reader ReadFault) → Same r.line x (byte_fed r b cs) → x ≡ Ok q → byte_fed r b cs ≡ Ok q
-    moved (Ok r') s e = s ∙ e
-    moved (Err f) s e = absurd (no e)
-      where
-        no : Err f ≡ Ok q → ⊥
-        no e = cc
+fed_cons : (r q : Reader) (b : ℕ) (cs : List ℕ) → byte_fed r b ≡ Ok q → fed r (b ∷ cs) ≡ fed q cs
+fed_cons r q b cs e = ap (λ z. fed_on z (λ r'. fed r' cs)) e
 
 lines_end : (k b : ℕ) (bs : List ℕ) → nat_eq b 10 ≡ true → lines_up_to (suc k) (b ∷ bs) ≡ b ∷ lines_up_to k bs
 lines_end k b bs c = ap (λ z. b ∷ (if z then lines_up_to k bs else lines_up_to (suc k) bs)) c
@@ -170,25 +170,25 @@ located [] r f h = absurd (no h)
   where
     no : Ok r ≡ Err f → ⊥
     no h = cc
-located (b ∷ bs) r f h = go (λ r' h. located bs r' f h) (byte_fed r b bs) refl (same_byte r b bs (if nat_eq b 10 then lines_up_to 0 bs else lines_up_to 1 bs)) h
+located (b ∷ bs) r f h = go (λ r' h. located bs r' f h) (byte_fed r b) refl h
   where
-    go : ((r' : Reader) → fed r' bs ≡ Err f → Located r' bs f.line) → (x : Result Reader ReadFault) → byte_fed r b bs ≡ x → Same r.line x (byte_fed r b (if nat_eq b 10 then lines_up_to 0 bs else lines_up_to 1 bs)) → fed_on x (λ r'. fed r' bs) ≡ Err f → Located r (b ∷ bs) f.line
-    go on (Err g) e (l, (k, s)) h =
+    go : ((r' : Reader) → fed r' bs ≡ Err f → Located r' bs f.line) → (x : Result Reader ReadFault) → byte_fed r b ≡ x → fed_on x (λ r'. fed r' bs) ≡ Err f → Located r (b ∷ bs) f.line
+    go on (Err g) e h =
         let same : g ≡ f = cc in
-        let line : r.line ≡ f.line = sym l ∙ ap (λ z. z.line) same in
-        (0, r, omega arith, refl, refl, (k, ap (λ z. fed_on z (λ r'. fed r' (if nat_eq b 10 then lines_up_to 0 bs else lines_up_to 1 bs))) s ∙ ap (λ z. Err (record { line = z; kind = k })) line))
-    go on (Ok r') e s h = place (nat_eq b 10) refl (on r' h)
+        let line : r.line ≡ f.line = sym (fails_byte r b g e) ∙ ap (λ z. z.line) same in
+        (0, r, omega arith, refl, refl, (g.kind, ap (λ z. fed_on z (λ r'. fed r' (if nat_eq b 10 then lines_up_to 0 bs else lines_up_to 1 bs))) e ∙ ap (λ z. Err (record { line = z; kind = g.kind })) (ap (λ z. z.line) same)))
+    go on (Ok r') e h = place (nat_eq b 10) refl (on r' h)
       where
         by_byte : (cs : List ℕ) → fed r (b ∷ cs) ≡ fed r' cs
-        by_byte cs = fed_cons r r' b bs cs e
+        by_byte cs = fed_cons r r' b cs e
 
         next : r'.line ≡ line_behind b r.line
-        next = (line_byte r r' b bs e).0
+        next = (line_byte r r' b e).0
 
         place : (c : Bool) → nat_eq b 10 ≡ c → Located r' bs f.line → Located r (b ∷ bs) f.line
         place true c (k, q, l, calm, x, y) =
             let here : r'.line ≡ suc r.line = next ∙ ap (λ z. if z then suc r.line else r.line) c in
-            (suc k, q, (l ∙ ap (λ z. k + z) here) ∙ omega arith, calmed k r'.mode q.mode (calm_after r r' b bs c e) calm, ap (fed r) (lines_end k b bs c) ∙ by_byte (lines_up_to k bs) ∙ x, subst (FailsIn f.line) (sym (ap (fed r) (lines_end (suc k) b bs c) ∙ by_byte (lines_up_to (suc k) bs))) y)
+            (suc k, q, (l ∙ ap (λ z. k + z) here) ∙ omega arith, calmed k r'.mode q.mode (calm_after r r' b c e) calm, ap (fed r) (lines_end k b bs c) ∙ by_byte (lines_up_to k bs) ∙ x, subst (FailsIn f.line) (sym (ap (fed r) (lines_end (suc k) b bs c) ∙ by_byte (lines_up_to (suc k) bs))) y)
         place false c (zero, q, l, calm, x, y) =
             let here : r'.line ≡ r.line = next ∙ ap (λ z. if z then suc r.line else r.line) c in
             (0, r, l ∙ ap (λ z. 0 + z) here, refl, refl, subst (FailsIn f.line) (sym (ap (fed r) (lines_on 0 b bs c) ∙ by_byte (lines_up_to 1 bs))) y)
@@ -202,9 +202,9 @@ Kept k r text = (q : Reader) × Calmed k r.mode q.mode × (fed r (lines_up_to k 
 
 kept : (text : List ℕ) (r q : Reader) → fed r text ≡ Ok q → Kept (line_ends text) r text
 kept [] r q h = (r, refl, refl)
-kept (b ∷ bs) r q h = go (λ r' h. kept bs r' q h) (byte_fed r b bs) refl h
+kept (b ∷ bs) r q h = go (λ r' h. kept bs r' q h) (byte_fed r b) refl h
   where
-    go : ((r' : Reader) → fed r' bs ≡ Ok q → Kept (line_ends bs) r' bs) → (x : Result Reader ReadFault) → byte_fed r b bs ≡ x → fed_on x (λ r'. fed r' bs) ≡ Ok q → Kept (line_ends (b ∷ bs)) r (b ∷ bs)
+    go : ((r' : Reader) → fed r' bs ≡ Ok q → Kept (line_ends bs) r' bs) → (x : Result Reader ReadFault) → byte_fed r b ≡ x → fed_on x (λ r'. fed r' bs) ≡ Ok q → Kept (line_ends (b ∷ bs)) r (b ∷ bs)
     go on (Err f) e h = absurd (no h)
       where
         no : Err f ≡ Ok q → ⊥
@@ -212,12 +212,12 @@ kept (b ∷ bs) r q h = go (λ r' h. kept bs r' q h) (byte_fed r b bs) refl h
     go on (Ok r') e h = place (nat_eq b 10) refl (line_ends bs) refl (on r' h)
       where
         by_byte : (cs : List ℕ) → fed r (b ∷ cs) ≡ fed r' cs
-        by_byte cs = fed_cons r r' b bs cs e
+        by_byte cs = fed_cons r r' b cs e
 
         place : (c : Bool) → nat_eq b 10 ≡ c → (k : ℕ) → line_ends bs ≡ k → Kept k r' bs → Kept (line_ends (b ∷ bs)) r (b ∷ bs)
         place true c k g (x, calm, y) =
             let next : suc k ≡ line_ends (b ∷ bs) = ap suc (sym g) ∙ ap (λ z. if z then suc (line_ends bs) else line_ends bs) (sym c) in
-            subst (λ z. Kept z r (b ∷ bs)) next (x, calmed k r'.mode x.mode (calm_after r r' b bs c e) calm, ap (fed r) (lines_end k b bs c) ∙ by_byte (lines_up_to k bs) ∙ y)
+            subst (λ z. Kept z r (b ∷ bs)) next (x, calmed k r'.mode x.mode (calm_after r r' b c e) calm, ap (fed r) (lines_end k b bs c) ∙ by_byte (lines_up_to k bs) ∙ y)
         place false c zero g (x, calm, y) =
             let next : zero ≡ line_ends (b ∷ bs) = sym g ∙ ap (λ z. if z then suc (line_ends bs) else line_ends bs) (sym c) in
             subst (λ z. Kept z r (b ∷ bs)) next (r, refl, refl)
@@ -227,18 +227,18 @@ kept (b ∷ bs) r q h = go (λ r' h. kept bs r' q h) (byte_fed r b bs) refl h
 
 -- the line of the last byte
 last_is : (bs : List ℕ) (b : ℕ) (r q : Reader) → fed r (b ∷ bs) ≡ Ok q → q.last ≡ last_line r.line (b ∷ bs)
-last_is [] b r q h = go (byte_fed r b []) refl h
+last_is [] b r q h = go (byte_fed r b) refl h
   where
-    go : (x : Result Reader ReadFault) → byte_fed r b [] ≡ x → fed_on x (λ r'. fed r' []) ≡ Ok q → q.last ≡ r.line
-    go (Ok r') e h = (line_byte r q b [] (e ∙ h)).1
+    go : (x : Result Reader ReadFault) → byte_fed r b ≡ x → fed_on x (λ r'. fed r' []) ≡ Ok q → q.last ≡ r.line
+    go (Ok r') e h = (line_byte r q b (e ∙ h)).1
     go (Err f) e h = absurd (no h)
       where
         no : Err f ≡ Ok q → ⊥
         no h = cc
-last_is (c ∷ bs) b r q h = go (λ r' h. last_is bs c r' q h) (byte_fed r b (c ∷ bs)) refl h
+last_is (c ∷ bs) b r q h = go (λ r' h. last_is bs c r' q h) (byte_fed r b) refl h
   where
-    go : ((r' : Reader) → fed r' (c ∷ bs) ≡ Ok q → q.last ≡ last_line r'.line (c ∷ bs)) → (x : Result Reader ReadFault) → byte_fed r b (c ∷ bs) ≡ x → fed_on x (λ r'. fed r' (c ∷ bs)) ≡ Ok q → q.last ≡ last_line (if nat_eq b 10 then suc r.line else r.line) (c ∷ bs)
-    go on (Ok r') e h = on r' h ∙ ap (λ z. last_line z (c ∷ bs)) (line_byte r r' b (c ∷ bs) e).0
+    go : ((r' : Reader) → fed r' (c ∷ bs) ≡ Ok q → q.last ≡ last_line r'.line (c ∷ bs)) → (x : Result Reader ReadFault) → byte_fed r b ≡ x → fed_on x (λ r'. fed r' (c ∷ bs)) ≡ Ok q → q.last ≡ last_line (if nat_eq b 10 then suc r.line else r.line) (c ∷ bs)
+    go on (Ok r') e h = on r' h ∙ ap (λ z. last_line z (c ∷ bs)) (line_byte r r' b e).0
     go on (Err f) e h = absurd (no h)
       where
         no : Err f ≡ Ok q → ⊥
@@ -257,13 +257,10 @@ begins a q e h = finish (calm_ends q.line q.last q.mode q.state (live_fed a open
     finish (rest, p, n, l, g) = (rest, p, read_is_program (a ++ rest) p (ap judged (fed_append a rest opening q e ∙ g)))
 
 begins_none : (a : List ℕ) (n : ℕ) → FailsIn n (fed opening a) → (rest : List ℕ) (p : Program) → IsProgramText (a ++ rest) p → ⊥
-begins_none a n (k, e) rest p h = go (fails_append a rest opening (record { line = n; kind = k }) e)
-  where
-    go : FailsIn n (fed opening (a ++ rest)) → ⊥
-    go (j, g) =
-        let refused : outcome (a ++ rest) ≡ AtFault (record { line = n; kind = j }) = ap judged g in
-        let read : outcome (a ++ rest) ≡ Reads p = program_is_read (a ++ rest) p h in
-        cc
+begins_none a n (k, e) rest p h =
+    let refused : outcome (a ++ rest) ≡ AtFault (record { line = n; kind = k }) = ap judged (fails_append a rest opening (record { line = n; kind = k }) e) in
+    let read : outcome (a ++ rest) ≡ Reads p = program_is_read (a ++ rest) p h in
+    cc
 
 early_reached : (l : ℕ) (m : Move) (f : ReadFault) → end_reached l m ≡ TooSoon f → f.line ≡ l
 early_reached l (Ok (state.Over p)) f h = absurd (cc)

@@ -1,6 +1,8 @@
 -- What the states that are reached keep: behind a comma there is room for one more name.
-use Rattle.std.proofs.Common.{◌≡◌, ℕ, Bool, true, false, pos, List, [], ◌∷◌, Option, Some, None, Result, Ok, Err, refl, subst, if◌then◌else◌}
+use Rattle.std.proofs.Common.{◌≡◌, ℕ, Bool, true, false, ℤ, List, [], ◌∷◌, Option, Some, None, Result, Ok, Err, refl, subst, if◌then◌else◌, option_map}
 use Rattle.point_types.specs.declared.il_type.IlType.{IlType}
+use Rattle.point_types.specs.declared.operator.Condition.{Condition}
+use Rattle.point_types.specs.Value.{is_bool}
 use Rattle.il_reader.specs.declared.fault.ReadFault.{ReadFault}
 use Rattle.il_reader.specs.declared.fault.ReadFaultKind.{ReadFaultKind}
 use Rattle.il_reader.specs.declared.fault.ReadFaultKind.TheVariants as fault
@@ -8,21 +10,30 @@ use Rattle.il_reader.specs.declared.token.Keyword.TheVariants as word
 use Rattle.il_reader.specs.declared.token.Token.{Token}
 use Rattle.il_reader.specs.declared.token.Token.TheVariants as token
 use Rattle.il_reader.specs.declared.tree.Action.{Action}
+use Rattle.il_reader.specs.declared.tree.Operand.{Operand}
 use Rattle.il_reader.specs.declared.tree.Program.{Program}
+use Rattle.il_reader.specs.declared.tree.Simple.{Simple}
+use Rattle.il_reader.specs.declared.tree.Simple.TheVariants as simple
 use Rattle.il_reader.specs.declared.typing.Typing.{Typing}
 use Rattle.il_reader.specs.declared.draft.Draft.{Draft}
+use Rattle.il_reader.specs.declared.draft.Head.{Head}
 use Rattle.il_reader.specs.declared.lexer.Lexed.{Lexed}
 use Rattle.il_reader.specs.declared.reader.Reader.{Reader}
-use Rattle.il_reader.specs.declared.state.Stage.{Stage}
-use Rattle.il_reader.specs.declared.state.Stage.TheVariants as stage
+use Rattle.il_reader.specs.declared.stage.BlockStage.{BlockStage}
+use Rattle.il_reader.specs.declared.stage.BlockStage.TheVariants as block
+use Rattle.il_reader.specs.declared.stage.PartStage.{PartStage}
+use Rattle.il_reader.specs.declared.stage.PartStage.TheVariants as part
+use Rattle.il_reader.specs.declared.stage.Pair.{Pair}
+use Rattle.il_reader.specs.declared.stage.Stage.{Stage}
+use Rattle.il_reader.specs.declared.stage.Stage.TheVariants as stage
 use Rattle.il_reader.specs.declared.state.State.{State}
 use Rattle.il_reader.specs.declared.state.State.TheVariants as state
-use Rattle.il_reader.specs.Declaration.{typing_of, among, room, is_read_type}
+use Rattle.il_reader.specs.Declaration.{among, is_taken, has_room, value_of, whole, begun, bounded, started, made}
 use Rattle.il_reader.specs.Tokens.{lexed}
-use Rattle.il_reader.specs.Reading.{Move, goes, names_of, with_entry, start_step, titled_step, declare_step, declared_step, in_block_step, behind_name_step, behind_comma_step, behind_colon_step, behind_type_step, started_step, behind_assign_step, behind_start_step, line_step, between_step, operand_of, instruction_step, loaded, applied, stored, whole_step, over_step, within_step, step, stepped, onward, taken, state_read, byte_read, byte_fed, fed_on, fed}
+use Rattle.il_reader.specs.Reading.{Move, goes, declares, continues, with_entry, start_step, titled_step, over_step, declare_step, in_block_step, behind_name_step, behind_comma_step, ranged_step, typed_step, behind_colon_step, behind_external_step, behind_range_step, behind_type_step, behind_open_step, behind_low_step, behind_dots_step, behind_high_step, behind_assign_step, behind_start_step, operand_of, simple_step, begun_step, part_begun, action_of, begin_step, line_step, behind_label_step, at_instruction_step, between_step, paired, behind_pair_step, behind_first_step, behind_store_step, behind_set_step, behind_jump_step, is_loop, turns_of, behind_brace_step, turns_step, behind_loop_step, behind_turns_step, behind_pragma_step, whole_step, block_step, part_step, within_step, state_step, with_fault, step, stepped, onward, taken, state_read, byte_read, byte_fed, fed_on, fed}
 
 abbrev pub IsLive : State → Type 0
-IsLive (state.Within stage.BehindComma d) = room (names_of d) ≡ true
+IsLive (state.Within (stage.Block (block.BehindComma x)) d) = has_room x d.scope ≡ true
 IsLive _ = Unit {0}
 
 abbrev LiveMove : Move → Type 0
@@ -40,78 +51,204 @@ live_titled token.LineEnd = tt
 live_titled (token.Name n) = tt
 live_titled _ = tt
 
-live_declare : (d : Draft) (n : List ℕ) (m : ℕ) → LiveMove (declare_step d n m)
-live_declare d n m = either (room (names_of d)) (among n (names_of d))
+live_over : (p : Program) (t : Token) → LiveMove (over_step p t)
+live_over p token.LineEnd = tt
+live_over p _ = tt
+
+live_declare : (x : Bool) (d : Draft) (n : List ℕ) (m : ℕ) → LiveMove (declare_step x d n m)
+live_declare x d n m = either (has_room x d.scope) (is_taken x n d.scope)
   where
-    either : (r a : Bool) → LiveMove (if r then (if a then Err fault.Duplicate else goes stage.BehindName (with_entry d m n)) else Err fault.TooLong)
+    either : (r a : Bool) → LiveMove (if r then (if a then Err fault.Duplicate else declares (block.BehindName x) (with_entry x d m n)) else Err fault.TooLong)
     either true true = tt
     either true false = tt
     either false a = tt
 
-live_in_block : (d : Draft) (t : Token) (m : ℕ) → LiveMove (in_block_step d t m)
-live_in_block d token.LineEnd m = tt
-live_in_block d (token.Keyword word.EndVar) m = tt
-live_in_block d (token.Name n) m = live_declare d n m
-live_in_block d (token.Keyword _) m = tt
-live_in_block d _ m = tt
+live_in_block : (x : Bool) (d : Draft) (t : Token) (m : ℕ) → LiveMove (in_block_step x d t m)
+live_in_block x d token.LineEnd m = tt
+live_in_block x d (token.Keyword word.EndVar) m = tt
+live_in_block x d (token.Name n) m = live_declare x d n m
+live_in_block x d (token.Keyword _) m = tt
+live_in_block x d _ m = tt
 
-live_behind_name : (d : Draft) (t : Token) → LiveMove (behind_name_step d t)
-live_behind_name d token.Comma = either (room (names_of d)) refl
+live_behind_name : (x : Bool) (d : Draft) (t : Token) → LiveMove (behind_name_step x d t)
+live_behind_name x d token.Comma = either (has_room x d.scope) refl
   where
-    either : (r : Bool) → room (names_of d) ≡ r → LiveMove (if r then goes stage.BehindComma d else Err fault.TooLong)
+    either : (r : Bool) → has_room x d.scope ≡ r → LiveMove (if r then declares (block.BehindComma x) d else Err fault.TooLong)
     either true e = e
     either false e = tt
-live_behind_name d token.LineEnd = tt
-live_behind_name d token.Colon = tt
-live_behind_name d _ = tt
+live_behind_name x d token.LineEnd = tt
+live_behind_name x d token.Colon = tt
+live_behind_name x d _ = tt
 
-live_behind_comma : (d : Draft) (t : Token) (m : ℕ) → room (names_of d) ≡ true → LiveMove (behind_comma_step d t m)
-live_behind_comma d token.LineEnd m h = h
-live_behind_comma d (token.Name n) m h = live_declare d n m
-live_behind_comma d _ m h = tt
+live_behind_comma : (x : Bool) (d : Draft) (t : Token) (m : ℕ) → has_room x d.scope ≡ true → LiveMove (behind_comma_step x d t m)
+live_behind_comma x d token.LineEnd m h = h
+live_behind_comma x d (token.Name n) m h = live_declare x d n m
+live_behind_comma x d _ m h = tt
 
-live_behind_colon : (d : Draft) (t : Token) → LiveMove (behind_colon_step d t)
-live_behind_colon d token.LineEnd = tt
-live_behind_colon d (token.Keyword (word.Type k)) = either (is_read_type k)
+-- a stage that asks nothing of the states before it
+abbrev IsEasy : (Typing → BlockStage) → Type 0
+IsEasy s = (y : Typing) (d : Draft) → IsLive (state.Within (stage.Block (s y)) d)
+
+live_ranged : (d : Draft) (s : Typing → BlockStage) (o : Option Typing) → IsEasy s → LiveMove (ranged_step d s o)
+live_ranged d s (Some y) easy = easy y d
+live_ranged d s None easy = tt
+
+live_typed : (x : Bool) (d : Draft) (k : IlType) → LiveMove (typed_step x d k)
+live_typed true d k = tt
+live_typed false d k = live_ranged d block.BehindType (whole k) (λ y e. tt)
+
+live_behind_colon : (x : Bool) (d : Draft) (t : Token) → LiveMove (behind_colon_step x d t)
+live_behind_colon x d token.LineEnd = tt
+live_behind_colon x d (token.Keyword (word.Type k)) = live_typed x d k
+live_behind_colon x d (token.Keyword _) = tt
+live_behind_colon x d _ = tt
+
+live_behind_external : (k : IlType) (d : Draft) (t : Token) → LiveMove (behind_external_step k d t)
+live_behind_external k d token.LineEnd = tt
+live_behind_external k d token.Semicolon = tt
+live_behind_external k d _ = tt
+
+live_behind_range : (y : Typing) (d : Draft) (t : Token) → LiveMove (behind_range_step y d t)
+live_behind_range y d token.LineEnd = tt
+live_behind_range y d token.Assign = tt
+live_behind_range y d token.Semicolon = tt
+live_behind_range y d _ = tt
+
+live_behind_type : (y : Typing) (d : Draft) (t : Token) → LiveMove (behind_type_step y d t)
+live_behind_type y d token.LineEnd = tt
+live_behind_type y d token.Open = either (is_bool y.kind)
   where
-    either : (r : Bool) → LiveMove (if r then goes (stage.BehindType k) d else Err fault.Declaration)
+    either : (r : Bool) → LiveMove (if r then Err fault.Declaration else declares (block.BehindOpen y.kind) d)
     either true = tt
     either false = tt
-live_behind_colon d (token.Keyword _) = tt
-live_behind_colon d _ = tt
+live_behind_type y d t = live_behind_range y d t
 
-live_declared : (d : Draft) (o : Option Typing) → LiveMove (declared_step d o)
-live_declared d (Some y) = tt
-live_declared d None = tt
+live_behind_open : (k : IlType) (d : Draft) (t : Token) → LiveMove (behind_open_step k d t)
+live_behind_open k d token.LineEnd = tt
+live_behind_open k d t = live_ranged d block.BehindLow (made (begun k) (value_of k t)) (λ y e. tt)
 
-live_behind_type : (k : IlType) (d : Draft) (t : Token) → LiveMove (behind_type_step k d t)
-live_behind_type k d token.LineEnd = tt
-live_behind_type k d token.Assign = tt
-live_behind_type k d token.Semicolon = live_declared d (typing_of k (pos 0))
-live_behind_type k d _ = tt
+live_behind_low : (y : Typing) (d : Draft) (t : Token) → LiveMove (behind_low_step y d t)
+live_behind_low y d token.LineEnd = tt
+live_behind_low y d token.Dots = tt
+live_behind_low y d _ = tt
 
-live_started : (d : Draft) (o : Option Typing) → LiveMove (started_step d o)
-live_started d (Some y) = tt
-live_started d None = tt
+live_behind_dots : (y : Typing) (d : Draft) (t : Token) → LiveMove (behind_dots_step y d t)
+live_behind_dots y d token.LineEnd = tt
+live_behind_dots y d t = live_ranged d block.BehindHigh (made (bounded y) (value_of y.kind t)) (λ y e. tt)
 
-live_behind_assign : (k : IlType) (d : Draft) (t : Token) → LiveMove (behind_assign_step k d t)
-live_behind_assign k d token.LineEnd = tt
-live_behind_assign k d (token.Number n) = live_started d (typing_of k n)
-live_behind_assign k d _ = tt
+live_behind_high : (y : Typing) (d : Draft) (t : Token) → LiveMove (behind_high_step y d t)
+live_behind_high y d token.LineEnd = tt
+live_behind_high y d token.Close = tt
+live_behind_high y d _ = tt
+
+live_behind_assign : (y : Typing) (d : Draft) (t : Token) → LiveMove (behind_assign_step y d t)
+live_behind_assign y d token.LineEnd = tt
+live_behind_assign y d t = live_ranged d block.BehindStart (made (started y) (value_of y.kind t)) (λ y e. tt)
 
 live_behind_start : (y : Typing) (d : Draft) (t : Token) → LiveMove (behind_start_step y d t)
 live_behind_start y d token.LineEnd = tt
 live_behind_start y d token.Semicolon = tt
 live_behind_start y d _ = tt
 
+live_block : (s : BlockStage) (d : Draft) (t : Token) (m : ℕ) → IsLive (state.Within (stage.Block s) d) → LiveMove (block_step s d t m)
+live_block (block.InBlock x) d t m h = live_in_block x d t m
+live_block (block.BehindName x) d t m h = live_behind_name x d t
+live_block (block.BehindComma x) d t m h = live_behind_comma x d t m h
+live_block (block.BehindColon x) d t m h = live_behind_colon x d t
+live_block (block.BehindExternal k) d t m h = live_behind_external k d t
+live_block (block.BehindType y) d t m h = live_behind_type y d t
+live_block (block.BehindOpen k) d t m h = live_behind_open k d t
+live_block (block.BehindLow y) d t m h = live_behind_low y d t
+live_block (block.BehindDots y) d t m h = live_behind_dots y d t
+live_block (block.BehindHigh y) d t m h = live_behind_high y d t
+live_block (block.BehindRange y) d t m h = live_behind_range y d t
+live_block (block.BehindAssign y) d t m h = live_behind_assign y d t
+live_block (block.BehindStart y) d t m h = live_behind_start y d t
+
+live_simple : (d : Draft) (h : Head) (x : Option Simple) → LiveMove (simple_step d h x)
+live_simple d h (Some x) = tt
+live_simple d h None = tt
+
+live_pair : (d : Draft) (h : Head) (o : Pair) (x : Option Operand) → LiveMove (behind_pair_step h o d x)
+live_pair d h o (Some x) = tt
+live_pair d h o None = tt
+
+live_first : (d : Draft) (h : Head) (o : Pair) (x : Operand) (t : Token) → LiveMove (behind_first_step h o x d t)
+live_first d h o x token.Comma = tt
+live_first d h o x _ = tt
+
+live_store : (d : Draft) (h : Head) (b : Bool) (t : Token) → LiveMove (behind_store_step h b d t)
+live_store d h b (token.Name n) = tt
+live_store d h b _ = tt
+
+live_set : (d : Draft) (h : Head) (b : Bool) (t : Token) → LiveMove (behind_set_step h b d t)
+live_set d h b (token.Name n) = tt
+live_set d h b _ = tt
+
+live_jump : (d : Draft) (h : Head) (c : Condition) (turns : Option ℕ) (t : Token) → LiveMove (behind_jump_step h c turns d t)
+live_jump d h c turns (token.Name n) = tt
+live_jump d h c turns _ = tt
+
+live_brace : (d : Draft) (h : Head) (t : Token) → LiveMove (behind_brace_step h d t)
+live_brace d h (token.Name w) = either (is_loop w)
+  where
+    either : (b : Bool) → LiveMove (if b then continues h part.BehindLoop d else Err fault.Word)
+    either true = tt
+    either false = tt
+live_brace d h _ = tt
+
+live_counted : (d : Draft) (h : Head) (o : Option ℕ) → LiveMove (turns_step h d o)
+live_counted d h (Some n) = tt
+live_counted d h None = tt
+
+live_loop : (d : Draft) (h : Head) (t : Token) → LiveMove (behind_loop_step h d t)
+live_loop d h (token.Decimal n) = live_counted d h (turns_of n)
+live_loop d h _ = tt
+
+live_turns : (d : Draft) (h : Head) (turns : ℕ) (t : Token) → LiveMove (behind_turns_step h turns d t)
+live_turns d h turns token.CloseBrace = tt
+live_turns d h turns _ = tt
+
+live_pragma : (d : Draft) (h : Head) (turns : ℕ) (t : Token) → LiveMove (behind_pragma_step h turns d t)
+live_pragma d h turns (token.Keyword (word.Jump c)) = tt
+live_pragma d h turns (token.Keyword _) = tt
+live_pragma d h turns _ = tt
+
+live_part : (s : PartStage) (d : Draft) (h : Head) (t : Token) → LiveMove (part_step h s d t)
+live_part (part.BehindLoad negated) d h t = live_simple d h (option_map (simple.Load negated) (operand_of t))
+live_part (part.BehindOperator o negated) d h t = live_simple d h (option_map (simple.Apply o negated) (operand_of t))
+live_part (part.BehindPair o) d h t = live_pair d h o (operand_of t)
+live_part (part.BehindFirst o x) d h t = live_first d h o x t
+live_part (part.BehindFirstComma o x) d h t = live_simple d h (option_map (paired o x) (operand_of t))
+live_part (part.BehindStore negated) d h t = live_store d h negated t
+live_part (part.BehindSet value) d h t = live_set d h value t
+live_part (part.BehindJump c turns) d h t = live_jump d h c turns t
+live_part part.BehindBrace d h t = live_brace d h t
+live_part part.BehindLoop d h t = live_loop d h t
+live_part (part.BehindTurns turns) d h t = live_turns d h turns t
+live_part (part.BehindPragma turns) d h t = live_pragma d h turns t
+
+live_begun : (d : Draft) (h : Head) (s : Option PartStage) (a : Option Action) → LiveMove (begun_step d h s a)
+live_begun d h (Some s) a = tt
+live_begun d h None (Some a) = tt
+live_begun d h None None = tt
+
+live_begin : (d : Draft) (h : Head) (t : Token) → LiveMove (begin_step d h t)
+live_begin d h (token.Keyword w) = live_begun d h (part_begun w) (action_of w)
+live_begin d h token.OpenBrace = tt
+live_begin d h token.Close = tt
+live_begin d h _ = tt
+
 live_line : (d : Draft) (t : Token) (m : ℕ) → LiveMove (line_step d t m)
 live_line d token.LineEnd m = tt
 live_line d (token.Keyword word.EndProgram) m = tt
-live_line d (token.Keyword (word.Load negated)) m = tt
-live_line d (token.Keyword (word.Store negated)) m = tt
-live_line d (token.Keyword (word.Apply o)) m = tt
-live_line d (token.Keyword _) m = tt
-live_line d _ m = tt
+live_line d (token.Name n) m = either (among n d.labels)
+  where
+    either : (b : Bool) → LiveMove (if b then Err fault.Duplicate else goes (stage.BehindLabel m n) d)
+    either true = tt
+    either false = tt
+live_line d (token.Keyword k) m = live_begin d (record { line = m; label = None }) (token.Keyword k)
+live_line d t m = live_begin d (record { line = m; label = None }) t
 
 live_between : (d : Draft) (t : Token) (m : ℕ) → LiveMove (between_step d t m)
 live_between d token.LineEnd m = tt
@@ -120,38 +257,39 @@ live_between d (token.Keyword word.VarExternal) m = tt
 live_between d (token.Keyword k) m = live_line d (token.Keyword k) m
 live_between d t m = live_line d t m
 
-live_instruction : (d : Draft) (l : ℕ) (x : Result Action ReadFaultKind) → LiveMove (instruction_step d l x)
-live_instruction d l (Ok x) = tt
-live_instruction d l (Err k) = tt
+live_label : (l : ℕ) (n : List ℕ) (d : Draft) (t : Token) → LiveMove (behind_label_step l n d t)
+live_label l n d token.Colon = tt
+live_label l n d _ = tt
+
+live_instruction : (h : Head) (d : Draft) (t : Token) → LiveMove (at_instruction_step h d t)
+live_instruction h d token.LineEnd = tt
+live_instruction h d t = live_begin d h t
 
 live_whole : (d : Draft) (t : Token) → LiveMove (whole_step d t)
 live_whole d token.LineEnd = tt
 live_whole d _ = tt
 
-live_over : (p : Program) (t : Token) → LiveMove (over_step p t)
-live_over p token.LineEnd = tt
-live_over p _ = tt
-
 live_within : (s : Stage) (d : Draft) (t : Token) (m : ℕ) → IsLive (state.Within s d) → LiveMove (within_step s d t m)
 live_within stage.BetweenBlocks d t m h = live_between d t m
-live_within stage.InBlock d t m h = live_in_block d t m
-live_within stage.BehindName d t m h = live_behind_name d t
-live_within stage.BehindComma d t m h = live_behind_comma d t m h
-live_within stage.BehindColon d t m h = live_behind_colon d t
-live_within (stage.BehindType k) d t m h = live_behind_type k d t
-live_within (stage.BehindAssign k) d t m h = live_behind_assign k d t
-live_within (stage.BehindStart y) d t m h = live_behind_start y d t
+live_within (stage.Block s) d t m h = live_block s d t m h
 live_within stage.AtLine d t m h = live_line d t m
-live_within (stage.BehindLoad l negated) d t m h = live_instruction d l (loaded negated (operand_of t))
-live_within (stage.BehindOperator l o) d t m h = live_instruction d l (applied o t (operand_of t))
-live_within (stage.BehindStore l negated) d t m h = live_instruction d l (stored negated t)
+live_within (stage.BehindLabel l n) d t m h = live_label l n d t
+live_within (stage.AtInstruction g) d t m h = live_instruction g d t
+live_within (stage.Part g s) d t m h = live_part s d g t
 live_within stage.BehindInstruction d t m h = live_whole d t
 
+live_state : (s : State) (t : Token) (m : ℕ) → IsLive s → LiveMove (state_step s t m)
+live_state state.Start t m h = live_start t
+live_state state.Titled t m h = live_titled t
+live_state (state.Within s d) t m h = live_within s d t m h
+live_state (state.Over p) t m h = live_over p t
+
+live_fault : (t : Token) (m : Move) → LiveMove m → LiveMove (with_fault t m)
+live_fault t (Ok s) h = h
+live_fault t (Err k) h = tt
+
 live_step : (s : State) (t : Token) (m : ℕ) → IsLive s → LiveMove (step s t m)
-live_step state.Start t m h = live_start t
-live_step state.Titled t m h = live_titled t
-live_step (state.Within s d) t m h = live_within s d t m h
-live_step (state.Over p) t m h = live_over p t
+live_step s t m h = live_fault t (state_step s t m) (live_state s t m h)
 
 live_stepped : (s : State) (t : Option Token) (m : ℕ) → IsLive s → LiveMove (stepped s t m)
 live_stepped s None m h = h
@@ -168,17 +306,17 @@ abbrev LiveReader : Result Reader ReadFault → Type 0
 LiveReader (Ok r) = IsLive r.state
 LiveReader (Err f) = Unit {0}
 
-live_state : (r : Reader) (b : ℕ) (rest : List ℕ) (x : Lexed) (m : Move) → LiveMove m → LiveReader (state_read r b rest x m)
-live_state r b rest x (Ok s) h = h
-live_state r b rest x (Err k) h = tt
+live_moved : (r : Reader) (b : ℕ) (x : Lexed) (m : Move) → LiveMove m → LiveReader (state_read r b x m)
+live_moved r b x (Ok s) h = h
+live_moved r b x (Err k) h = tt
 
-live_read : (r : Reader) (b : ℕ) (rest : List ℕ) (x : Result Lexed ReadFaultKind) → IsLive r.state → LiveReader (byte_read r b rest x)
-live_read r b rest (Ok x) h = live_state r b rest x (taken r.state x r.line) (live_taken r.state x r.line h)
-live_read r b rest (Err k) h = tt
+live_read : (r : Reader) (b : ℕ) (x : Result Lexed ReadFaultKind) → IsLive r.state → LiveReader (byte_read r b x)
+live_read r b (Ok x) h = live_moved r b x (taken r.state x r.line) (live_taken r.state x r.line h)
+live_read r b (Err k) h = tt
 
 pub live_fed : (text : List ℕ) (r q : Reader) → fed r text ≡ Ok q → IsLive r.state → IsLive q.state
 live_fed [] r q e h = let same : r ≡ q = cc in subst (λ z. IsLive z.state) same h
-live_fed (b ∷ bs) r q e h = go (λ r' e h. live_fed bs r' q e h) (byte_fed r b bs) e (live_read r b bs (lexed r.mode b) h)
+live_fed (b ∷ bs) r q e h = go (λ r' e h. live_fed bs r' q e h) (byte_fed r b) e (live_read r b (lexed r.mode b) h)
   where
     go : ((r' : Reader) → fed r' bs ≡ Ok q → IsLive r'.state → IsLive q.state) → (x : Result Reader ReadFault) → fed_on x (λ r'. fed r' bs) ≡ Ok q → LiveReader x → IsLive q.state
     go on (Ok r') e h = on r' e h

@@ -1,57 +1,135 @@
 -- The tokens of a text, byte by byte: what stands open before a byte, and which tokens the byte ends and is.
 -- IEC 61131-3 edition 2, 2.1 (characters, identifiers, keywords, comments), 2.2.1 numeric literals, 3.2 instruction list.
-use Rattle.std.specs.Prelude.{ℕ, suc, ◌-◌, Bool, true, false, ◌&&◌, ◌||◌, ℤ, pos, neg_ℤ, ◌+ℤ◌, ◌*ℤ◌, List, [], ◌∷◌, ◌++◌, length, if◌then◌else◌, Option, Some, None, Result, Ok, Err, nat_eq, nat_lt, bytes_eq, codes, option_map}
+use Rattle.std.specs.Prelude.{ℕ, suc, ◌+◌, ◌-◌, Bool, true, false, not, ◌&&◌, ◌||◌, ℤ, pos, ◌+ℤ◌, ◌-ℤ◌, ◌*ℤ◌, List, [], ◌∷◌, ◌++◌, length, if◌then◌else◌, Option, Some, None, Result, Ok, Err, nat_eq, nat_lt, bytes_eq, codes, option_map, filter, map}
+use Rattle.std.specs.List.{flat_map}
+use Rattle.point_types.specs.declared.il_type.IlType.{IlType}
 use Rattle.point_types.specs.declared.il_type.IlType.TheVariants as il
 use Rattle.point_types.specs.declared.operator.Operator.TheVariants as op
-use Rattle.point_types.specs.Keyword.{is_reserved}
-use Rattle.point_types.specs.Name.{is_digit, is_letter, is_name_byte, folded, name_of}
-use Rattle.point_types.specs.Value.{low_of, high_of, is_within}
+use Rattle.point_types.specs.declared.operator.Condition.TheVariants as when
+use Rattle.point_types.specs.Name.{is_between, is_digit, is_letter, is_name_byte, is_underscore, folded, name_of}
+use Rattle.point_types.specs.Value.{low_of, high_of, int_eq, is_within}
 use Rattle.il_reader.specs.declared.fault.ReadFaultKind.{ReadFaultKind}
 use Rattle.il_reader.specs.declared.fault.ReadFaultKind.TheVariants as fault
 use Rattle.il_reader.specs.declared.token.Keyword.{Keyword}
 use Rattle.il_reader.specs.declared.token.Keyword.TheVariants as word
 use Rattle.il_reader.specs.declared.token.Token.{Token}
 use Rattle.il_reader.specs.declared.token.Token.TheVariants as token
+use Rattle.il_reader.specs.declared.numeral.Base.{Base}
+use Rattle.il_reader.specs.declared.numeral.Base.TheVariants as base
+use Rattle.il_reader.specs.declared.numeral.Spelling.{Spelling}
+use Rattle.il_reader.specs.declared.numeral.Spelling.TheVariants as spelling
 use Rattle.il_reader.specs.declared.lexer.Mode.{Mode}
 use Rattle.il_reader.specs.declared.lexer.Mode.TheVariants as mode
 use Rattle.il_reader.specs.declared.lexer.Lexed.{Lexed}
 
--- the words with a meaning of their own
-abbrev pub keywords : List (List ℕ × Keyword)
-keywords =
-    (codes "program", word.Program) ∷ (codes "end_program", word.EndProgram) ∷ (codes "var", word.Var) ∷ (codes "var_external", word.VarExternal) ∷ (codes "end_var", word.EndVar) ∷ (codes "true", word.Truth true) ∷ (codes "false", word.Truth false) ∷ (codes "bool", word.Type il.Bool) ∷ (codes "sint", word.Type il.Sint) ∷ (codes "int", word.Type il.Int) ∷ (codes "dint", word.Type il.Dint) ∷ (codes "lint", word.Type il.Lint) ∷ (codes "usint", word.Type il.Usint) ∷ (codes "uint", word.Type il.Uint) ∷ (codes "udint", word.Type il.Udint) ∷ (codes "ld", word.Load false) ∷ (codes "ldn", word.Load true) ∷ (codes "st", word.Store false) ∷ (codes "stn", word.Store true) ∷ (codes "add", word.Apply op.Add) ∷ (codes "sub", word.Apply op.Sub) ∷ (codes "mul", word.Apply op.Mul) ∷ (codes "div", word.Apply op.Div) ∷ (codes "mod", word.Apply op.Mod) ∷ []
+-- Words with a meaning of their own.
+
+-- PROGRAM .. END_PROGRAM, VAR .. END_VAR and the values of BOOL
+abbrev pub grammar_keywords : List (List ℕ × Keyword)
+grammar_keywords =
+    (codes "program", word.Program) ∷ (codes "end_program", word.EndProgram) ∷ (codes "var", word.Var) ∷ (codes "var_external", word.VarExternal) ∷ (codes "end_var", word.EndVar) ∷ (codes "true", word.Truth true) ∷ (codes "false", word.Truth false) ∷ []
+
+-- the types of whole numbers
+abbrev pub whole_types : List (List ℕ × IlType)
+whole_types =
+    (codes "sint", il.Sint) ∷ (codes "int", il.Int) ∷ (codes "dint", il.Dint) ∷ (codes "lint", il.Lint) ∷ (codes "usint", il.Usint) ∷ (codes "uint", il.Uint) ∷ (codes "udint", il.Udint) ∷ []
+
+abbrev pub type_keywords : List (List ℕ × Keyword)
+type_keywords = (codes "bool", word.Type il.Bool) ∷ map (λ t. (t.0, word.Type t.1)) whole_types
+
+-- the operators, each with the modifiers that it takes
+abbrev pub operator_keywords : List (List ℕ × Keyword)
+operator_keywords =
+    (codes "ld", word.Load false) ∷ (codes "ldn", word.Load true) ∷ (codes "st", word.Store false) ∷ (codes "stn", word.Store true) ∷ (codes "s", word.Set true) ∷ (codes "r", word.Set false) ∷ (codes "jmp", word.Jump when.Always) ∷ (codes "jmpc", word.Jump when.IfTrue) ∷ (codes "jmpcn", word.Jump when.IfFalse) ∷ (codes "ret", word.Return when.Always) ∷ (codes "retc", word.Return when.IfTrue) ∷ (codes "retcn", word.Return when.IfFalse) ∷ (codes "and", word.Apply op.And false) ∷ (codes "andn", word.Apply op.And true) ∷ (codes "or", word.Apply op.Or false) ∷ (codes "orn", word.Apply op.Or true) ∷ (codes "xor", word.Apply op.Xor false) ∷ (codes "xorn", word.Apply op.Xor true) ∷ (codes "add", word.Apply op.Add false) ∷ (codes "sub", word.Apply op.Sub false) ∷ (codes "mul", word.Apply op.Mul false) ∷ (codes "div", word.Apply op.Div false) ∷ (codes "mod", word.Apply op.Mod false) ∷ (codes "gt", word.Apply op.Gt false) ∷ (codes "ge", word.Apply op.Ge false) ∷ (codes "eq", word.Apply op.Eq false) ∷ (codes "ne", word.Apply op.Ne false) ∷ (codes "le", word.Apply op.Le false) ∷ (codes "lt", word.Apply op.Lt false) ∷ (codes "min", word.Apply op.Min false) ∷ (codes "max", word.Apply op.Max false) ∷ (codes "limit", word.Limit) ∷ (codes "sel", word.Select) ∷ (codes "not", word.Not) ∷ (codes "abs", word.Absolute) ∷ []
+
+abbrev pub plain_keywords : List (List ℕ × Keyword)
+plain_keywords = grammar_keywords ++ type_keywords ++ operator_keywords
+
+-- the conversions from a type to each other one
+abbrev pub conversions_from : List ℕ × IlType → List (List ℕ × Keyword)
+conversions_from t = map (λ u. (t.0 ++ codes "_to_" ++ u.0, word.Convert t.1 u.1)) (filter (λ u. not (bytes_eq t.0 u.0)) whole_types)
+
+abbrev pub conversion_keywords : List (List ℕ × Keyword)
+conversion_keywords = flat_map conversions_from whole_types
 
 abbrev pub look_up : List ℕ → List (List ℕ × Keyword) → Option Keyword
 look_up w [] = None
 look_up w ((v, k) ∷ ks) = if bytes_eq w v then Some k else look_up w ks
 
-unfoldable pub keyword : List ℕ → Option Keyword
-keyword w = look_up w keywords
+abbrev pub or_else : Option Keyword → Option Keyword → Option Keyword
+or_else (Some k) other = Some k
+or_else None other = other
 
--- a name, or an operator that isn't read yet
-abbrev pub named : List ℕ → Option Token
-named w = if is_reserved w then Some token.OtherOperator else option_map token.Name (name_of w)
+unfoldable pub keyword : List ℕ → Option Keyword
+keyword w = or_else (look_up w plain_keywords) (look_up w conversion_keywords)
 
 abbrev pub keyword_or : Option Keyword → List ℕ → Option Token
 keyword_or (Some k) w = Some (token.Keyword k)
-keyword_or None w = named w
+keyword_or None w = option_map token.Name (name_of w)
 
 -- a word in lower case; none where it is no name
 abbrev pub word_token : List ℕ → Option Token
 word_token w = keyword_or (keyword w) w
 
--- the type of a typed literal, as INT#5
-abbrev pub types_literals : Option Keyword → Bool
-types_literals (Some (word.Type il.Bool)) = false
-types_literals (Some (word.Type k)) = true
-types_literals _ = false
+-- & is AND
+abbrev pub and_token : Bool → Token
+and_token negated = token.Keyword (word.Apply op.And negated)
 
-abbrev pub signed_digit : Bool → ℕ → ℤ
-signed_digit negative b = if negative then neg_ℤ (pos (b - 48)) else pos (b - 48)
+-- Numbers.
+
+-- the value of a digit, letters in either case
+abbrev pub digit_of : ℕ → Option ℕ
+digit_of b = if is_digit b then Some (b - 48) else if is_between 97 102 (folded b) then Some ((folded b - 97) + 10) else None
+
+-- how many digits a spelling has
+abbrev pub radix : Spelling → ℕ
+radix (spelling.Based base.Two) = 2
+radix (spelling.Based base.Eight) = 8
+radix (spelling.Based base.Sixteen) = 16
+radix _ = 10
+
+abbrev pub below : ℕ → Option ℕ → Option ℕ
+below r (Some d) = if nat_lt d r then Some d else None
+below r None = None
+
+-- the value of a byte that is a digit of a spelling
+abbrev pub digit_in : Spelling → ℕ → Option ℕ
+digit_in s b = below (radix s) (digit_of b)
 
 -- a number with one more digit
-abbrev pub grown : Bool → ℤ → ℕ → ℤ
-grown negative n b = (pos 10 *ℤ n) +ℤ signed_digit negative b
+abbrev pub grown : Spelling → ℤ → ℕ → ℤ
+grown (spelling.Signed true) n d = (pos 10 *ℤ n) -ℤ pos d
+grown s n d = (pos (radix s) *ℤ n) +ℤ pos d
+
+-- behind an underscore no base can follow
+abbrev pub spelled_on : Spelling → Spelling
+spelled_on spelling.Plain = spelling.Decimal
+spelled_on s = s
+
+-- the bases: 2#, 8# and 16#
+abbrev pub base_named : Spelling → ℤ → Option Base
+base_named spelling.Plain n =
+    if int_eq n (pos 2) then Some base.Two else if int_eq n (pos 8) then Some base.Eight else if int_eq n (pos 16) then Some base.Sixteen else None
+base_named s n = None
+
+-- a literal lies in its type, and in LINT where it has none of its own
+abbrev pub limits_of : Option IlType → IlType
+limits_of None = il.Lint
+limits_of (Some k) = k
+
+abbrev pub number_token : Option IlType → Spelling → ℤ → Token
+number_token (Some k) s n = token.Typed k n
+number_token None spelling.Plain n = token.Decimal n
+number_token None spelling.Decimal n = token.Decimal n
+number_token None s n = token.Number n
+
+-- the type of the literals that a word and # begin, as INT#5
+abbrev pub literal_type : Option Keyword → Option IlType
+literal_type (Some (word.Type il.Bool)) = None
+literal_type (Some (word.Type k)) = Some k
+literal_type _ = None
+
+-- One byte.
 
 -- no token ends, and none is whole
 abbrev pub stands : Mode → Result Lexed ReadFaultKind
@@ -61,17 +139,26 @@ stands q = Ok (record { ended = None; own = None; mode = q })
 abbrev pub gives : Token → Result Lexed ReadFaultKind
 gives t = Ok (record { ended = None; own = Some t; mode = mode.Clear })
 
--- tokens of one byte: line end, comma, semicolon, closing parenthesis, and & (AND)
+-- a number within its type
+abbrev pub number_stands : Option IlType → Spelling → ℤ → Result Lexed ReadFaultKind
+number_stands k s n = if is_within (low_of (limits_of k)) (high_of (limits_of k)) n then stands (mode.Number k s n false) else Err fault.Literal
+
+-- the first digit of a number without a sign; behind a zero no base can follow
+abbrev pub first_digit : Option IlType → ℕ → Result Lexed ReadFaultKind
+first_digit k b = if nat_eq b 48 then number_stands k spelling.Decimal (pos 0) else number_stands k spelling.Plain (pos (b - 48))
+
+-- tokens of one byte: line end, comma, semicolon, closing parenthesis, braces
 abbrev pub mark_of : ℕ → Result Lexed ReadFaultKind
 mark_of b =
     if nat_eq b 10 then gives token.LineEnd
     else if nat_eq b 44 then gives token.Comma
     else if nat_eq b 59 then gives token.Semicolon
     else if nat_eq b 41 then gives token.Close
-    else if nat_eq b 38 then gives token.OtherOperator
+    else if nat_eq b 123 then gives token.OpenBrace
+    else if nat_eq b 125 then gives token.CloseBrace
     else Err fault.Word
 
--- blanks, and what begins a token of several bytes: carriage return, opening parenthesis, colon, dot, signs
+-- blanks, and what begins a token of several bytes: carriage return, opening parenthesis, colon, dot, &, signs
 abbrev pub opening_of : ℕ → Result Lexed ReadFaultKind
 opening_of b =
     if nat_eq b 32 || nat_eq b 9 then stands mode.Clear
@@ -79,6 +166,7 @@ opening_of b =
     else if nat_eq b 40 then stands mode.Bracket
     else if nat_eq b 58 then stands mode.Colon
     else if nat_eq b 46 then stands mode.Dot
+    else if nat_eq b 38 then stands mode.And
     else if nat_eq b 43 then stands (mode.Sign false)
     else if nat_eq b 45 then stands (mode.Sign true)
     else mark_of b
@@ -86,8 +174,8 @@ opening_of b =
 -- a byte where nothing is open
 abbrev pub first_byte : ℕ → Result Lexed ReadFaultKind
 first_byte b =
-    if is_letter (folded b) then stands (mode.Word (folded b ∷ []))
-    else if is_digit b then stands (mode.Number false (pos (b - 48)) false)
+    if is_letter (folded b) then stands (mode.Word (folded b ∷ []) (is_underscore (folded b)))
+    else if is_digit b then first_digit None b
     else opening_of b
 
 -- a token has ended before the byte
@@ -99,31 +187,72 @@ abbrev pub word_ended : Option Token → ℕ → Result Lexed ReadFaultKind
 word_ended (Some t) b = ended_by t (first_byte b)
 word_ended None b = Err fault.Word
 
+-- a word with one more character: 32 at most, and no two underscores in a row; gap: an underscore is the last of it
+abbrev pub word_grown : List ℕ → Bool → ℕ → Result Lexed ReadFaultKind
+word_grown w gap b =
+    if gap && is_underscore b then Err fault.Word
+    else if nat_lt (length w) 32 then stands (mode.Word (w ++ b ∷ []) (is_underscore b))
+    else Err fault.Word
+
+abbrev pub literal_begun : Option IlType → Result Lexed ReadFaultKind
+literal_begun (Some k) = stands (mode.Typed k)
+literal_begun None = Err fault.Word
+
 -- behind a word
-abbrev pub word_byte : List ℕ → ℕ → Result Lexed ReadFaultKind
-word_byte w b =
-    if is_name_byte (folded b) then (if nat_lt (length w) 32 then stands (mode.Word (w ++ folded b ∷ [])) else Err fault.Word)
-    else if nat_eq b 35 && types_literals (keyword w) then Err fault.Literal
+abbrev pub word_byte : List ℕ → Bool → ℕ → Result Lexed ReadFaultKind
+word_byte w gap b =
+    if is_name_byte (folded b) then word_grown w gap (folded b)
+    else if nat_eq b 35 then literal_begun (literal_type (keyword w))
     else word_ended (word_token w) b
 
--- a number grows within LINT
-abbrev pub digit_behind : Bool → ℤ → Result Lexed ReadFaultKind
-digit_behind negative n = if is_within (low_of il.Lint) (high_of il.Lint) n then stands (mode.Number negative n false) else Err fault.Literal
+-- behind a type and #: a number
+abbrev pub typed_byte : IlType → ℕ → Result Lexed ReadFaultKind
+typed_byte k b =
+    if is_digit b then first_digit (Some k) b
+    else if nat_eq b 43 then stands (mode.Number (Some k) (spelling.Signed false) (pos 0) true)
+    else if nat_eq b 45 then stands (mode.Number (Some k) (spelling.Signed true) (pos 0) true)
+    else Err fault.Literal
 
--- behind digits; gap: an underscore is the last of them
-abbrev pub number_byte : Bool → ℤ → Bool → ℕ → Result Lexed ReadFaultKind
-number_byte negative n gap b =
-    if is_digit b then digit_behind negative (grown negative n b)
-    else if gap then Err fault.Literal
-    else if nat_eq b 95 then stands (mode.Number negative n true)
-    else if is_letter (folded b) || nat_eq b 35 then Err fault.Literal
-    else ended_by (token.Number n) (first_byte b)
+-- behind a sign
+abbrev pub sign_byte : Bool → ℕ → Result Lexed ReadFaultKind
+sign_byte negative b = if is_digit b then number_stands None (spelling.Signed negative) (grown (spelling.Signed negative) (pos 0) (b - 48)) else Err fault.Word
+
+abbrev pub based : Option IlType → Option Base → Result Lexed ReadFaultKind
+based k (Some x) = stands (mode.Number k (spelling.Based x) (pos 0) true)
+based k None = Err fault.Literal
+
+-- behind a digit: no digit of the same number
+abbrev pub number_ended : Option IlType → Spelling → ℤ → ℕ → Result Lexed ReadFaultKind
+number_ended k s n b =
+    if nat_eq b 95 then stands (mode.Number k (spelled_on s) n true)
+    else if nat_eq b 35 then based k (base_named s n)
+    else if is_name_byte (folded b) then Err fault.Literal
+    else ended_by (number_token k s n) (first_byte b)
+
+abbrev pub number_grown : Option ℕ → Option IlType → Spelling → ℤ → Bool → ℕ → Result Lexed ReadFaultKind
+number_grown (Some d) k s n wanting b = number_stands k s (grown s n d)
+number_grown None k s n wanting b = if wanting then Err fault.Literal else number_ended k s n b
+
+-- behind the digits of a number, or where it wants one
+abbrev pub number_byte : Option IlType → Spelling → ℤ → Bool → ℕ → Result Lexed ReadFaultKind
+number_byte k s n wanting b = number_grown (digit_in s b) k s n wanting b
+
+-- behind &
+abbrev pub and_byte : ℕ → Result Lexed ReadFaultKind
+and_byte b = if nat_eq b 78 || nat_eq b 110 then stands mode.AndNot else ended_by (and_token false) (first_byte b)
+
+-- behind &N, which is one operator where no word goes on with the N
+abbrev pub and_n_byte : ℕ → Result Lexed ReadFaultKind
+and_n_byte b = if is_name_byte (folded b) then ended_by (and_token false) (word_byte (110 ∷ []) false b) else ended_by (and_token true) (first_byte b)
 
 abbrev pub lexed : Mode → ℕ → Result Lexed ReadFaultKind
 lexed mode.Clear b = first_byte b
-lexed (mode.Word w) b = word_byte w b
-lexed (mode.Number negative n gap) b = number_byte negative n gap b
-lexed (mode.Sign negative) b = if is_digit b then stands (mode.Number negative (signed_digit negative b) false) else Err fault.Word
+lexed (mode.Word w gap) b = word_byte w gap b
+lexed (mode.Number k s n wanting) b = number_byte k s n wanting b
+lexed (mode.Typed k) b = typed_byte k b
+lexed (mode.Sign negative) b = sign_byte negative b
+lexed mode.And b = and_byte b
+lexed mode.AndNot b = and_n_byte b
 lexed mode.Bracket b = if nat_eq b 42 then stands mode.Comment else ended_by token.Open (first_byte b)
 lexed mode.Comment b = if nat_eq b 42 then stands mode.Star else stands mode.Comment
 lexed mode.Star b = if nat_eq b 41 then stands mode.Clear else if nat_eq b 42 then stands mode.Star else stands mode.Comment
@@ -139,9 +268,12 @@ grows None = Err fault.Header
 
 abbrev pub at_end : Mode → Result (Option Token) ReadFaultKind
 at_end mode.Clear = Ok None
-at_end (mode.Word w) = grows (word_token w)
-at_end (mode.Number negative n gap) = if gap then Err fault.Header else Ok (Some (token.Number n))
+at_end (mode.Word w gap) = grows (word_token w)
+at_end (mode.Number k s n wanting) = if wanting then Err fault.Header else Ok (Some (number_token k s n))
+at_end (mode.Typed k) = Err fault.Header
 at_end (mode.Sign negative) = Err fault.Header
+at_end mode.And = Ok (Some (and_token false))
+at_end mode.AndNot = Ok (Some (and_token true))
 at_end mode.Bracket = Ok (Some token.Open)
 at_end mode.Comment = Err fault.Word
 at_end mode.Star = Err fault.Word

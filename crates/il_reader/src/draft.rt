@@ -1,27 +1,36 @@
-ghost use Rattle.std.specs.Prelude.{◌≡◌, length, IfOk, map};
+ghost use Rattle.std.specs.Prelude.{◌≡◌, IfOk, map};
 
-use crate::tree::{Action, Operand, Program, Simple, Statement, Variable};
+use crate::scope::{Scope, is_listed};
+use crate::tree::{Action, External, InnerLine, Operand, Program, Simple, Statement, Variable};
 use crate::typing::{Entry, Typing};
-use point_types::{Items, Name};
+use point_types::{IlType, Items, Name};
 use std::alloc::{AllocError, Global};
 
-/// The most variables of a program.
-const VARIABLE_LIMIT: usize = 1024;
+/// The line of a statement's first token, and its label.
+#[derive(Clone, Copy, PartialEq, Eq, Debug)]
+pub struct Head {
+    pub line: u32,
+    pub label: Option<Name>,
+}
 
 /// A program as far as it has been read.
 #[derive(Drop, Debug)]
 pub struct Draft {
     pub name: Name,
+    /// The names that are declared, those of the declaration that is being read included.
+    pub scope: Scope,
     pub variables: Items<Variable>,
+    pub externals: Items<External>,
     /// The names of the declaration that is being read.
     pub pending: Items<Entry>,
+    pub labels: Items<Name>,
     pub statements: Items<Statement>,
 }
 
 impl Draft {
     ghost use Rattle.std.specs.Prelude.{◌≡◌, IfOk};
-    ghost use Rattle.il_reader.specs.Declaration.{among, room};
-    ghost use Rattle.il_reader.specs.Reading.{names_of, program_of, titled_draft, with_entry, with_statement, with_variables};
+    ghost use Rattle.il_reader.specs.Declaration.{among};
+    ghost use Rattle.il_reader.specs.Reading.{program_of, titled_draft, with_entry, with_externals, with_label, with_statement, with_variables};
 
     /// A program of which the name is read.
     pub fn titled(alloc: Global, name: Name) -> Draft
@@ -29,31 +38,20 @@ impl Draft {
     {
         Draft {
             name,
+            scope: Scope::new(alloc),
             variables: Items::new(alloc),
+            externals: Items::new(alloc),
             pending: Items::new(alloc),
+            labels: Items::new(alloc),
             statements: Items::new(alloc),
         }
     }
 
-    /// Whether one more name may be declared.
-    pub fn has_room(&self) -> bool
-        ensures { result ≡ room (names_of self.now) }
+    /// One more name in the declaration, of a variable or an external.
+    pub fn declare(mut self, external: bool, line: u32, name: Name) -> Result<Draft, AllocError>
+        ensures { IfOk result (λ d. d ≡ with_entry external self line name) }
     {
-        self.variables.len() < VARIABLE_LIMIT
-            && self.pending.len() < VARIABLE_LIMIT - self.variables.len()
-    }
-
-    /// Whether the name is declared.
-    pub fn declares(&self, name: &Name) -> bool
-        ensures { result ≡ among name.now (names_of self.now) }
-    {
-        is_variable(self.variables.as_slice(), name) || is_pending(self.pending.as_slice(), name)
-    }
-
-    /// One more name in the declaration.
-    pub fn declare(mut self, line: u32, name: Name) -> Result<Draft, AllocError>
-        ensures { IfOk result (λ d. d ≡ with_entry self line name) }
-    {
+        self.scope.declare(external, name)?;
         self.pending.push(Entry { line, name })?;
         Ok(self)
     }
@@ -64,38 +62,78 @@ impl Draft {
     {
         let Draft {
             name,
+            scope,
             variables,
+            externals,
             pending,
+            labels,
             statements,
         } = self;
         let variables = with_typed(variables, pending.as_slice(), &typing)?;
         Ok(Draft {
             name,
+            scope,
             variables,
+            externals,
             pending: Items::new(alloc),
+            labels,
             statements,
         })
     }
 
-    /// One more instruction.
-    pub fn instruct(self, line: u32, action: Action) -> Result<Draft, AllocError>
-        ensures { IfOk result (λ d. d ≡ with_statement self line action) }
+    /// The end of the declaration: its names become externals.
+    pub fn close_externals(self, alloc: Global, kind: IlType) -> Result<Draft, AllocError>
+        ensures { IfOk result (λ d. d ≡ with_externals self kind) }
     {
         let Draft {
             name,
+            scope,
             variables,
+            externals,
             pending,
+            labels,
             statements,
         } = self;
-        // The checker wants to meet the types inside an action here.
-        let _inside: Option<(Simple, Operand)> = None;
-        let statements = with_one(statements, Statement { line, action })?;
+        let externals = with_named(externals, pending.as_slice(), kind)?;
         Ok(Draft {
             name,
+            scope,
             variables,
-            pending,
+            externals,
+            pending: Items::new(alloc),
+            labels,
             statements,
         })
+    }
+
+    /// Whether a line has this label.
+    pub fn has_label(&self, name: &Name) -> bool
+        ensures { result ≡ among name.now self.now.labels }
+    {
+        is_listed(name.as_bytes(), self.labels.as_slice())
+    }
+
+    /// One more label.
+    pub fn label(mut self, name: Name) -> Result<Draft, AllocError>
+        ensures { IfOk result (λ d. d ≡ with_label self name) }
+    {
+        self.labels.push(name)?;
+        Ok(self)
+    }
+
+    /// One more line of the body.
+    pub fn add(mut self, head: Head, action: Option<Action>) -> Result<Draft, AllocError>
+        ensures { IfOk result (λ d. d ≡ with_statement self head action) }
+    {
+        // The checker wants to meet the types inside an action here.
+        let _inside: Option<(Simple, InnerLine, Operand)> = None;
+        let Head { line, label } = head;
+        self.statements.push(Statement {
+            line,
+            label,
+            action,
+        })?;
+        Ok(self)
     }
 
     /// The program, whose last line is this one.
@@ -104,45 +142,25 @@ impl Draft {
     {
         let Draft {
             name,
+            scope: _,
             variables,
+            externals,
             pending: _,
+            labels: _,
             statements,
         } = self;
         Program {
             name,
             variables,
+            externals,
             statements,
             end_line,
         }
     }
 }
 
-ghost use Rattle.std.specs.Prelude.{bytes_eq, ◌++◌, ◌∷◌, []};
-ghost use Rattle.std.specs.List.{list_any};
-ghost use Rattle.il_reader.specs.Declaration.{variable_of};
-
-fn is_variable(variables: &[Variable], name: &Name) -> bool
-    ensures { result ≡ list_any (λ v. bytes_eq name.now v.var.name) variables.now }
-{
-    variables
-        .iter()
-        .any(|variable| name.as_bytes() == variable.var.name.as_bytes())
-}
-
-fn is_pending(entries: &[Entry], name: &Name) -> bool
-    ensures { result ≡ list_any (λ e. bytes_eq name.now e.name) entries.now }
-{
-    entries
-        .iter()
-        .any(|entry| name.as_bytes() == entry.name.as_bytes())
-}
-
-fn with_one<T: Drop>(mut items: Items<T>, item: T) -> Result<Items<T>, AllocError>
-    ensures { IfOk result (λ all. all ≡ items ++ item ∷ []) }
-{
-    items.push(item)?;
-    Ok(items)
-}
+ghost use Rattle.std.specs.Prelude.{◌++◌, ◌∷◌, []};
+ghost use Rattle.il_reader.specs.Declaration.{external_of, variable_of};
 
 // The variables, and behind them those of a declaration.
 fn with_typed(
@@ -156,4 +174,29 @@ fn with_typed(
         variables.push(typing.variable(*entry))?;
     }
     Ok(variables)
+}
+
+// The externals, and behind them those of a declaration.
+fn with_named(
+    mut externals: Items<External>,
+    entries: &[Entry],
+    kind: IlType,
+) -> Result<Items<External>, AllocError>
+    ensures { IfOk result (λ es. es ≡ externals ++ map (external_of kind) entries.now) }
+{
+    for entry in entries {
+        externals.push(external(kind, *entry))?;
+    }
+    Ok(externals)
+}
+
+// The external of a name.
+fn external(kind: IlType, entry: Entry) -> External
+    ensures { result ≡ external_of kind entry }
+{
+    External {
+        line: entry.line,
+        name: entry.name,
+        kind,
+    }
 }

@@ -1,41 +1,15 @@
-ghost use Rattle.std.specs.Prelude.{◌≡◌, ◌≤◌, ◌<◌, map};
+ghost use Rattle.std.specs.Prelude.{◌≡◌, ◌≤◌, ◌<◌, Some};
 ghost use Rattle.point_types.specs.Name.{folded, is_digit, is_letter, is_name_byte};
 ghost use Rattle.point_types.specs.Value.{high_of, is_within, low_of};
-ghost use Rattle.il_reader.specs.Tokens.{at_end, digit_behind, ended_by, first_byte, gives, grown, grows, keyword, lexed, look_up, mark_of, number_byte, opening_of, signed_digit, stands, types_literals, word_byte, word_ended, word_token};
+ghost use Rattle.il_reader.specs.Tokens.{and_byte, and_n_byte, and_token, at_end, based, ended_by, first_byte, first_digit, gives, grown, grows, keyword, lexed, limits_of, literal_type, mark_of, number_byte, number_ended, number_stands, number_token, opening_of, sign_byte, stands, typed_byte, word_byte, word_ended, word_grown, word_token};
 
 use crate::fault::ReadFaultKind;
+use crate::keyword::{find_keyword, token_of_word};
 use crate::lexeme::Lexeme;
+use crate::numeral::Spelling;
+use crate::text::{is_decimal_digit, is_word_letter, lower_case};
 use crate::token::{Keyword, Token};
-use point_types::keyword::is_reserved_word;
-use point_types::{IlType, Name, Operator};
-
-/// The words with a meaning of their own.
-static KEYWORDS: [(&str, Keyword); 24] = [
-    ("program", Keyword::Program),
-    ("end_program", Keyword::EndProgram),
-    ("var", Keyword::Var),
-    ("var_external", Keyword::VarExternal),
-    ("end_var", Keyword::EndVar),
-    ("true", Keyword::Truth(true)),
-    ("false", Keyword::Truth(false)),
-    ("bool", Keyword::Type(IlType::Bool)),
-    ("sint", Keyword::Type(IlType::Sint)),
-    ("int", Keyword::Type(IlType::Int)),
-    ("dint", Keyword::Type(IlType::Dint)),
-    ("lint", Keyword::Type(IlType::Lint)),
-    ("usint", Keyword::Type(IlType::Usint)),
-    ("uint", Keyword::Type(IlType::Uint)),
-    ("udint", Keyword::Type(IlType::Udint)),
-    ("ld", Keyword::Load(false)),
-    ("ldn", Keyword::Load(true)),
-    ("st", Keyword::Store(false)),
-    ("stn", Keyword::Store(true)),
-    ("add", Keyword::Apply(Operator::Add)),
-    ("sub", Keyword::Apply(Operator::Sub)),
-    ("mul", Keyword::Apply(Operator::Mul)),
-    ("div", Keyword::Apply(Operator::Div)),
-    ("mod", Keyword::Apply(Operator::Mod)),
-];
+use point_types::{IlType, Operator};
 
 /// What stands open between two bytes of a text.
 #[derive(Drop, Debug)]
@@ -52,12 +26,19 @@ pub enum Mode {
     Colon,
     /// The first of two dots.
     Dot,
+    /// `&`, which N may follow.
+    And,
+    /// `&N`, which is one operator where no word goes on with it.
+    AndNot,
     /// A sign, which wants a digit: minus where true.
     Sign(bool),
-    /// A word in lower case.
-    Word(Lexeme),
-    /// A number: whether it is negative, its value so far, and whether an underscore stands last.
-    Number(bool, i64, bool),
+    /// A word in lower case, and whether an underscore stands last.
+    Word(Lexeme, bool),
+    /// A type of whole numbers and `#`, which want a number.
+    Typed(IlType),
+    /// A number: its type where one stands before it, its spelling, its value so far, and whether
+    /// it wants a digit.
+    Number(Option<IlType>, Spelling, i64, bool),
 }
 
 /// What a byte makes of a text: the token that it ends, the token that is whole with it, and what
@@ -76,12 +57,14 @@ impl Mode {
     {
         match self {
             Mode::Clear => read_first(byte),
-            Mode::Word(word) => read_behind_word(word, byte),
-            Mode::Number(negative, value, gap) => read_behind_digits(negative, value, gap, byte),
-            Mode::Sign(negative) if is_decimal_digit(byte) => {
-                Ok(opens(Mode::Number(negative, signed_value(negative, byte), false)))
+            Mode::Word(word, gap) => read_behind_word(word, gap, byte),
+            Mode::Number(kind, spelling, value, wanting) => {
+                read_behind_digits(kind, spelling, value, wanting, byte)
             }
-            Mode::Sign(_) => Err(ReadFaultKind::Word),
+            Mode::Typed(kind) => read_behind_type(kind, byte),
+            Mode::Sign(negative) => read_behind_sign(negative, byte),
+            Mode::And => read_behind_and(byte),
+            Mode::AndNot => read_behind_and_not(byte),
             Mode::Bracket if byte == b'*' => Ok(opens(Mode::Comment)),
             Mode::Bracket => behind(Token::Open, read_first(byte)),
             Mode::Comment if byte == b'*' => Ok(opens(Mode::Star)),
@@ -103,17 +86,23 @@ impl Mode {
     {
         match self {
             Mode::Clear => Ok(None),
-            Mode::Word(word) => match token_of_word(word.as_bytes()) {
+            Mode::Word(word, _) => match token_of_word(word.as_bytes()) {
                 Some(token) => Ok(Some(token)),
                 None => Err(ReadFaultKind::Header),
             },
-            Mode::Number(_, value, false) => Ok(Some(Token::Number(value))),
+            Mode::Number(kind, spelling, value, false) => {
+                Ok(Some(token_of_number(kind, spelling, value)))
+            }
+            Mode::And => Ok(Some(token_of_and(false))),
+            Mode::AndNot => Ok(Some(token_of_and(true))),
             Mode::Bracket => Ok(Some(Token::Open)),
             Mode::Colon => Ok(Some(Token::Colon)),
             Mode::Comment | Mode::Star => Err(ReadFaultKind::Word),
-            Mode::Number(_, _, true) | Mode::Sign(_) | Mode::Carriage | Mode::Dot => {
-                Err(ReadFaultKind::Header)
-            }
+            Mode::Number(_, _, _, true)
+            | Mode::Typed(_)
+            | Mode::Sign(_)
+            | Mode::Carriage
+            | Mode::Dot => Err(ReadFaultKind::Header),
         }
     }
 }
@@ -166,9 +155,9 @@ fn read_first(byte: u8) -> Result<Lexed, ReadFaultKind>
 {
     let lower = lower_case(byte);
     if is_word_letter(lower) {
-        Ok(opens(Mode::Word(Lexeme::of_byte(lower))))
+        Ok(opens(Mode::Word(Lexeme::of_byte(lower), lower == b'_')))
     } else if is_decimal_digit(byte) {
-        Ok(opens(Mode::Number(false, signed_value(false, byte), false)))
+        read_first_digit(None, byte)
     } else {
         read_opening(byte)
     }
@@ -184,6 +173,7 @@ fn read_opening(byte: u8) -> Result<Lexed, ReadFaultKind>
         b'(' => Ok(opens(Mode::Bracket)),
         b':' => Ok(opens(Mode::Colon)),
         b'.' => Ok(opens(Mode::Dot)),
+        b'&' => Ok(opens(Mode::And)),
         b'+' => Ok(opens(Mode::Sign(false))),
         b'-' => Ok(opens(Mode::Sign(true))),
         _ => read_mark(byte),
@@ -199,72 +189,10 @@ fn read_mark(byte: u8) -> Result<Lexed, ReadFaultKind>
         b',' => Ok(is_token(Token::Comma)),
         b';' => Ok(is_token(Token::Semicolon)),
         b')' => Ok(is_token(Token::Close)),
-        b'&' => Ok(is_token(Token::OtherOperator)),
+        b'{' => Ok(is_token(Token::OpenBrace)),
+        b'}' => Ok(is_token(Token::CloseBrace)),
         _ => Err(ReadFaultKind::Word),
     }
-}
-
-// A byte behind a word.
-fn read_behind_word(word: Lexeme, byte: u8) -> Result<Lexed, ReadFaultKind>
-    ensures { result ≡ word_byte word byte }
-{
-    let lower = lower_case(byte);
-    if is_word_letter(lower) || is_decimal_digit(lower) {
-        match word.with(lower) {
-            Some(longer) => Ok(opens(Mode::Word(longer))),
-            None => Err(ReadFaultKind::Word),
-        }
-    } else if byte == b'#' && begins_literal(find_keyword(word.as_bytes())) {
-        Err(ReadFaultKind::Literal)
-    } else {
-        match token_of_word(word.as_bytes()) {
-            Some(token) => behind(token, read_first(byte)),
-            None => Err(ReadFaultKind::Word),
-        }
-    }
-}
-
-// A byte behind the digits of a number.
-fn read_behind_digits(
-    negative: bool,
-    value: i64,
-    gap: bool,
-    byte: u8,
-) -> Result<Lexed, ReadFaultKind>
-    ensures { result ≡ number_byte negative value gap byte }
-{
-    if is_decimal_digit(byte) {
-        read_digit(negative, value, byte)
-    } else if gap {
-        Err(ReadFaultKind::Literal)
-    } else if byte == b'_' {
-        Ok(opens(Mode::Number(negative, value, true)))
-    } else if is_word_letter(lower_case(byte)) || byte == b'#' {
-        Err(ReadFaultKind::Literal)
-    } else {
-        behind(Token::Number(value), read_first(byte))
-    }
-}
-
-// One more digit of a number, which stays in LINT.
-fn read_digit(negative: bool, value: i64, byte: u8) -> Result<Lexed, ReadFaultKind>
-    requires { 48 ≤ byte }
-    ensures { result ≡ digit_behind negative (grown negative value byte) }
-{
-    let tenfold = i128::from(value) * 10 + i128::from(signed_value(negative, byte));
-    match i64::try_from(tenfold) {
-        Ok(longer) => Ok(opens(Mode::Number(negative, longer, false))),
-        Err(_) => Err(ReadFaultKind::Literal),
-    }
-}
-
-// The value of a digit with a sign.
-fn signed_value(negative: bool, byte: u8) -> i64
-    requires { 48 ≤ byte }
-    ensures { result ≡ signed_digit negative byte }
-{
-    let value = i64::from(byte - b'0');
-    if negative { -value } else { value }
 }
 
 // What stands open in a comment, behind a star and a byte.
@@ -278,70 +206,204 @@ fn behind_star(byte: u8) -> Mode
     }
 }
 
-// A letter in lower case.
-fn lower_case(byte: u8) -> u8
-    ensures { result ≡ folded byte }
+// A byte behind `&`.
+fn read_behind_and(byte: u8) -> Result<Lexed, ReadFaultKind>
+    ensures { result ≡ and_byte byte }
 {
-    if byte >= b'A' && byte <= b'Z' {
-        byte + 32
+    if byte == b'N' || byte == b'n' {
+        Ok(opens(Mode::AndNot))
     } else {
-        byte
+        behind(token_of_and(false), read_first(byte))
     }
 }
 
-// A letter in lower case, or the underscore.
-fn is_word_letter(byte: u8) -> bool
-    ensures { result ≡ is_letter byte }
+// A byte behind `&N`: what goes on with the N is a word.
+fn read_behind_and_not(byte: u8) -> Result<Lexed, ReadFaultKind>
+    ensures { result ≡ and_n_byte byte }
 {
-    (byte >= b'a' && byte <= b'z') || byte == b'_'
+    let lower = lower_case(byte);
+    if is_word_letter(lower) || is_decimal_digit(lower) {
+        behind(
+            token_of_and(false),
+            read_behind_word(Lexeme::of_byte(b'n'), false, byte),
+        )
+    } else {
+        behind(token_of_and(true), read_first(byte))
+    }
 }
 
-fn is_decimal_digit(byte: u8) -> bool
-    ensures { result ≡ is_digit byte }
+// AND, or ANDN where negated.
+fn token_of_and(negated: bool) -> Token
+    ensures { result ≡ and_token negated }
 {
-    byte >= b'0' && byte <= b'9'
+    Token::Keyword(Keyword::Apply(Operator::And, negated))
 }
 
-// Whether `#` behind the word begins a typed literal.
-fn begins_literal(keyword: Option<Keyword>) -> bool
-    ensures { result ≡ types_literals keyword }
+// A byte behind a word.
+fn read_behind_word(word: Lexeme, gap: bool, byte: u8) -> Result<Lexed, ReadFaultKind>
+    ensures { result ≡ word_byte word gap byte }
+{
+    let lower = lower_case(byte);
+    if is_word_letter(lower) || is_decimal_digit(lower) {
+        lengthen_word(word, gap, lower)
+    } else if byte == b'#' {
+        match literal_type_of(find_keyword(word.as_bytes())) {
+            Some(kind) => Ok(opens(Mode::Typed(kind))),
+            None => Err(ReadFaultKind::Word),
+        }
+    } else {
+        match token_of_word(word.as_bytes()) {
+            Some(token) => behind(token, read_first(byte)),
+            None => Err(ReadFaultKind::Word),
+        }
+    }
+}
+
+// One more character of a word, which has 32 at most and no two underscores in a row.
+fn lengthen_word(word: Lexeme, gap: bool, lower: u8) -> Result<Lexed, ReadFaultKind>
+    ensures { result ≡ word_grown word gap lower }
+{
+    if gap && lower == b'_' {
+        return Err(ReadFaultKind::Word);
+    }
+    match word.with(lower) {
+        Some(longer) => Ok(opens(Mode::Word(longer, lower == b'_'))),
+        None => Err(ReadFaultKind::Word),
+    }
+}
+
+// The type of the literals that a word and `#` begin.
+fn literal_type_of(keyword: Option<Keyword>) -> Option<IlType>
+    ensures { result ≡ literal_type keyword }
 {
     match keyword {
-        Some(Keyword::Type(IlType::Bool)) => false,
-        Some(Keyword::Type(_)) => true,
-        _ => false,
+        Some(Keyword::Type(IlType::Bool)) => None,
+        Some(Keyword::Type(kind)) => Some(kind),
+        _ => None,
     }
 }
 
-// The token that a word in lower case is; none where it is no name.
-fn token_of_word(word: &[u8]) -> Option<Token>
-    ensures { result ≡ word_token word.now }
+// A byte behind a type and `#`.
+fn read_behind_type(kind: IlType, byte: u8) -> Result<Lexed, ReadFaultKind>
+    ensures { result ≡ typed_byte kind byte }
 {
-    match find_keyword(word) {
-        Some(keyword) => Some(Token::Keyword(keyword)),
-        None if is_reserved_word(word) => Some(Token::OtherOperator),
-        None => match Name::from_bytes(word) {
-            Some(name) => Some(Token::Name(name)),
-            None => None,
-        },
+    if is_decimal_digit(byte) {
+        read_first_digit(Some(kind), byte)
+    } else if byte == b'+' || byte == b'-' {
+        let spelling = Spelling::Signed(byte == b'-');
+        Ok(opens(Mode::Number(Some(kind), spelling, 0, true)))
+    } else {
+        Err(ReadFaultKind::Literal)
     }
 }
 
-fn find_keyword(word: &[u8]) -> Option<Keyword>
-    ensures { result ≡ keyword word.now }
+// A byte behind a sign.
+fn read_behind_sign(negative: bool, byte: u8) -> Result<Lexed, ReadFaultKind>
+    ensures { result ≡ sign_byte negative byte }
 {
-    find_word(word, &KEYWORDS)
+    if is_decimal_digit(byte) {
+        lengthen_number(None, Spelling::Signed(negative), 0, byte - b'0')
+    } else {
+        Err(ReadFaultKind::Word)
+    }
 }
 
-fn find_word(word: &[u8], words: &[(&str, Keyword)]) -> Option<Keyword>
-    ensures { result ≡ look_up word.now (map (λ e. (e.0.now, e.1)) words.now) }
+// The first digit of a number without a sign. Behind a zero no base can follow.
+fn read_first_digit(kind: Option<IlType>, byte: u8) -> Result<Lexed, ReadFaultKind>
+    requires { 48 ≤ byte }
+    ensures { result ≡ first_digit kind byte }
 {
-    let mut rest = words;
-    while let [(known, keyword), after @ ..] = rest {
-        if word == known.as_bytes() {
-            return Some(*keyword);
+    if byte == b'0' {
+        hold_number(kind, Spelling::Decimal, 0)
+    } else {
+        hold_number(kind, Spelling::Plain, i64::from(byte - b'0'))
+    }
+}
+
+// A byte behind the digits of a number, or where it wants one.
+fn read_behind_digits(
+    kind: Option<IlType>,
+    spelling: Spelling,
+    value: i64,
+    wanting: bool,
+    byte: u8,
+) -> Result<Lexed, ReadFaultKind>
+    ensures { result ≡ number_byte kind spelling value wanting byte }
+{
+    match spelling.digit(byte) {
+        Some(digit) => lengthen_number(kind, spelling, value, digit),
+        None if wanting => Err(ReadFaultKind::Literal),
+        None => end_digits(kind, spelling, value, byte),
+    }
+}
+
+// A byte behind a digit of a number that is no digit of it.
+fn end_digits(
+    kind: Option<IlType>,
+    spelling: Spelling,
+    value: i64,
+    byte: u8,
+) -> Result<Lexed, ReadFaultKind>
+    ensures { result ≡ number_ended kind spelling value byte }
+{
+    let lower = lower_case(byte);
+    if byte == b'_' {
+        Ok(opens(Mode::Number(kind, spelling.parted(), value, true)))
+    } else if byte == b'#' {
+        match spelling.base(value) {
+            Some(base) => Ok(opens(Mode::Number(kind, Spelling::Based(base), 0, true))),
+            None => Err(ReadFaultKind::Literal),
         }
-        rest = after;
+    } else if is_word_letter(lower) || is_decimal_digit(lower) {
+        Err(ReadFaultKind::Literal)
+    } else {
+        behind(token_of_number(kind, spelling, value), read_first(byte))
     }
-    None
+}
+
+// One more digit of a number, which stays in its type.
+fn lengthen_number(
+    kind: Option<IlType>,
+    spelling: Spelling,
+    value: i64,
+    digit: u8,
+) -> Result<Lexed, ReadFaultKind>
+    ensures { result ≡ number_stands kind spelling (grown spelling value digit) }
+{
+    match i64::try_from(spelling.grow(value, digit)) {
+        Ok(longer) => hold_number(kind, spelling, longer),
+        Err(_) => Err(ReadFaultKind::Literal),
+    }
+}
+
+// A number, where it lies in its type.
+fn hold_number(kind: Option<IlType>, spelling: Spelling, value: i64) -> Result<Lexed, ReadFaultKind>
+    ensures { result ≡ number_stands kind spelling value }
+{
+    let limits = limits(kind);
+    if limits.low() <= value && value <= limits.high() {
+        Ok(opens(Mode::Number(kind, spelling, value, false)))
+    } else {
+        Err(ReadFaultKind::Literal)
+    }
+}
+
+// The type in which a literal lies: LINT where it has none of its own.
+fn limits(kind: Option<IlType>) -> IlType
+    ensures { result ≡ limits_of kind }
+{
+    match kind {
+        Some(kind) => kind,
+        None => IlType::Lint,
+    }
+}
+
+fn token_of_number(kind: Option<IlType>, spelling: Spelling, value: i64) -> Token
+    ensures { result ≡ number_token kind spelling value }
+{
+    match (kind, spelling) {
+        (Some(kind), _) => Token::Typed(kind, value),
+        (None, Spelling::Plain | Spelling::Decimal) => Token::Decimal(value),
+        (None, Spelling::Signed(_) | Spelling::Based(_)) => Token::Number(value),
+    }
 }

@@ -1,7 +1,6 @@
 use crate::fault::{ReadFault, ReadFaultKind};
 use crate::lexer::{Lexed, Mode};
 use crate::state::State;
-use crate::token::Token;
 use crate::tree::Program;
 use std::alloc::{AllocError, Global};
 
@@ -23,15 +22,10 @@ impl Reader {
     ghost use Rattle.std.specs.Prelude.{◌≡◌, ◌<◌, ◌^◌, IfOk};
     ghost use Rattle.il_reader.specs.Reading.{answered, byte_fed, judged};
 
-    /// Reads one byte, before the rest of the text.
-    fn feed(
-        self,
-        alloc: Global,
-        byte: u8,
-        rest: &[u8],
-    ) -> Result<Result<Reader, ReadFault>, AllocError>
+    /// Reads one byte.
+    fn feed(self, alloc: Global, byte: u8) -> Result<Result<Reader, ReadFault>, AllocError>
         requires { self.line < 2 ^ 31 }
-        ensures { IfOk result (λ fed. fed ≡ byte_fed self byte rest.now) }
+        ensures { IfOk result (λ fed. fed ≡ byte_fed self byte) }
     {
         let Reader {
             line,
@@ -50,10 +44,7 @@ impl Reader {
                 mode: lexed.mode,
                 state,
             })),
-            Err(kind) => {
-                let kind = kind_before(kind, lexed, rest);
-                Ok(Err(ReadFault { line, kind }))
-            }
+            Err(kind) => Ok(Err(ReadFault { line, kind })),
         }
     }
 
@@ -107,7 +98,7 @@ pub fn read(alloc: Global, text: &str) -> Result<Program, ReadFault>
 }
 
 ghost use Rattle.std.specs.Prelude.{◌≡◌, ◌≤◌, ◌<◌, ◌^◌, IfOk, length};
-ghost use Rattle.il_reader.specs.Reading.{IsAnswer, answered, colon_follows, is_colon, is_label, kind_at, outcome};
+ghost use Rattle.il_reader.specs.Reading.{IsAnswer, answered, outcome};
 ghost use Rattle.il_reader.specs.Tokens.{line_behind};
 
 fn read_bytes(alloc: Global, text: &[u8]) -> Result<Result<Program, ReadFault>, AllocError>
@@ -122,7 +113,7 @@ fn read_bytes(alloc: Global, text: &[u8]) -> Result<Result<Program, ReadFault>, 
     };
     let mut rest = text;
     while let [byte, after @ ..] = rest {
-        match reader.feed(alloc, *byte, after)? {
+        match reader.feed(alloc, *byte)? {
             Ok(next) => reader = next,
             Err(fault) => return Ok(Err(fault)),
         }
@@ -137,75 +128,4 @@ fn line_after(byte: u8, line: u32) -> u32
     ensures { result ≡ line_behind byte line }
 {
     if byte == b'\n' { line + 1 } else { line }
-}
-
-// A name where an instruction begins is a label where a colon follows it, else no operator.
-fn kind_before(kind: ReadFaultKind, lexed: Lexed, rest: &[u8]) -> ReadFaultKind
-    ensures { result ≡ kind_at kind lexed rest.now }
-{
-    match kind {
-        ReadFaultKind::Label => {
-            if begins_colon(lexed, rest) {
-                ReadFaultKind::Label
-            } else {
-                ReadFaultKind::Operator
-            }
-        }
-        other => other,
-    }
-}
-
-// Whether a colon follows the token that has ended.
-fn begins_colon(lexed: Lexed, rest: &[u8]) -> bool
-    ensures { result ≡ is_label lexed rest.now }
-{
-    let Lexed {
-        ended: _,
-        own,
-        mode,
-    } = lexed;
-    match own {
-        Some(_) => false,
-        None => has_colon(mode, rest),
-    }
-}
-
-// Whether the next token is a colon.
-fn has_colon(mode: Mode, rest: &[u8]) -> bool
-    ensures { result ≡ colon_follows mode rest.now }
-{
-    let mut open = mode;
-    let mut rest = rest;
-    while let [byte, after @ ..] = rest {
-        match open.feed(*byte) {
-            Ok(
-                Lexed {
-                    ended: None,
-                    own: None,
-                    mode,
-                },
-            ) => open = mode,
-            Ok(
-                Lexed {
-                    ended: Some(token),
-                    ..
-                },
-            ) => return is_colon_token(token),
-            _ => return false,
-        }
-        rest = after;
-    }
-    match open.finish() {
-        Ok(Some(token)) => is_colon_token(token),
-        _ => false,
-    }
-}
-
-fn is_colon_token(token: Token) -> bool
-    ensures { result ≡ is_colon token }
-{
-    match token {
-        Token::Colon => true,
-        _ => false,
-    }
 }

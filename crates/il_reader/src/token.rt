@@ -1,6 +1,6 @@
-use point_types::{IlType, Name, Operator};
+use point_types::{Condition, IlType, Name, Operator};
 
-/// A word with a meaning of its own (IEC 61131-3 edition 2, 2.1.3).
+/// A word with a meaning of its own (IEC 61131-3 edition 2, 2.1.3 and 3.2).
 #[derive(Clone, Copy, PartialEq, Eq, Debug)]
 pub enum Keyword {
     Program,
@@ -14,18 +14,31 @@ pub enum Keyword {
     Load(bool),
     /// ST, or STN where negated.
     Store(bool),
-    /// An operator of two operands.
-    Apply(Operator),
+    /// S (true) or R (false).
+    Set(bool),
+    Jump(Condition),
+    Return(Condition),
+    /// An operator of two operands, MIN and MAX among them; negated: ANDN, ORN, XORN.
+    Apply(Operator, bool),
+    Limit,
+    Select,
+    Not,
+    Absolute,
+    /// A conversion, as INT_TO_DINT.
+    Convert(IlType, IlType),
 }
 
 /// The smallest parts of a text: words, literals and marks.
 #[derive(Clone, Copy, PartialEq, Eq, Debug)]
 pub enum Token {
     Keyword(Keyword),
-    /// An operator whose instruction isn't read yet.
-    OtherOperator,
     Name(Name),
+    /// A decimal without a sign.
+    Decimal(i64),
+    /// A number with a sign or a base.
     Number(i64),
+    /// A number behind its type, as INT#5.
+    Typed(IlType, i64),
     Colon,
     Assign,
     Comma,
@@ -33,5 +46,7 @@ pub enum Token {
     Dots,
     Open,
     Close,
+    OpenBrace,
+    CloseBrace,
     LineEnd,
 }

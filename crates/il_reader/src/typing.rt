@@ -23,15 +23,43 @@ pub struct Typing {
 
 impl Typing {
     ghost use Rattle.std.specs.Prelude.{◌≡◌};
-    ghost use Rattle.il_reader.specs.Declaration.{typing_of, variable_of};
+    ghost use Rattle.il_reader.specs.Declaration.{begun, bounded, started, typing_of, variable_of, whole};
 
-    /// A whole type with a start value; none where the value lies outside the type.
-    pub fn of_type(kind: IlType, start: i64) -> Option<Typing>
-        ensures { result ≡ typing_of kind start }
+    /// A type without a subrange; it starts with 0.
+    pub fn whole(kind: IlType) -> Option<Typing>
+        ensures { result ≡ whole kind }
     {
-        let low = kind.low();
-        let high = kind.high();
-        if low <= start && start <= high {
+        Typing::new(kind, kind.low(), kind.high(), 0)
+    }
+
+    /// A subrange of which the low end is known; none where that isn't a number of the type.
+    pub fn begun(kind: IlType, low: i64) -> Option<Typing>
+        ensures { result ≡ begun kind low }
+    {
+        Typing::new(kind, low, kind.high(), low)
+    }
+
+    /// The subrange with its high end; none where that isn't a number of the type, or is below the low
+    /// end.
+    pub fn bounded(&self, high: i64) -> Option<Typing>
+        ensures { result ≡ bounded self.now high }
+    {
+        Typing::new(self.kind, self.low, high, self.low)
+    }
+
+    /// The range with a start value; none where that lies outside it.
+    pub fn started(&self, start: i64) -> Option<Typing>
+        ensures { result ≡ started self.now start }
+    {
+        Typing::new(self.kind, self.low, self.high, start)
+    }
+
+    // A type with a range and a start value; none where the range isn't in the type, or the value not
+    // in the range.
+    fn new(kind: IlType, low: i64, high: i64, start: i64) -> Option<Typing>
+        ensures { result ≡ typing_of kind low high start }
+    {
+        if kind.low() <= low && low <= start && start <= high && high <= kind.high() {
             Some(Typing {
                 kind,
                 low,

@@ -1,5 +1,5 @@
 -- Counts and bytes over several calls of a link.
-use Rattle.std.proofs.Common.{◌≡◌, ℕ, ◌+◌, ◌≤◌, List, ◌++◌, length, take, Option, None, Some, sym, ◌∙◌, ap, subst, arith, refl, length-append}
+use Rattle.std.proofs.Common.{◌≡◌, ℕ, ◌+◌, ◌<◌, ◌≤◌, List, ◌++◌, length, take, Option, None, Some, sym, ◌∙◌, ap, subst, arith, refl, length-append}
 use Rattle.std.proofs.lemmas.List.{take_at}
 use Rattle.std.specs.Io.KnownBytes.{Appends, Keeps}
 use Rattle.modbus_frame.specs.Link.{CountsBy}
@@ -26,6 +26,7 @@ pub record SentSoFar (bytes rest : List ℕ) (sent now coming left : Option (Lis
   pub failures : CountsBy 0 failed failing
   pub calls : CountsBy spent called calling
   pub within : spare ≤ turns
+  pub used : length rest < length bytes → spare < turns
 
 pub front_sent : (sent now : Option (List ℕ)) (bytes front rest : List ℕ) → bytes ≡ front ++ rest → Appends sent now front → (n : ℕ) × (n ≤ length bytes) × Appends sent now (take n bytes)
 front_sent sent now bytes front rest split sends =

@@ -1,4 +1,4 @@
-ghost use Rattle.std.specs.Prelude.{◌≡◌, ◌-◌, ◌≤◌, [], None, Err, IfSome};
+ghost use Rattle.std.specs.Prelude.{◌≡◌, ◌-◌, ◌<◌, ◌≤◌, [], length, None, Err, IfSome, OnOk};
 ghost use Rattle.std.specs.Io.KnownBytes.{Keeps};
 ghost use Rattle.modbus_frame.specs.declared.link.LinkFault.TheVariants.{Frame as FrameFaulty};
 ghost use Rattle.modbus_frame.specs.Framing.{empty};
@@ -133,6 +133,7 @@ pub fn send<L: Link>(link: &mut L, bytes: &[u8], turns: &mut u32) -> Result<(), 
     ensures failures { CountsSent (L.failures link.old) (L.failures link.new) result turns.new }
     ensures calls { CountsBy (turns.old - turns.new) (L.calls link.old) (L.calls link.new) }
     ensures within { turns.new ≤ turns.old }
+    ensures used { OnOk result (0 < length bytes.now → turns.new < turns.old) }
 {
     let mut rest = bytes;
     while !rest.is_empty() {

@@ -5,9 +5,8 @@ use Rattle.std.specs.Str.{IsUtf8, IsCharBoundary}
 use Rattle.std.proofs.lemmas.Str.{IsCharBoundary-after_ascii, IsCharBoundary-end}
 use Rattle.std.proofs.lemmas.List.{append-nil, get_or-append-add}
 use Rattle.std.proofs.Math.Seq.{take-length, take-append_seam, drop-append_seam}
-use Rattle.std.specs.List.{list_all}
-use Rattle.std.proofs.Common.{◌⊎◌, inl, inr, suc, length-drop, ◌&&◌, length-append, ◌≤◌, add-one, append_assoc, take-append-drop, drop, nat_eq, ◌<◌, take, get_or, subst, ◌≡◌, ℕ, ◌+◌, ◌-◌, Bool, true, false, List, [], ◌∷◌, ◌++◌, length, refl, ap, sym, ◌∙◌, arith, if◌then◌else◌}
-use Rattle.sunsite.specs.Input.{is_blank, is_blank_line, before_blanks, unless_blank, line_length, lines_of, onto_first, program_text, program_lines, input_lines, joined, is_last_line}
+use Rattle.std.proofs.Common.{◌⊎◌, inl, inr, suc, length-drop, length-append, ◌≤◌, add-one, append_assoc, take-append-drop, drop, nat_eq, ◌<◌, take, get_or, subst, ◌≡◌, ℕ, ◌+◌, ◌-◌, Bool, true, false, List, [], ◌∷◌, ◌++◌, length, refl, ap, sym, ◌∙◌, arith, if◌then◌else◌}
+use Rattle.sunsite.specs.Input.{is_blank, before_blanks, unless_blank, line_length, lines_of, onto_first, program_text, program_lines, input_lines, joined, is_last_line}
 
 -- a blank behind changes nothing
 pub before_blanks-blank : (xs : List ℕ) (b : ℕ) → is_blank b ≡ true → before_blanks (xs ++ b ∷ []) ≡ before_blanks xs
@@ -132,10 +131,9 @@ cut_nowhere [] text none r = record {
     drop_whole = ap (λ t. drop (length text) t) (sym (append-nil text)) ∙ drop-append_seam text []
 cut_nowhere (b ∷ bs) text none r = absurd (omega arith)
 
--- one more blank line
-pub all_blank-first : (rest line behind : List ℕ) → 0 < length rest → line ≡ take (line_length rest) rest → behind ≡ drop (line_length rest) rest
-    → list_all is_blank_line (lines_of rest) ≡ is_blank_line line && list_all is_blank_line (lines_of behind)
-all_blank-first rest line behind some l b = ap (list_all is_blank_line) (lines_of-first rest some) ∙ ap (λ t. is_blank_line t && list_all is_blank_line (lines_of (drop (line_length rest) rest))) (sym l) ∙ ap (λ t. is_blank_line line && list_all is_blank_line (lines_of t)) (sym b)
+-- the first line, and the lines behind it, as they are split
+pub lines_split : (rest line behind : List ℕ) → 0 < length rest → line ≡ take (line_length rest) rest → behind ≡ drop (line_length rest) rest → lines_of rest ≡ line ∷ lines_of behind
+lines_split rest line behind some l b = lines_of-first rest some ∙ ap (λ t. t ∷ lines_of (drop (line_length rest) rest)) (sym l) ∙ ap (λ t. line ∷ lines_of t) (sym b)
 
 same_number : (a b : ℕ) → nat_eq a b ≡ true → a ≡ b
 same_number a b e = eqb-true a b e

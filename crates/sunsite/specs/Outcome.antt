@@ -1,8 +1,7 @@
 -- What the program without words prints: the outcome of one scan of a program, or why there is none.
 -- IEC 61131-3 (edition 2), 3.2 for what the scan means.
-use Rattle.std.specs.Prelude.{◌≡◌, ◌⊎◌, ℕ, ℤ, List, [], ◌++◌, map, Option, Result, Ok, Err, Bool}
-use Rattle.std.specs.Bool.{MatchBool}
-use Rattle.std.specs.List.{list_all}
+use Rattle.std.specs.Prelude.{◌≡◌, ◌⊎◌, ℕ, ℤ, List, [], ◌++◌, map, Option, Result, Ok, Err}
+use Rattle.point_types.specs.declared.reading.Reading.{Reading}
 use Rattle.scan_code.specs.declared.image.Image.{Image}
 use Rattle.scan_code.specs.Machine.{State, Ended, Trapped, At_fault, opening, run}
 use Rattle.scan_vm.specs.Outcome.{kind_of}
@@ -12,13 +11,14 @@ use Rattle.il_reader.specs.declared.tree.Program.{Program as Tree}
 use Rattle.il_assemble.specs.declared.fault.AsmFault.{AsmFault}
 use Rattle.il_assemble.specs.Meaning.{Program, Outcome, Done, Fails, meaning}
 use Rattle.il_assemble.specs.Code.{image_of}
-use Rattle.il_assemble.specs.Correct.{DoesWhatItMeans}
+use Rattle.il_assemble.specs.Correct.{AreReadings, DoesWhatItMeans}
 use Rattle.il_assemble.specs.Elaboration.{elaborated}
 use Rattle.il_assemble.specs.Word as assemble
 use Rattle.il_reader.specs.declared.fault.ReadFault.{ReadFault}
 use Rattle.il_reader.specs.Fault as read
 use Rattle.il_reader.specs.Reading.{reading}
-use Rattle.sunsite.specs.Input.{input_lines, is_blank_line, lines_of, program_text}
+use Rattle.sunsite.specs.Given.{readings_given}
+use Rattle.sunsite.specs.Input.{input_lines, lines_of, program_text}
 use Rattle.sunsite.specs.Told.{IsTold, Told, refused_with}
 use Rattle.sunsite.specs.Report.{bad_input_line, no_memory_line, output_lines, steps_line, trap_line, unassembled_line, unread_line, variable_lines}
 
@@ -27,31 +27,39 @@ abbrev pub starts : Program → List ℤ
 starts p = map start_of p.variables
 
 -- the lines and the status of a scan by its meaning; the image's run has these steps, or stops there
-abbrev pub TellsScan : Program → Image → Outcome → Told → Type 0
-TellsScan p image (Done variables outputs) told =
-    (n steps : ℕ) × (s : State) × (run image [] 0 n (opening image (starts p)) ≡ Ended steps s)
+abbrev pub TellsScan : Program → List Reading → Image → Outcome → Told → Type 0
+TellsScan p readings image (Done variables outputs) told =
+    (n steps : ℕ) × (s : State) × (run image readings 0 n (opening image (starts p)) ≡ Ended steps s)
     × (told ≡ record { lines = variable_lines p.variables variables ++ output_lines p.tags outputs ++ steps_line steps; status = 0 })
-TellsScan p image (Fails fault) told =
-    (n at : ℕ) × (run image [] 0 n (opening image (starts p)) ≡ Trapped at (At_fault fault))
+TellsScan p readings image (Fails fault) told =
+    (n at : ℕ) × (run image readings 0 n (opening image (starts p)) ≡ Trapped at (At_fault fault))
     × (told ≡ refused_with (variable_lines p.variables (starts p) ++ output_lines p.tags (unset image) ++ trap_line (word_of (kind_of fault)) at))
 
--- no line but blank ones: no program has inputs
-abbrev pub no_input : List (List ℕ) → Bool
-no_input lines = list_all is_blank_line lines
+-- a resolved program with a reading for each tag, or the number of the input line that is refused
+abbrev pub TellsGiven : Program → Result (List Reading) ℕ → Told → Type 0
+TellsGiven p (Ok readings) told = TellsScan p readings (image_of p) (meaning p readings (starts p)) told
+TellsGiven p (Err k) told = told ≡ refused_with (bad_input_line k)
 
 -- a program whose names are resolved, and the input lines; or its static fault
 abbrev pub TellsResolved : Result Program AsmFault → List (List ℕ) → Told → Type 0
 TellsResolved (Err fault) inputs told = told ≡ refused_with (unassembled_line (assemble.word_of fault.kind) fault.line)
-TellsResolved (Ok p) inputs told =
-    MatchBool (no_input inputs) (TellsScan p (image_of p) (meaning p [] (starts p)) told) (told ≡ refused_with (bad_input_line 1))
+TellsResolved (Ok p) inputs told = TellsGiven p (readings_given p.tags inputs) told
 
 -- a program as it was read, and the input lines
 abbrev pub TellsTree : Tree → List (List ℕ) → Told → Type 0
 TellsTree tree inputs told = TellsResolved (elaborated tree) inputs told
 
--- an image without tags: what it tells of each program whose meaning it has
-abbrev pub TellsImage : Image → Told → Type 0
-TellsImage image told = (p : Program) → DoesWhatItMeans p image → image.tags ≡ [] → TellsScan p image (meaning p [] (starts p)) told
+-- an image on a reading for each tag, in its type: what it tells of each program whose meaning it has
+abbrev pub TellsImage : Image → List Reading → Told → Type 0
+TellsImage image readings told = (p : Program) → DoesWhatItMeans p image → AreReadings image.tags readings → TellsScan p readings image (meaning p readings (starts p)) told
+
+abbrev pub TellsKnown : Image → Result (List Reading) ℕ → Told → Type 0
+TellsKnown image (Ok readings) told = TellsImage image readings told
+TellsKnown image (Err k) told = told ≡ refused_with (bad_input_line k)
+
+-- an image and the input lines: what they tell of each program whose meaning the image has
+abbrev pub TellsGivenImage : Image → List (List ℕ) → Told → Type 0
+TellsGivenImage image inputs told = TellsKnown image (readings_given image.tags inputs) told
 
 -- the answer of reading a program text, and the input lines behind it
 abbrev pub TellsReading : Result Tree ReadFault → List (List ℕ) → Told → Type 0

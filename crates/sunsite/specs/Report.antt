@@ -59,3 +59,18 @@ no_memory_line = line_of (codes "refused: memory")
 -- the K-th input line
 abbrev pub bad_input_line : ℕ → List ℕ
 bad_input_line k = line_of (codes "refused: input " ++ decimal k)
+
+-- refused: definition KIND
+abbrev pub bad_definition_line : List ℕ → List ℕ
+bad_definition_line kind = line_of (codes "refused: definition " ++ kind)
+
+-- refused: site KIND
+abbrev pub bad_site_line : List ℕ → List ℕ
+bad_site_line kind = line_of (codes "refused: site " ++ kind)
+
+abbrev pub assembled_line : List ℕ
+assembled_line = line_of (codes "assembled")
+
+-- refused: file PATH
+abbrev pub unusable_line : List ℕ → List ℕ
+unusable_line path = line_of (codes "refused: file " ++ path)

@@ -22,23 +22,8 @@ pub fn program_length(text: &[u8]) -> usize
     text.len()
 }
 
-/// Whether each line is blank.
-pub fn are_blank_lines(text: &[u8]) -> bool
-    ensures { result ≡ list_all input.is_blank_line (input.lines_of text.now) }
-{
-    let mut rest = text;
-    while !rest.is_empty() {
-        let (line, behind) = rest.split_at(line_length(rest));
-        if !is_blank_line(line) {
-            return false;
-        }
-        rest = behind;
-    }
-    true
-}
-
 /// The length of the first line, with its end.
-fn line_length(text: &[u8]) -> usize
+pub fn line_length(text: &[u8]) -> usize
     ensures exact { result ≡ input.line_length text.now }
     ensures within { result ≤ length text.now }
 {
@@ -68,7 +53,8 @@ fn trimmed(line: &[u8]) -> &[u8]
     before_blanks(past_blanks(before_end(line)))
 }
 
-fn before_end(line: &[u8]) -> &[u8]
+/// A line without its end.
+pub fn before_end(line: &[u8]) -> &[u8]
     ensures { result.now ≡ input.before_end line.now }
 {
     match line.strip_suffix(b"\r\n") {
@@ -109,7 +95,8 @@ fn is_blank(byte: u8) -> bool
     byte == b' ' || byte == b'\t'
 }
 
-fn is_blank_line(line: &[u8]) -> bool
+/// Whether there is no word on a line.
+pub fn is_blank_line(line: &[u8]) -> bool
     ensures { result ≡ input.is_blank_line line.now }
 {
     before_end(line).iter().all(|byte| is_blank(*byte))

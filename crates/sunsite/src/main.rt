@@ -1,7 +1,13 @@
-//! The program `sunsite`: a trial scan of the Instruction List program on standard input.
+//! The program `sunsite`: a trial scan of the Instruction List program on standard input, and `check`, which judges a
+//! program for a site.
 #![tactic(auto)]
 
+mod check;
+mod command;
+mod definitions;
+mod given;
 mod input;
+mod number;
 mod outcome;
 mod report;
 mod scan;
@@ -10,29 +16,31 @@ mod source;
 mod tests;
 mod trial;
 
+use outcome::write_lines;
 use source::{SourceFault, read_text};
 use std::process::ExitCode;
-use std::rt::Env;
+use std::rt::{Env, Files};
 use std::{env, io};
-
-/// The status of a command line that isn't one.
-const BAD_COMMAND_LINE: u8 = 2;
 
 fn main(rt: HostRuntime) -> ExitCode {
     ExitCode::from(run(&rt))
 }
 
-/// The status of a run on standard input; any word on the command line is a fault.
-fn run(rt: &(impl Input + Print + Eprint + AllocGlobal + Env)) -> u8 {
+/// The status of the run: without words a trial scan of standard input, else what the words ask for.
+fn run(rt: &(impl Input + Print + Eprint + AllocGlobal + Env + Files)) -> u8 {
     if has_words(rt) {
-        let _ = eprintln!(rt; "usage: sunsite <PROGRAM");
-        return BAD_COMMAND_LINE;
+        command::run(rt)
+    } else {
+        trial_of_input(rt)
     }
+}
+
+fn trial_of_input(rt: &(impl Input + Print + AllocGlobal)) -> u8 {
     let mut out = io::writer(rt);
     match read_text(rt.alloc(), rt.reader()) {
         Ok(text) => trial::trial(rt.alloc(), text.as_str(), &mut out),
-        Err(SourceFault::Unusable) => outcome::write_lines(&mut out, b"refused: file -\n", 1),
-        Err(SourceFault::OutOfMemory) => outcome::write_lines(&mut out, b"refused: memory\n", 1),
+        Err(SourceFault::Unusable) => write_lines(&mut out, b"refused: file -\n", 1),
+        Err(SourceFault::OutOfMemory) => write_lines(&mut out, b"refused: memory\n", 1),
     }
 }
 

@@ -1,6 +1,8 @@
-ghost use Rattle.std.specs.Prelude.{◌≡◌, string_bytes};
+ghost use Rattle.std.specs.Prelude.{◌≡◌, string_bytes, IfOk};
+ghost use Rattle.sunsite.specs.Report.{assembled_line};
 ghost use Rattle.sunsite.specs.Told.{IsTold, refused_with};
 
+use std::alloc::{AllocError, Global};
 use std::io::Write;
 use std::marker::Model;
 
@@ -28,6 +30,15 @@ impl Outcome {
             lines: line.into_bytes(),
             status: 1,
         }
+    }
+
+    /// The line `assembled`, with status 0.
+    pub fn assembled(alloc: Global) -> Result<Outcome, AllocError>
+        ensures { IfOk result (λ o. o ≡ record { lines = assembled_line; status = 0 }) }
+    {
+        let mut lines = Vec::new(alloc);
+        lines.extend_from_slice(b"assembled\n")?;
+        Ok(Outcome { lines, status: 0 })
     }
 
     /// Writes the lines and gives the status; a failed write gives status 1.

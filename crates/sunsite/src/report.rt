@@ -61,9 +61,33 @@ pub fn unassembled(alloc: Global, kind: &str, line: u32) -> Result<String, Alloc
 }
 
 /// The line `refused: input K`, of the K-th input line.
-pub fn bad_input(alloc: Global, number: u32) -> Result<String, AllocError>
+pub fn bad_input(alloc: Global, number: usize) -> Result<String, AllocError>
     ensures ok { IfOk result (λ text. string_bytes text ≡ report.bad_input_line number) }
 {
     let text = format!(in alloc; "refused: input {number}\n")?;
+    Ok(text)
+}
+
+/// The line `refused: definition KIND`.
+pub fn undefined(alloc: Global, kind: &str) -> Result<String, AllocError>
+    ensures ok { IfOk result (λ text. string_bytes text ≡ report.bad_definition_line kind.now) }
+{
+    let text = format!(in alloc; "refused: definition {kind}\n")?;
+    Ok(text)
+}
+
+/// The line `refused: site KIND`.
+pub fn no_site(alloc: Global, kind: &str) -> Result<String, AllocError>
+    ensures ok { IfOk result (λ text. string_bytes text ≡ report.bad_site_line kind.now) }
+{
+    let text = format!(in alloc; "refused: site {kind}\n")?;
+    Ok(text)
+}
+
+/// The line `refused: file PATH`.
+pub fn unusable(alloc: Global, path: &str) -> Result<String, AllocError>
+    ensures ok { IfOk result (λ text. string_bytes text ≡ report.unusable_line path.now) }
+{
+    let text = format!(in alloc; "refused: file {path}\n")?;
     Ok(text)
 }

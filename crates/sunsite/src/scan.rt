@@ -4,17 +4,22 @@ ghost use Rattle.sunsite.specs.Report as report;
 
 use crate::outcome::Outcome;
 use crate::report::{push_named, push_steps, push_trap, shown};
+use point_types::Reading;
 use scan_code::{Image, Tag};
 use scan_vm::Trial;
 use std::alloc::{AllocError, Global};
 
-/// The outcome of one scan of an image, from the start values and without inputs.
-pub fn scan_outcome(alloc: Global, image: Image) -> Result<Outcome, AllocError>
+/// The outcome of one scan of an image, from the start values and on a reading for each tag.
+pub fn scan_outcome(
+    alloc: Global,
+    image: Image,
+    readings: &[Reading],
+) -> Result<Outcome, AllocError>
     requires { length image.code < 65536 }
-    ensures { IfOk result (TellsImage image) }
+    ensures { IfOk result (TellsImage image readings.now) }
 {
     let mut trial = Trial::new(alloc, image)?;
-    let ending = trial.scan(&[]);
+    let ending = trial.scan(readings);
     let mut lines = Vec::new(alloc);
     push_variables(&mut lines, alloc, &trial)?;
     push_outputs(&mut lines, alloc, &trial)?;

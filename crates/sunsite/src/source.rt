@@ -1,7 +1,9 @@
 ghost use Rattle.std.specs.Prelude.{◌≡◌, ◌≤◌, length, string_bytes, IfOk, IfSome, IsOkUnless};
 
 use std::alloc::Global;
+use std::fs;
 use std::io::{ErrorKind, Read};
+use std::rt::Files;
 
 /// The most bytes that a file may have.
 const LARGEST_FILE: u64 = 16_777_216;
@@ -26,6 +28,24 @@ pub fn read_text<R: Read + Drop>(alloc: Global, reader: R) -> Result<String, Sou
             Ok(text) => Ok(text),
             Err(_) => Err(SourceFault::Unusable),
         },
+        Err(fault) if fault.kind() == ErrorKind::OutOfMemory => Err(SourceFault::OutOfMemory),
+        Err(_) => Err(SourceFault::Unusable),
+    }
+}
+
+/// The text of the file at a path; `-` is standard input.
+pub fn read_file(
+    rt: &(impl Input + AllocGlobal + Files),
+    alloc: Global,
+    path: &str,
+) -> Result<String, SourceFault>
+    ensures small { IfOk result (λ text. length (string_bytes text) ≤ LARGEST_FILE) }
+{
+    if path == "-" {
+        return read_text(alloc, rt.reader());
+    }
+    match fs::open(rt, path) {
+        Ok(file) => read_text(alloc, file),
         Err(fault) if fault.kind() == ErrorKind::OutOfMemory => Err(SourceFault::OutOfMemory),
         Err(_) => Err(SourceFault::Unusable),
     }

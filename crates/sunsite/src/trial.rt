@@ -1,13 +1,15 @@
-ghost use Rattle.std.specs.Prelude.{IfOk};
+ghost use Rattle.std.specs.Prelude.{IfOk, ◌<◌, length};
 ghost use Rattle.sunsite.specs.Input as input;
-ghost use Rattle.sunsite.specs.Outcome.{IsTrial, TellsInput, TellsTree};
+ghost use Rattle.sunsite.specs.Outcome.{IsTrial, TellsGivenImage, TellsInput, TellsTree};
 
-use crate::input::{are_blank_lines, program_length};
+use crate::given::readings_given;
+use crate::input::program_length;
 use crate::outcome::{Outcome, write_lines};
 use crate::report::{bad_input, unassembled, unread};
 use crate::scan::scan_outcome;
 use il_assemble::{AsmFaultKind, assemble};
 use il_reader::{Program, ReadFaultKind, read};
+use scan_code::Image;
 use std::alloc::{AllocError, Global};
 use std::io::Write;
 
@@ -44,9 +46,19 @@ fn outcome_of_program(
     ensures { IfOk result (TellsTree program.now (input.lines_of inputs.now)) }
 {
     match assemble(alloc, program) {
-        Ok(image) if are_blank_lines(inputs) => scan_outcome(alloc, image),
-        Ok(_) => Ok(Outcome::refused(bad_input(alloc, 1)?)),
+        Ok(image) => outcome_of_image(alloc, image, inputs),
         Err(fault) if fault.kind == AsmFaultKind::OutOfMemory => Err(AllocError),
         Err(fault) => Ok(Outcome::refused(unassembled(alloc, fault.kind.word(), fault.line)?)),
+    }
+}
+
+/// What is told of an image, with the input lines.
+fn outcome_of_image(alloc: Global, image: Image, inputs: &[u8]) -> Result<Outcome, AllocError>
+    requires { length image.code < 65536 }
+    ensures { IfOk result (TellsGivenImage image (input.lines_of inputs.now)) }
+{
+    match readings_given(alloc, image.tags.as_slice(), inputs)? {
+        Ok(readings) => scan_outcome(alloc, image, readings.as_slice()),
+        Err(number) => Ok(Outcome::refused(bad_input(alloc, number)?)),
     }
 }

@@ -1,11 +1,14 @@
-use Rattle.std.proofs.Common.{map, rules}
-use Rattle.il_assemble.specs.Kept.{meant}
-use Rattle.il_assemble.proofs.Elaborating.{image_assembled, passes_assemble}
+use Rattle.std.proofs.Common.{rules}
+use Rattle.il_assemble.proofs.Elaborating.{few_counted, made}
 use Rattle.il_assemble.proofs.assembler.assemble.Goals as goal
+
+pub emit_lines-requires : goal.emit_lines-requires
+emit_lines-requires c =
+    few_counted (record { variables = c.as_slice-variables.result.now; externals = c.as_slice-externals.result.now; uses = c.as_slice.result.now; statements = c.as_slice-statements.result.now })
+    c.args.program.now.end_line c.as_slice-statements.result.now c.in_ok-addresses.ensures.short
 
 pub returns-clause-assembled : goal.returns-clause-assembled
 returns-clause-assembled c =
-    let tree = c.args.program.now in
-    let lines = c.in_ok-lines.lines.items in
-    passes_assemble tree (map meant lines) c.in_ok-size.size (search rules) (search rules) (search rules) _
-    (image_assembled tree.variables lines c.from_vec.result c.new.result c.from_vec-2.result (search rules) c.new.ensures (search rules))
+    let t = c.args.program.now in
+    made t c.in_ok-uses.uses.items (search rules) (search rules) (search rules) (search rules) (search rules) (search rules)
+    c.in_ok-addresses.addresses.items (search rules) _ _ _ _ (search rules) (search rules) (search rules) (search rules)

@@ -20,6 +20,7 @@ loop-rest-preserved g c =
       failures = CountsBy-trans 0 0 0 _ _ _ so_far.failures call.failures (omega arith);
       calls = CountsBy-trans _ 1 _ _ _ _ so_far.calls call.calls (omega (arith, so_far.within));
       within = omega (arith, so_far.within);
+      used = λ _. omega (arith, so_far.within);
     }
 
 pub returns-in-Err-clause-sends : goal.returns-in-Err-clause-sends

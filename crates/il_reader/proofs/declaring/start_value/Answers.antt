@@ -1,0 +1,10 @@
+use Rattle.std.proofs.Common.{◌∙◌, ap, sym, w64, rules}
+use Rattle.std.proofs.lemmas.Int.{to_z-of_z}
+use mir.Val.{SFits}
+use Rattle.il_reader.specs.Declaration.{started, made}
+use Rattle.il_reader.proofs.declaring.start_value.Goals as goal
+
+pub returns : goal.returns
+returns c =
+    let value : SFits w64 c.in_ok-value.value = search rules in
+    c.started.ensures ∙ ap (started c.args.typing.now) (to_z-of_z w64 _ value) ∙ ap (made (started c.args.typing.now)) (sym c.in_ok-value.was ∙ c.literal_value.ensures)

@@ -1,0 +1,78 @@
+-- Worked values of a tick, of writes, of replies that are wrong and of plant files.
+use Rattle.std.specs.Prelude.{◌≡◌, ℕ, ◌^◌, true, false, List, [], ◌∷◌, take, pos, negsuc, None, Some, Ok, Err, refl, codes}
+use Rattle.toml.specs.Data.{Data, no_items, item, no_members, member, integer, string, array, table}
+use Rattle.inverter_sim.specs.declared.fault.PlantFault.TheVariants as fault
+use Rattle.inverter_sim.specs.declared.misbehaviour.Misbehaviour.TheVariants as wrong
+use Rattle.inverter_sim.specs.Tick.{one, power_of, percent_of, scaled_watts, later}
+use Rattle.inverter_sim.specs.Serve.{are_whole}
+use Rattle.inverter_sim.specs.Image.{split, padded, places_from}
+use Rattle.inverter_sim.specs.Link.{earlier, garbled, counted}
+use Rattle.inverter_sim.specs.File.{words_of_kind, misbehaviour_of, fault_of, plant_of}
+use Rattle.point_types.specs.declared.kind.Kind.TheVariants as kinds
+
+-- 55.0 percent of 5000 W
+pub a_limit : percent_of 5000 550 (power_of (negsuc 0)) ≡ 2750
+a_limit = refl
+
+pub a_limit_below_a_watt : percent_of 999 1 (power_of (negsuc 0)) ≡ 0
+a_limit_below_a_watt = refl
+
+pub tens_of_watts : scaled_watts 2759 (power_of (pos 1)) ≡ 275
+tens_of_watts = refl
+
+pub more_than_an_int16 : scaled_watts 32768 one ≡ 0x8000
+more_than_an_int16 = refl
+
+pub the_last_watts_stay : later (4000 ∷ []) ≡ 4000 ∷ []
+the_last_watts_stay = refl
+
+pub a_whole_point : are_whole 0 (places_from true 0 2) ≡ true
+a_whole_point = refl
+
+pub half_a_point : are_whole 0 (take 1 (places_from true 0 2)) ≡ false
+half_a_point = refl
+
+pub a_fixed_point : are_whole 0 (places_from false 0 2) ≡ false
+a_fixed_point = refl
+
+pub two_words : split 2 65538 ≡ 1 ∷ 2 ∷ []
+two_words = refl
+
+pub an_empty_text : padded 2 [] ≡ 0 ∷ 0 ∷ []
+an_empty_text = refl
+
+pub a_negative_factor : words_of_kind kinds.Sunssf (negsuc 0) ≡ Some (0xFFFF ∷ [])
+a_negative_factor = refl
+
+pub no_number_of_an_int16 : words_of_kind kinds.Int16 (pos 32768) ≡ None
+no_number_of_an_int16 = refl
+
+pub before_the_first : earlier 0 ≡ 65535
+before_the_first = refl
+
+pub garbage : garbled 258 (3 ∷ 4 ∷ 0x53 ∷ 0x75 ∷ 0x6E ∷ 0x53 ∷ []) ≡ 3 ∷ 4 ∷ 1 ∷ 2 ∷ 1 ∷ 2 ∷ []
+garbage = refl
+
+pub an_exception_stays : garbled 258 (0x83 ∷ 2 ∷ []) ≡ 0x83 ∷ 2 ∷ []
+an_exception_stays = refl
+
+pub counting_stops : counted 1000001 ≡ 1000001
+counting_stops = refl
+
+pub a_cut : misbehaviour_of (codes "cut") (pos 259) ≡ Some (wrong.Cut 259)
+a_cut = refl
+
+pub no_cut : misbehaviour_of (codes "cut") (pos 260) ≡ None
+no_cut = refl
+
+pub no_number : fault_of [] (table (member (codes "kind") (string (codes "stale")) (member (codes "request") (integer (pos 1)) no_members))) ≡ Err fault.MissingKey
+no_number = refl
+
+pub nothing : plant_of [] (table no_members) ≡ Ok (record { devices = []; faults = []; frames = 0 })
+nothing = refl
+
+pub no_list_of_devices : plant_of [] (table (member (codes "device") (integer (pos 5)) no_members)) ≡ Err fault.MissingKey
+no_list_of_devices = refl
+
+pub a_device_without_keys : plant_of [] (table (member (codes "device") (array (item (table no_members) no_items)) no_members)) ≡ Err fault.MissingKey
+a_device_without_keys = refl

@@ -1,0 +1,9 @@
+pub mod Fault
+pub mod State
+pub mod Tick
+pub mod Serve
+pub mod Image
+pub mod File
+pub mod Reading
+pub mod Link
+pub mod Examples

@@ -1,0 +1,122 @@
+ghost use Rattle.std.specs.Prelude.{◌≡◌, ◌≢◌, map, Ok, Err, IfOk, IfErr, OnOk, MatchResult};
+ghost use Rattle.toml.specs.View.{view};
+ghost use Rattle.inverter_sim.specs.File.{plant_of, StandsFor, Breaks};
+ghost use Rattle.inverter_sim.specs.declared.fault.PlantFault.{PlantFault as FaultOfPlant};
+ghost use Rattle.inverter_sim.specs.declared.fault.PlantFault.TheVariants as fault;
+ghost use Rattle.inverter_sim.specs.Tick.{ticked, all_ticked};
+ghost use Rattle.inverter_sim.specs.Serve.{after_among, reply_among, after_serving, reply_of};
+
+use crate::device::Device;
+use crate::fault::PlantFault;
+use crate::misbehaviour::Fault;
+use crate::reader::{devices_of, faults_of, has_too_many};
+use modbus_frame::{Exception, Pdu, exception_pdu};
+use model_defs::ModelDef;
+use std::alloc::Global;
+use std::marker::Model;
+use toml::{Value, table_from_str};
+
+/// A simulated plant of inverters.
+///
+/// A contract sees its devices, its faults, and how many frames it was sent.
+#[derive(Debug, Drop)]
+pub struct Plant {
+    pub(crate) devices: Vec<Device>,
+    pub(crate) faults: Vec<Fault>,
+    pub(crate) frames: u32,
+}
+
+impl Model for Plant {
+    ghost use Rattle.std.specs.Prelude.{◌≤◌};
+    ghost use Rattle.inverter_sim.specs.State.{PlantState};
+
+    ghost Value = { PlantState };
+
+    ghost view = { λ p. record { devices = p.devices.items; faults = p.faults.items; frames = p.frames } };
+
+    ghost invariant = { λ p. p.frames ≤ 1000001 };
+}
+
+impl Plant {
+    /// Reads a plant file: `[[device]]` with `unit`, `models` (1 first), `wmax`, `available` (watts, one number for each
+    /// tick) and `base` (40000 where it is missing); `[[device.value]]` with `model`, `point` and `raw`, the number in a
+    /// point's registers; `[[fault]]` with `request` and `kind`: `exception` with `code`, `stale` with `count`, `garbage`
+    /// with `word`, `length`, `cut` with `bytes`. Other keys aren't looked at. Registers without a value are
+    /// unimplemented. Of two definitions with one id the last one counts.
+    ///
+    /// The first rule that the file breaks is the fault: the numbers of devices, models and watts anywhere in the file;
+    /// then each device by keys, models, ranges and duplicates, and its values one by one in the same way; then the
+    /// number of faults, and the faults one by one. A unit is in 0..255, a base in 0..65534, `wmax` and `available` are
+    /// in 0..1,000,000, `request` in 1..1,000,000, `code` in 1..255, `count` in 1..100, `word` in 0..65535 and `bytes` in
+    /// 0..259. There are at most 64 devices, 16 models and 1,024 watts of each, and 256 faults.
+    pub fn read(alloc: Global, toml: &str, defs: &[ModelDef]) -> Result<Plant, PlantFault>
+        ensures ok { IfOk result (StandsFor defs.now toml.now) }
+        ensures unbroken { OnOk result ((e : FaultOfPlant) → ¬ Breaks defs.now toml.now e) }
+        ensures refused { IfErr result (λ e. e ≢ fault.OutOfMemory → Breaks defs.now toml.now e) }
+    {
+        match table_from_str(alloc, toml) {
+            Ok(table) => read_tree(alloc, &Value::Table(table), defs),
+            Err(e) => if e.is_memory() {
+                Err(PlantFault::OutOfMemory)
+            } else {
+                Err(PlantFault::NotToml)
+            },
+        }
+    }
+
+    /// One step of time: each device produces the watts that its controls allow of those that are available now, shows
+    /// them in W by W_SF, rounded down, and its state in St (SunSpec inverter models 101 to 103; 123, immediate controls).
+    pub fn tick(&mut self)
+        ensures { self.new ≡ all_ticked self.old }
+    {
+        tick_all(&mut self.devices);
+    }
+
+    /// Answers a PDU for a unit, and does what it asks for: registers from the device's mark to its end model are read,
+    /// and whole points that clients may write are written, all of a request or none. Exceptions: 0B where no device
+    /// has the unit, 01 and 03 for what is no request, 02 for registers that the device lacks or that can't be written
+    /// (Modbus Application Protocol V1.1b3, section 7). It doesn't tick.
+    pub fn serve(&mut self, unit: u8, pdu: &Pdu) -> Pdu
+        ensures after { self.new ≡ after_serving self.old unit pdu.now }
+        ensures reply { result ≡ reply_of self.old unit pdu.now }
+    {
+        serve_among(&mut self.devices, unit, pdu)
+    }
+}
+
+fn read_tree(alloc: Global, tree: &Value, defs: &[ModelDef]) -> Result<Plant, PlantFault>
+    ensures { MatchResult result (λ p. plant_of defs.now (view tree.now) ≡ Ok p)
+        (λ e. e ≢ fault.OutOfMemory → plant_of defs.now (view tree.now) ≡ Err e) }
+{
+    if has_too_many(tree) {
+        return Err(PlantFault::TooMany);
+    }
+    let devices = devices_of(alloc, tree, defs)?;
+    let faults = faults_of(alloc, tree)?;
+    Ok(Plant {
+        devices,
+        faults,
+        frames: 0,
+    })
+}
+
+fn tick_all(devices: &mut [Device])
+    ensures { devices.new ≡ map ticked devices.old }
+{
+    for device in devices.iter_mut() {
+        device.tick();
+    }
+}
+
+// The device of the unit is asked.
+fn serve_among(devices: &mut [Device], unit: u8, pdu: &Pdu) -> Pdu
+    ensures after { devices.new ≡ after_among devices.old unit pdu.now }
+    ensures reply { result ≡ reply_among devices.old unit pdu.now }
+{
+    for device in devices.iter_mut() {
+        if device.unit() == unit {
+            return device.serve(pdu);
+        }
+    }
+    exception_pdu(pdu, Exception::GATEWAY_TARGET_FAILED)
+}

@@ -1,0 +1,259 @@
+//! The `[[device]]` entries of a plant file.
+ghost use Rattle.std.specs.Prelude.{◌≡◌, ◌≢◌, ◌≤◌, ◌<◌, ◌↔◌, [], ◌∷◌, Some, None, Ok, Err, pos, true, false, option_map, map, length, unsigned_abs, IsTrue, IfOk, MatchOption, MatchResult};
+ghost use Rattle.std.specs.List.{list_any};
+ghost use Rattle.std.specs.Ordering.{int_eq};
+ghost use Rattle.toml.specs.View.{view, items_view};
+ghost use Rattle.inverter_sim.specs.File.{map_length, device_keys, definition_of, definitions_of, begins_with_one, are_watts, has_room, is_in_range, has_repeat, is_duplicate, blank_device, device_of, devices_from, devices_of};
+ghost use Rattle.inverter_sim.specs.Reading.{models_view, device_keys_view};
+ghost use Rattle.inverter_sim.specs.declared.fault.PlantFault.TheVariants as fault;
+
+use super::image::{image_of, places_of};
+use super::keys::{integer_at, integer_or, integers_at, section, within};
+use super::layout::{has_room, tick_points};
+use super::values::give_values;
+use crate::device::Device;
+use crate::fault::PlantFault;
+use model_defs::ModelDef;
+use std::alloc::Global;
+use toml::Value;
+
+/// The base of a device whose entry has none.
+const USUAL_BASE: i64 = 40000;
+
+/// The devices of a plant file.
+pub(crate) fn devices_of(
+    alloc: Global,
+    tree: &Value,
+    defs: &[ModelDef],
+) -> Result<Vec<Device>, PlantFault>
+    ensures { MatchResult result (λ v. devices_of defs.now (view tree.now) ≡ Ok v.items)
+        (λ e. e ≢ fault.OutOfMemory → devices_of defs.now (view tree.now) ≡ Err e) }
+{
+    let Some(entries) = section(tree, "device") else {
+        return Err(PlantFault::MissingKey);
+    };
+    devices_in(alloc, entries, defs)
+}
+
+fn devices_in(
+    alloc: Global,
+    entries: &[Value],
+    defs: &[ModelDef],
+) -> Result<Vec<Device>, PlantFault>
+    ensures { MatchResult result (λ v. devices_from defs.now [] (items_view entries.now) ≡ Ok v.items)
+        (λ e. e ≢ fault.OutOfMemory → devices_from defs.now [] (items_view entries.now) ≡ Err e) }
+{
+    let mut devices = Vec::new(alloc);
+    for entry in entries {
+        let device = device_of(alloc, entry, defs, &devices)?;
+        devices.push(device)?;
+    }
+    Ok(devices)
+}
+
+/// The keys of an entry.
+#[derive(Drop)]
+struct DeviceKeys {
+    unit: i64,
+    models: Vec<i64>,
+    wmax: i64,
+    available: Vec<i64>,
+    base: i64,
+}
+
+fn device_keys(alloc: Global, entry: &Value) -> Result<DeviceKeys, PlantFault>
+    ensures { MatchResult result (λ k. device_keys (view entry.now) ≡ Some (device_keys_view k))
+        (λ e. e ≢ fault.OutOfMemory → (e ≡ fault.MissingKey) × (device_keys (view entry.now) ≡ None)) }
+{
+    let Some(unit) = integer_at(entry, "unit") else {
+        return Err(PlantFault::MissingKey);
+    };
+    let models = integers_at(alloc, entry, "models")?;
+    let Some(wmax) = integer_at(entry, "wmax") else {
+        return Err(PlantFault::MissingKey);
+    };
+    let available = integers_at(alloc, entry, "available")?;
+    let Some(base) = integer_or(entry, "base", USUAL_BASE) else {
+        return Err(PlantFault::MissingKey);
+    };
+    Ok(DeviceKeys {
+        unit,
+        models,
+        wmax,
+        available,
+        base,
+    })
+}
+
+/// The definition of an ID; of two the last one counts.
+fn definition_of(defs: &[ModelDef], number: i64) -> Option<&ModelDef>
+    ensures { option_map (λ d. d.now) result ≡ definition_of defs.now number }
+{
+    defs.iter().rev().find(|d| i64::from(d.id) == number)
+}
+
+fn definitions_of<'a>(
+    alloc: Global,
+    defs: &'a [ModelDef],
+    numbers: &[i64],
+) -> Result<Vec<&'a ModelDef>, PlantFault>
+    ensures { MatchResult result (λ v. definitions_of defs.now numbers.now ≡ Some (models_view v.items))
+        (λ e. e ≢ fault.OutOfMemory → (e ≡ fault.UnknownModel) × (definitions_of defs.now numbers.now ≡ None)) }
+{
+    let mut models = Vec::new(alloc);
+    for number in numbers {
+        let Some(model) = definition_of(defs, *number) else {
+            return Err(PlantFault::UnknownModel);
+        };
+        models.push(model)?;
+    }
+    Ok(models)
+}
+
+fn begins_with_one(numbers: &[i64]) -> bool
+    ensures { result ≡ begins_with_one numbers.now }
+{
+    match numbers {
+        [first, ..] => *first == 1,
+        [] => false,
+    }
+}
+
+/// The watts, where there are some and each is in 0..1,000,000.
+fn watts_of(alloc: Global, numbers: &[i64]) -> Result<Vec<u32>, PlantFault>
+    ensures watts { MatchResult result
+        (λ v. (are_watts numbers.now ≡ true) × (v.items ≡ map unsigned_abs numbers.now))
+        (λ e. e ≢ fault.OutOfMemory → (e ≡ fault.BadRange) × (are_watts numbers.now ≡ false)) }
+    ensures some { IfOk result (λ v. 0 < length v.items) }
+{
+    if numbers.is_empty() {
+        return Err(PlantFault::BadRange);
+    }
+    let mut watts = Vec::new(alloc);
+    for number in numbers {
+        let Some(n) = within(*number, 0, 1_000_000) else {
+            return Err(PlantFault::BadRange);
+        };
+        watts.push(n)?;
+    }
+    Ok(watts)
+}
+
+/// The numbers of a device, each in its limits.
+#[derive(Drop)]
+struct Ranges {
+    unit: u8,
+    base: u16,
+    wmax: u32,
+    available: Vec<u32>,
+}
+
+fn has_repeat(numbers: &[i64]) -> bool
+    ensures { result ≡ has_repeat numbers.now }
+{
+    let mut rest = numbers;
+    while let [number, behind @ ..] = rest {
+        if contains(behind, *number) {
+            return true;
+        }
+        rest = behind;
+    }
+    false
+}
+
+fn is_duplicate(seen: &[Device], keys: &DeviceKeys) -> bool
+    ensures { result ≡ is_duplicate seen.now (device_keys_view keys.now) }
+{
+    has_unit(seen, keys.unit) || has_repeat(&keys.models)
+}
+
+fn has_unit(devices: &[Device], unit: i64) -> bool
+    ensures { result ≡ list_any (λ d. int_eq (pos d.unit) unit) devices.now }
+{
+    for device in devices {
+        if same(i64::from(device.unit()), unit) {
+            return true;
+        }
+    }
+    false
+}
+
+fn contains(numbers: &[i64], number: i64) -> bool
+    ensures { result ≡ list_any (int_eq number) numbers.now }
+{
+    for other in numbers {
+        if same(number, *other) {
+            return true;
+        }
+    }
+    false
+}
+
+fn same(number: i64, other: i64) -> bool
+    ensures { result ≡ int_eq number other }
+{
+    number == other
+}
+
+#[tactic(auto, using(crate::proofs::Images::images_match))]
+fn device_of(
+    alloc: Global,
+    entry: &Value,
+    defs: &[ModelDef],
+    seen: &[Device],
+) -> Result<Device, PlantFault>
+    ensures { MatchResult result (λ d. device_of defs.now seen.now (view entry.now) ≡ Ok d)
+        (λ e. e ≢ fault.OutOfMemory → device_of defs.now seen.now (view entry.now) ≡ Err e) }
+{
+    let keys = device_keys(alloc, entry)?;
+    let models = definitions_of(alloc, defs, &keys.models)?;
+    let ranges = ranges_of(alloc, &keys, &models)?;
+    if is_duplicate(seen, &keys) {
+        return Err(PlantFault::Duplicate);
+    }
+    let places = places_of(alloc, &models)?;
+    let mut registers = image_of(alloc, &models)?;
+    give_values(alloc, &models, &mut registers, entry)?;
+    let points = tick_points(&models);
+    Ok(Device {
+        unit: ranges.unit,
+        base: ranges.base,
+        wmax: ranges.wmax,
+        available: ranges.available,
+        next: 0,
+        registers,
+        places,
+        points,
+    })
+}
+
+fn ranges_of(alloc: Global, keys: &DeviceKeys, models: &[&ModelDef]) -> Result<Ranges, PlantFault>
+    ensures ranges { MatchResult result
+        (λ r. (is_in_range (device_keys_view keys.now) (models_view models.now) ≡ true)
+        × (unsigned_abs keys.now.unit ≡ r.unit) × (unsigned_abs keys.now.base ≡ r.base) × (unsigned_abs keys.now.wmax ≡ r.wmax)
+        × (map unsigned_abs keys.now.available.items ≡ r.available.items))
+        (λ e. e ≢ fault.OutOfMemory → (e ≡ fault.BadRange) × (is_in_range (device_keys_view keys.now) (models_view models.now) ≡ false)) }
+    ensures some { IfOk result (λ r. 0 < length r.available.items) }
+    ensures limited { IfOk result (λ r. r.wmax ≤ 1000000) }
+    ensures room { IfOk result (λ _. map_length (models_view models.now) ≤ 65536) }
+{
+    let Some(unit) = within(keys.unit, 0, 255) else {
+        return Err(PlantFault::BadRange);
+    };
+    let Some(wmax) = within(keys.wmax, 0, 1_000_000) else {
+        return Err(PlantFault::BadRange);
+    };
+    let available = watts_of(alloc, &keys.available)?;
+    let Some(base) = within(keys.base, 0, 65534) else {
+        return Err(PlantFault::BadRange);
+    };
+    if !begins_with_one(&keys.models) || !has_room(keys.base, models) {
+        return Err(PlantFault::BadRange);
+    }
+    Ok(Ranges {
+        unit: unit as u8,
+        base: base as u16,
+        wmax,
+        available,
+    })
+}

@@ -1,0 +1,8 @@
+use Rattle.point_writer.proofs.Plans.{at_most_one, refused_has_none}
+use Rattle.point_writer.proofs.laws.set_points_are_exact.Goals as goal
+
+pub returns-clause-at_most : goal.returns-clause-at_most
+returns-clause-at_most c = at_most_one
+
+pub returns-clause-none : goal.returns-clause-none
+returns-clause-none c = refused_has_none

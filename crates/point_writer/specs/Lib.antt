@@ -1,0 +1,4 @@
+pub mod Fault
+pub mod SetPoint
+pub mod Places
+pub mod Laws

@@ -1,0 +1,6 @@
+-- What the planner's own values stand for: a place.
+use Rattle.point_writer.specs.declared.place.Place.{Place}
+use Rattle.point_writer.specs.SetPoint as told
+
+abbrev pub place_view : Place → told.Place
+place_view p = record { device = p.device; addr = p.addr; factor = p.factor }

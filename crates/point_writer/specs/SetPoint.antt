@@ -1,0 +1,84 @@
+-- Set points: which words, at which address of which device, set a tag to a number, and why there are none.
+-- SunSpec Device Information Model Specification, points and scale factors.
+use Rattle.std.specs.Prelude.{◌≡◌, ℕ, ◌+◌, List, length, take, slice_get, ℤ, Option, Some, None, option_map, option_and_then, Result, Ok, Err}
+use Rattle.point_types.specs.declared.reading.Reading.TheVariants as reading
+use Rattle.point_types.specs.declared.encoding.Unencodable.TheVariants as unencodable
+use Rattle.point_types.specs.Point.{size_of, StandsFor}
+use Rattle.point_types.specs.Reading.{IsReading}
+use Rattle.point_types.specs.Encoding.{IsEncoding}
+use Rattle.register_map.specs.declared.layout.Block.{Block}
+use Rattle.register_map.specs.Layout.{Layout}
+use Rattle.register_map.specs.Layout as map
+use Rattle.site_model.specs.declared.access.Access.TheVariants as access
+use Rattle.site_model.specs.declared.tag.SiteTag.{SiteTag}
+use Rattle.site_model.specs.Wants.{Want}
+use Rattle.site_model.specs.Readings.{registers_at, scale_at, known_at, block_of}
+use Rattle.point_writer.specs.declared.write.Write.{Write}
+use Rattle.point_writer.specs.declared.write.NoWrite.{NoWrite}
+use Rattle.point_writer.specs.declared.write.NoWrite.TheVariants as refusal
+
+-- ---- where a tag's point lies
+
+-- a device, the address of the point's first register, and the point's factor: none where it is absent
+pub record Place : Type 0 where
+  pub device : ℕ
+  pub addr : ℕ
+  pub factor : Option ℤ
+
+-- the words of a block as far as its map's length goes, which counts neither ID nor L
+abbrev pub mapped_words : Block → List ℕ → List ℕ
+mapped_words block words = take (block.length + 2) words
+
+-- in a block of which these words are known: the point and its factor lie inside them
+abbrev pub place_in : SiteTag → ℕ → Block → List ℕ → Option Place
+place_in t device block words =
+    option_and_then (λ registers. option_map (λ factor. record { device = device; addr = block.addr + t.offset; factor = factor }) (scale_at words t.sf)) (registers_at words t.offset (size_of t.point))
+
+-- by the maps of the devices, and the words that are known of the wanted blocks
+abbrev pub place_of : List (Option Layout) → List Want → List (Option (List ℕ)) → SiteTag → Option Place
+place_of maps wants blocks t =
+    option_and_then (λ device. option_and_then (λ (layout : Layout). option_and_then (λ block. option_and_then (λ words. place_in t device block (mapped_words block words)) (block_of wants blocks t)) (map.block_of layout t.model)) (known_at maps device)) t.device
+
+-- ---- set points
+
+-- at a place, the words read back as the number, by the factor that the device gave
+pub record SetsAt (place : Place) (t : SiteTag) (v : ℤ) (w : Write) : Type 0 where
+  pub device : w.device ≡ place.device
+  pub addr : w.addr ≡ place.addr
+  pub raw : ℤ
+  pub stands : StandsFor t.point w.words raw
+  pub reads : IsReading raw place.factor t.exponent t.low t.high (reading.Value v)
+
+-- the words set a tag that is written to a device to the number
+pub record IsSetPoint (maps : List (Option Layout)) (wants : List Want) (blocks : List (Option (List ℕ))) (t : SiteTag) (v : ℤ) (w : Write) : Type 0 where
+  pub output : t.access ≡ access.Output
+  pub place : Place
+  pub placed : place_of maps wants blocks t ≡ Some place
+  pub sets : SetsAt place t v w
+
+-- ---- what is written of a tag, or the first cause why nothing is
+
+abbrev pub IsPlanAt : Option Place → SiteTag → ℤ → Result Write NoWrite → Type 0
+IsPlanAt None t v r = r ≡ Err refusal.NoBlock
+IsPlanAt (Some place) t v (Ok w) = SetsAt place t v w
+IsPlanAt (Some place) t v (Err refusal.NotSet) = ⊥
+IsPlanAt (Some place) t v (Err refusal.NoBlock) = ⊥
+IsPlanAt (Some place) t v (Err refusal.BadScale) = IsEncoding t.point v t.exponent place.factor (Err unencodable.BadScale)
+IsPlanAt (Some place) t v (Err refusal.Inexact) = IsEncoding t.point v t.exponent place.factor (Err unencodable.Inexact)
+IsPlanAt (Some place) t v (Err refusal.OutOfType) = IsEncoding t.point v t.exponent place.factor (Err unencodable.OutOfType)
+
+-- by the number that the program stored
+abbrev pub IsPlan : List (Option Layout) → List Want → List (Option (List ℕ)) → SiteTag → Option ℤ → Result Write NoWrite → Type 0
+IsPlan maps wants blocks t None r = r ≡ Err refusal.NotSet
+IsPlan maps wants blocks t (Some v) r = IsPlanAt (place_of maps wants blocks t) t v r
+
+-- the same for the tag whose number is the i-th of these
+abbrev pub IsPlanFor : List SiteTag → (outs : List ℕ) → List Want → List (Option Layout) → List (Option (List ℕ)) → List (Option ℤ) → ℕ → Result Write NoWrite → Type 0
+IsPlanFor tags outs wants maps blocks outputs i r =
+    (number : ℕ) (t : SiteTag) → slice_get outs i ≡ Some number → slice_get tags number ≡ Some t → IsPlan maps wants blocks t (known_at outputs number) r
+
+-- what is written is a set point of that tag, for the number that the program stored
+abbrev pub WritesASetPoint : List SiteTag → (outs : List ℕ) → List Want → List (Option Layout) → List (Option (List ℕ)) → List (Option ℤ) → ℕ → Result Write NoWrite → Type 0
+WritesASetPoint tags outs wants maps blocks outputs i r =
+    (number : ℕ) (t : SiteTag) (w : Write) → slice_get outs i ≡ Some number → slice_get tags number ≡ Some t → r ≡ Ok w →
+    (v : ℤ) × (known_at outputs number ≡ Some v) × IsSetPoint maps wants blocks t v w

@@ -1,0 +1,109 @@
+//! What is written to the devices.
+ghost use Rattle.std.specs.Prelude.{◌≡◌, ◌≢◌, ◌≤◌, ◌<◌, ◌≤ℤ◌, ℤ, length, Some, IfSome};
+ghost use Rattle.point_types.specs.declared.kind.Kind.TheVariants as kinds;
+ghost use Rattle.point_types.specs.Encoding.{IsEncoding};
+ghost use Rattle.point_types.specs.Reading.{IsExponent};
+ghost use Rattle.point_writer.specs.SetPoint.{IsPlan, IsPlanFor, WritesASetPoint};
+ghost use Rattle.site_model.specs.Readings.{AreSettings};
+
+use crate::place::place_of;
+use crate::write::{NoWrite, Write};
+use point_types::{Kind, Unencodable, encode};
+use register_map::Map;
+use site_model::{Site, SiteTag, Words};
+
+/// The words that set the i-th of the site's `out` tags to the number that the program stored, which is exact: a number
+/// that has no words isn't written, and no other one in its place. Takes no memory (SunSpec Device Information Model
+/// Specification, points and scale factors).
+///
+/// `outputs` has an entry for each tag, each number in its tag's range; `blocks` for each of the site's `wants()`, the words
+/// that were known at the scan; `maps` for each device.
+///
+/// NotSet: the program didn't store the tag. NoBlock: the device has no map, the map hasn't the model, no words of the
+/// block are known, or the point or its factor lies past the map's length or the known words. BadScale: the factor is absent
+/// or outside -10..10. Inexact: no raw number is the value. OutOfType: the raw number lies outside the kind, or its words
+/// would read as absent.
+pub fn plan(
+    site: &Site,
+    outputs: &[Option<i64>],
+    blocks: &[Option<Words>],
+    maps: &[Option<Map>],
+    i: usize,
+) -> Result<Write, NoWrite>
+    requires place { i < length site.now.outs }
+    requires outputs { length outputs.now ≡ length site.now.tags }
+    requires ranged { AreSettings site.now.tags outputs.now }
+    requires blocks { length blocks.now ≡ length site.now.wants }
+    requires maps { length maps.now ≡ length site.now.devices }
+    ensures plan { IsPlanFor site.now.tags site.now.outs site.now.wants maps.now blocks.now outputs.now i result }
+    ensures set_point { WritesASetPoint site.now.tags site.now.outs site.now.wants maps.now blocks.now outputs.now i result }
+{
+    let number = site.outs()[i];
+    plan_of(
+        &site.tags()[number],
+        outputs[number],
+        site.wants(),
+        blocks,
+        maps,
+    )
+}
+
+/// The words that set a tag to the number that the program stored.
+pub(crate) fn plan_of(
+    tag: &SiteTag,
+    output: Option<i64>,
+    wants: &[(usize, u16)],
+    blocks: &[Option<Words>],
+    maps: &[Option<Map>],
+) -> Result<Write, NoWrite>
+    requires blocks { length blocks.now ≡ length wants.now }
+    requires ranged { (v : ℤ) → output ≡ Some v → (tag.now.low ≤ℤ v) × (v ≤ℤ tag.now.high) }
+    ensures { IsPlan maps.now wants.now blocks.now tag.now output result }
+{
+    let Some(v) = output else {
+        return Err(NoWrite::NotSet);
+    };
+    let Some(place) = place_of(tag, wants, blocks, maps) else {
+        return Err(NoWrite::NoBlock);
+    };
+    match words_for(tag.point, v, tag.exponent, place.factor) {
+        Ok(words) => Ok(Write {
+            device: place.device,
+            addr: place.addr,
+            words,
+        }),
+        Err(fault) => Err(NoWrite::of(fault)),
+    }
+}
+
+/// The words of a kind for `v * 10^exponent`, by a scale factor.
+fn words_for(kind: Kind, v: i64, exponent: i8, factor: Option<i16>) -> Result<Words, Unencodable>
+    requires numeric { kind ≢ kinds.String }
+    requires scalable { IsExponent exponent }
+    ensures { IsEncoding kind v exponent factor result }
+{
+    match kind.size() {
+        1 => match encode::<1>(kind, v, exponent, factor) {
+            Ok(words) => Ok(few_words(&words)),
+            Err(fault) => Err(fault),
+        },
+        2 => match encode::<2>(kind, v, exponent, factor) {
+            Ok(words) => Ok(few_words(&words)),
+            Err(fault) => Err(fault),
+        },
+        _ => match encode::<4>(kind, v, exponent, factor) {
+            Ok(words) => Ok(few_words(&words)),
+            Err(fault) => Err(fault),
+        },
+    }
+}
+
+fn few_words(words: &[u16]) -> Words
+    requires { length words.now ≤ 4 }
+    ensures { result ≡ words.now }
+{
+    match Words::from_slice(words) {
+        Some(words) => words,
+        None => unreachable!(),
+    }
+}

@@ -1,0 +1,64 @@
+ghost use Rattle.std.specs.Prelude.{◌≡◌};
+ghost use Rattle.point_writer.specs.Fault.{no_write_of, no_write_word};
+
+use point_types::Unencodable;
+use site_model::Words;
+use thiserror::Error;
+
+/// Words for registers of a device that lie side by side.
+#[derive(Debug, PartialEq, Eq, Drop)]
+pub struct Write {
+    /// The number of the device.
+    pub device: usize,
+    /// The address of the first register.
+    pub addr: u16,
+    /// The words, the most significant register of the point first.
+    pub words: Words,
+}
+
+/// Why a tag isn't written, by the first cause that holds.
+#[derive(Clone, Copy, PartialEq, Eq, Debug, Error)]
+pub enum NoWrite {
+    /// The program didn't store it.
+    #[error("NotSet")]
+    NotSet = 1,
+    /// Its device has no map, the map hasn't its model, no words of that block are known, or its point or its factor lies
+    /// past the map's length or the known words.
+    #[error("NoBlock")]
+    NoBlock,
+    /// The scale factor is absent or outside -10..10.
+    #[error("BadScale")]
+    BadScale,
+    /// No raw number is the value by that factor.
+    #[error("Inexact")]
+    Inexact,
+    /// The raw number lies outside the point's kind, or its words would read as absent.
+    #[error("OutOfType")]
+    OutOfType,
+}
+
+impl NoWrite {
+    /// The cause's name, as it is printed.
+    pub fn word(self) -> &'static str
+        ensures { result.now ≡ no_write_word self }
+    {
+        match self {
+            NoWrite::NotSet => "NotSet",
+            NoWrite::NoBlock => "NoBlock",
+            NoWrite::BadScale => "BadScale",
+            NoWrite::Inexact => "Inexact",
+            NoWrite::OutOfType => "OutOfType",
+        }
+    }
+
+    /// The cause why a number has no words.
+    pub(crate) fn of(fault: Unencodable) -> NoWrite
+        ensures { result ≡ no_write_of fault }
+    {
+        match fault {
+            Unencodable::BadScale => NoWrite::BadScale,
+            Unencodable::Inexact => NoWrite::Inexact,
+            Unencodable::OutOfType => NoWrite::OutOfType,
+        }
+    }
+}

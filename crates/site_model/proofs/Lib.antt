@@ -1,0 +1,5 @@
+mod Entries
+mod Factors
+pub mod Lists
+mod Outs
+mod Owns

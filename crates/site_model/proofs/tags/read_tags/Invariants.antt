@@ -1,0 +1,11 @@
+use Rattle.std.proofs.Common.{◌≡◌, drop, [], map}
+use Rattle.toml.specs.View.{items_view}
+use Rattle.site_model.specs.Tagging.{tags_behind}
+use Rattle.site_model.specs.Views.{tag_view}
+use Rattle.site_model.proofs.tags.read_tags.Given as goal
+
+-- what the entries behind give after the tags so far
+abbrev pub invariant-loop-entry : goal.invariant-loop-entry
+invariant-loop-entry l =
+    tags_behind l.scope.devices.now l.scope.own.now l.scope.defs.now [] (items_view l.entries)
+    ≡ tags_behind l.scope.devices.now l.scope.own.now l.scope.defs.now (map tag_view l.tags) (items_view (drop l.entry-index l.entries))

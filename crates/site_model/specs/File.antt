@@ -1,0 +1,75 @@
+-- Which site a site file stands for, over given model definitions.
+use Rattle.std.specs.Prelude.{ℕ, nat_lt, Bool, false, ◌||◌, List, [], suc, zero, Option, None, Some, option_map, option_and_then, if◌then◌else◌, Result, Ok, Err, codes}
+use Rattle.std.specs.Option.{ok_or, option_map_or}
+use Rattle.toml.specs.Data.{Data, table, Items, no_items, item, get, as_array}
+use Rattle.toml.specs.Parse.{parse_document}
+use Rattle.point_types.specs.Value.{◌>>=◌}
+use Rattle.model_defs.specs.declared.model.ModelDef.{ModelDef}
+use Rattle.site_model.specs.Keys.{section_at}
+use Rattle.site_model.specs.Gateway.{Gateway, gateway_of}
+use Rattle.site_model.specs.Lengths.{lengths_of}
+use Rattle.site_model.specs.Devices.{devices_behind}
+use Rattle.site_model.specs.Tagging.{Tag, tags_behind}
+use Rattle.site_model.specs.Serving.{served_behind}
+use Rattle.site_model.specs.declared.device.SiteDevice.{SiteDevice}
+use Rattle.site_model.specs.declared.served.Served.{Served}
+use Rattle.site_model.specs.declared.fault.SiteFault.{SiteFault}
+use Rattle.site_model.specs.declared.fault.SiteFault.TheVariants as fault
+
+-- a site, with each tag without what it proves of itself
+pub record Layout : Type 0 where
+  pub unit : ℕ
+  pub base : ℕ
+  pub models : List ModelDef
+  pub devices : List SiteDevice
+  pub tags : List Tag
+  pub served : List Served
+  pub lengths : List (ℕ × ℕ)
+
+-- ---- lists that are too long
+
+abbrev pub count : Items → ℕ
+count no_items = 0
+count (item d ds) = suc (count ds)
+
+-- a list of more than so many elements
+abbrev pub is_over : ℕ → Data → Bool
+is_over most d = option_map_or (λ items. nat_lt most (count items)) (as_array d) false
+
+abbrev pub has_over : ℕ → List ℕ → Data → Bool
+has_over most key tree = option_map_or (is_over most) (get key tree) false
+
+-- more than 16 models of the gateway, 64 devices, 1,024 tags or 256 served points
+abbrev pub has_too_many : Data → Bool
+has_too_many doc =
+    option_map_or (has_over 16 (codes "models")) (get (codes "gateway") doc) false ||
+    (has_over 64 (codes "device") doc || (has_over 1024 (codes "tag") doc || has_over 256 (codes "served") doc))
+
+-- ---- the site
+
+abbrev pub layout_over : List ModelDef → Gateway → List SiteDevice → List Tag → List Served → Layout
+layout_over defs g devices tags served = record {
+  unit = g.unit;
+  base = g.base;
+  models = g.models;
+  devices = devices;
+  tags = tags;
+  served = served;
+  lengths = lengths_of g.models defs tags;
+}
+
+abbrev pub layout_of : List ModelDef → Data → Result Layout SiteFault
+layout_of defs doc =
+    gateway_of defs doc >>= λ g.
+    section_at (codes "device") doc >>= devices_behind [] >>= λ devices.
+    section_at (codes "tag") doc >>= tags_behind devices g.models defs [] >>= λ tags.
+    section_at (codes "served") doc >>= served_behind g.models tags [] >>= λ served.
+    Ok (layout_over defs g devices tags served)
+
+-- the site of a tree, or the first rule that it breaks: lists that are too long, the gateway, devices, tags, served points
+abbrev pub site_of : List ModelDef → Data → Result Layout SiteFault
+site_of defs doc = if has_too_many doc then Err fault.TooMany else layout_of defs doc
+
+-- the same of a text: its first rule is to be TOML
+abbrev pub site_in : List ModelDef → List ℕ → Result Layout SiteFault
+site_in defs text = ok_or (option_map table (parse_document text)) fault.NotToml >>= site_of defs

@@ -1,0 +1,13 @@
+pub mod Readings
+pub mod Tag
+pub mod Wants
+pub mod Fault
+pub mod Examples
+pub mod Keys
+pub mod Gateway
+pub mod Devices
+pub mod Tagging
+pub mod Serving
+pub mod Lengths
+pub mod File
+pub mod Views

@@ -1,0 +1,329 @@
+-- Which tags the entries of the section `tag` of a site file stand for.
+-- SunSpec Device Information Model Specification, points; IEC 61131-3 edition 2, 2.1.2 identifiers, 2.3.1 elementary data types.
+use Rattle.std.specs.Prelude.{ℕ, ◌-◌, ℤ, pos, neg_ℤ, nat_eq, nat_lt, Bool, true, false, not, ◌&&◌, ◌||◌, is_some, List, [], ◌∷◌, ◌++◌, length, drop, find, slice_get, Option, None, Some, option_map, option_and_then, if◌then◌else◌, Result, Ok, Err, codes}
+use Rattle.std.specs.List.{list_any, position}
+use Rattle.std.specs.Option.{ok_or, option_map_or}
+use Rattle.std.specs.Str.{bytes_eq}
+use Rattle.toml.specs.Data.{Data, Items, no_items, item}
+use Rattle.point_types.specs.Name.{name_of}
+use Rattle.point_types.specs.Value.{◌>>=◌, is_within, is_ranged, is_bool}
+use Rattle.point_types.specs.declared.il_type.IlType.{IlType}
+use Rattle.point_types.specs.declared.il_type.IlType.TheVariants as il
+use Rattle.point_types.specs.declared.kind.Kind.{Kind}
+use Rattle.point_types.specs.declared.kind.Kind.TheVariants as kinds
+use Rattle.model_defs.specs.declared.point.Point.{Point}
+use Rattle.model_defs.specs.declared.point.Sf.{Sf as PointSf}
+use Rattle.model_defs.specs.declared.point.Sf.TheVariants as scales
+use Rattle.model_defs.specs.declared.model.ModelDef.{ModelDef}
+use Rattle.site_model.specs.Keys.{text_at, number_at, optional_text_at, optional_number_at, natural_within}
+use Rattle.site_model.specs.Gateway.{has_id, definition_of}
+use Rattle.site_model.specs.Tag.{start_of}
+use Rattle.site_model.specs.declared.access.Access.{Access}
+use Rattle.site_model.specs.declared.access.Access.TheVariants as access
+use Rattle.site_model.specs.declared.tag.Sf.{Sf}
+use Rattle.site_model.specs.declared.tag.Sf.TheVariants as factors
+use Rattle.site_model.specs.declared.device.SiteDevice.{SiteDevice}
+use Rattle.site_model.specs.declared.fault.SiteFault.{SiteFault}
+use Rattle.site_model.specs.declared.fault.SiteFault.TheVariants as fault
+
+-- ---- the keys of a tag
+
+pub record Numbers : Type 0 where
+  pub exponent : ℤ
+  pub low : ℤ
+  pub high : ℤ
+  pub default : Option ℤ
+
+-- where the tag's point is
+pub record Place : Type 0 where
+  pub device : Option (List ℕ)
+  pub model : ℤ
+  pub point : List ℕ
+
+pub record TagKeys : Type 0 where
+  pub name : List ℕ
+  pub access : List ℕ
+  pub kind : List ℕ
+  pub place : Place
+  pub numbers : Numbers
+  pub bit : Option ℤ
+  pub round : Option (List ℕ)
+
+abbrev pub numbers_of : Data → Option Numbers
+numbers_of tree =
+    option_and_then (λ exponent.
+    option_and_then (λ low.
+    option_and_then (λ high.
+    option_map (λ default. record { exponent = exponent; low = low; high = high; default = default })
+    (optional_number_at (codes "default") tree))
+    (number_at (codes "high") tree))
+    (number_at (codes "low") tree))
+    (number_at (codes "exponent") tree)
+
+abbrev pub place_of : Data → Option Place
+place_of tree =
+    option_and_then (λ device.
+    option_and_then (λ model.
+    option_map (λ point. record { device = device; model = model; point = point })
+    (text_at (codes "point") tree))
+    (number_at (codes "model") tree))
+    (optional_text_at (codes "device") tree)
+
+-- nothing where a key is missing or of another kind
+abbrev pub tag_keys : Data → Option TagKeys
+tag_keys tree =
+    option_and_then (λ name.
+    option_and_then (λ access.
+    option_and_then (λ kind.
+    option_and_then (λ place.
+    option_and_then (λ numbers.
+    option_and_then (λ bit.
+    option_map (λ round. record { name = name; access = access; kind = kind; place = place; numbers = numbers; bit = bit; round = round })
+    (optional_text_at (codes "round") tree))
+    (optional_number_at (codes "bit") tree))
+    (numbers_of tree))
+    (place_of tree))
+    (text_at (codes "type") tree))
+    (text_at (codes "access") tree))
+    (text_at (codes "name") tree)
+
+-- ---- the words of a tag
+
+abbrev pub access_words : List (List ℕ × Access)
+access_words = (codes "in", access.Input) ∷ (codes "out", access.Output) ∷ (codes "set", access.Setting) ∷ (codes "site", access.Shown) ∷ []
+
+abbrev pub access_of : List ℕ → Option Access
+access_of word = option_map (λ e. e.1) (find (λ e. bytes_eq word e.0) access_words)
+
+abbrev pub type_words : List (List ℕ × IlType)
+type_words =
+    (codes "BOOL", il.Bool) ∷ (codes "SINT", il.Sint) ∷ (codes "INT", il.Int) ∷ (codes "DINT", il.Dint) ∷
+    (codes "LINT", il.Lint) ∷ (codes "USINT", il.Usint) ∷ (codes "UINT", il.Uint) ∷ (codes "UDINT", il.Udint) ∷ []
+
+abbrev pub type_of : List ℕ → Option IlType
+type_of word = option_map (λ e. e.1) (find (λ e. bytes_eq word e.0) type_words)
+
+-- such a name is the presence of another one
+abbrev pub ends_in_ok : List ℕ → Bool
+ends_in_ok text = bytes_eq (drop (length text - 3) text) (codes "_ok")
+
+-- a name in lower case
+abbrev pub tag_name : List ℕ → Option (List ℕ)
+tag_name text = option_and_then (λ name. if bytes_eq name text && not (ends_in_ok text) then Some name else None) (name_of text)
+
+-- ---- what the access means
+
+-- its point is a device's
+abbrev pub is_polled : Access → Bool
+is_polled access.Input = true
+is_polled access.Output = true
+is_polled other = false
+
+-- its point is the gateway's own
+abbrev pub is_own : Access → Bool
+is_own a = not (is_polled a)
+
+abbrev pub is_input : Access → Bool
+is_input access.Input = true
+is_input other = false
+
+-- its point is written: by the gateway, or by clients
+abbrev pub is_written : Access → Bool
+is_written access.Output = true
+is_written access.Setting = true
+is_written other = false
+
+-- ---- where the point is
+
+abbrev pub device_number : List SiteDevice → List ℕ → Option ℕ
+device_number devices name = position (λ d. bytes_eq d.name name) devices
+
+abbrev pub device_named : List SiteDevice → List ℕ → Result (Option ℕ) SiteFault
+device_named devices name = ok_or (option_map Some (device_number devices name)) fault.UnknownDevice
+
+-- the number of the tag's device: asked for where the point is a device's
+abbrev pub device_for : List SiteDevice → Option Access → Option (List ℕ) → Result (Option ℕ) SiteFault
+device_for devices None name = Ok None
+device_for devices (Some a) name = if is_polled a then (ok_or name fault.MissingKey >>= device_named devices) else Ok None
+
+-- the gateway's own models, or all that are defined
+abbrev pub model_for : List ModelDef → List ModelDef → Option Access → ℤ → Option ModelDef
+model_for own defs None id = definition_of defs id
+model_for own defs (Some a) id = if is_polled a then definition_of defs id else find (has_id id) own
+
+abbrev pub point_number : List ℕ → ModelDef → Option ℕ
+point_number name model = position (λ p. bytes_eq p.name name) model.points
+
+abbrev pub point_for : List ℕ → ModelDef → Option Point
+point_for name model = option_and_then (slice_get model.points) (point_number name model)
+
+abbrev pub may_be_written : Option Access → Bool → Bool
+may_be_written None writable = true
+may_be_written (Some a) writable = not (is_written a) || writable
+
+-- ---- the ranges
+
+-- low and high, and the default between them, in the type where it is known
+abbrev pub has_range : Option IlType → ℤ → ℤ → ℤ → Bool
+has_range None low high start = is_within low high start
+has_range (Some kind) low high start = is_ranged kind low high start
+
+abbrev pub exponent_of : ℤ → Option ℤ
+exponent_of n = if is_within (neg_ℤ (pos 10)) (pos 10) n then Some n else None
+
+-- the number of a bitfield's last bit that may be a tag; the top bit says that the point has no value
+abbrev pub last_bit : Kind → Option ℕ
+last_bit kinds.Bitfield16 = Some 14
+last_bit kinds.Bitfield32 = Some 30
+last_bit other = None
+
+-- the bit of a bitfield; of another point it has no range
+abbrev pub bit_of : Kind → Option ℤ → Option (Option ℕ)
+bit_of point None = Some None
+bit_of point (Some n) = option_map_or (λ last. option_map Some (natural_within last n)) (last_bit point) (Some None)
+
+-- what the value is counted in
+pub record Unit : Type 0 where
+  pub exponent : ℤ
+  pub bit : Option ℕ
+
+abbrev pub unit_within : Kind → ℤ → Option ℤ → Option Unit
+unit_within point exponent bit = option_and_then (λ e. option_map (λ b. record { exponent = e; bit = b }) (bit_of point bit)) (exponent_of exponent)
+
+abbrev pub unit_of : Option IlType → Kind → Numbers → Option ℤ → Option Unit
+unit_of kind point n bit = if has_range kind n.low n.high (start_of n.low n.default) then unit_within point n.exponent bit else None
+
+-- ---- what goes together
+
+abbrev pub is_numeric : Kind → Bool
+is_numeric kinds.String = false
+is_numeric kinds.Pad = false
+is_numeric other = true
+
+abbrev pub is_sunssf : Kind → Bool
+is_sunssf kinds.Sunssf = true
+is_sunssf other = false
+
+-- a point of the gateway's own is no scale factor, and belongs to no device
+abbrev pub is_place : Access → Option (List ℕ) → Kind → Bool
+is_place a device point = is_numeric point && (is_polled a || (not (is_some device) && not (is_sunssf point)))
+
+-- a bit is an input of type BOOL of a bitfield
+abbrev pub is_bit_place : Access → IlType → Kind → Option ℤ → Bool
+is_bit_place a kind point None = true
+is_bit_place a kind point (Some n) = is_input a && (is_bool kind && is_some (last_bit point))
+
+-- an input that is no bit may be rounded down
+abbrev pub is_rounding : Access → Option ℤ → Option (List ℕ) → Bool
+is_rounding a bit None = true
+is_rounding a bit (Some word) = is_input a && (not (is_some bit) && bytes_eq word (codes "down"))
+
+abbrev pub goes_together : Access → IlType → Kind → TagKeys → Bool
+goes_together a kind point keys = is_place a keys.place.device point && (is_bit_place a kind point keys.bit && is_rounding a keys.bit keys.round)
+
+-- ---- the tag
+
+-- a tag, as its type in the program without what it proves of itself
+pub record Tag : Type 0 where
+  pub name : List ℕ
+  pub access : Access
+  pub kind : IlType
+  pub low : ℤ
+  pub high : ℤ
+  pub default : Option ℤ
+  pub exponent : ℤ
+  pub bit : Option ℕ
+  pub down : Bool
+  pub device : Option ℕ
+  pub model : ℕ
+  pub point : Kind
+  pub offset : ℕ
+  pub sf : Sf
+
+-- the offset of a point by its number
+abbrev pub offset_at : ModelDef → ℕ → ℕ
+offset_at model j = option_map_or (λ q. q.offset) (slice_get model.points j) 0
+
+-- a factor by its offset where it is a point of the model
+abbrev pub factor_in : ModelDef → PointSf → Sf
+factor_in model scales.None = factors.None
+factor_in model (scales.Fixed n) = factors.Fixed n
+factor_in model (scales.At j) = factors.At (offset_at model j)
+
+-- the tag of these words over a point
+abbrev pub tag_over : TagKeys → Unit → Option ℕ → ModelDef → Point → List ℕ → Access → IlType → Tag
+tag_over keys unit device model p name a kind = record {
+  name = name;
+  access = a;
+  kind = kind;
+  low = keys.numbers.low;
+  high = keys.numbers.high;
+  default = keys.numbers.default;
+  exponent = unit.exponent;
+  bit = unit.bit;
+  down = is_some keys.round;
+  device = device;
+  model = model.id;
+  point = p.kind;
+  offset = p.offset;
+  sf = factor_in model p.sf;
+}
+
+-- nothing where a word isn't allowed
+abbrev pub tag_typed : TagKeys → Unit → Option ℕ → ModelDef → Point → Option Tag
+tag_typed keys unit device model p =
+    option_and_then (λ name.
+    option_and_then (λ a.
+    option_and_then (λ kind.
+    if goes_together a kind p.kind keys then Some (tag_over keys unit device model p name a kind) else None)
+    (type_of keys.kind))
+    (access_of keys.access))
+    (tag_name keys.name)
+
+-- ---- what is used already
+
+-- both are `out`, or both are points of the gateway's own
+abbrev pub is_same_side : Access → Access → Bool
+is_same_side access.Input b = false
+is_same_side access.Output access.Output = true
+is_same_side access.Output b = false
+is_same_side a b = is_own b
+
+abbrev pub is_same_device : Option ℕ → Option ℕ → Bool
+is_same_device None None = true
+is_same_device (Some i) (Some j) = nat_eq i j
+is_same_device i j = false
+
+abbrev pub is_same_point : Tag → Tag → Bool
+is_same_point t u = is_same_side t.access u.access && (is_same_device t.device u.device && (nat_eq t.model u.model && nat_eq t.offset u.offset))
+
+abbrev pub clashes : Tag → Tag → Bool
+clashes t u = bytes_eq t.name u.name || is_same_point t u
+
+-- the gateway's own ID and length
+abbrev pub is_on_heading : Tag → Bool
+is_on_heading t = is_own t.access && nat_lt t.offset 2
+
+-- ---- the tags
+
+-- where the tag's point is, then its ranges, then its words
+abbrev pub tag_placed : List ModelDef → List ModelDef → TagKeys → Option ℕ → Result Tag SiteFault
+tag_placed own defs keys device =
+    ok_or (model_for own defs (access_of keys.access) keys.place.model) fault.UnknownModel >>= λ model.
+    ok_or (point_for keys.place.point model) fault.UnknownPoint >>= λ p.
+    (if may_be_written (access_of keys.access) p.writable then
+    (ok_or (unit_of (type_of keys.kind) p.kind keys.numbers keys.bit) fault.BadRange >>= λ unit.
+    ok_or (tag_typed keys unit device model p) fault.BadType) else Err fault.NotWritable)
+
+-- a tag behind those before it, or the first rule that is broken
+abbrev pub tag_of : List SiteDevice → List ModelDef → List ModelDef → List Tag → Data → Result Tag SiteFault
+tag_of devices own defs seen tree =
+    ok_or (tag_keys tree) fault.MissingKey >>= λ keys.
+    device_for devices (access_of keys.access) keys.place.device >>= λ device.
+    tag_placed own defs keys device >>= λ t.
+    (if is_on_heading t || list_any (clashes t) seen then Err fault.Duplicate else Ok t)
+
+-- the tags in order
+abbrev pub tags_behind : List SiteDevice → List ModelDef → List ModelDef → List Tag → Items → Result (List Tag) SiteFault
+tags_behind devices own defs seen no_items = Ok seen
+tags_behind devices own defs seen (item tree trees) = tag_of devices own defs seen tree >>= λ t. tags_behind devices own defs (seen ++ t ∷ []) trees

@@ -1,0 +1,77 @@
+-- What the reader's own values stand for: the keys of an entry, the gateway, a tag, and the whole site.
+use Rattle.std.specs.Prelude.{ℕ, List, Option, option_map, map}
+use Rattle.toml.specs.View.{items_view}
+use Rattle.site_model.specs.Gateway as told
+use Rattle.site_model.specs.Devices as devices
+use Rattle.site_model.specs.Tagging as tagging
+use Rattle.site_model.specs.Serving as serving
+use Rattle.site_model.specs.File as file
+use Rattle.site_model.specs.declared.serving.Given.{Given}
+use Rattle.site_model.specs.declared.serving.ServedKeys.{ServedKeys}
+use Rattle.site_model.specs.declared.site.Site.{Site}
+use Rattle.site_model.specs.declared.tag_keys.Numbers.{Numbers}
+use Rattle.site_model.specs.declared.tag_keys.Place.{Place}
+use Rattle.site_model.specs.declared.tag_keys.TagKeys.{TagKeys}
+use Rattle.site_model.specs.declared.unit.Unit.{Unit}
+use Rattle.site_model.specs.declared.tag.SiteTag.{SiteTag}
+use Rattle.site_model.specs.declared.gateway.GatewayKeys.{GatewayKeys}
+use Rattle.site_model.specs.declared.gateway.Gateway.{Gateway}
+use Rattle.site_model.specs.declared.devices.DeviceKeys.{DeviceKeys}
+
+abbrev pub gateway_keys_view : GatewayKeys → told.GatewayKeys
+gateway_keys_view keys = record { unit = keys.unit; base = keys.base; models = items_view keys.models.now }
+
+abbrev pub gateway_view : Gateway → told.Gateway
+gateway_view g = record { unit = g.unit; base = g.base; models = g.models }
+
+abbrev pub device_keys_view : DeviceKeys → devices.DeviceKeys
+device_keys_view keys = record { name = keys.name.now; unit = keys.unit; base = keys.base; write = keys.write }
+
+abbrev pub numbers_view : Numbers → tagging.Numbers
+numbers_view n = record { exponent = n.exponent; low = n.low; high = n.high; default = n.default }
+
+abbrev pub place_view : Place → tagging.Place
+place_view p = record { device = option_map (λ s. s.now) p.device; model = p.model; point = p.point.now }
+
+abbrev pub tag_keys_view : TagKeys → tagging.TagKeys
+tag_keys_view keys = record {
+  name = keys.name.now;
+  access = keys.access.now;
+  kind = keys.kind.now;
+  place = place_view keys.place;
+  numbers = numbers_view keys.numbers;
+  bit = keys.bit;
+  round = option_map (λ s. s.now) keys.round;
+}
+
+abbrev pub unit_view : Unit → tagging.Unit
+unit_view u = record { exponent = u.exponent; bit = u.bit }
+
+-- a tag without what it proves of itself
+abbrev pub tag_view : SiteTag → tagging.Tag
+tag_view t = record {
+  name = t.name;
+  access = t.access;
+  kind = t.kind;
+  low = t.low;
+  high = t.high;
+  default = t.default;
+  exponent = t.exponent;
+  bit = t.bit;
+  down = t.down;
+  device = t.device;
+  model = t.model;
+  point = t.point;
+  offset = t.offset;
+  sf = t.sf;
+}
+
+abbrev pub given_view : Given → serving.Given
+given_view g = record { value = g.value; text = option_map (λ s. s.now) g.text; sum = option_map (λ s. items_view s.now) g.sum }
+
+abbrev pub served_keys_view : ServedKeys → serving.ServedKeys
+served_keys_view keys = record { model = keys.model; point = keys.point.now; given = given_view keys.given }
+
+-- a site without what its tags prove of themselves
+abbrev pub site_view : Site → file.Layout
+site_view s = record { unit = s.unit; base = s.base; models = s.models; devices = s.devices; tags = map tag_view s.tags; served = s.served; lengths = s.lengths }

@@ -1,0 +1,244 @@
+//! The rules of a tag over its point.
+ghost use Rattle.std.specs.Prelude.{◌≡◌, pos, neg_ℤ, option_map, IfSome, Some, true};
+ghost use Rattle.point_types.specs.Reading.{IsExponent};
+ghost use Rattle.point_types.specs.Value.{is_ranged, is_within};
+ghost use Rattle.site_model.specs.Tag.{start_of};
+ghost use Rattle.site_model.specs.Keys.{natural_within};
+ghost use Rattle.site_model.specs.Tagging.{bit_of, exponent_of, factor_in, goes_together, has_range, is_bit_place, is_input, is_numeric, is_own, is_place, is_polled, is_rounding, is_sunssf, is_written, last_bit, may_be_written, offset_at, tag_over, tag_typed, type_of, unit_of, unit_within};
+ghost use Rattle.site_model.specs.Views.{numbers_view, tag_keys_view, tag_view, unit_view};
+
+use crate::access::Access;
+use crate::tag::{Sf, SiteTag};
+use crate::tag_keys::{Numbers, TagKeys, access_of, tag_name, type_of};
+use crate::unit::Unit;
+use model_defs::{ModelDef, Point};
+use point_types::{IlType, Kind};
+
+/// Whether the tag's point is a device's.
+pub(crate) fn is_polled(access: Access) -> bool
+    ensures { result ≡ is_polled access }
+{
+    matches!(access, Access::Input | Access::Output)
+}
+
+/// Whether the tag's point is the gateway's own.
+pub(crate) fn is_own(access: Access) -> bool
+    ensures { result ≡ is_own access }
+{
+    !is_polled(access)
+}
+
+/// Whether the tag is read from a device.
+pub(crate) fn is_input(access: Access) -> bool
+    ensures { result ≡ is_input access }
+{
+    matches!(access, Access::Input)
+}
+
+fn is_written(access: Access) -> bool
+    ensures { result ≡ is_written access }
+{
+    matches!(access, Access::Output | Access::Setting)
+}
+
+/// Whether the point is one that the access may write, where it writes.
+pub(crate) fn may_be_written(access: Option<Access>, writable: bool) -> bool
+    ensures { result ≡ may_be_written access writable }
+{
+    match access {
+        None => true,
+        Some(access) => !is_written(access) || writable,
+    }
+}
+
+/// The power of ten and the bit, where all of the tag's numbers lie in their ranges.
+pub(crate) fn unit_of(
+    kind: Option<IlType>,
+    point: Kind,
+    numbers: Numbers,
+    bit: Option<i64>,
+) -> Option<Unit>
+    ensures unit { option_map unit_view result ≡ unit_of kind point (numbers_view numbers) bit }
+    ensures ranged { IfSome result
+        (λ _. has_range kind numbers.low numbers.high (start_of numbers.low numbers.default) ≡ true) }
+{
+    if !has_range(
+        kind,
+        numbers.low,
+        numbers.high,
+        numbers.default.unwrap_or(numbers.low),
+    ) {
+        return None;
+    }
+    unit_within(point, numbers.exponent, bit)
+}
+
+fn unit_within(point: Kind, exponent: i64, bit: Option<i64>) -> Option<Unit>
+    ensures { option_map unit_view result ≡ unit_within point exponent bit }
+{
+    let exponent = exponent_of(exponent)?;
+    let bit = bit_of(point, bit)?;
+    Some(Unit { exponent, bit })
+}
+
+/// Whether low, the start and high ascend, within the type where it is known.
+fn has_range(kind: Option<IlType>, low: i64, high: i64, start: i64) -> bool
+    ensures { result ≡ has_range kind low high start }
+{
+    match kind {
+        None => is_within(low, high, start),
+        Some(kind) => is_ranged(kind, low, high, start),
+    }
+}
+
+fn is_ranged(kind: IlType, low: i64, high: i64, start: i64) -> bool
+    ensures { result ≡ is_ranged kind low high start }
+{
+    kind.low() <= low && is_within(low, high, start) && high <= kind.high()
+}
+
+fn is_within(low: i64, high: i64, number: i64) -> bool
+    ensures { result ≡ is_within low high number }
+{
+    low <= number && number <= high
+}
+
+/// A power of ten in -10..10.
+fn exponent_of(number: i64) -> Option<i8>
+    ensures number { result ≡ exponent_of number }
+    ensures within { IfSome result (λ e. IsExponent e) }
+{
+    if -10 <= number && number <= 10 {
+        Some(number as i8)
+    } else {
+        None
+    }
+}
+
+/// A bit of a bitfield, where it is one; a point that is none has no range.
+fn bit_of(point: Kind, bit: Option<i64>) -> Option<Option<u8>>
+    ensures { result ≡ bit_of point bit }
+{
+    let Some(bit) = bit else {
+        return Some(None);
+    };
+    let Some(last) = last_bit(point) else {
+        return Some(None);
+    };
+    if 0 <= bit && bit <= i64::from(last) {
+        Some(Some(bit as u8))
+    } else {
+        None
+    }
+}
+
+/// The last bit of a bitfield that may be a tag.
+fn last_bit(point: Kind) -> Option<u8>
+    ensures { result ≡ last_bit point }
+{
+    match point {
+        Kind::Bitfield16 => Some(14),
+        Kind::Bitfield32 => Some(30),
+        _ => None,
+    }
+}
+
+/// Whether the point has a number that stands for something.
+pub(crate) fn is_numeric(point: Kind) -> bool
+    ensures { result ≡ is_numeric point }
+{
+    !matches!(point, Kind::String | Kind::Pad)
+}
+
+pub(crate) fn is_sunssf(point: Kind) -> bool
+    ensures { result ≡ is_sunssf point }
+{
+    matches!(point, Kind::Sunssf)
+}
+
+fn is_place(access: Access, device: Option<&str>, point: Kind) -> bool
+    ensures { result ≡ is_place access (option_map (λ s. s.now) device.entry) point }
+{
+    is_numeric(point) && (is_polled(access) || (device.is_none() && !is_sunssf(point)))
+}
+
+fn is_bit_place(access: Access, kind: IlType, point: Kind, bit: Option<i64>) -> bool
+    ensures { result ≡ is_bit_place access kind point bit }
+{
+    match bit {
+        None => true,
+        Some(_) => is_input(access) && matches!(kind, IlType::Bool) && last_bit(point).is_some(),
+    }
+}
+
+fn is_rounding(access: Access, bit: Option<i64>, round: Option<&str>) -> bool
+    ensures { result ≡ is_rounding access bit (option_map (λ s. s.now) round.entry) }
+{
+    match round {
+        None => true,
+        Some(word) => is_input(access) && bit.is_none() && word == "down",
+    }
+}
+
+fn goes_together(access: Access, kind: IlType, point: Kind, keys: TagKeys<'_>) -> bool
+    ensures { result ≡ goes_together access kind point (tag_keys_view keys.entry) }
+{
+    is_place(access, keys.place.device, point)
+        && is_bit_place(access, kind, point, keys.bit)
+        && is_rounding(access, keys.bit, keys.round)
+}
+
+/// The tag, where its words are allowed.
+pub(crate) fn tag_typed(
+    keys: TagKeys<'_>,
+    unit: Unit,
+    device: Option<usize>,
+    model: &ModelDef,
+    point: &Point,
+) -> Option<SiteTag>
+    requires { has_range (type_of keys.kind.now) keys.numbers.low keys.numbers.high (start_of keys.numbers.low keys.numbers.default) ≡ true }
+    ensures { option_map tag_view result ≡ tag_typed (tag_keys_view keys.entry) (unit_view unit) device model.now point.now }
+{
+    let name = tag_name(keys.name)?;
+    let access = access_of(keys.access)?;
+    let kind = type_of(keys.kind)?;
+    if !goes_together(access, kind, point.kind, keys) {
+        return None;
+    }
+    Some(SiteTag {
+        name,
+        access,
+        kind,
+        low: keys.numbers.low,
+        high: keys.numbers.high,
+        default: keys.numbers.default,
+        exponent: unit.exponent,
+        bit: unit.bit,
+        down: keys.round.is_some(),
+        device,
+        model: model.id,
+        point: point.kind,
+        offset: point.offset,
+        sf: factor_in(model, point.sf),
+    })
+}
+
+/// A factor by its offset where it is a point of the model.
+fn factor_in(model: &ModelDef, sf: model_defs::Sf) -> Sf
+    ensures { result ≡ factor_in model.now sf }
+{
+    match sf {
+        model_defs::Sf::None => Sf::None,
+        model_defs::Sf::Fixed(n) => Sf::Fixed(n),
+        model_defs::Sf::At(number) => Sf::At(offset_at(model, number)),
+    }
+}
+
+pub(crate) fn offset_at(model: &ModelDef, number: usize) -> u16
+    ensures { result ≡ offset_at model.now number }
+{
+    match model.points.as_slice().get(number) {
+        Some(point) => point.offset,
+        None => 0,
+    }
+}

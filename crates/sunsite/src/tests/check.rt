@@ -1,0 +1,118 @@
+use crate::check::check;
+use crate::report::unusable;
+use crate::source::{SourceFault, read_file};
+use std::test::Fail;
+
+/// A site of one inverter, as a file.
+static SITE: &str = r#"
+[gateway]
+unit = 1
+models = [1, 103]
+
+[[device]]
+name = "inv1"
+unit = 1
+
+[[tag]]
+name = "inv1_w"
+access = "in"
+device = "inv1"
+model = 103
+point = "W"
+type = "DINT"
+exponent = 0
+low = -100000
+high = 100000
+"#;
+
+static PROGRAM: &str = "PROGRAM p\nVAR a : INT := 7; END_VAR\nLD a\nST a\nEND_PROGRAM\n";
+
+/// A definition of the model 64001 with one point.
+static DEFINITION: &str = r#"{"id": 64001, "group": {"points": [
+  {"name": "ID", "type": "uint16", "size": 1},
+  {"name": "L", "type": "uint16", "size": 1},
+  {"name": "X", "type": "uint16", "size": 1}]}}"#;
+
+/// What is printed, and the status.
+fn told(
+    rt: &impl AllocGlobal,
+    site: &str,
+    program: &str,
+    defs: &[&str],
+) -> Result<(String, u8), Fail> {
+    let mut texts = Vec::new(rt.alloc());
+    for def in defs {
+        texts.push(def.to_string(rt.alloc())?)?;
+    }
+    let mut out = Vec::new(rt.alloc());
+    let status = check(rt.alloc(), site, program, texts.as_slice(), &mut out);
+    Ok((String::from_utf8(out)?, status))
+}
+
+#[test]
+fn a_good_program_is_assembled(rt: HostRuntime) -> Result<(), Fail> {
+    let (lines, status) = told(&rt, SITE, PROGRAM, &[])?;
+    assert_eq!(rt; lines.as_str(), "assembled\n");
+    assert_eq!(rt; status, 0);
+    Ok(())
+}
+
+#[test]
+fn each_refusal_has_its_line(rt: HostRuntime) -> Result<(), Fail> {
+    for (site, program, def, printed) in [
+        (SITE, PROGRAM, "[", "refused: definition NotJson\n"),
+        (SITE, PROGRAM, "{}", "refused: definition MissingKey\n"),
+        ("x = ", PROGRAM, DEFINITION, "refused: site NotToml\n"),
+        ("", PROGRAM, DEFINITION, "refused: site MissingKey\n"),
+        (
+            SITE,
+            "PROGRAM p\nLD\nEND_PROGRAM\n",
+            DEFINITION,
+            "refused: read Operand line 2\n",
+        ),
+        (
+            SITE,
+            "PROGRAM p\nLD q\nEND_PROGRAM\n",
+            DEFINITION,
+            "refused: assemble UnknownName line 2\n",
+        ),
+    ] {
+        let (lines, status) = told(&rt, site, program, &[def])?;
+        assert_eq!(rt; lines.as_str(), printed);
+        assert_eq!(rt; status, 1);
+    }
+    Ok(())
+}
+
+#[test]
+fn definitions_come_before_the_site_and_the_site_before_the_program(
+    rt: HostRuntime,
+) -> Result<(), Fail> {
+    let (lines, _) = told(&rt, "x = ", "LD", &[DEFINITION, "{}", "["])?;
+    assert_eq!(rt; lines.as_str(), "refused: definition MissingKey\n");
+    let (lines, _) = told(&rt, "x = ", "LD", &[])?;
+    assert_eq!(rt; lines.as_str(), "refused: site NotToml\n");
+    Ok(())
+}
+
+#[test]
+fn a_definition_is_added_or_replaces_that_of_its_id(rt: HostRuntime) -> Result<(), Fail> {
+    let site = SITE.replace(rt.alloc(), "models = [1, 103]", "models = [1, 103, 64001]")?;
+    let (lines, _) = told(&rt, site.as_str(), PROGRAM, &[])?;
+    assert_eq!(rt; lines.as_str(), "refused: site UnknownModel\n");
+    let (lines, _) = told(&rt, site.as_str(), PROGRAM, &[DEFINITION])?;
+    assert_eq!(rt; lines.as_str(), "assembled\n");
+    let other = DEFINITION.replace(rt.alloc(), "64001", "103")?;
+    let (lines, _) = told(&rt, SITE, PROGRAM, &[other.as_str()])?;
+    assert_eq!(rt; lines.as_str(), "refused: site UnknownPoint\n");
+    Ok(())
+}
+
+#[test]
+fn a_file_that_is_not_there_is_refused_by_its_path(rt: HostRuntime) -> Result<(), Fail> {
+    let fault = read_file(&rt, rt.alloc(), "no/such/site.toml").err();
+    assert!(rt; fault == Some(SourceFault::Unusable));
+    let line = unusable(rt.alloc(), "no/such/site.toml")?;
+    assert_eq!(rt; line.as_str(), "refused: file no/such/site.toml\n");
+    Ok(())
+}

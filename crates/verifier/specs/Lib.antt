@@ -1,0 +1,13 @@
+pub mod Bare
+pub mod Budget
+pub mod Fact
+pub mod Fit
+pub mod Flow
+pub mod Links
+pub mod Listing
+pub mod Slots
+pub mod Sound
+pub mod Span
+pub mod Verdict
+pub mod Word
+pub mod Worked

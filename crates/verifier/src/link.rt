@@ -1,0 +1,87 @@
+ghost use Rattle.std.specs.Prelude.{◌≡◌};
+ghost use Rattle.verifier.specs.Links.{allowed, is_stored, link_of, links_from, number_of};
+ghost use Rattle.verifier.specs.Word.{AnswersOrWantsMemory};
+
+use crate::refusal::{Refusal, RefusalKind};
+use point_types::{Items, Name};
+use scan_code::Tag;
+use site_model::{Access, SiteTag};
+use std::alloc::Global;
+
+/// A tag of a site, and its number there.
+#[derive(Clone, Copy, PartialEq, Eq, Debug)]
+pub struct Link {
+    pub number: usize,
+    pub site: SiteTag,
+}
+
+/// The site's tag of each tag of an image, in the image's order. Refused is the first tag, by its
+/// number, that the site doesn't have (TagUnknown), or has with another type (TagType), or that is
+/// loaded but not one that programs load, or stored but not one that they store (TagAccess).
+pub fn links(alloc: Global, site: &[SiteTag], tags: &[Tag]) -> Result<Items<Link>, Refusal>
+    ensures { AnswersOrWantsMemory (λ links. links) (links_from site.now 0 tags.now) result }
+{
+    let mut links = Vec::new(alloc);
+    let mut at = 0;
+    let mut rest = tags;
+    while let [tag, after @ ..] = rest {
+        let link = match link_of(site, tag) {
+            Ok(link) => link,
+            Err(kind) => return Err(Refusal { at, kind }),
+        };
+        links.push(link)?;
+        at += 1;
+        rest = after;
+    }
+    Ok(Items::from_vec(links))
+}
+
+/// The site's tag of one tag of an image.
+fn link_of(site: &[SiteTag], tag: &Tag) -> Result<Link, RefusalKind>
+    ensures { result ≡ link_of site.now tag.now }
+{
+    let Some(number) = number_of(site, &tag.name) else {
+        return Err(RefusalKind::TagUnknown);
+    };
+    match site.get(number) {
+        Some(other) => allowed(
+            tag,
+            Link {
+                number,
+                site: *other,
+            },
+        ),
+        None => Err(RefusalKind::TagUnknown),
+    }
+}
+
+/// The number of the first tag of the site that has a name.
+fn number_of(site: &[SiteTag], name: &Name) -> Option<usize>
+    ensures { result ≡ number_of site.now name.now }
+{
+    site.iter()
+        .position(|tag| tag.name.as_bytes() == name.as_bytes())
+}
+
+/// The link, where types and directions agree.
+fn allowed(tag: &Tag, link: Link) -> Result<Link, RefusalKind>
+    ensures { result ≡ allowed tag.now link }
+{
+    if tag.kind != link.site.kind {
+        return Err(RefusalKind::TagType);
+    }
+    if tag.output != is_stored(link.site.access) {
+        return Err(RefusalKind::TagAccess);
+    }
+    Ok(link)
+}
+
+/// Whether programs store such a tag; they load the others.
+fn is_stored(access: Access) -> bool
+    ensures { result ≡ is_stored access }
+{
+    match access {
+        Access::Output | Access::Shown => true,
+        Access::Input | Access::Setting => false,
+    }
+}
