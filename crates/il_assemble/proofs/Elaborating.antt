@@ -1,5 +1,5 @@
 -- What elaborates is well formed, and its image is the one that the two passes make.
-use Rattle.std.proofs.Common.{◌≡◌, ◌≢◌, ◌⊎◌, inl, inr, ⊎_elim, ℕ, zero, suc, ◌+◌, ◌<◌, ◌≤◌, Bool, true, false, not, ◌&&◌, ◌||◌, if◌then◌else◌, ℤ, pos, negsuc, List, [], ◌∷◌, ◌++◌, length, map, position, Option, Some, None, option_map, option_and_then, Result, Ok, Err, slice_get, nat_le, nat_eq, int_le, IsTrue, refl, sym, ap, ◌∙◌, subst, arith, leb-true, le-leb, true≢false, All, get_or, unwrap_or, length-append}
+use Rattle.std.proofs.Common.{◌≡◌, ◌⊎◌, inl, inr, ⊎_elim, ℕ, zero, suc, ◌+◌, ◌<◌, ◌≤◌, Bool, true, false, ◌&&◌, ◌||◌, if◌then◌else◌, ℤ, pos, negsuc, List, [], ◌∷◌, ◌++◌, length, position, Option, Some, None, option_map, option_and_then, Result, Ok, Err, slice_get, nat_le, nat_eq, int_le, IsTrue, refl, sym, ap, ◌∙◌, subst, arith, leb-true, le-leb, true≢false, All, get_or, unwrap_or, length-append}
 use Rattle.std.proofs.lemmas.List.{length-map}
 use Rattle.std.proofs.lemmas.List.Quantifiers.{position-Some}
 use Rattle.std.proofs.lemmas.Bool.{ne_eqb}
@@ -7,11 +7,8 @@ use Rattle.std.proofs.lemmas.Bool.Decides.{eqb_tells}
 use Rattle.point_types.specs.declared.il_type.IlType.{IlType}
 use Rattle.point_types.specs.declared.variable.Var.{Var}
 use Rattle.point_types.specs.Value.{low_of, high_of, is_within, ◌>>=◌}
-use Rattle.scan_code.specs.declared.image.Image.{Image}
-use Rattle.scan_code.specs.declared.image.Tag.{Tag}
-use Rattle.scan_code.specs.declared.op.Op.{Op}
+use Rattle.scan_code.specs.Image.{Image}
 use Rattle.scan_code.specs.declared.op.Op.TheVariants as does
-use Rattle.scan_code.specs.Spelling.{spelled_all}
 use Rattle.il_reader.specs.declared.tree.Program.{Program as Tree}
 use Rattle.il_reader.specs.declared.tree.Variable.{Variable}
 use Rattle.il_reader.specs.declared.tree.External.{External}
@@ -19,20 +16,18 @@ use Rattle.il_reader.specs.declared.tree.Statement.{Statement}
 use Rattle.il_reader.specs.declared.tree.Action.{Action}
 use Rattle.il_reader.specs.declared.tree.Action.TheVariants as action
 use Rattle.il_assemble.specs.declared.fault.AsmFault.{AsmFault}
-use Rattle.il_assemble.specs.declared.fault.AsmFaultKind.{AsmFaultKind}
 use Rattle.il_assemble.specs.declared.fault.AsmFaultKind.TheVariants as kind
 use Rattle.il_assemble.specs.Meaning.{Program, Line, has_label}
 use Rattle.il_assemble.specs.Meaning as resolved
-use Rattle.il_assemble.specs.Code.{action_code, lines_code, past, label_address, code_of_program, image_of, version_of}
-use Rattle.il_assemble.specs.Correct.{Has, IsAction, IsCounted, AreLines, IsDeclared, IsWell, DoesWhatItMeans, stands}
-use Rattle.il_assemble.specs.Limit.{most_names, most_nested, most_counted, most_code}
-use Rattle.il_assemble.specs.Names.{Scope, known_as, tags_of, uses_of}
+use Rattle.il_assemble.specs.Code.{action_code, lines_code, past, label_address, code_of_program, image_of}
+use Rattle.il_assemble.specs.Correct.{Has, IsAction, AreLines, IsDeclared, IsWell, DoesWhatItMeans, stands}
+use Rattle.il_assemble.specs.Limit.{most_names, most_counted, most_code}
+use Rattle.il_assemble.specs.Names.{Scope, known_as, tags_of}
 use Rattle.il_assemble.specs.Typing.{loaded_type, type_after_line}
-use Rattle.il_assemble.specs.StaticFault.{at_line, unless, lowest, store_fault, is_count, is_labelled, is_labelled_so, label_place, jump_fault, checked_simple, checked_line, checked_lines}
-use Rattle.il_assemble.specs.Elaboration.{place_known, resolved_simple, target, resolved_action, label_of, resolved_line, turns_of, limits_of, resolved_lines, too_long, unless_variable, unless_external, is_nested_within, is_action_within, nested, counted, behind, measured, declared_var, scope_of, program_of, elaborated}
+use Rattle.il_assemble.specs.StaticFault.{unless, store_fault, is_count, is_labelled, is_labelled_so, label_place, jump_fault, checked_line, checked_lines}
+use Rattle.il_assemble.specs.Elaboration.{target, resolved_action, label_of, resolved_line, turns_of, limits_of, resolved_lines, too_long, unless_variable, unless_external, is_action_within, nested, counted, behind, measured, declared_var, names_seen, named_apart, scope_of, program_of, elaborated}
 use Rattle.il_assemble.specs.Kept.{address_in, addresses_of}
 use Rattle.il_assemble.specs.Assembled.{IsAssembled, StartsAreInRange, WhatElaboratesIsWell}
-use Rattle.il_assemble.specs.Written.{written}
 use Rattle.il_assemble.proofs.Leads.{past_append}
 use Rattle.il_assemble.proofs.Bytes.{code_is_of_bytes, long_as_past}
 use Rattle.il_assemble.proofs.Lines.{same_size, code_does_what_the_program_means, each_end_is_the_meaning}
@@ -151,7 +146,7 @@ module _ (g : Scope) where
   line_well place counter running rest line earlier None before counts shallow e = tt
   line_well place counter running rest line earlier (Some (action.Compute s)) before counts shallow e =
       let loaded = loaded_type g rest in
-      (simple_well g line running loaded (written s) e, omega (arith, simple_depth g running loaded (written s) 100 shallow))
+      (simple_well g line running loaded s e, omega (arith, simple_depth g running loaded s 100 shallow))
   line_well place counter running rest line earlier (Some (action.Store n name)) before counts shallow e =
       store_well g (known_as g name) (known_there g name) (at_line_ok line (store_fault g (known_as g name)) e)
   line_well place counter running rest line earlier (Some (action.Set v name)) before counts shallow e =
@@ -350,6 +345,7 @@ pub record IsElaborated (t : Tree) : Type 0 where
   pub variables : unless_variable (slice_get t.variables most_names) ≡ Ok tt
   pub externals : unless_external (slice_get t.externals most_names) ≡ Ok tt
   pub shallow : nested t.statements ≡ Ok tt
+  pub apart : named_apart t.variables t.externals (names_seen (scope_of t)) ≡ Ok tt
   pub checked : checked_lines (scope_of t) 0 None t.statements ≡ Ok tt
   pub short : measured (scope_of t) t.end_line 0 0 None t.statements ≡ Ok tt
 
@@ -360,12 +356,14 @@ bind_ok (Err fault) f b e = cc
 pub parts : (t : Tree) (p : Program) → elaborated t ≡ Ok p → IsElaborated t × (program_of (scope_of t) ≡ p)
 parts t p e =
     let g = scope_of t in
-    let a = bind_ok (counted t.variables t.externals t.statements) (λ _. checked_lines g 0 None t.statements >>= λ _. measured g t.end_line 0 0 None t.statements >>= λ _. Ok (program_of g)) p e in
-    let b = bind_ok (checked_lines g 0 None t.statements) (λ _. measured g t.end_line 0 0 None t.statements >>= λ _. Ok (program_of g)) p a.2 in
+    let apart = named_apart t.variables t.externals (names_seen g) in
+    let a = bind_ok (counted t.variables t.externals t.statements) (λ _. apart >>= λ _. checked_lines g 0 None t.statements >>= λ _. measured g t.end_line 0 0 None t.statements >>= λ _. Ok (program_of g)) p e in
+    let n = bind_ok apart (λ _. checked_lines g 0 None t.statements >>= λ _. measured g t.end_line 0 0 None t.statements >>= λ _. Ok (program_of g)) p a.2 in
+    let b = bind_ok (checked_lines g 0 None t.statements) (λ _. measured g t.end_line 0 0 None t.statements >>= λ _. Ok (program_of g)) p n.2 in
     let c = bind_ok (measured g t.end_line 0 0 None t.statements) (λ _. Ok (program_of g)) p b.2 in
     let d = first_ok (unless_variable (slice_get t.variables most_names)) (unless_external (slice_get t.externals most_names) >>= λ _. nested t.statements) a.1 in
     let f = first_ok (unless_external (slice_get t.externals most_names)) (nested t.statements) d.1 in
-    (record { variables = d.0; externals = f.0; shallow = f.1; checked = b.1; short = c.1 }, cc)
+    (record { variables = d.0; externals = f.0; shallow = f.1; apart = n.1; checked = b.1; short = c.1 }, cc)
 
 from_start : {A : Type 0} (xs : List A) (k : ℕ) → slice_get xs (0 + k) ≡ slice_get xs k
 from_start xs k = let q : 0 + k ≡ k = omega arith in ap (λ n. slice_get xs n) q
@@ -400,9 +398,11 @@ does_what_it_means p well = record {
 elaborates : (t : Tree) → IsElaborated t → elaborated t ≡ Ok (program_of (scope_of t))
 elaborates t x =
     let g = scope_of t in
-    ap (λ r. (r >>= λ _. unless_external (slice_get t.externals most_names) >>= λ _. nested t.statements) >>= λ _. checked_lines g 0 None t.statements >>= λ _. measured g t.end_line 0 0 None t.statements >>= λ _. Ok (program_of g)) x.variables
-    ∙ ap (λ r. (r >>= λ _. nested t.statements) >>= λ _. checked_lines g 0 None t.statements >>= λ _. measured g t.end_line 0 0 None t.statements >>= λ _. Ok (program_of g)) x.externals
-    ∙ ap (λ r. r >>= λ _. checked_lines g 0 None t.statements >>= λ _. measured g t.end_line 0 0 None t.statements >>= λ _. Ok (program_of g)) x.shallow
+    let apart = named_apart t.variables t.externals (names_seen g) in
+    ap (λ r. (r >>= λ _. unless_external (slice_get t.externals most_names) >>= λ _. nested t.statements) >>= λ _. apart >>= λ _. checked_lines g 0 None t.statements >>= λ _. measured g t.end_line 0 0 None t.statements >>= λ _. Ok (program_of g)) x.variables
+    ∙ ap (λ r. (r >>= λ _. nested t.statements) >>= λ _. apart >>= λ _. checked_lines g 0 None t.statements >>= λ _. measured g t.end_line 0 0 None t.statements >>= λ _. Ok (program_of g)) x.externals
+    ∙ ap (λ r. r >>= λ _. apart >>= λ _. checked_lines g 0 None t.statements >>= λ _. measured g t.end_line 0 0 None t.statements >>= λ _. Ok (program_of g)) x.shallow
+    ∙ ap (λ r. r >>= λ _. checked_lines g 0 None t.statements >>= λ _. measured g t.end_line 0 0 None t.statements >>= λ _. Ok (program_of g)) x.apart
     ∙ ap (λ r. r >>= λ _. measured g t.end_line 0 0 None t.statements >>= λ _. Ok (program_of g)) x.checked
     ∙ ap (λ r. r >>= λ _. Ok (program_of g)) x.short
 
@@ -421,24 +421,3 @@ passes_assemble t x image e =
 
 pub few_counted : (g : Scope) (end_line : ℕ) (ss : List Statement) → measured g end_line 0 0 None ss ≡ Ok tt → length (limits_of ss) ≤ 256
 few_counted g end_line ss e = let m = measured_ok g end_line 0 0 0 None ss (λ l. 0) (omega arith) e in omega (arith, m.1)
-
--- what a program's lines see, by the uses that were found
-abbrev pub seen_with : Tree → List (Option Bool) → Scope
-seen_with t uses = record { variables = t.variables; externals = t.externals; uses = uses; statements = t.statements }
-
--- what the passes make from the uses of externals and the addresses of lines
-abbrev Made : Tree → List (Option Bool) → Type 0
-Made t uses =
-    checked_lines (seen_with t uses) 0 None t.statements ≡ Ok tt → measured (seen_with t uses) t.end_line 0 0 None t.statements ≡ Ok tt
-    → (addresses : List ℕ) → addresses ≡ addresses_of (seen_with t uses) 0 0 None t.statements
-    → (version : ℕ) (vars : List Var) (tags : List Tag) (code : List ℕ) → version ≡ version_of (limits_of t.statements) → vars ≡ map declared_var t.variables → tags ≡ tags_of t.externals uses
-    → code ≡ spelled_all (lines_code (address_in addresses) (resolved_lines (seen_with t uses) 0 0 None t.statements))
-    → IsAssembled t (record { version = version; vars = vars; tags = tags; code = code })
-
-pub made : (t : Tree) (uses : List (Option Bool)) → uses ≡ uses_of t.variables t.externals t.statements
-    → unless_variable (slice_get t.variables most_names) ≡ Ok tt → unless_external (slice_get t.externals most_names) ≡ Ok tt → nested t.statements ≡ Ok tt → Made t uses
-made t uses e variables externals shallow =
-    subst (Made t) (sym e) (λ checked short addresses found version vars tags code v w x y.
-    let bytes : code ≡ spelled_all (code_of_program (program_of (scope_of t))) = y ∙ ap (λ ns. spelled_all (lines_code (address_in ns) (resolved_lines (scope_of t) 0 0 None t.statements))) found ∙ ap spelled_all (code_same (scope_of t) checked) in
-    passes_assemble t (record { variables = variables; externals = externals; shallow = shallow; checked = checked; short = short }) (record { version = version; vars = vars; tags = tags; code = code })
-    (λ i. record { version = v i; vars = w i; tags = x i; code = bytes i }))

@@ -5,7 +5,7 @@ use Rattle.point_types.specs.declared.reading.Reading.{Reading}
 use Rattle.point_types.specs.Value.{Value, Fault, ◌>>=◌}
 use Rattle.il_assemble.specs.Meaning.{Outcome, Done, Fails, Move, move_of, continued, Aim}
 use Rattle.il_assemble.specs.Meaning as source
-use Rattle.scan_code.specs.declared.image.Image.{Image}
+use Rattle.scan_code.specs.Image.{Image}
 use Rattle.scan_code.specs.Machine.{State, Goes, Ends, Traps, At_fault, then_goes, step, after_step, run}
 use Rattle.scan_code.specs.Spelling.{spelled}
 use Rattle.il_assemble.specs.Code.{past}

@@ -8,7 +8,7 @@ use Rattle.scan_code.specs.declared.op.Op.{Op}
 use Rattle.scan_code.specs.declared.op.Op.TheVariants as does
 use Rattle.point_types.specs.declared.reading.Reading.{Reading}
 use Rattle.il_assemble.specs.Meaning.{Program, Line, Action, Compute, Store, Set, Jump, Repeat, Return, Outcome, Done, Fails, Aim, Next, Seek, State, has_label, continued, move_from, walked, turns_from, opening, meaning}
-use Rattle.scan_code.specs.declared.image.Image.{Image}
+use Rattle.scan_code.specs.Image.{Image}
 use Rattle.scan_code.specs.Table.{no_turns}
 use Rattle.scan_code.specs.Machine.{Ending, State as State', opening as opening', run, after_step, Step, Goes, Ends, Traps, step}
 use Rattle.scan_code.specs.Spelling.{spelled, spelled_all}

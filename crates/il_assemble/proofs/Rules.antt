@@ -1,34 +1,49 @@
--- What an assembled image keeps.
-use Rattle.std.proofs.Common.{◌≡◌, ℕ, ◌+◌, ◌≤◌, ◌<◌, Bool, true, false, not, ◌&&◌, ◌||◌, List, [], ◌∷◌, ◌++◌, length, map, Option, Some, None, Ok, nat_eq, refl, sym, ap, ◌∙◌, subst, arith}
+-- What the passes make is the program's image, and keeps the rules of images.
+use Rattle.std.proofs.Common.{◌≡◌, ℕ, Bool, true, false, not, ◌&&◌, ◌||◌, if◌then◌else◌, List, [], ◌∷◌, ◌++◌, map, Option, Some, None, Result, Ok, Err, slice_get, bytes_eq, refl, sym, ap, ◌∙◌, subst, arith}
 use Rattle.std.proofs.lemmas.List.{length-map}
-use Rattle.std.specs.Str.{bytes_eq}
-use Rattle.scan_code.specs.declared.image.Image.{Image}
+use Rattle.std.proofs.lemmas.List.Folds.{list_any-append}
+use Rattle.point_types.specs.Name.{is_name}
+use Rattle.point_types.specs.declared.variable.Var.{Var}
+use Rattle.scan_code.specs.declared.image.Tag.{Tag}
+use Rattle.scan_code.specs.Image.{Image, IsProper, are_new, is_among, is_new, is_version, names_of, tag_name}
+use Rattle.scan_code.specs.Spelling.{spelled_all}
 use Rattle.il_reader.specs.declared.tree.Program.{Program as Tree}
 use Rattle.il_reader.specs.declared.tree.Variable.{Variable}
 use Rattle.il_reader.specs.declared.tree.External.{External}
+use Rattle.il_assemble.specs.declared.fault.AsmFault.{AsmFault}
 use Rattle.il_assemble.specs.Meaning.{Program}
-use Rattle.il_assemble.specs.Code.{image_of, version_of}
-use Rattle.il_assemble.specs.Names.{tags_of}
-use Rattle.il_assemble.specs.Elaboration.{declared_var, elaborated, limits_of, program_of, scope_of}
-use Rattle.il_assemble.specs.ImageRule.{IsWithinLimits, ImagesAreWithinLimits, NamesStayDifferent, is_among, all_differ, var_name, tag_name, declared_name, external_name}
+use Rattle.il_assemble.specs.Assembled.{ImagesAreProper, IsAssembled, NamesStayDifferent, declared_name, external_name}
+use Rattle.il_assemble.specs.Code.{code_of_program, image_of, lines_code, version_of}
+use Rattle.il_assemble.specs.Kept.{address_in, addresses_of}
+use Rattle.il_assemble.specs.Limit.{most_names}
+use Rattle.il_assemble.specs.Names.{Scope, tags_of, uses_of}
+use Rattle.il_assemble.specs.StaticFault.{checked_lines}
+use Rattle.il_assemble.specs.Elaboration.{declared_var, first_line, limits_of, measured, named_apart, names_seen, nested, program_of, resolved_lines, scope_of, too_long, unless_external, unless_variable}
 use Rattle.il_assemble.proofs.Bytes.{code_is_of_bytes}
 use Rattle.il_assemble.proofs.Sound.{both, negated}
-use Rattle.il_assemble.proofs.Elaborating.{IsElaborated, parts, well, few_variables, few_externals, fewer_tags}
+use Rattle.il_assemble.proofs.Elaborating.{IsElaborated, code_same, few_externals, few_variables, fewer_tags, parts, passes_assemble, well}
 
-versions : (limits : List ℕ) → (nat_eq (version_of limits) 1 || nat_eq (version_of limits) 2) ≡ true
+-- The rules of images.
+
+versions : (limits : List ℕ) → is_version (version_of limits) ≡ true
 versions [] = refl
 versions (limit ∷ limits) = refl
 
-within : (t : Tree) → IsElaborated t → IsWithinLimits (image_of (program_of (scope_of t)))
-within t x = record {
+apart_ok : (b : Bool) (fault : AsmFault) → ◌≡◌ {A = Result (Unit {0}) AsmFault} (if b then Ok tt else Err fault) (Ok tt) → b ≡ true
+apart_ok true fault e = refl
+apart_ok false fault e = cc
+
+is_proper : (t : Tree) → IsElaborated t → IsProper (image_of (program_of (scope_of t)))
+is_proper t x = record {
   versioned = versions (limits_of t.statements);
   few_variables = omega (arith, length-map t.variables declared_var, few_variables t.variables x.variables);
   few_tags = omega (arith, fewer_tags t.externals (scope_of t).uses, few_externals t.externals x.externals);
   short = (code_is_of_bytes (program_of (scope_of t)) (well t x)).1;
+  distinct = apart_ok (are_new [] (names_seen (scope_of t))) (too_long (first_line t.variables t.externals)) x.apart;
 }
 
-pub images_are_within_limits : ImagesAreWithinLimits
-images_are_within_limits t p e = let x = parts t p e in subst (λ (q : Program). IsWithinLimits (image_of q)) x.1 (within t x.0)
+pub images_are_proper : ImagesAreProper
+images_are_proper t p e = let x = parts t p e in subst (λ (q : Program). IsProper (image_of q)) x.1 (is_proper t x.0)
 
 -- Names.
 
@@ -36,52 +51,78 @@ or_none : (a b : Bool) → (a || b) ≡ false → (a ≡ false) × (b ≡ false)
 or_none true b h = cc
 or_none false b h = (refl, h)
 
-none_or : (a b : Bool) → a ≡ false → b ≡ false → (a || b) ≡ false
-none_or a b h k = ap (λ x. x || b) h ∙ k
-
 and_both : (a b : Bool) → a ≡ true → b ≡ true → (a && b) ≡ true
 and_both a b h k = ap (λ x. x && b) h ∙ k
 
-not_so : (b : Bool) → b ≡ false → not b ≡ true
-not_so b h = ap not h
+-- what isn't among the first names isn't among the second ones
+abbrev Lack : List (List ℕ) → List (List ℕ) → Type 0
+Lack before after = (n : List ℕ) → is_among before n ≡ false → is_among after n ≡ false
 
--- a name that isn't among the externals isn't among the tags
-tags_lack : (name : List ℕ) (es : List External) (us : List (Option Bool)) → is_among (map external_name es) name ≡ false → is_among (map tag_name (tags_of es us)) name ≡ false
-tags_lack name [] us h = refl
-tags_lack name (e ∷ es) [] h = refl
-tags_lack name (e ∷ es) (None ∷ us) h = tags_lack name es us (or_none (bytes_eq name e.name) (is_among (map external_name es) name) h).1
-tags_lack name (e ∷ es) (Some stored ∷ us) h =
-    let x = or_none (bytes_eq name e.name) (is_among (map external_name es) name) h in
-    none_or (bytes_eq name e.name) (is_among (map tag_name (tags_of es us)) name) x.0 (tags_lack name es us x.1)
+lack_front : (before after : List (List ℕ)) (name : List ℕ) → Lack before after → Lack (before ++ name ∷ []) after
+lack_front before after name h n e = h n (or_none (is_among before n) (is_among (name ∷ []) n) (sym (list_any-append (bytes_eq n) before (name ∷ [])) ∙ e)).0
 
-tags_differ : (es : List External) (us : List (Option Bool)) → all_differ (map external_name es) ≡ true → all_differ (map tag_name (tags_of es us)) ≡ true
-tags_differ [] us h = refl
-tags_differ (e ∷ es) [] h = refl
-tags_differ (e ∷ es) (None ∷ us) h = tags_differ es us (both (not (is_among (map external_name es) e.name)) (all_differ (map external_name es)) h).1
-tags_differ (e ∷ es) (Some stored ∷ us) h =
-    let x = both (not (is_among (map external_name es) e.name)) (all_differ (map external_name es)) h in
-    and_both (not (is_among (map tag_name (tags_of es us)) e.name)) (all_differ (map tag_name (tags_of es us)))
-    (not_so (is_among (map tag_name (tags_of es us)) e.name) (tags_lack e.name es us (negated (is_among (map external_name es) e.name) x.0)))
-    (tags_differ es us x.1)
+lack_both : (before after : List (List ℕ)) (name : List ℕ) → Lack before after → Lack (before ++ name ∷ []) (after ++ name ∷ [])
+lack_both before after name h n e =
+    let x = or_none (is_among before n) (is_among (name ∷ []) n) (sym (list_any-append (bytes_eq n) before (name ∷ [])) ∙ e) in
+    list_any-append (bytes_eq n) after (name ∷ []) ∙ ap (λ b. b || is_among (name ∷ []) n) (h n x.0) ∙ x.1
 
-all_lack : (name : List ℕ) (vs : List Variable) (es : List External) (us : List (Option Bool)) → is_among (map declared_name vs ++ map external_name es) name ≡ false → is_among (map var_name (map declared_var vs) ++ map tag_name (tags_of es us)) name ≡ false
-all_lack name [] es us h = tags_lack name es us h
-all_lack name (v ∷ vs) es us h =
-    let x = or_none (bytes_eq name v.var.name) (is_among (map declared_name vs ++ map external_name es) name) h in
-    none_or (bytes_eq name v.var.name) (is_among (map var_name (map declared_var vs) ++ map tag_name (tags_of es us)) name) x.0 (all_lack name vs es us x.1)
+stays_new : (before after : List (List ℕ)) (name : List ℕ) → Lack before after → is_new before name ≡ true → is_new after name ≡ true
+stays_new before after name h e =
+    let x = both (is_name name) (not (is_among before name)) e in
+    and_both (is_name name) (not (is_among after name)) x.0 (ap not (h name (negated (is_among before name) x.1)))
 
-names_differ : (vs : List Variable) (es : List External) (us : List (Option Bool)) → all_differ (map declared_name vs ++ map external_name es) ≡ true → all_differ (map var_name (map declared_var vs) ++ map tag_name (tags_of es us)) ≡ true
-names_differ [] es us h = tags_differ es us h
-names_differ (v ∷ vs) es us h =
-    let before = map declared_name vs ++ map external_name es in
-    let after = map var_name (map declared_var vs) ++ map tag_name (tags_of es us) in
-    let x = both (not (is_among before v.var.name)) (all_differ before) h in
-    and_both (not (is_among after v.var.name)) (all_differ after)
-    (not_so (is_among after v.var.name) (all_lack v.var.name vs es us (negated (is_among before v.var.name) x.0)))
-    (names_differ vs es us x.1)
+tags_new : (es : List External) (us : List (Option Bool)) (before after : List (List ℕ)) → Lack before after → are_new before (map external_name es) ≡ true → are_new after (map tag_name (tags_of es us)) ≡ true
+tags_new [] us before after lack h = refl
+tags_new (e ∷ es) [] before after lack h = refl
+tags_new (e ∷ es) (None ∷ us) before after lack h =
+    tags_new es us (before ++ e.name ∷ []) after (lack_front before after e.name lack) (both (is_new before e.name) (are_new (before ++ e.name ∷ []) (map external_name es)) h).1
+tags_new (e ∷ es) (Some stored ∷ us) before after lack h =
+    let x = both (is_new before e.name) (are_new (before ++ e.name ∷ []) (map external_name es)) h in
+    and_both (is_new after e.name) (are_new (after ++ e.name ∷ []) (map tag_name (tags_of es us)))
+    (stays_new before after e.name lack x.0)
+    (tags_new es us (before ++ e.name ∷ []) (after ++ e.name ∷ []) (lack_both before after e.name lack) x.1)
+
+names_new : (vs : List Variable) (es : List External) (us : List (Option Bool)) (before : List (List ℕ)) → are_new before (map declared_name vs ++ map external_name es) ≡ true → are_new before (names_of (map declared_var vs) (tags_of es us)) ≡ true
+names_new [] es us before h = tags_new es us before before (λ n e. e) h
+names_new (v ∷ vs) es us before h =
+    let x = both (is_new before v.var.name) (are_new (before ++ v.var.name ∷ []) (map declared_name vs ++ map external_name es)) h in
+    and_both (is_new before v.var.name) (are_new (before ++ v.var.name ∷ []) (names_of (map declared_var vs) (tags_of es us))) x.0 (names_new vs es us (before ++ v.var.name ∷ []) x.1)
 
 pub names_stay_different : NamesStayDifferent
-names_stay_different t p e h =
-    let x = parts t p e in
-    subst (λ (q : Program). all_differ (map var_name (image_of q).vars ++ map tag_name (image_of q).tags) ≡ true) x.1
-    (names_differ t.variables t.externals (scope_of t).uses h)
+names_stay_different t h =
+    ap (λ b. if b then Ok tt else Err (too_long (first_line t.variables t.externals))) (names_new t.variables t.externals (scope_of t).uses [] h)
+
+-- The passes.
+
+-- what a program's lines see, by the uses that were found
+abbrev pub seen_with : Tree → List (Option Bool) → Scope
+seen_with t uses = record { variables = t.variables; externals = t.externals; uses = uses; statements = t.statements }
+
+pub record IsMade (t : Tree) (image : Image) : Type 0 where
+  pub assembled : IsAssembled t image
+  pub proper : IsProper image
+
+-- what the passes make from the uses of externals and the addresses of lines
+abbrev Made : Tree → List (Option Bool) → Type 0
+Made t uses =
+    checked_lines (seen_with t uses) 0 None t.statements ≡ Ok tt → measured (seen_with t uses) t.end_line 0 0 None t.statements ≡ Ok tt
+    → (addresses : List ℕ) → addresses ≡ addresses_of (seen_with t uses) 0 0 None t.statements
+    → (version : ℕ) (vars : List Var) (tags : List Tag) (code : List ℕ) → version ≡ version_of (limits_of t.statements) → vars ≡ map declared_var t.variables → tags ≡ tags_of t.externals uses
+    → code ≡ spelled_all (lines_code (address_in addresses) (resolved_lines (seen_with t uses) 0 0 None t.statements))
+    → named_apart t.variables t.externals (names_of vars tags) ≡ Ok tt
+    → IsMade t (record { version = version; vars = vars; tags = tags; code = code })
+
+pub made : (t : Tree) (uses : List (Option Bool)) → uses ≡ uses_of t.variables t.externals t.statements
+    → unless_variable (slice_get t.variables most_names) ≡ Ok tt → unless_external (slice_get t.externals most_names) ≡ Ok tt → nested t.statements ≡ Ok tt → Made t uses
+made t uses e variables externals shallow =
+    subst (Made t) (sym e) (λ checked short addresses found version vars tags code v w x y named.
+    let bytes : code ≡ spelled_all (code_of_program (program_of (scope_of t))) = y ∙ ap (λ ns. spelled_all (lines_code (address_in ns) (resolved_lines (scope_of t) 0 0 None t.statements))) found ∙ ap spelled_all (code_same (scope_of t) checked) in
+    let apart : named_apart t.variables t.externals (names_seen (scope_of t)) ≡ Ok tt =
+    ap (λ (vs : List Var). named_apart t.variables t.externals (names_of vs (tags_of t.externals (scope_of t).uses))) (sym w) ∙ ap (λ (ts : List Tag). named_apart t.variables t.externals (names_of vars ts)) (sym x) ∙ named in
+    let sound : IsElaborated t = record { variables = variables; externals = externals; shallow = shallow; apart = apart; checked = checked; short = short } in
+    let image : Image = record { version = version; vars = vars; tags = tags; code = code } in
+    let same : image ≡ image_of (program_of (scope_of t)) = λ i. record { version = v i; vars = w i; tags = x i; code = bytes i } in
+    record {
+      assembled = passes_assemble t sound image same;
+      proper = subst IsProper (sym same) (is_proper t sound);
+    })

@@ -13,7 +13,7 @@ use Rattle.scan_code.specs.Table.{input_kind, or_wrong, declared_value, read_val
 use Rattle.scan_code.specs.Instruction.{decoded_at}
 use Rattle.il_assemble.specs.Meaning.{Program, Scope, Source, Variable, Input, Presence, Constant, Simple, Load, Apply, Defer, Limit, Select, Invert, Absolute, Convert, Inner, Close, Then, value_of, optional_value, operand_applied, simple_result, inner_result, scope_of}
 use Rattle.il_assemble.specs.Meaning as source
-use Rattle.scan_code.specs.declared.image.Image.{Image}
+use Rattle.scan_code.specs.Image.{Image}
 use Rattle.scan_code.specs.Machine.{State, Step, Goes, Traps, NoDeferred, then_goes, on_place, done, decoded_step, step}
 use Rattle.scan_code.specs.Spelling.{spelled}
 use Rattle.il_assemble.specs.Code.{constant_of, load_of, not_code, start_code, simple_code, inner_code, past}

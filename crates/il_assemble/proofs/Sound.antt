@@ -1,25 +1,21 @@
 -- Where no static fault holds, instructions are well formed: names stand for places, literals fit their types.
-use Rattle.std.proofs.Common.{◌≡◌, ℕ, zero, suc, ◌+◌, ◌<◌, ◌≤◌, max, Bool, true, false, not, ◌&&◌, if◌then◌else◌, ℤ, List, [], ◌∷◌, length, map, position, Option, Some, None, Result, Ok, Err, slice_get, nat_le, nat_eq, ◌-◌, refl, sym, ap, ◌∙◌, subst, arith, leb-true}
+use Rattle.std.proofs.Common.{◌≡◌, ℕ, zero, suc, ◌+◌, ◌<◌, ◌≤◌, max, Bool, true, false, not, ◌&&◌, ℤ, List, [], ◌∷◌, length, map, position, Option, Some, None, Result, Ok, Err, slice_get, nat_le, nat_eq, ◌-◌, refl, arith, leb-true}
 use Rattle.std.proofs.lemmas.List.Quantifiers.{position-Some}
 use Rattle.point_types.specs.declared.il_type.IlType.{IlType}
 use Rattle.point_types.specs.declared.il_type.IlType.TheVariants as il
-use Rattle.point_types.specs.declared.variable.Var.{Var}
 use Rattle.point_types.specs.Value.{low_of, high_of, is_within, is_bool, code_of, ◌>>=◌}
 use Rattle.scan_code.specs.Table.{input_kind, output_kind}
-use Rattle.il_reader.specs.declared.tree.Variable.{Variable}
 use Rattle.il_reader.specs.declared.tree.External.{External}
 use Rattle.il_reader.specs.declared.tree.Operand.{Operand}
 use Rattle.il_reader.specs.declared.tree.Operand.TheVariants.{Named, Truth, Number, Typed}
-use Rattle.il_assemble.specs.declared.fault.AsmFault.{AsmFault}
 use Rattle.il_assemble.specs.declared.fault.AsmFaultKind.{AsmFaultKind}
 use Rattle.il_assemble.specs.declared.fault.AsmFaultKind.TheVariants as kind
 use Rattle.il_assemble.specs.declared.names.Known.{Known}
 use Rattle.il_assemble.specs.declared.names.Known.TheVariants as known
-use Rattle.il_assemble.specs.Meaning as resolved
 use Rattle.il_assemble.specs.Correct.{Has, IsSource, IsStart, IsSimple, IsInner, IsPlace, depth_of, inner_depth}
-use Rattle.il_assemble.specs.Names.{Scope, is_called, is_external, is_presence_of, known_presence, known_external, known_first, known_as, is_loaded, is_stored, tags_of, tag_place}
+use Rattle.il_assemble.specs.Names.{Scope, is_called, is_external, is_presence_of, known_first, known_as, is_loaded, is_stored, tags_of, tag_place}
 use Rattle.il_assemble.specs.Typing.{is_literal_of, or_dint, type_beside, whole_type, loaded_inner_type, type_after, type_inside}
-use Rattle.il_assemble.specs.StaticFault.{lower, lowest, unless, load_fault, store_fault, operand_fault, first_fault, is_conversion, at_line, checked_simple, checked_inner}
+use Rattle.il_assemble.specs.StaticFault.{lowest, unless, load_fault, store_fault, operand_fault, first_fault, is_conversion, at_line, checked_simple, checked_inner}
 use Rattle.il_assemble.specs.Elaboration.{source_known, source_of, place_known, first_source, resolved_simple, resolved_inner, is_nested_within, is_inner_within, declared_var, program_of}
 use Rattle.il_assemble.specs.Written.{Written, Load, Apply, Defer, Limit, Select, Invert, Absolute, Convert, Inner, Close, Then}
 

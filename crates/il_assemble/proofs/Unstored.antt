@@ -1,9 +1,9 @@
 -- Want of memory is no static fault.
-use Rattle.std.proofs.Common.{◌≡◌, ◌≢◌, ◌⊎◌, inl, inr, ⊎_elim, ℕ, ◌+◌, Bool, true, false, ◌&&◌, if◌then◌else◌, List, [], ◌∷◌, length, Option, Some, None, option_map, Result, Ok, Err, slice_get, nat_le, refl, ap, subst}
+use Rattle.std.proofs.Common.{◌≡◌, ◌≢◌, ◌⊎◌, inl, inr, ⊎_elim, ℕ, ◌+◌, Bool, true, false, ◌&&◌, if◌then◌else◌, List, [], ◌∷◌, length, Option, Some, None, option_map, Result, Ok, Err, slice_get, nat_le, ap, subst}
 use Rattle.point_types.specs.declared.il_type.IlType.{IlType}
 use Rattle.point_types.specs.declared.il_type.IlType.TheVariants as il
 use Rattle.point_types.specs.Value.{◌>>=◌}
-use Rattle.il_reader.specs.declared.tree.Program.{Program as Tree}
+use Rattle.scan_code.specs.Image.{are_new}
 use Rattle.il_reader.specs.declared.tree.Variable.{Variable}
 use Rattle.il_reader.specs.declared.tree.External.{External}
 use Rattle.il_reader.specs.declared.tree.Statement.{Statement}
@@ -20,9 +20,9 @@ use Rattle.il_assemble.specs.Assembled.{StaticFaultsWantNoMemory}
 use Rattle.il_assemble.specs.Limit.{most_names, most_counted, most_code}
 use Rattle.il_assemble.specs.Names.{Scope, known_as, is_loaded, is_stored}
 use Rattle.il_assemble.specs.Typing.{is_literal_of, or_dint, type_beside, whole_type, loaded_type, loaded_inner_type, type_after, type_inside, type_after_line}
-use Rattle.il_assemble.specs.StaticFault.{number_of, lower, lowest, unless, load_fault, store_fault, operand_fault, first_fault, is_conversion, at_line, checked_simple, checked_inner, is_count, label_place, jump_fault, checked_line, checked_lines}
-use Rattle.il_assemble.specs.Elaboration.{resolved_action, turns_of, too_long, unless_variable, unless_external, is_action_within, nested, counted, behind, measured, scope_of, program_of, elaborated}
-use Rattle.il_assemble.specs.Written.{Written, Load, Apply, Defer, Limit, Select, Invert, Absolute, Convert, Inner, Close, Then, written}
+use Rattle.il_assemble.specs.StaticFault.{number_of, lowest, unless, load_fault, store_fault, operand_fault, first_fault, is_conversion, at_line, checked_simple, checked_inner, is_count, label_place, jump_fault, checked_line, checked_lines}
+use Rattle.il_assemble.specs.Elaboration.{resolved_action, turns_of, too_long, unless_variable, unless_external, is_action_within, nested, counted, behind, measured, first_line, named_apart, names_seen, scope_of, program_of}
+use Rattle.il_assemble.specs.Written.{Written, Load, Apply, Defer, Limit, Select, Invert, Absolute, Convert, Inner, Close, Then}
 
 bind_err : {A B E : Type 0} (x : Result A E) (f : A → Result B E) (e : E) → (x >>= f) ≡ Err e → (x ≡ Err e) ⊎ ((a : A) × (f a ≡ Err e))
 bind_err (Ok a) f e h = inr (a, h)
@@ -109,7 +109,7 @@ module _ (g : Scope) where
 
   static_action : (place : ℕ) (running : Option IlType) (rest : List Statement) (line : ℕ) (a : Option Action) (fault : AsmFault) → checked_line g place running rest line a ≡ Err fault → IsStatic fault.kind
   static_action place running rest line None fault e = cc
-  static_action place running rest line (Some (action.Compute s)) fault e = static_simple line running (loaded_type g rest) (written s) fault e
+  static_action place running rest line (Some (action.Compute s)) fault e = static_simple line running (loaded_type g rest) s fault e
   static_action place running rest line (Some (action.Store n name)) fault e = static_line line (store_fault g (known_as g name)) (static_store g (known_as g name)) fault e
   static_action place running rest line (Some (action.Set v name)) fault e = static_line line (store_fault g (known_as g name)) (static_store g (known_as g name)) fault e
   static_action place running rest line (Some (action.Jump c label turns)) fault e = static_line line (jump_fault place turns (label_place g label)) (static_jump place turns (label_place g label)) fault e
@@ -154,7 +154,9 @@ module _ (g : Scope) where
 pub static_faults_want_no_memory : StaticFaultsWantNoMemory
 static_faults_want_no_memory t fault e =
     let g = scope_of t in
+    let apart = named_apart t.variables t.externals (names_seen g) in
     let last = λ (_ : Unit {0}). measured g t.end_line 0 0 None t.statements >>= λ _. Ok (program_of g) in
+    let lines = λ (_ : Unit {0}). checked_lines g 0 None t.statements >>= last in
     ⊎_elim
     (λ h. ⊎_elim
     (λ k. static_variable g (slice_get t.variables most_names) fault k)
@@ -164,10 +166,13 @@ static_faults_want_no_memory t fault e =
     (bind_err (unless_external (slice_get t.externals most_names)) (λ _. nested t.statements) fault k.1))
     (bind_err (unless_variable (slice_get t.variables most_names)) (λ _. unless_external (slice_get t.externals most_names) >>= λ _. nested t.statements) fault h))
     (λ h. ⊎_elim
-    (λ k. static_lines g 0 None t.statements fault k)
+    (λ k. static_if g (are_new [] (names_seen g)) (Ok tt) (first_line t.variables t.externals) fault (λ h. cc) k)
     (λ k. ⊎_elim
-    (λ m. static_measure g t.end_line 0 0 None t.statements fault m)
-    (λ m. cc)
-    (bind_err (measured g t.end_line 0 0 None t.statements) (λ _. Ok (program_of g)) fault k.1))
-    (bind_err (checked_lines g 0 None t.statements) last fault h.1))
-    (bind_err (counted t.variables t.externals t.statements) (λ _. checked_lines g 0 None t.statements >>= last) fault e)
+    (λ m. static_lines g 0 None t.statements fault m)
+    (λ m. ⊎_elim
+    (λ n. static_measure g t.end_line 0 0 None t.statements fault n)
+    (λ n. cc)
+    (bind_err (measured g t.end_line 0 0 None t.statements) (λ _. Ok (program_of g)) fault m.1))
+    (bind_err (checked_lines g 0 None t.statements) last fault k.1))
+    (bind_err apart lines fault h.1))
+    (bind_err (counted t.variables t.externals t.statements) (λ _. apart >>= lines) fault e)

@@ -1,10 +1,11 @@
 -- The worked programs, computed.
 use Rattle.std.proofs.Common.{refl}
+use Rattle.point_types.specs.Keyword.{conversions, is_reserved, plain_words}
 use Rattle.scan_code.specs.Table.{no_turns}
 use Rattle.il_assemble.specs.Examples.{ExamplesHold}
 
 pub examples_hold : ExamplesHold
-unfolding no_turns
+unfolding no_turns is_reserved plain_words conversions
 examples_hold = record {
   next_gives_the_type = refl;
   deferred_gives_the_type = refl;

@@ -1,14 +1,17 @@
 -- What the assembler answers: the image of a program that elaborates, or the program's first static fault.
-use Rattle.std.specs.Prelude.{◌≡◌, ◌≢◌, ◌<◌, ◌⊎◌, Ok, Err, map, length, List, ℤ}
-use Rattle.scan_code.specs.declared.image.Image.{Image}
+use Rattle.std.specs.Prelude.{◌≡◌, ◌≢◌, ℕ, ◌<◌, ◌⊎◌, true, Ok, Err, map, length, List, [], ◌++◌}
+use Rattle.scan_code.specs.Image.{Image, IsProper, are_new}
+use Rattle.scan_code.specs.Table.{start_of}
 use Rattle.point_types.specs.declared.variable.Var.{Var}
 use Rattle.il_reader.specs.declared.tree.Program.{Program as Tree}
+use Rattle.il_reader.specs.declared.tree.Variable.{Variable}
+use Rattle.il_reader.specs.declared.tree.External.{External}
 use Rattle.il_assemble.specs.declared.fault.AsmFault.{AsmFault}
 use Rattle.il_assemble.specs.declared.fault.AsmFaultKind.TheVariants as kind
 use Rattle.il_assemble.specs.Meaning.{Program}
 use Rattle.il_assemble.specs.Code.{image_of}
 use Rattle.il_assemble.specs.Correct.{AreVariables, IsWell, DoesWhatItMeans}
-use Rattle.il_assemble.specs.Elaboration.{elaborated}
+use Rattle.il_assemble.specs.Elaboration.{elaborated, named_apart, names_seen, scope_of}
 use Rattle.il_assemble.specs.Word.{out_of_memory}
 
 -- no static fault holds: the image is that of the resolved program's code, and the machine on it does what the program means
@@ -22,6 +25,22 @@ pub record IsAssembled (tree : Tree) (image : Image) : Type 0 where
 abbrev pub WhatElaboratesIsWell : Type 0
 WhatElaboratesIsWell = (tree : Tree) (program : Program) → elaborated tree ≡ Ok program → IsWell program
 
+-- the image of what elaborates keeps the rules of images
+abbrev pub ImagesAreProper : Type 0
+ImagesAreProper = (tree : Tree) (program : Program) → elaborated tree ≡ Ok program → IsProper (image_of program)
+
+abbrev pub declared_name : Variable → List ℕ
+declared_name v = v.var.name
+
+abbrev pub external_name : External → List ℕ
+external_name e = e.name
+
+-- where no name is declared twice, none stands in the image twice
+abbrev pub NamesStayDifferent : Type 0
+NamesStayDifferent =
+    (tree : Tree) → are_new [] (map declared_name tree.variables ++ map external_name tree.externals) ≡ true
+    → named_apart tree.variables tree.externals (names_seen (scope_of tree)) ≡ Ok tt
+
 -- want of memory is no fault of a program
 abbrev pub StaticFaultsWantNoMemory : Type 0
 StaticFaultsWantNoMemory = (tree : Tree) (fault : AsmFault) → elaborated tree ≡ Err fault → fault.kind ≢ kind.OutOfMemory
@@ -31,8 +50,5 @@ abbrev pub IsRefused : Tree → AsmFault → Type 0
 IsRefused tree fault = (elaborated tree ≡ Err fault) ⊎ (fault ≡ out_of_memory)
 
 -- each declared variable's start value lies in its range
-abbrev pub start_of : Var → ℤ
-start_of v = v.start
-
 abbrev pub StartsAreInRange : Type 0
 StartsAreInRange = (variables : List Var) → AreVariables variables (map start_of variables)

@@ -11,7 +11,7 @@ use Rattle.scan_code.specs.declared.op.Op.TheVariants as does
 use Rattle.point_types.specs.Value.{int_eq}
 use Rattle.scan_code.specs.Spelling.{spelled, spelled_all}
 use Rattle.il_assemble.specs.Meaning.{Program, Line, Source, Variable, Input, Presence, Constant, Simple, Load, Apply, Defer, Limit, Select, Invert, Absolute, Convert, Inner, Close, Then, Place, InVariable, InOutput, Action, Compute, Store, Set, Jump, Repeat, Return, has_label}
-use Rattle.scan_code.specs.declared.image.Image.{Image}
+use Rattle.scan_code.specs.Image.{Image}
 
 -- LD of a literal
 abbrev pub constant_of : IlType → ℤ → Op

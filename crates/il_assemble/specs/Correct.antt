@@ -8,7 +8,7 @@ use Rattle.point_types.specs.declared.variable.Var.{Var}
 use Rattle.scan_code.specs.declared.image.Tag.{Tag}
 use Rattle.scan_code.specs.Table.{input_kind, output_kind}
 use Rattle.il_assemble.specs.Meaning.{Program, Line, Source, Variable, Input, Presence, Constant, Simple, Load, Apply, Defer, Limit, Select, Invert, Absolute, Convert, Inner, Close, Then, Place, InVariable, InOutput, Action, Compute, Store, Set, Jump, Repeat, Return, Outcome, Done, Fails, has_label, meaning}
-use Rattle.scan_code.specs.declared.image.Image.{Image}
+use Rattle.scan_code.specs.Image.{Image}
 use Rattle.scan_code.specs.Machine.{State, Ending, Ended, Trapped, Unfinished, At_fault, opening, run}
 use Rattle.il_assemble.specs.Code.{action_code, code_of_program, image_of, past}
 

@@ -1,10 +1,11 @@
 -- From a program as it is written to the resolved program, whose names are places and whose literals have types, or to its first static fault.
 -- IEC 61131-3 (edition 2), 2.2.1 numeric literals, 2.4.1 representation of variables, 3.2 instructions.
-use Rattle.std.specs.Prelude.{ℕ, suc, ◌+◌, Bool, true, false, ◌&&◌, ℤ, List, [], ◌∷◌, ◌++◌, length, map, if◌then◌else◌, Result, Ok, Err, Option, Some, None, option_map, unwrap_or, slice_get, nat_le, ◌-◌}
+use Rattle.std.specs.Prelude.{ℕ, ◌+◌, Bool, true, ◌&&◌, List, [], ◌∷◌, ◌++◌, length, map, if◌then◌else◌, Result, Ok, Err, Option, Some, None, option_map, unwrap_or, slice_get, nat_le, ◌-◌}
 use Rattle.point_types.specs.declared.il_type.IlType.{IlType}
 use Rattle.point_types.specs.declared.il_type.IlType.TheVariants as il
 use Rattle.point_types.specs.declared.variable.Var.{Var}
 use Rattle.point_types.specs.Value.{truth, ◌>>=◌}
+use Rattle.scan_code.specs.Image.{are_new, names_of}
 use Rattle.scan_code.specs.Spelling.{spelled_all}
 use Rattle.il_reader.specs.declared.tree.Program.{Program as Tree}
 use Rattle.il_reader.specs.declared.tree.Variable.{Variable}
@@ -15,7 +16,6 @@ use Rattle.il_reader.specs.declared.tree.Action.TheVariants as action
 use Rattle.il_reader.specs.declared.tree.Operand.{Operand}
 use Rattle.il_reader.specs.declared.tree.Operand.TheVariants.{Named, Truth, Number, Typed}
 use Rattle.il_assemble.specs.declared.fault.AsmFault.{AsmFault}
-use Rattle.il_assemble.specs.declared.fault.AsmFaultKind.{AsmFaultKind}
 use Rattle.il_assemble.specs.declared.fault.AsmFaultKind.TheVariants as kind
 use Rattle.il_assemble.specs.declared.names.Known.{Known}
 use Rattle.il_assemble.specs.declared.names.Known.TheVariants as known
@@ -26,7 +26,7 @@ use Rattle.il_assemble.specs.Limit.{most_names, most_nested, most_counted, most_
 use Rattle.il_assemble.specs.Names.{Scope, known_as, tag_place, tags_of, uses_of}
 use Rattle.il_assemble.specs.Typing.{or_dint, type_beside, whole_type, loaded_type, loaded_inner_type, type_after, type_inside, type_after_line}
 use Rattle.il_assemble.specs.StaticFault.{label_place, checked_lines}
-use Rattle.il_assemble.specs.Written.{Written, Load, Apply, Defer, Limit, Select, Invert, Absolute, Convert, Inner, Close, Then, written}
+use Rattle.il_assemble.specs.Written.{Written, Load, Apply, Defer, Limit, Select, Invert, Absolute, Convert, Inner, Close, Then}
 
 -- Each instruction resolves to one; where a fault holds, to any.
 
@@ -83,7 +83,7 @@ target g label = unwrap_or (label_place g label) 0
 
 -- where so many counted jumps stand before the line
 abbrev pub resolved_action : Scope → ℕ → Option IlType → List Statement → Action → resolved.Action
-resolved_action g counter running rest (action.Compute simple) = resolved.Compute (resolved_simple g running (loaded_type g rest) (written simple))
+resolved_action g counter running rest (action.Compute simple) = resolved.Compute (resolved_simple g running (loaded_type g rest) simple)
 resolved_action g counter running rest (action.Store negated name) = resolved.Store negated (place_known g (known_as g name))
 resolved_action g counter running rest (action.Set value name) = resolved.Set value (place_known g (known_as g name))
 resolved_action g counter running rest (action.Jump condition label None) = resolved.Jump condition (target g label)
@@ -153,7 +153,7 @@ abbrev mutual
 
 abbrev pub is_action_within : Option Action → Bool
 is_action_within None = true
-is_action_within (Some (action.Compute simple)) = is_nested_within most_nested (written simple)
+is_action_within (Some (action.Compute simple)) = is_nested_within most_nested simple
 is_action_within (Some (action.Store negated name)) = true
 is_action_within (Some (action.Set value name)) = true
 is_action_within (Some (action.Jump condition label turns)) = true
@@ -182,10 +182,26 @@ measured g end_line a counter running (s ∷ ss) =
     then measured g end_line b next (type_after_line g running ss s.action) ss
     else Err (too_long s.line)
 
--- The whole program.
+-- Names.
 
 abbrev pub declared_var : Variable → Var
 declared_var v = v.var
+
+-- the names in the image: the variables', then those of the externals that are used
+abbrev pub names_seen : Scope → List (List ℕ)
+names_seen g = names_of (map declared_var g.variables) (tags_of g.externals g.uses)
+
+-- the line of the first declaration
+abbrev pub first_line : List Variable → List External → ℕ
+first_line (v ∷ vs) externals = v.line
+first_line [] (e ∷ externals) = e.line
+first_line [] [] = 0
+
+-- names that come twice, which no text gives
+abbrev pub named_apart : List Variable → List External → List (List ℕ) → Result (Unit {0}) AsmFault
+named_apart variables externals names = if are_new [] names then Ok tt else Err (too_long (first_line variables externals))
+
+-- The whole program.
 
 abbrev pub scope_of : Tree → Scope
 scope_of t = record { variables = t.variables; externals = t.externals; uses = uses_of t.variables t.externals t.statements; statements = t.statements }
@@ -202,6 +218,7 @@ program_of g = record {
 abbrev pub elaborated : Tree → Result Program AsmFault
 elaborated t =
     counted t.variables t.externals t.statements
+    >>= λ _. named_apart t.variables t.externals (names_seen (scope_of t))
     >>= λ _. checked_lines (scope_of t) 0 None t.statements
     >>= λ _. measured (scope_of t) t.end_line 0 0 None t.statements
     >>= λ _. Ok (program_of (scope_of t))

@@ -3,7 +3,6 @@ pub mod Code
 pub mod Correct
 pub mod Elaboration
 pub mod Examples
-pub mod ImageRule
 pub mod Kept
 pub mod Limit
 pub mod Meaning

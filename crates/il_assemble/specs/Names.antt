@@ -1,10 +1,9 @@
 -- What the names of a program stand for, which externals it loads and which it stores, and the tags of its image.
 -- IEC 61131-3 (edition 2), 2.4.1 representation of variables, 2.4.3 declaration.
-use Rattle.std.specs.Prelude.{ℕ, zero, suc, Bool, true, false, ◌&&◌, List, [], ◌∷◌, map, length, take, drop, codes, position, if◌then◌else◌, Option, Some, None, option_map, option_and_then, slice_get, slice_set}
+use Rattle.std.specs.Prelude.{ℕ, zero, suc, Bool, true, false, ◌&&◌, List, [], ◌∷◌, map, length, take, drop, codes, position, Option, Some, None, option_map, option_and_then, slice_get, slice_set}
 use Rattle.std.specs.Str.{bytes_eq}
 use Rattle.point_types.specs.declared.il_type.IlType.{IlType}
 use Rattle.point_types.specs.declared.il_type.IlType.TheVariants as il
-use Rattle.point_types.specs.declared.variable.Var.{Var}
 use Rattle.scan_code.specs.declared.image.Tag.{Tag}
 use Rattle.il_reader.specs.declared.tree.Variable.{Variable}
 use Rattle.il_reader.specs.declared.tree.External.{External}
@@ -15,7 +14,7 @@ use Rattle.il_reader.specs.declared.tree.Operand.{Operand}
 use Rattle.il_reader.specs.declared.tree.Operand.TheVariants.{Named, Truth, Number, Typed}
 use Rattle.il_assemble.specs.declared.names.Known.{Known}
 use Rattle.il_assemble.specs.declared.names.Known.TheVariants as known
-use Rattle.il_assemble.specs.Written.{Written, Load, Apply, Defer, Limit, Select, Invert, Absolute, Convert, Inner, Close, Then, written}
+use Rattle.il_assemble.specs.Written.{Written, Load, Apply, Defer, Limit, Select, Invert, Absolute, Convert, Inner, Close, Then}
 
 -- what the lines of a program see: its tables, whether each external is stored (else it is loaded; none where it isn't used), and all lines, for their labels
 pub record Scope : Type 0 where
@@ -117,7 +116,7 @@ abbrev mutual
 
 abbrev pub uses_of_action : Scope → List (Option Bool) → Option Action → List (Option Bool)
 uses_of_action g uses None = uses
-uses_of_action g uses (Some (action.Compute simple)) = uses_of_simple g uses (written simple)
+uses_of_action g uses (Some (action.Compute simple)) = uses_of_simple g uses simple
 uses_of_action g uses (Some (action.Store negated name)) = noted_store uses (known_as g name)
 uses_of_action g uses (Some (action.Set value name)) = noted_store uses (known_as g name)
 uses_of_action g uses (Some (action.Jump condition label turns)) = uses

@@ -1,6 +1,6 @@
 -- The faults of a program that its text alone shows, but for its length.
 -- IEC 61131-3 (edition 2), 2.2.1 numeric literals, 2.4.1 representation of variables, 3.2 instructions.
-use Rattle.std.specs.Prelude.{ℕ, ◌+◌, Bool, true, false, ◌&&◌, ◌||◌, not, ℤ, List, [], ◌∷◌, position, if◌then◌else◌, Result, Ok, Err, Option, Some, None, option_and_then, unwrap_or, slice_get, nat_eq, nat_le}
+use Rattle.std.specs.Prelude.{ℕ, ◌+◌, Bool, false, ◌&&◌, not, List, [], ◌∷◌, position, if◌then◌else◌, Result, Ok, Err, Option, Some, None, slice_get, nat_eq, nat_le}
 use Rattle.std.specs.Str.{bytes_eq}
 use Rattle.point_types.specs.declared.il_type.IlType.{IlType}
 use Rattle.point_types.specs.declared.il_type.IlType.TheVariants as il
@@ -17,7 +17,7 @@ use Rattle.il_assemble.specs.declared.names.Known.{Known}
 use Rattle.il_assemble.specs.declared.names.Known.TheVariants as known
 use Rattle.il_assemble.specs.Names.{Scope, known_as, is_loaded, is_stored}
 use Rattle.il_assemble.specs.Typing.{is_literal_of, or_dint, type_beside, whole_type, loaded_type, loaded_inner_type, type_after, type_inside, type_after_line}
-use Rattle.il_assemble.specs.Written.{Written, Load, Apply, Defer, Limit, Select, Invert, Absolute, Convert, Inner, Close, Then, written}
+use Rattle.il_assemble.specs.Written.{Written, Load, Apply, Defer, Limit, Select, Invert, Absolute, Convert, Inner, Close, Then}
 
 -- Of several faults on one line the one with the lowest number is given.
 
@@ -125,7 +125,7 @@ jump_fault place (Some turns) (Some target) = lowest (unless (is_count turns) ki
 
 abbrev pub checked_line : Scope → ℕ → Option IlType → List Statement → ℕ → Option Action → Result (Unit {0}) AsmFault
 checked_line g place running rest line None = Ok tt
-checked_line g place running rest line (Some (action.Compute simple)) = checked_simple g line running (loaded_type g rest) (written simple)
+checked_line g place running rest line (Some (action.Compute simple)) = checked_simple g line running (loaded_type g rest) simple
 checked_line g place running rest line (Some (action.Store negated name)) = at_line line (store_fault g (known_as g name))
 checked_line g place running rest line (Some (action.Set value name)) = at_line line (store_fault g (known_as g name))
 checked_line g place running rest line (Some (action.Jump condition label turns)) = at_line line (jump_fault place turns (label_place g label))

@@ -1,6 +1,6 @@
 -- The types of literals: a literal without a type of its own takes one from the instructions around it.
 -- IEC 61131-3 (edition 2), 2.2.1 numeric literals, 3.2.2 operators, modifiers and operands; the rule itself is this project's.
-use Rattle.std.specs.Prelude.{ℕ, Bool, true, false, ◌&&◌, not, ℤ, List, [], ◌∷◌, if◌then◌else◌, Option, Some, None, option_and_then, unwrap_or}
+use Rattle.std.specs.Prelude.{Bool, true, false, ◌&&◌, not, ℤ, List, [], ◌∷◌, if◌then◌else◌, Option, Some, None, option_and_then, unwrap_or}
 use Rattle.point_types.specs.declared.il_type.IlType.{IlType}
 use Rattle.point_types.specs.declared.il_type.IlType.TheVariants as il
 use Rattle.point_types.specs.declared.operator.Operator.{Operator}
@@ -14,7 +14,7 @@ use Rattle.il_reader.specs.declared.tree.Action.TheVariants as action
 use Rattle.il_reader.specs.declared.tree.Operand.{Operand}
 use Rattle.il_reader.specs.declared.tree.Operand.TheVariants.{Named, Truth, Number, Typed}
 use Rattle.il_assemble.specs.Names.{Scope, named_type}
-use Rattle.il_assemble.specs.Written.{Written, Load, Apply, Defer, Limit, Select, Invert, Absolute, Convert, Inner, Close, Then, written}
+use Rattle.il_assemble.specs.Written.{Written, Load, Apply, Defer, Limit, Select, Invert, Absolute, Convert, Inner, Close, Then}
 
 -- a number isn't BOOL
 abbrev pub is_literal_of : IlType → ℤ → Bool
@@ -61,7 +61,7 @@ abbrev pub type_of_next : Scope → Written → Option IlType
 type_of_next g form = option_and_then (own_type g) (first_operand form)
 
 abbrev pub type_of_action : Scope → Action → Option IlType
-type_of_action g (action.Compute simple) = type_of_next g (written simple)
+type_of_action g (action.Compute simple) = type_of_next g simple
 type_of_action g (action.Store negated name) = named_type g name
 type_of_action g (action.Set value name) = named_type g name
 type_of_action g (action.Jump condition label turns) = None
@@ -133,7 +133,7 @@ unless_always when.IfFalse running = running
 -- behind a jump or a return that always acts there is none; behind a counted jump, which may fall through, the one before
 abbrev pub type_after_line : Scope → Option IlType → List Statement → Option Action → Option IlType
 type_after_line g running rest None = running
-type_after_line g running rest (Some (action.Compute simple)) = type_after g running (loaded_type g rest) (written simple)
+type_after_line g running rest (Some (action.Compute simple)) = type_after g running (loaded_type g rest) simple
 type_after_line g running rest (Some (action.Store negated name)) = running
 type_after_line g running rest (Some (action.Set value name)) = running
 type_after_line g running rest (Some (action.Jump condition label None)) = unless_always condition running

@@ -1,20 +1,21 @@
 ghost use Rattle.std.specs.Prelude.{◌≡◌, ◌≤◌, length, IfOk, IfErr, map};
 ghost use Rattle.il_assemble.specs.Assembled.{IsAssembled, IsRefused};
 ghost use Rattle.il_assemble.specs.Code.{version_of};
-ghost use Rattle.il_assemble.specs.Elaboration.{declared_var, limits_of};
+ghost use Rattle.il_assemble.specs.Elaboration.{declared_var, first_line, limits_of, named_apart};
 ghost use Rattle.il_assemble.specs.Limit.{most_names};
 ghost use Rattle.il_assemble.specs.Names.{unused, uses_of};
+ghost use Rattle.scan_code.specs.Image.{names_of};
 
 use crate::check::check_lines;
 use crate::emit::{count_turns, emit_lines};
 use crate::fault::AsmFault;
-use crate::limits::{check_nesting, count_externals, count_variables};
+use crate::limits::{check_nesting, count_externals, count_variables, too_long};
 use crate::measure::measure;
 use crate::scope::Scope;
 use crate::uses::{note_uses, tags};
 use il_reader::{External, Program, Statement, Variable};
 use point_types::{Items, Var};
-use scan_code::Image;
+use scan_code::{Image, Tag, have_names_of_their_own};
 use std::alloc::{AllocError, Global};
 
 /// Assembles a program (IEC 61131-3 edition 2, 3.2) into the image that a scan runs.
@@ -23,7 +24,7 @@ use std::alloc::{AllocError, Global};
 /// its fault, whatever its variables and inputs are. A fault names the first line at fault and the lowest
 /// kind there; code that is too long and a counted jump too many come after all others; line 0 is want of
 /// memory. A program of more variables, externals or nested parentheses than a reader lets pass is too long
-/// at the first one past the limit.
+/// at the first one past the limit, and one in whose image a name would come twice at its first declaration.
 pub fn assemble(alloc: Global, program: &Program) -> Result<Image, AsmFault>
     ensures assembled { IfOk result (IsAssembled program.now) }
     ensures refused { IfErr result (IsRefused program.now) }
@@ -41,14 +42,17 @@ pub fn assemble(alloc: Global, program: &Program) -> Result<Image, AsmFault>
         uses: uses.as_slice(),
         statements,
     };
+    let vars = declared(alloc, variables)?;
+    let tags = tags(alloc, externals, uses.as_slice())?;
+    tell_apart(variables, externals, vars.as_slice(), tags.as_slice())?;
     check_lines(scope, statements)?;
     let addresses = measure(alloc, scope, statements, program.end_line)?;
     let mut code = Vec::new(alloc);
     emit_lines(&mut code, scope, addresses.as_slice(), statements)?;
     Ok(Image {
         version: version(statements),
-        vars: Items::from_vec(declared(alloc, variables)?),
-        tags: Items::from_vec(tags(alloc, externals, uses.as_slice())?),
+        vars: Items::from_vec(vars),
+        tags: Items::from_vec(tags),
         code: Items::from_vec(code),
     })
 }
@@ -86,6 +90,33 @@ fn declared(alloc: Global, variables: &[Variable]) -> Result<Vec<Var>, AllocErro
     ensures { IfOk result (λ vars. vars.items ≡ map declared_var variables.now) }
 {
     variables.iter().map(|variable| variable.var).collect(alloc)
+}
+
+/// Whether no two of the image's variables and tags have one name.
+fn tell_apart(
+    variables: &[Variable],
+    externals: &[External],
+    vars: &[Var],
+    tags: &[Tag],
+) -> Result<(), AsmFault>
+    ensures { result ≡ named_apart variables.now externals.now (names_of vars.now tags.now) }
+{
+    if have_names_of_their_own(vars, tags) {
+        Ok(())
+    } else {
+        Err(too_long(first_line(variables, externals)))
+    }
+}
+
+/// The line of the first declaration.
+fn first_line(variables: &[Variable], externals: &[External]) -> u32
+    ensures { result ≡ first_line variables.now externals.now }
+{
+    match (variables, externals) {
+        ([variable, ..], _) => variable.line,
+        ([], [external, ..]) => external.line,
+        ([], []) => 0,
+    }
 }
 
 /// The version of the image: counted jumps came with the second one.

@@ -206,7 +206,8 @@ fn check_line(
 {
     match action {
         None | Some(Action::Return(_)) => Ok(()),
-        Some(Action::Compute(simple)) => {
+        Some(Action::Compute(computation)) => {
+            let simple = computation.as_simple();
             check_simple(scope, line, running, loaded_type(scope, rest), simple)
         }
         Some(Action::Store { name, .. }) => at_line(line, store_fault(scope, name)),

@@ -283,7 +283,8 @@ fn emit_action(
         ++ spelled_all (action_code (address_in addresses.now) (Some (resolved_action (seen scope.entry) counter running rest.now action.now)))) }
 {
     match action {
-        Action::Compute(simple) => {
+        Action::Compute(computation) => {
+            let simple = computation.as_simple();
             emit_simple(code, scope, running, loaded_type(scope, rest), simple)
         }
         Action::Store { negated, name } => {

@@ -1,6 +1,5 @@
-ghost use Rattle.il_assemble.specs.Assembled.{StartsAreInRange, StaticFaultsWantNoMemory, WhatElaboratesIsWell};
+ghost use Rattle.il_assemble.specs.Assembled.{ImagesAreProper, NamesStayDifferent, StartsAreInRange, StaticFaultsWantNoMemory, WhatElaboratesIsWell};
 ghost use Rattle.il_assemble.specs.Examples.{ExamplesHold};
-ghost use Rattle.il_assemble.specs.ImageRule.{ImagesAreWithinLimits, NamesStayDifferent};
 ghost use Rattle.il_assemble.specs.Correct.{CodeIsOfBytes, CodeDoesWhatTheProgramMeans, EachEndIsTheMeaning, NumberedCountersFindTheirLimits, RunsThatAreOverStayOver, SizesDependOnTheFormAlone};
 
 /// The machine on the code of a program does what the program means: it ends with the same variables and outputs, or stops with the same fault.
@@ -53,12 +52,14 @@ pub fn examples_hold()
     ensures { ExamplesHold }
 {}
 
-/// An assembled image has version 1 or 2, at most 1,024 variables and tags, and at most 65,535 bytes of code.
-pub fn images_are_within_limits()
-    ensures { ImagesAreWithinLimits }
+/// The image of what elaborates keeps the rules of images: its version, how many variables, tags and bytes
+/// of code it has, and that no name stands in it twice.
+pub fn images_are_proper()
+    ensures { ImagesAreProper }
 {}
 
-/// Where no name of a program is declared twice, none stands in its image twice.
+/// Where no name of a program is declared twice, none stands in its image twice: such a program isn't
+/// refused for its names.
 pub fn names_stay_different()
     ensures { NamesStayDifferent }
 {}

@@ -74,7 +74,10 @@ fn is_action_within(action: &Option<Action>) -> bool
     ensures { result ≡ is_action_within action.now }
 {
     match action {
-        Some(Action::Compute(simple)) => is_nested_within(MOST_NESTED, simple),
+        Some(Action::Compute(computation)) => is_nested_within(
+            MOST_NESTED,
+            computation.as_simple(),
+        ),
         _ => true,
     }
 }

@@ -84,7 +84,7 @@ fn type_of_action(scope: Scope<'_>, action: &Action) -> Option<IlType>
     ensures { result ≡ type_of_action (seen scope.entry) action.now }
 {
     match action {
-        Action::Compute(simple) => type_of_next(scope, simple),
+        Action::Compute(computation) => type_of_next(scope, computation.as_simple()),
         Action::Store { name, .. } | Action::Set { name, .. } => named_type(scope, name),
         Action::Jump { .. } | Action::Return(_) => None,
     }
@@ -206,7 +206,8 @@ pub(crate) fn type_after_line(
     ensures { result ≡ type_after_line (seen scope.entry) running rest.now action.now }
 {
     match action {
-        Some(Action::Compute(simple)) => {
+        Some(Action::Compute(computation)) => {
+            let simple = computation.as_simple();
             type_after(scope, running, loaded_type(scope, rest), simple)
         }
         Some(

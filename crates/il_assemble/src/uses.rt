@@ -96,7 +96,7 @@ fn note_action(scope: Scope<'_>, uses: &mut [Option<bool>], action: &Option<Acti
     ensures { uses.new ≡ uses_of_action (seen scope.entry) uses.old action.now }
 {
     match action {
-        Some(Action::Compute(simple)) => note_simple(scope, uses, simple),
+        Some(Action::Compute(computation)) => note_simple(scope, uses, computation.as_simple()),
         Some(Action::Store { name, .. }) => note_store(scope, uses, name),
         Some(Action::Set { name, .. }) => note_store(scope, uses, name),
         Some(Action::Jump { .. }) | Some(Action::Return(_)) | None => {}

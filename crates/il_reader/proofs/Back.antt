@@ -1,41 +1,32 @@
 -- From reading to the grammar: what a token and what remains behind it are for the state before it.
-use Rattle.std.proofs.Common.{◌≡◌, ℕ, Bool, true, false, ℤ, List, [], ◌∷◌, ◌++◌, Option, Some, None, Ok, Err, inl, inr, refl, sym, ap, ◌∙◌, subst, append_assoc, if◌then◌else◌, option_map}
+use Rattle.std.proofs.Common.{◌≡◌, ℕ, Bool, true, false, List, [], ◌∷◌, Option, Some, None, Ok, Err, inl, inr, refl, sym, ap, ◌∙◌, subst, append_assoc, if◌then◌else◌}
 use Rattle.std.proofs.lemmas.List.{append-nil}
 use Rattle.point_types.specs.declared.il_type.IlType.{IlType}
-use Rattle.point_types.specs.declared.operator.Operator.{Operator}
-use Rattle.point_types.specs.declared.operator.Condition.{Condition}
 use Rattle.point_types.specs.Value.{is_bool}
 use Rattle.il_reader.specs.declared.fault.ReadFaultKind.TheVariants as fault
-use Rattle.il_reader.specs.declared.token.Keyword.{Keyword}
 use Rattle.il_reader.specs.declared.token.Keyword.TheVariants as word
 use Rattle.il_reader.specs.declared.token.Token.{Token}
 use Rattle.il_reader.specs.declared.token.Token.TheVariants as token
-use Rattle.il_reader.specs.declared.tree.Action.{Action}
-use Rattle.il_reader.specs.declared.tree.Action.TheVariants as action
-use Rattle.il_reader.specs.declared.tree.Simple.{Simple}
-use Rattle.il_reader.specs.declared.tree.Simple.TheVariants as simple
-use Rattle.il_reader.specs.declared.tree.Operand.{Operand}
 use Rattle.il_reader.specs.declared.tree.Program.{Program}
 use Rattle.il_reader.specs.declared.tree.Statement.{Statement}
-use Rattle.il_reader.specs.declared.typing.Entry.{Entry}
 use Rattle.il_reader.specs.declared.typing.Typing.{Typing}
 use Rattle.il_reader.specs.declared.draft.Draft.{Draft}
 use Rattle.il_reader.specs.declared.draft.Head.{Head}
+use Rattle.il_reader.specs.declared.nest.Frame.{Frame}
 use Rattle.il_reader.specs.declared.stage.BlockStage.{BlockStage}
 use Rattle.il_reader.specs.declared.stage.BlockStage.TheVariants as block
-use Rattle.il_reader.specs.declared.stage.PartStage.{PartStage}
-use Rattle.il_reader.specs.declared.stage.PartStage.TheVariants as part
-use Rattle.il_reader.specs.declared.stage.Pair.{Pair}
-use Rattle.il_reader.specs.declared.stage.Pair.TheVariants as pair
 use Rattle.il_reader.specs.declared.stage.Stage.{Stage}
 use Rattle.il_reader.specs.declared.stage.Stage.TheVariants as stage
 use Rattle.il_reader.specs.declared.state.State.{State}
 use Rattle.il_reader.specs.declared.state.State.TheVariants as state
-use Rattle.il_reader.specs.Declaration.{among, is_taken, has_room, with_name, value_of, whole, begun, bounded, started, made}
-use Rattle.il_reader.specs.Reading.{Move, goes, declares, continues, with_entry, with_variables, with_externals, with_label, with_statement, titled_draft, start_step, titled_step, over_step, declare_step, in_block_step, behind_name_step, behind_comma_step, ranged_step, typed_step, behind_colon_step, behind_external_step, behind_range_step, behind_type_step, behind_open_step, behind_low_step, behind_dots_step, behind_high_step, behind_assign_step, behind_start_step, operand_of, done_step, simple_step, begin_step, line_step, behind_label_step, at_instruction_step, between_step, paired, behind_pair_step, behind_first_step, behind_store_step, behind_set_step, behind_jump_step, is_loop, turns_of, behind_brace_step, turns_step, behind_loop_step, behind_turns_step, behind_pragma_step, whole_step, block_step, part_step, within_step, state_step, with_fault, step, onward}
-use Rattle.il_reader.specs.Grammar.{Placed, placed, past, IsNext, IsEnd, IsAction, IsLabelled, IsLine, labels_with, IsBody, Nature, OfVariable, OfExternal, Declaration, Block, entries_of, with_entries, with_declarations, IsFree, AreOthers, IsSubrange, IsRange, IsStart, IsNature, IsTyped, AreDeclarations, block_token, AreBlocks, IsProgram}
-use Rattle.il_reader.proofs.Drafts.{listed, closed, after_one, after, after_blocks, finished, scope_one, scope_after, labels_after, finished_is}
-use Rattle.il_reader.proofs.Rest.{run, RestBody, RestWhole, RestAction, RestLabelled, RestOperand, RestName, RestPart, RestTop, RestIn, RestNamed, RestClosed, RestRange, RestHigh, RestDots, RestLow, RestOpen, RestBlock, RestWithin, Rest, Back}
+use Rattle.il_reader.specs.Declaration.{among, is_taken, has_room, value_of, whole, begun, bounded, started, made}
+use Rattle.il_reader.specs.Drafting.{Move, goes, declares, with_entry}
+use Rattle.il_reader.specs.Instructions.{line_step, behind_label_step, at_instruction_step, between_step, whole_step, at_line_step}
+use Rattle.il_reader.specs.Reading.{start_step, titled_step, over_step, declare_step, in_block_step, behind_name_step, behind_comma_step, ranged_step, typed_step, behind_colon_step, behind_external_step, behind_range_step, behind_type_step, behind_open_step, behind_low_step, behind_dots_step, behind_high_step, behind_assign_step, behind_start_step, block_step, within_step, state_step, with_fault, step, onward}
+use Rattle.il_reader.specs.Grammar.{Placed, placed, past, IsNext, IsAction, IsBody, Nature, OfVariable, OfExternal, Declaration, IsFree, IsStart, IsNature, IsTyped, AreDeclarations, block_token, AreBlocks, IsProgram}
+use Rattle.il_reader.proofs.Drafts.{scope_one, scope_after, labels_after, finished_is}
+use Rattle.il_reader.proofs.Rest.{run, RestBody, RestLines, RestWhole, RestAction, RestLabelled, RestTop, RestIn, RestNamed, RestClosed, RestRange, RestHigh, RestDots, RestLow, RestOpen, RestBlock, RestWithin, Rest, Back}
+use Rattle.il_reader.proofs.Instructed.{back_begin, back_inside, back_part}
 
 -- Line ends that are blanks.
 
@@ -237,98 +228,6 @@ back_block (block.BehindRange y) d t m ts p h = back_behind_range y d t m ts p h
 back_block (block.BehindAssign y) d t m ts p h = back_behind_assign y d t m ts p h
 back_block (block.BehindStart z) d t m ts p h = back_behind_start z d t m ts p h
 
--- Instructions.
-
-pub back_operand : (d : Draft) (h : Head) (f : Operand → Simple) (t : Token) (m : ℕ) (ts : List Placed) (p : Program) → Back (simple_step d h (option_map f (operand_of t))) ts p → RestOperand d h f (placed t m ∷ ts) p
-back_operand d h f t m ts p w = go (operand_of t) refl w
-  where
-    go : (o : Option Operand) → operand_of t ≡ o → Back (simple_step d h (option_map f o)) ts p → RestOperand d h f (placed t m ∷ ts) p
-    go (Some x) e w = (t, x, m, ts, e, refl, w)
-    go None e w = absurd w
-
-back_pair : (d : Draft) (h : Head) (o : Pair) (t : Token) (m : ℕ) (ts : List Placed) (p : Program) → Back (behind_pair_step h o d (operand_of t)) ts p → RestPart (part.BehindPair o) d h (placed t m ∷ ts) p
-back_pair d h o t m ts p w = go (operand_of t) refl w
-  where
-    go : (q : Option Operand) → operand_of t ≡ q → Back (behind_pair_step h o d q) ts p → RestPart (part.BehindPair o) d h (placed t m ∷ ts) p
-    go (Some x) e (u, y, i, n, a, f, g, w) = (t, u, x, y, m, i, n, a, e, f, ap (λ z. placed t m ∷ z) g, w)
-    go None e w = absurd w
-
-back_first : (d : Draft) (h : Head) (o : Pair) (x : Operand) (t : Token) (m : ℕ) (ts : List Placed) (p : Program) → Back (behind_first_step h o x d t) ts p → RestPart (part.BehindFirst o x) d h (placed t m ∷ ts) p
-back_first d h o x token.Comma m ts p (u, y, n, a, e, g, w) = (u, y, m, n, a, e, ap (λ z. placed token.Comma m ∷ z) g, w)
-back_first d h o x _ m ts p w = absurd w
-
-back_store : (d : Draft) (h : Head) (negated : Bool) (t : Token) (m : ℕ) (ts : List Placed) (p : Program) → Back (behind_store_step h negated d t) ts p → RestName d h (action.Store negated) (placed t m ∷ ts) p
-back_store d h negated (token.Name n) m ts p w = (n, m, ts, refl, w)
-back_store d h negated _ m ts p w = absurd w
-
-back_set : (d : Draft) (h : Head) (value : Bool) (t : Token) (m : ℕ) (ts : List Placed) (p : Program) → Back (behind_set_step h value d t) ts p → RestName d h (action.Set value) (placed t m ∷ ts) p
-back_set d h value (token.Name n) m ts p w = (n, m, ts, refl, w)
-back_set d h value _ m ts p w = absurd w
-
-back_jump : (d : Draft) (h : Head) (c : Condition) (turns : Option ℕ) (t : Token) (m : ℕ) (ts : List Placed) (p : Program) → Back (behind_jump_step h c turns d t) ts p → RestName d h (λ n. action.Jump c n turns) (placed t m ∷ ts) p
-back_jump d h c turns (token.Name n) m ts p w = (n, m, ts, refl, w)
-back_jump d h c turns _ m ts p w = absurd w
-
-back_brace : (d : Draft) (h : Head) (t : Token) (m : ℕ) (ts : List Placed) (p : Program) → Back (behind_brace_step h d t) ts p → RestPart part.BehindBrace d h (placed t m ∷ ts) p
-back_brace d h (token.Name w) m ts p r = go (is_loop w) refl r
-  where
-    go : (b : Bool) → is_loop w ≡ b → Back (if b then continues h part.BehindLoop d else Err fault.Word) ts p → RestPart part.BehindBrace d h (placed (token.Name w) m ∷ ts) p
-    go true e (n, v, turns, c, i, j, k, q, a, f, g, r) = (w, n, v, turns, c, m, i, j, k, q, a, e, f, ap (λ z. placed (token.Name w) m ∷ z) g, r)
-    go false e r = absurd r
-back_brace d h _ m ts p r = absurd r
-
-back_loop : (d : Draft) (h : Head) (t : Token) (m : ℕ) (ts : List Placed) (p : Program) → Back (behind_loop_step h d t) ts p → RestPart part.BehindLoop d h (placed t m ∷ ts) p
-back_loop d h (token.Decimal v) m ts p r = go (turns_of v) refl r
-  where
-    go : (o : Option ℕ) → turns_of v ≡ o → Back (turns_step h d o) ts p → RestPart part.BehindLoop d h (placed (token.Decimal v) m ∷ ts) p
-    go (Some turns) e (n, c, j, k, q, a, g, r) = (n, v, turns, c, m, j, k, q, a, e, ap (λ z. placed (token.Decimal v) m ∷ z) g, r)
-    go None e r = absurd r
-back_loop d h _ m ts p r = absurd r
-
-back_turns : (d : Draft) (h : Head) (turns : ℕ) (t : Token) (m : ℕ) (ts : List Placed) (p : Program) → Back (behind_turns_step h turns d t) ts p → RestPart (part.BehindTurns turns) d h (placed t m ∷ ts) p
-back_turns d h turns token.CloseBrace m ts p (n, c, k, q, a, g, r) = (n, c, m, k, q, a, ap (λ z. placed token.CloseBrace m ∷ z) g, r)
-back_turns d h turns _ m ts p r = absurd r
-
-back_pragma : (d : Draft) (h : Head) (turns : ℕ) (t : Token) (m : ℕ) (ts : List Placed) (p : Program) → Back (behind_pragma_step h turns d t) ts p → RestPart (part.BehindPragma turns) d h (placed t m ∷ ts) p
-back_pragma d h turns (token.Keyword (word.Jump c)) m ts p (n, q, a, g, r) = (n, c, m, q, a, ap (λ z. placed (token.Keyword (word.Jump c)) m ∷ z) g, r)
-back_pragma d h turns (token.Keyword _) m ts p r = absurd r
-back_pragma d h turns _ m ts p r = absurd r
-
-back_part : (s : PartStage) (d : Draft) (h : Head) (t : Token) (m : ℕ) (ts : List Placed) (p : Program) → Back (part_step h s d t) ts p → RestPart s d h (placed t m ∷ ts) p
-back_part (part.BehindLoad negated) d h t m ts p w = back_operand d h (simple.Load negated) t m ts p w
-back_part (part.BehindOperator o negated) d h t m ts p w = back_operand d h (simple.Apply o negated) t m ts p w
-back_part (part.BehindPair o) d h t m ts p w = back_pair d h o t m ts p w
-back_part (part.BehindFirst o x) d h t m ts p w = back_first d h o x t m ts p w
-back_part (part.BehindFirstComma o x) d h t m ts p w = back_operand d h (paired o x) t m ts p w
-back_part (part.BehindStore negated) d h t m ts p w = back_store d h negated t m ts p w
-back_part (part.BehindSet value) d h t m ts p w = back_set d h value t m ts p w
-back_part (part.BehindJump c turns) d h t m ts p w = back_jump d h c turns t m ts p w
-back_part part.BehindBrace d h t m ts p w = back_brace d h t m ts p w
-back_part part.BehindLoop d h t m ts p w = back_loop d h t m ts p w
-back_part (part.BehindTurns turns) d h t m ts p w = back_turns d h turns t m ts p w
-back_part (part.BehindPragma turns) d h t m ts p w = back_pragma d h turns t m ts p w
-
--- the first token of an instruction, an operand behind it
-first_operand : (d : Draft) (h : Head) (m : ℕ) (k : Keyword) (f : Operand → Simple) (ts : List Placed) (p : Program) → ((t : Token) (x : Operand) (n : ℕ) (a : List Placed) → operand_of t ≡ Some x → ts ≡ placed t n ∷ a → IsAction m (action.Compute (f x)) (placed (token.Keyword k) m ∷ ts) a) → RestOperand d h f ts p → RestAction d h m (placed (token.Keyword k) m ∷ ts) p
-first_operand d h m k f ts p is (t, x, n, a, e, g, w) = (action.Compute (f x), a, is t x n a e g, w)
-
-back_begin : (d : Draft) (h : Head) (t : Token) (m : ℕ) (ts : List Placed) (p : Program) → Back (begin_step d h t) ts p → RestAction d h m (placed t m ∷ ts) p
-back_begin d h (token.Keyword (word.Load negated)) m ts p (t, x, n, a, e, g, w) = (action.Compute (simple.Load negated x), a, (t, n, e, ap (λ z. placed (token.Keyword (word.Load negated)) m ∷ z) g), w)
-back_begin d h (token.Keyword (word.Store negated)) m ts p (n, k, a, g, w) = (action.Store negated n, a, (k, ap (λ z. placed (token.Keyword (word.Store negated)) m ∷ z) g), w)
-back_begin d h (token.Keyword (word.Set value)) m ts p (n, k, a, g, w) = (action.Set value n, a, (k, ap (λ z. placed (token.Keyword (word.Set value)) m ∷ z) g), w)
-back_begin d h (token.Keyword (word.Jump c)) m ts p (n, k, a, g, w) = (action.Jump c n None, a, (k, ap (λ z. placed (token.Keyword (word.Jump c)) m ∷ z) g), w)
-back_begin d h (token.Keyword (word.Return c)) m ts p w = (action.Return c, ts, refl, w)
-back_begin d h (token.Keyword (word.Apply o negated)) m ts p (t, x, n, a, e, g, w) = (action.Compute (simple.Apply o negated x), a, (t, n, e, ap (λ z. placed (token.Keyword (word.Apply o negated)) m ∷ z) g), w)
-back_begin d h (token.Keyword word.Limit) m ts p (t, u, x, y, k, i, n, a, e, f, g, w) = (action.Compute (simple.Limit x y), a, (t, u, k, i, n, e, f, ap (λ z. placed (token.Keyword word.Limit) m ∷ z) g), w)
-back_begin d h (token.Keyword word.Select) m ts p (t, u, x, y, k, i, n, a, e, f, g, w) = (action.Compute (simple.Select x y), a, (t, u, k, i, n, e, f, ap (λ z. placed (token.Keyword word.Select) m ∷ z) g), w)
-back_begin d h (token.Keyword word.Not) m ts p w = (action.Compute simple.Invert, ts, refl, w)
-back_begin d h (token.Keyword word.Absolute) m ts p w = (action.Compute simple.Absolute, ts, refl, w)
-back_begin d h (token.Keyword (word.Convert j k)) m ts p w = (action.Compute (simple.Convert j k), ts, refl, w)
-back_begin d h token.OpenBrace m ts p (w, n, v, turns, c, g, i, j, k, q, a, e, f, r, s) =
-    (action.Jump c n (Some turns), a, (w, v, g, i, j, k, q, e, f, ap (λ z. placed token.OpenBrace m ∷ z) r), s)
-back_begin d h (token.Keyword _) m ts p w = absurd w
-back_begin d h _ m ts p w = absurd w
-
 -- Lines.
 
 -- a line without a label, and the lines behind it
@@ -388,18 +287,22 @@ back_instruction : (h : Head) (d : Draft) (t : Token) (m : ℕ) (ts : List Place
 back_instruction h d token.LineEnd m ts p w = (None, placed token.LineEnd m ∷ ts, refl, (ts, (m, refl), w))
 back_instruction h d t m ts p w = action_labelled d h m (placed t m ∷ ts) p (back_begin d h t m ts p w)
 
-back_whole : (d : Draft) (t : Token) (m : ℕ) (ts : List Placed) (p : Program) → Back (whole_step d t) ts p → RestWhole d (placed t m ∷ ts) p
-back_whole d token.LineEnd m ts p h = (ts, (m, refl), h)
-back_whole d _ m ts p h = absurd h
+back_at_line : (nest : List Frame) (d : Draft) (t : Token) (m : ℕ) (ts : List Placed) (p : Program) → Back (at_line_step nest d t m) ts p → RestLines nest d (placed t m ∷ ts) p
+back_at_line [] d t m ts p h = back_line d t m ts p h
+back_at_line (f ∷ nest) d t m ts p h = back_inside f nest d t m ts p h
+
+back_whole : (nest : List Frame) (d : Draft) (t : Token) (m : ℕ) (ts : List Placed) (p : Program) → Back (whole_step nest d t) ts p → RestWhole nest d (placed t m ∷ ts) p
+back_whole nest d token.LineEnd m ts p h = (ts, (m, refl), h)
+back_whole nest d _ m ts p h = absurd h
 
 back_within : (s : Stage) (d : Draft) (t : Token) (m : ℕ) (ts : List Placed) (p : Program) → Back (within_step s d t m) ts p → RestWithin s d (placed t m ∷ ts) p
 back_within stage.BetweenBlocks d t m ts p h = back_between d t m ts p h
 back_within (stage.Block s) d t m ts p h = back_block s d t m ts p h
-back_within stage.AtLine d t m ts p h = back_line d t m ts p h
+back_within (stage.AtLine nest) d t m ts p h = back_at_line nest d t m ts p h
 back_within (stage.BehindLabel l n) d t m ts p h = back_label l n d t m ts p h
 back_within (stage.AtInstruction g) d t m ts p h = back_instruction g d t m ts p h
-back_within (stage.Part g s) d t m ts p h = back_part s d g t m ts p h
-back_within stage.BehindInstruction d t m ts p h = back_whole d t m ts p h
+back_within (stage.Part nest g s) d t m ts p h = back_part s nest d g t m ts p h
+back_within (stage.BehindInstruction nest) d t m ts p h = back_whole nest d t m ts p h
 
 back_state : (s : State) (t : Token) (m : ℕ) (ts : List Placed) (p : Program) → Back (state_step s t m) ts p → Rest s (placed t m ∷ ts) p
 back_state state.Start t m ts p h = back_start t m ts p h

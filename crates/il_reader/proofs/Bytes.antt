@@ -9,7 +9,8 @@ use Rattle.il_reader.specs.declared.state.State.{State}
 use Rattle.il_reader.specs.declared.state.State.TheVariants as state
 use Rattle.il_reader.specs.declared.reader.Reader.{Reader}
 use Rattle.il_reader.specs.Tokens.{lexed, at_end, line_behind}
-use Rattle.il_reader.specs.Reading.{Move, step, stepped, onward, taken, state_read, byte_read, fed_on, fed, opening, Outcome, Reads, AtFault, TooSoon, end_reached, end_read, judged, outcome, answered, text_limit}
+use Rattle.il_reader.specs.Drafting.{Move}
+use Rattle.il_reader.specs.Reading.{step, stepped, onward, taken, state_read, byte_read, fed_on, fed, opening, Outcome, Reads, AtFault, TooSoon, early, end_reached, end_read, judged, outcome, answered, text_limit}
 use Rattle.il_reader.specs.Grammar.{Placed, placed, Scan, Tokens, NoTokens, of_line, last_tokens, joined, scanned_on, scanned, IsProgramText}
 use Rattle.il_reader.specs.Laws.{ReadingIsExact, AtMostOneProgram}
 use Rattle.il_reader.proofs.Back.{run_back}
@@ -39,10 +40,10 @@ taken_run s x m = again (stepped s x.ended m) ∙ ap (λ z. onward z (λ s'. run
     again (Ok s') = stepped_run s' x.own m
     again (Err k) = refl
 
-end_reads : (l : ℕ) (move : Move) (p : Program) → end_reached l move ≡ Reads p → move ≡ Ok (state.Over p)
-end_reads l (Ok (state.Over q)) p h = cc
-end_reads l (Ok _) p h = absurd (cc)
-end_reads l (Err k) p h = absurd (cc)
+end_reads : (l : ℕ) (k : ReadFaultKind) (move : Move) (p : Program) → end_reached l k move ≡ Reads p → move ≡ Ok (state.Over p)
+end_reads l k (Ok (state.Over q)) p h = cc
+end_reads l k (Ok _) p h = absurd (cc)
+end_reads l k (Err _) p h = absurd (cc)
 
 -- the tokens that a reading took
 abbrev Took : Reader → List ℕ → Program → Type 0
@@ -53,7 +54,7 @@ took [] r p h = go (at_end r.mode) refl h
   where
     go : (x : Result (Option Token) ReadFaultKind) → at_end r.mode ≡ x → end_read r x ≡ Reads p → Took r [] p
     go (Ok t) e h =
-        (of_line r.line t, ap (last_tokens r.line) e, sym (stepped_run r.state t r.line) ∙ end_reads r.last (stepped r.state t r.line) p h)
+        (of_line r.line t, ap (last_tokens r.line) e, sym (stepped_run r.state t r.line) ∙ end_reads r.last (early r.state) (stepped r.state t r.line) p h)
     go (Err k) e h = absurd (cc)
 took (b ∷ bs) r p h = go (λ r' h. took bs r' p h) (lexed r.mode b) refl h
   where
@@ -76,7 +77,7 @@ takes [] r p ts e h = go (at_end r.mode) e
     go : (x : Result (Option Token) ReadFaultKind) → last_tokens r.line x ≡ Tokens ts → end_read r x ≡ Reads p
     go (Ok t) e =
         let same : of_line r.line t ≡ ts = cc in
-        ap (end_reached r.last) (stepped_run r.state t r.line ∙ ap (run r.state) same ∙ h)
+        ap (end_reached r.last (early r.state)) (stepped_run r.state t r.line ∙ ap (run r.state) same ∙ h)
     go (Err k) e = absurd (cc)
 takes (b ∷ bs) r p ts e h = go (λ r' us e h. takes bs r' p us e h) (lexed r.mode b) e
   where

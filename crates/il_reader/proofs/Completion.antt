@@ -1,19 +1,25 @@
 -- Each state can still come to a whole program, where no token is open.
-use Rattle.std.proofs.Common.{◌≡◌, ℕ, zero, suc, Bool, true, false, ◌&&◌, ℤ, pos, List, [], ◌∷◌, ◌++◌, length, Some, None, Ok, Err, refl, sym, ap, ◌∙◌, if◌then◌else◌, arith, ◌+◌, ◌≤◌}
+use Rattle.std.proofs.Common.{◌≡◌, ℕ, zero, suc, Bool, true, false, ◌&&◌, ℤ, pos, List, [], ◌∷◌, ◌++◌, length, Option, Some, None, Ok, Err, refl, sym, ap, ◌∙◌, if◌then◌else◌, arith, ◌+◌, ◌≤◌}
 use Rattle.std.proofs.lemmas.Int.{ints}
 use Rattle.std.specs.Prelude.{codes, int_le, negsuc}
 use Rattle.point_types.specs.declared.il_type.IlType.{IlType}
 use Rattle.point_types.specs.declared.il_type.IlType.TheVariants as il
+use Rattle.point_types.specs.declared.operator.Condition.{Condition}
+use Rattle.point_types.specs.declared.operator.Condition.TheVariants as condition
 use Rattle.point_types.specs.Keyword.{is_reserved, plain_words, conversions}
 use Rattle.point_types.specs.Value.{low_of, high_of, is_within, is_ranged, is_bool, number_of}
 use Rattle.il_reader.specs.declared.fault.ReadFaultKind.TheVariants as fault
 use Rattle.il_reader.specs.declared.token.Keyword.TheVariants as word
 use Rattle.il_reader.specs.declared.token.Token.{Token}
 use Rattle.il_reader.specs.declared.token.Token.TheVariants as token
+use Rattle.il_reader.specs.declared.tree.Action.TheVariants as action
+use Rattle.il_reader.specs.declared.tree.Operand.{Operand}
+use Rattle.il_reader.specs.declared.tree.Operand.TheVariants as operand
 use Rattle.il_reader.specs.declared.tree.Program.{Program}
 use Rattle.il_reader.specs.declared.typing.Typing.{Typing}
 use Rattle.il_reader.specs.declared.draft.Draft.{Draft}
 use Rattle.il_reader.specs.declared.draft.Head.{Head}
+use Rattle.il_reader.specs.declared.nest.Frame.{Frame}
 use Rattle.il_reader.specs.declared.lexer.Lexed.{Lexed}
 use Rattle.il_reader.specs.declared.lexer.Mode.{Mode}
 use Rattle.il_reader.specs.declared.lexer.Mode.TheVariants as mode
@@ -25,9 +31,14 @@ use Rattle.il_reader.specs.declared.stage.PartStage.TheVariants as part
 use Rattle.il_reader.specs.declared.stage.Stage.TheVariants as stage
 use Rattle.il_reader.specs.declared.state.State.{State}
 use Rattle.il_reader.specs.declared.state.State.TheVariants as state
-use Rattle.il_reader.specs.Declaration.{is_taken, has_room, value_of, truth_value, whole_value, typing_of, bounded, started, made}
+use Rattle.il_reader.specs.Written.{Written, Inner, followed_by}
+use Rattle.il_reader.specs.Written as form
+use Rattle.il_reader.specs.Nesting.{is_filled, frame_of, with_line, deferred}
+use Rattle.il_reader.specs.Declaration.{is_taken, has_room, value_of, bounded, started, made}
 use Rattle.il_reader.specs.Tokens.{keyword, word_ended}
-use Rattle.il_reader.specs.Reading.{Move, goes, declares, with_entry, with_fault, ranged_step, step, onward, stepped, state_read, byte_read, fed_on, fed}
+use Rattle.il_reader.specs.Drafting.{declares, with_statement, with_entry}
+use Rattle.il_reader.specs.Instructions.{acted, computed, paired}
+use Rattle.il_reader.specs.Reading.{with_fault, ranged_step, step, onward, stepped, state_read, byte_read, fed_on, fed}
 use Rattle.il_reader.proofs.TypingLemmas.{typing_is}
 use Rattle.il_reader.proofs.Forth.{literal, dots_same, assign_same}
 use Rattle.il_reader.proofs.Live.{IsLive}
@@ -224,20 +235,87 @@ in_block_ends (block.BehindStart y) d n l h = start_ends y d n l
 
 -- The body.
 
-part_ends : (s : PartStage) (g : Head) (d : Draft) (n l : ℕ) → Ends_at (clear n l (state.Within (stage.Part g s) d))
+-- by some bytes
+led : (text : List ℕ) (s s' : State) (n l : ℕ) → ((rest : List ℕ) → fed (clear n l s) (text ++ rest) ≡ fed (clear n n s') rest) → Ends_at (clear n n s') → Ends_at (clear n l s)
+led text s s' n l leads (rest, p, i, j, h) = (text ++ rest, p, i, j, leads rest ∙ h)
+
+-- by a line's end
+newline : (s s' : State) (n l : ℕ) → ((rest : List ℕ) → fed (clear n l s) (10 ∷ rest) ≡ fed (clear (suc n) n s') rest) → Ends_at (clear (suc n) n s') → Ends_at (clear n l s)
+newline s s' n l leads (rest, p, i, j, h) = (10 ∷ rest, p, i, j, leads rest ∙ h)
+
+abbrev at_line : List Frame → Draft → State
+at_line nest d = state.Within (stage.AtLine nest) d
+
+abbrev whole_in : List Frame → Draft → State
+whole_in nest d = state.Within (stage.BehindInstruction nest) d
+
+body_ends : (d : Draft) (n l : ℕ) → Ends_at (clear n l (at_line [] d))
 unfolding keyword is_reserved plain_words conversions
-part_ends (part.BehindLoad negated) g d n l = (codes "a\nEND_PROGRAM\n", _, _, _, refl)
-part_ends (part.BehindOperator o negated) g d n l = (codes "a\nEND_PROGRAM\n", _, _, _, refl)
-part_ends (part.BehindPair o) g d n l = (codes "a,a\nEND_PROGRAM\n", _, _, _, refl)
-part_ends (part.BehindFirst o x) g d n l = (codes ",a\nEND_PROGRAM\n", _, _, _, refl)
-part_ends (part.BehindFirstComma o x) g d n l = (codes "a\nEND_PROGRAM\n", _, _, _, refl)
-part_ends (part.BehindStore negated) g d n l = (codes "a\nEND_PROGRAM\n", _, _, _, refl)
-part_ends (part.BehindSet value) g d n l = (codes "a\nEND_PROGRAM\n", _, _, _, refl)
-part_ends (part.BehindJump c turns) g d n l = (codes "a\nEND_PROGRAM\n", _, _, _, refl)
-part_ends part.BehindBrace g d n l = (codes "LOOP 1}JMP a\nEND_PROGRAM\n", _, _, _, refl)
-part_ends part.BehindLoop g d n l = (codes "1}JMP a\nEND_PROGRAM\n", _, _, _, refl)
-part_ends (part.BehindTurns turns) g d n l = (codes "}JMP a\nEND_PROGRAM\n", _, _, _, refl)
-part_ends (part.BehindPragma turns) g d n l = (codes "JMP a\nEND_PROGRAM\n", _, _, _, refl)
+body_ends d n l = (codes "END_PROGRAM\n", _, _, _, refl)
+
+-- parentheses are closed one by one, each behind a further line
+filled_line : (x : Option Operand) (inner : Inner) (l : ℕ) (y : Written) → is_filled x (followed_by inner (form.Then l y form.Close)) ≡ true
+filled_line (Some x) inner l y = refl
+filled_line None form.Close l y = refl
+filled_line None (form.Then k z inner) l y = refl
+
+close_line : (f : Frame) (nest : List Frame) (d : Draft) (n l : ℕ) (rest : List ℕ) → is_filled f.operand f.inner ≡ true → fed (clear n l (at_line (f ∷ nest) d)) (41 ∷ rest) ≡ fed (clear n n (computed nest d f.head (deferred f f.inner))) rest
+close_line f nest d n l rest e =
+    ap (λ z. fed_on (state_read (clear n l (at_line (f ∷ nest) d)) 41 (record { ended = None; own = Some token.Close; mode = mode.Clear }) (with_fault token.Close (if z then Ok (computed nest d f.head (deferred f f.inner)) else Err fault.Operand))) (λ r'. fed r' rest)) e
+
+abbrev behind_close : Frame → List Frame → Draft → ℕ → State
+behind_close f nest d n = computed nest d f.head (deferred f (with_line f n form.Invert).inner)
+
+closing : (f : Frame) (nest : List Frame) (d : Draft) (n l : ℕ) → Ends_at (clear (suc n) (suc n) (behind_close f nest d n)) → Ends_at (clear n l (at_line (f ∷ nest) d))
+unfolding keyword is_reserved plain_words conversions
+closing f nest d n l (text, p, i, j, e) =
+    (codes "NOT\n" ++ (41 ∷ text), p, i, j, close_line (with_line f n form.Invert) nest d (suc n) n text (filled_line f.operand f.inner n form.Invert) ∙ e)
+
+inside_ends : (nest : List Frame) (f : Frame) (d : Draft) (n l : ℕ) → Ends_at (clear n l (at_line (f ∷ nest) d))
+inside_ends [] f d n l =
+    let x : Written = deferred f (with_line f n form.Invert).inner in
+    let d' : Draft = with_statement d f.head (Some (action.Compute x)) in
+    closing f [] d n l (newline (whole_in [] d') (at_line [] d') (suc n) (suc n) (λ rest. refl) (body_ends d' (suc (suc n)) (suc n)))
+inside_ends (g ∷ nest) f d n l =
+    let x : Written = deferred f (with_line f n form.Invert).inner in
+    let f' : Frame = with_line g f.head.line x in
+    closing f (g ∷ nest) d n l (newline (whole_in (f' ∷ nest) d) (at_line (f' ∷ nest) d) (suc n) (suc n) (λ rest. refl) (inside_ends nest f' d (suc (suc n)) (suc n)))
+
+lines_end : (nest : List Frame) (d : Draft) (n l : ℕ) → Ends_at (clear n l (at_line nest d))
+lines_end [] d n l = body_ends d n l
+lines_end (f ∷ nest) d n l = inside_ends nest f d n l
+
+whole_ends : (nest : List Frame) (d : Draft) (n l : ℕ) → Ends_at (clear n l (whole_in nest d))
+whole_ends nest d n l = newline (whole_in nest d) (at_line nest d) n l (λ rest. refl) (lines_end nest d (suc n) n)
+
+computed_ends : (nest : List Frame) (d : Draft) (h : Head) (x : Written) (n l : ℕ) → Ends_at (clear n l (computed nest d h x))
+computed_ends [] d h x n l = whole_ends [] (with_statement d h (Some (action.Compute x))) n l
+computed_ends (f ∷ nest) d h x n l = whole_ends (with_line f h.line x ∷ nest) d n l
+
+-- an operand, and a name, that any program may have
+abbrev an_operand : Operand
+an_operand = operand.Named (codes "a")
+
+jump_ends : (s : PartStage) (c : Condition) (turns : Option ℕ) (text : List ℕ) (nest : List Frame) (g : Head) (d : Draft) (n l : ℕ) → ((rest : List ℕ) → fed (clear n l (state.Within (stage.Part nest g s) d)) (text ++ rest) ≡ fed (clear n n (acted nest d g (action.Jump c (codes "a") turns))) rest) → Ends_at (clear n l (state.Within (stage.Part nest g s) d))
+jump_ends s c turns text nest g d n l leads =
+    led text (state.Within (stage.Part nest g s) d) (acted nest d g (action.Jump c (codes "a") turns)) n l leads (whole_ends nest (with_statement d g (Some (action.Jump c (codes "a") turns))) n n)
+
+part_ends : (s : PartStage) (nest : List Frame) (g : Head) (d : Draft) (n l : ℕ) → Ends_at (clear n l (state.Within (stage.Part nest g s) d))
+unfolding keyword is_reserved plain_words conversions
+part_ends (part.BehindLoad negated) nest g d n l = led (codes "a ") _ (computed nest d g (form.Load negated an_operand)) n l (λ rest. refl) (computed_ends nest d g (form.Load negated an_operand) n n)
+part_ends (part.BehindOperator o negated) nest g d n l = led (codes "a ") _ (computed nest d g (form.Apply o negated an_operand)) n l (λ rest. refl) (computed_ends nest d g (form.Apply o negated an_operand) n n)
+part_ends (part.BehindParenthesis o negated) nest g d n l = newline _ (at_line (frame_of g o negated None ∷ nest) d) n l (λ rest. refl) (inside_ends nest (frame_of g o negated None) d (suc n) n)
+part_ends (part.BehindEntry o negated x) nest g d n l = newline _ (at_line (frame_of g o negated (Some x) ∷ nest) d) n l (λ rest. refl) (inside_ends nest (frame_of g o negated (Some x)) d (suc n) n)
+part_ends (part.BehindPair o) nest g d n l = led (codes "a,a ") _ (computed nest d g (paired o an_operand an_operand)) n l (λ rest. refl) (computed_ends nest d g (paired o an_operand an_operand) n n)
+part_ends (part.BehindFirst o x) nest g d n l = led (codes ",a ") _ (computed nest d g (paired o x an_operand)) n l (λ rest. refl) (computed_ends nest d g (paired o x an_operand) n n)
+part_ends (part.BehindFirstComma o x) nest g d n l = led (codes "a ") _ (computed nest d g (paired o x an_operand)) n l (λ rest. refl) (computed_ends nest d g (paired o x an_operand) n n)
+part_ends (part.BehindStore negated) nest g d n l = led (codes "a ") _ (acted nest d g (action.Store negated (codes "a"))) n l (λ rest. refl) (whole_ends nest (with_statement d g (Some (action.Store negated (codes "a")))) n n)
+part_ends (part.BehindSet value) nest g d n l = led (codes "a ") _ (acted nest d g (action.Set value (codes "a"))) n l (λ rest. refl) (whole_ends nest (with_statement d g (Some (action.Set value (codes "a")))) n n)
+part_ends (part.BehindJump c turns) nest g d n l = jump_ends (part.BehindJump c turns) c turns (codes "a ") nest g d n l (λ rest. refl)
+part_ends part.BehindBrace nest g d n l = jump_ends part.BehindBrace condition.Always (Some 1) (codes "LOOP 1}JMP a ") nest g d n l (λ rest. refl)
+part_ends part.BehindLoop nest g d n l = jump_ends part.BehindLoop condition.Always (Some 1) (codes "1}JMP a ") nest g d n l (λ rest. refl)
+part_ends (part.BehindTurns turns) nest g d n l = jump_ends (part.BehindTurns turns) condition.Always (Some turns) (codes "}JMP a ") nest g d n l (λ rest. refl)
+part_ends (part.BehindPragma turns) nest g d n l = jump_ends (part.BehindPragma turns) condition.Always (Some turns) (codes "JMP a ") nest g d n l (λ rest. refl)
 
 -- the completion
 pub clear_ends : (s : State) (n l : ℕ) → IsLive s → Ends_at (clear n l s)
@@ -246,11 +324,11 @@ clear_ends state.Start n l h = (codes "PROGRAM p END_PROGRAM\n", _, _, _, refl)
 clear_ends state.Titled n l h = (codes "p END_PROGRAM\n", _, _, _, refl)
 clear_ends (state.Within stage.BetweenBlocks d) n l h = (codes "END_PROGRAM\n", _, _, _, refl)
 clear_ends (state.Within (stage.Block s) d) n l h = in_block_ends s d n l h
-clear_ends (state.Within stage.AtLine d) n l h = (codes "END_PROGRAM\n", _, _, _, refl)
+clear_ends (state.Within (stage.AtLine nest) d) n l h = lines_end nest d n l
 clear_ends (state.Within (stage.BehindLabel m v) d) n l h = (codes ":\nEND_PROGRAM\n", _, _, _, refl)
 clear_ends (state.Within (stage.AtInstruction g) d) n l h = (codes "\nEND_PROGRAM\n", _, _, _, refl)
-clear_ends (state.Within (stage.Part g s) d) n l h = part_ends s g d n l
-clear_ends (state.Within stage.BehindInstruction d) n l h = (codes "\nEND_PROGRAM\n", _, _, _, refl)
+clear_ends (state.Within (stage.Part nest g s) d) n l h = part_ends s nest g d n l
+clear_ends (state.Within (stage.BehindInstruction nest) d) n l h = whole_ends nest d n l
 clear_ends (state.Over p) n l h = ([], p, n, l, refl)
 
 -- where a line begins, nothing is open but a comment

@@ -1,16 +1,15 @@
 -- Drafts that grow by declarations, and what is declared by then.
-use Rattle.std.proofs.Common.{◌≡◌, ℕ, Bool, true, false, List, [], ◌∷◌, ◌++◌, map, refl, sym, ap, ◌∙◌, append_assoc}
+use Rattle.std.proofs.Common.{◌≡◌, ℕ, Bool, List, [], ◌∷◌, ◌++◌, map, refl, sym, ap, ◌∙◌, append_assoc}
 use Rattle.std.proofs.lemmas.List.{append-nil}
 use Rattle.il_reader.specs.declared.tree.Program.{Program}
 use Rattle.il_reader.specs.declared.tree.Statement.{Statement}
 use Rattle.il_reader.specs.declared.tree.Variable.{Variable}
 use Rattle.il_reader.specs.declared.tree.External.{External}
 use Rattle.il_reader.specs.declared.typing.Entry.{Entry}
-use Rattle.il_reader.specs.declared.typing.Typing.{Typing}
 use Rattle.il_reader.specs.declared.scope.Scope.{Scope}
 use Rattle.il_reader.specs.declared.draft.Draft.{Draft}
 use Rattle.il_reader.specs.Declaration.{with_name, variable_of, external_of}
-use Rattle.il_reader.specs.Reading.{with_entry, with_variables, with_externals, titled_draft}
+use Rattle.il_reader.specs.Drafting.{with_entry, with_variables, with_externals, titled_draft}
 use Rattle.il_reader.specs.Grammar.{Nature, OfVariable, OfExternal, Declaration, Block, entries_of, with_entries, with_declarations, variables_with, externals_with, block_variables, block_externals, variables_of, externals_of}
 
 -- behind some names of a declaration

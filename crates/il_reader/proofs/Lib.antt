@@ -1,8 +1,10 @@
+pub mod Forms
 pub mod LexerLemmas
 pub mod ReaderLemmas
 pub mod TypingLemmas
 pub mod Drafts
 pub mod Rest
+pub mod Instructed
 pub mod Back
 pub mod Forth
 pub mod Bytes

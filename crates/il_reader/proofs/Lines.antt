@@ -5,7 +5,6 @@ use Rattle.il_reader.specs.declared.fault.ReadFault.{ReadFault}
 use Rattle.il_reader.specs.declared.fault.ReadFaultKind.{ReadFaultKind}
 use Rattle.il_reader.specs.declared.fault.ReadFaultKind.TheVariants as fault
 use Rattle.il_reader.specs.declared.token.Token.{Token}
-use Rattle.il_reader.specs.declared.token.Token.TheVariants as token
 use Rattle.il_reader.specs.declared.tree.Program.{Program}
 use Rattle.il_reader.specs.declared.lexer.Lexed.{Lexed}
 use Rattle.il_reader.specs.declared.numeral.Spelling.{Spelling}
@@ -15,7 +14,8 @@ use Rattle.il_reader.specs.declared.reader.Reader.{Reader}
 use Rattle.il_reader.specs.declared.state.State.TheVariants as state
 use Rattle.il_reader.specs.Tokens.{lexed, at_end, line_behind, word_token, word_ended, number_ended}
 use Rattle.il_reader.specs.Grammar.{IsProgramText}
-use Rattle.il_reader.specs.Reading.{Move, stepped, taken, state_read, byte_read, byte_fed, fed_on, fed, opening, Outcome, Reads, AtFault, TooSoon, end_reached, end_read, judged, outcome}
+use Rattle.il_reader.specs.Drafting.{Move}
+use Rattle.il_reader.specs.Reading.{stepped, taken, state_read, byte_read, byte_fed, fed_on, fed, opening, Outcome, Reads, AtFault, TooSoon, early, end_reached, end_read, judged, outcome}
 use Rattle.il_reader.specs.Laws.{lines_up_to, line_ends, last_line, Begins, FaultIsInTheFirstLine, EarlyEndIsInTheLastLine}
 use Rattle.il_reader.proofs.Bytes.{read_is_program, program_is_read}
 use Rattle.il_reader.proofs.Live.{live_fed}
@@ -262,34 +262,34 @@ begins_none a n (k, e) rest p h =
     let read : outcome (a ++ rest) ≡ Reads p = program_is_read (a ++ rest) p h in
     cc
 
-early_reached : (l : ℕ) (m : Move) (f : ReadFault) → end_reached l m ≡ TooSoon f → f.line ≡ l
-early_reached l (Ok (state.Over p)) f h = absurd (cc)
-early_reached l (Ok _) f h = ap line_in (sym h)
+early_reached : (l : ℕ) (k : ReadFaultKind) (m : Move) (f : ReadFault) → end_reached l k m ≡ TooSoon f → f.line ≡ l
+early_reached l k (Ok (state.Over p)) f h = absurd (cc)
+early_reached l k (Ok _) f h = ap line_in (sym h)
   where
     line_in : Outcome → ℕ
     line_in (TooSoon g) = g.line
     line_in _ = 0
-early_reached l (Err k) f h = ap line_in (sym h)
+early_reached l k (Err _) f h = ap line_in (sym h)
   where
     line_in : Outcome → ℕ
     line_in (TooSoon g) = g.line
     line_in _ = 0
 
 early_read : (r : Reader) (t : Result (Option Token) ReadFaultKind) (f : ReadFault) → end_read r t ≡ TooSoon f → f.line ≡ r.last
-early_read r (Ok t) f h = early_reached r.last (stepped r.state t r.line) f h
+early_read r (Ok t) f h = early_reached r.last (early r.state) (stepped r.state t r.line) f h
 early_read r (Err k) f h = ap line_in (sym h)
   where
     line_in : Outcome → ℕ
     line_in (TooSoon g) = g.line
     line_in _ = 0
 
-no_fault_reached : (l : ℕ) (m : Move) (f : ReadFault) → end_reached l m ≡ AtFault f → ⊥
-no_fault_reached l (Ok (state.Over p)) f h = cc
-no_fault_reached l (Ok _) f h = cc
-no_fault_reached l (Err k) f h = cc
+no_fault_reached : (l : ℕ) (k : ReadFaultKind) (m : Move) (f : ReadFault) → end_reached l k m ≡ AtFault f → ⊥
+no_fault_reached l k (Ok (state.Over p)) f h = cc
+no_fault_reached l k (Ok _) f h = cc
+no_fault_reached l k (Err _) f h = cc
 
 no_fault_at_end : (r : Reader) (t : Result (Option Token) ReadFaultKind) (f : ReadFault) → end_read r t ≡ AtFault f → ⊥
-no_fault_at_end r (Ok t) f h = no_fault_reached r.last (stepped r.state t r.line) f h
+no_fault_at_end r (Ok t) f h = no_fault_reached r.last (early r.state) (stepped r.state t r.line) f h
 no_fault_at_end r (Err k) f h = cc
 
 pub fault_is_in_the_first_line : FaultIsInTheFirstLine

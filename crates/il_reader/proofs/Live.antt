@@ -1,22 +1,22 @@
 -- What the states that are reached keep: behind a comma there is room for one more name.
-use Rattle.std.proofs.Common.{◌≡◌, ℕ, Bool, true, false, ℤ, List, [], ◌∷◌, Option, Some, None, Result, Ok, Err, refl, subst, if◌then◌else◌, option_map}
+use Rattle.std.proofs.Common.{◌≡◌, ℕ, Bool, true, false, List, [], ◌∷◌, length, Option, Some, None, Result, Ok, Err, refl, subst, if◌then◌else◌, option_map}
 use Rattle.point_types.specs.declared.il_type.IlType.{IlType}
 use Rattle.point_types.specs.declared.operator.Condition.{Condition}
+use Rattle.point_types.specs.declared.operator.Operator.{Operator}
 use Rattle.point_types.specs.Value.{is_bool}
 use Rattle.il_reader.specs.declared.fault.ReadFault.{ReadFault}
 use Rattle.il_reader.specs.declared.fault.ReadFaultKind.{ReadFaultKind}
 use Rattle.il_reader.specs.declared.fault.ReadFaultKind.TheVariants as fault
+use Rattle.il_reader.specs.declared.token.Keyword.{Keyword}
 use Rattle.il_reader.specs.declared.token.Keyword.TheVariants as word
 use Rattle.il_reader.specs.declared.token.Token.{Token}
 use Rattle.il_reader.specs.declared.token.Token.TheVariants as token
-use Rattle.il_reader.specs.declared.tree.Action.{Action}
 use Rattle.il_reader.specs.declared.tree.Operand.{Operand}
 use Rattle.il_reader.specs.declared.tree.Program.{Program}
-use Rattle.il_reader.specs.declared.tree.Simple.{Simple}
-use Rattle.il_reader.specs.declared.tree.Simple.TheVariants as simple
 use Rattle.il_reader.specs.declared.typing.Typing.{Typing}
 use Rattle.il_reader.specs.declared.draft.Draft.{Draft}
 use Rattle.il_reader.specs.declared.draft.Head.{Head}
+use Rattle.il_reader.specs.declared.nest.Frame.{Frame}
 use Rattle.il_reader.specs.declared.lexer.Lexed.{Lexed}
 use Rattle.il_reader.specs.declared.reader.Reader.{Reader}
 use Rattle.il_reader.specs.declared.stage.BlockStage.{BlockStage}
@@ -28,9 +28,14 @@ use Rattle.il_reader.specs.declared.stage.Stage.{Stage}
 use Rattle.il_reader.specs.declared.stage.Stage.TheVariants as stage
 use Rattle.il_reader.specs.declared.state.State.{State}
 use Rattle.il_reader.specs.declared.state.State.TheVariants as state
+use Rattle.il_reader.specs.Written.{Written}
+use Rattle.il_reader.specs.Written as form
+use Rattle.il_reader.specs.Nesting.{takes_parentheses, has_depth, is_filled, deferred, is_outer}
 use Rattle.il_reader.specs.Declaration.{among, is_taken, has_room, value_of, whole, begun, bounded, started, made}
 use Rattle.il_reader.specs.Tokens.{lexed}
-use Rattle.il_reader.specs.Reading.{Move, goes, declares, continues, with_entry, start_step, titled_step, over_step, declare_step, in_block_step, behind_name_step, behind_comma_step, ranged_step, typed_step, behind_colon_step, behind_external_step, behind_range_step, behind_type_step, behind_open_step, behind_low_step, behind_dots_step, behind_high_step, behind_assign_step, behind_start_step, operand_of, simple_step, begun_step, part_begun, action_of, begin_step, line_step, behind_label_step, at_instruction_step, between_step, paired, behind_pair_step, behind_first_step, behind_store_step, behind_set_step, behind_jump_step, is_loop, turns_of, behind_brace_step, turns_step, behind_loop_step, behind_turns_step, behind_pragma_step, whole_step, block_step, part_step, within_step, state_step, with_fault, step, stepped, onward, taken, state_read, byte_read, byte_fed, fed_on, fed}
+use Rattle.il_reader.specs.Drafting.{Move, goes, declares, continues, with_entry}
+use Rattle.il_reader.specs.Instructions.{operand_of, computed, simple_step, begun_step, single_step, part_begun, begin_step, line_step, at_line_step, inner_step, close_step, enter_step, behind_operator_step, entered_step, behind_parenthesis_step, behind_entry_step, behind_label_step, at_instruction_step, between_step, paired, behind_pair_step, behind_first_step, behind_store_step, behind_set_step, behind_jump_step, is_loop, turns_of, behind_brace_step, turns_step, behind_loop_step, behind_turns_step, behind_pragma_step, whole_step, part_step}
+use Rattle.il_reader.specs.Reading.{start_step, titled_step, over_step, declare_step, in_block_step, behind_name_step, behind_comma_step, ranged_step, typed_step, behind_colon_step, behind_external_step, behind_range_step, behind_type_step, behind_open_step, behind_low_step, behind_dots_step, behind_high_step, behind_assign_step, behind_start_step, block_step, within_step, state_step, with_fault, step, stepped, onward, taken, state_read, byte_read, byte_fed, fed_on, fed}
 
 abbrev pub IsLive : State → Type 0
 IsLive (state.Within (stage.Block (block.BehindComma x)) d) = has_room x d.scope ≡ true
@@ -165,76 +170,113 @@ live_block (block.BehindRange y) d t m h = live_behind_range y d t
 live_block (block.BehindAssign y) d t m h = live_behind_assign y d t
 live_block (block.BehindStart y) d t m h = live_behind_start y d t
 
-live_simple : (d : Draft) (h : Head) (x : Option Simple) → LiveMove (simple_step d h x)
-live_simple d h (Some x) = tt
-live_simple d h None = tt
+-- where no declaration is open nothing is asked
+live_computed : (nest : List Frame) (d : Draft) (h : Head) (x : Written) → IsLive (computed nest d h x)
+live_computed [] d h x = tt
+live_computed (f ∷ nest) d h x = tt
 
-live_pair : (d : Draft) (h : Head) (o : Pair) (x : Option Operand) → LiveMove (behind_pair_step h o d x)
-live_pair d h o (Some x) = tt
-live_pair d h o None = tt
+live_simple : (nest : List Frame) (d : Draft) (h : Head) (x : Option Written) → LiveMove (simple_step nest d h x)
+live_simple nest d h (Some x) = live_computed nest d h x
+live_simple nest d h None = tt
 
-live_first : (d : Draft) (h : Head) (o : Pair) (x : Operand) (t : Token) → LiveMove (behind_first_step h o x d t)
-live_first d h o x token.Comma = tt
-live_first d h o x _ = tt
+live_pair : (nest : List Frame) (d : Draft) (h : Head) (o : Pair) (x : Option Operand) → LiveMove (behind_pair_step nest h o d x)
+live_pair nest d h o (Some x) = tt
+live_pair nest d h o None = tt
 
-live_store : (d : Draft) (h : Head) (b : Bool) (t : Token) → LiveMove (behind_store_step h b d t)
-live_store d h b (token.Name n) = tt
-live_store d h b _ = tt
+live_first : (nest : List Frame) (d : Draft) (h : Head) (o : Pair) (x : Operand) (t : Token) → LiveMove (behind_first_step nest h o x d t)
+live_first nest d h o x token.Comma = tt
+live_first nest d h o x _ = tt
 
-live_set : (d : Draft) (h : Head) (b : Bool) (t : Token) → LiveMove (behind_set_step h b d t)
-live_set d h b (token.Name n) = tt
-live_set d h b _ = tt
+live_store : (nest : List Frame) (d : Draft) (h : Head) (b : Bool) (t : Token) → LiveMove (behind_store_step nest h b d t)
+live_store nest d h b (token.Name n) = tt
+live_store nest d h b _ = tt
 
-live_jump : (d : Draft) (h : Head) (c : Condition) (turns : Option ℕ) (t : Token) → LiveMove (behind_jump_step h c turns d t)
-live_jump d h c turns (token.Name n) = tt
-live_jump d h c turns _ = tt
+live_set : (nest : List Frame) (d : Draft) (h : Head) (b : Bool) (t : Token) → LiveMove (behind_set_step nest h b d t)
+live_set nest d h b (token.Name n) = tt
+live_set nest d h b _ = tt
 
-live_brace : (d : Draft) (h : Head) (t : Token) → LiveMove (behind_brace_step h d t)
-live_brace d h (token.Name w) = either (is_loop w)
+live_jump : (nest : List Frame) (d : Draft) (h : Head) (c : Condition) (turns : Option ℕ) (t : Token) → LiveMove (behind_jump_step nest h c turns d t)
+live_jump nest d h c turns (token.Name n) = tt
+live_jump nest d h c turns _ = tt
+
+live_brace : (nest : List Frame) (d : Draft) (h : Head) (t : Token) → LiveMove (behind_brace_step nest h d t)
+live_brace nest d h (token.Name w) = either (is_loop w)
   where
-    either : (b : Bool) → LiveMove (if b then continues h part.BehindLoop d else Err fault.Word)
+    either : (b : Bool) → LiveMove (if b then continues nest h part.BehindLoop d else Err fault.Word)
     either true = tt
     either false = tt
-live_brace d h _ = tt
+live_brace nest d h _ = tt
 
-live_counted : (d : Draft) (h : Head) (o : Option ℕ) → LiveMove (turns_step h d o)
-live_counted d h (Some n) = tt
-live_counted d h None = tt
+live_counted : (nest : List Frame) (d : Draft) (h : Head) (o : Option ℕ) → LiveMove (turns_step nest h d o)
+live_counted nest d h (Some n) = tt
+live_counted nest d h None = tt
 
-live_loop : (d : Draft) (h : Head) (t : Token) → LiveMove (behind_loop_step h d t)
-live_loop d h (token.Decimal n) = live_counted d h (turns_of n)
-live_loop d h _ = tt
+live_loop : (nest : List Frame) (d : Draft) (h : Head) (t : Token) → LiveMove (behind_loop_step nest h d t)
+live_loop nest d h (token.Decimal n) = live_counted nest d h (turns_of n)
+live_loop nest d h _ = tt
 
-live_turns : (d : Draft) (h : Head) (turns : ℕ) (t : Token) → LiveMove (behind_turns_step h turns d t)
-live_turns d h turns token.CloseBrace = tt
-live_turns d h turns _ = tt
+live_turns : (nest : List Frame) (d : Draft) (h : Head) (turns : ℕ) (t : Token) → LiveMove (behind_turns_step nest h turns d t)
+live_turns nest d h turns token.CloseBrace = tt
+live_turns nest d h turns _ = tt
 
-live_pragma : (d : Draft) (h : Head) (turns : ℕ) (t : Token) → LiveMove (behind_pragma_step h turns d t)
-live_pragma d h turns (token.Keyword (word.Jump c)) = tt
-live_pragma d h turns (token.Keyword _) = tt
-live_pragma d h turns _ = tt
+live_pragma : (nest : List Frame) (d : Draft) (h : Head) (turns : ℕ) (t : Token) → LiveMove (behind_pragma_step nest h turns d t)
+live_pragma nest d h turns (token.Keyword (word.Jump c)) = tt
+live_pragma nest d h turns (token.Keyword _) = tt
+live_pragma nest d h turns _ = tt
 
-live_part : (s : PartStage) (d : Draft) (h : Head) (t : Token) → LiveMove (part_step h s d t)
-live_part (part.BehindLoad negated) d h t = live_simple d h (option_map (simple.Load negated) (operand_of t))
-live_part (part.BehindOperator o negated) d h t = live_simple d h (option_map (simple.Apply o negated) (operand_of t))
-live_part (part.BehindPair o) d h t = live_pair d h o (operand_of t)
-live_part (part.BehindFirst o x) d h t = live_first d h o x t
-live_part (part.BehindFirstComma o x) d h t = live_simple d h (option_map (paired o x) (operand_of t))
-live_part (part.BehindStore negated) d h t = live_store d h negated t
-live_part (part.BehindSet value) d h t = live_set d h value t
-live_part (part.BehindJump c turns) d h t = live_jump d h c turns t
-live_part part.BehindBrace d h t = live_brace d h t
-live_part part.BehindLoop d h t = live_loop d h t
-live_part (part.BehindTurns turns) d h t = live_turns d h turns t
-live_part (part.BehindPragma turns) d h t = live_pragma d h turns t
+live_enter : (nest : List Frame) (d : Draft) (h : Head) (o : Operator) (negated : Bool) → LiveMove (enter_step nest h o negated d)
+live_enter nest d h o negated = either (takes_parentheses o) (has_depth (length nest))
+  where
+    either : (a b : Bool) → LiveMove (if a then (if b then continues nest h (part.BehindParenthesis o negated) d else Err fault.TooLong) else Err fault.Operand)
+    either true true = tt
+    either true false = tt
+    either false b = tt
 
-live_begun : (d : Draft) (h : Head) (s : Option PartStage) (a : Option Action) → LiveMove (begun_step d h s a)
-live_begun d h (Some s) a = tt
-live_begun d h None (Some a) = tt
-live_begun d h None None = tt
+live_operator : (nest : List Frame) (d : Draft) (h : Head) (o : Operator) (negated : Bool) (t : Token) → LiveMove (behind_operator_step nest h o negated d t)
+live_operator nest d h o negated token.Open = live_enter nest d h o negated
+live_operator nest d h o negated t = live_simple nest d h (option_map (form.Apply o negated) (operand_of t))
+
+live_entered : (nest : List Frame) (d : Draft) (h : Head) (o : Operator) (negated : Bool) (x : Option Operand) → LiveMove (entered_step nest h o negated d x)
+live_entered nest d h o negated (Some x) = tt
+live_entered nest d h o negated None = tt
+
+live_parenthesis : (nest : List Frame) (d : Draft) (h : Head) (o : Operator) (negated : Bool) (t : Token) → LiveMove (behind_parenthesis_step nest h o negated d t)
+live_parenthesis nest d h o negated token.LineEnd = tt
+live_parenthesis nest d h o negated t = live_entered nest d h o negated (operand_of t)
+
+live_entry : (nest : List Frame) (d : Draft) (h : Head) (o : Operator) (negated : Bool) (x : Operand) (t : Token) → LiveMove (behind_entry_step nest h o negated x d t)
+live_entry nest d h o negated x token.LineEnd = tt
+live_entry nest d h o negated x _ = tt
+
+live_part : (s : PartStage) (nest : List Frame) (d : Draft) (h : Head) (t : Token) → LiveMove (part_step nest h s d t)
+live_part (part.BehindLoad negated) nest d h t = live_simple nest d h (option_map (form.Load negated) (operand_of t))
+live_part (part.BehindOperator o negated) nest d h t = live_operator nest d h o negated t
+live_part (part.BehindParenthesis o negated) nest d h t = live_parenthesis nest d h o negated t
+live_part (part.BehindEntry o negated x) nest d h t = live_entry nest d h o negated x t
+live_part (part.BehindPair o) nest d h t = live_pair nest d h o (operand_of t)
+live_part (part.BehindFirst o x) nest d h t = live_first nest d h o x t
+live_part (part.BehindFirstComma o x) nest d h t = live_simple nest d h (option_map (paired o x) (operand_of t))
+live_part (part.BehindStore negated) nest d h t = live_store nest d h negated t
+live_part (part.BehindSet value) nest d h t = live_set nest d h value t
+live_part (part.BehindJump c turns) nest d h t = live_jump nest d h c turns t
+live_part part.BehindBrace nest d h t = live_brace nest d h t
+live_part part.BehindLoop nest d h t = live_loop nest d h t
+live_part (part.BehindTurns turns) nest d h t = live_turns nest d h turns t
+live_part (part.BehindPragma turns) nest d h t = live_pragma nest d h turns t
+
+live_single : (nest : List Frame) (d : Draft) (h : Head) (w : Keyword) → LiveMove (single_step nest d h w)
+live_single nest d h (word.Return c) = tt
+live_single nest d h word.Not = live_computed nest d h form.Invert
+live_single nest d h word.Absolute = live_computed nest d h form.Absolute
+live_single nest d h (word.Convert j k) = live_computed nest d h (form.Convert j k)
+live_single nest d h _ = tt
+
+live_begun : (nest : List Frame) (d : Draft) (h : Head) (w : Keyword) (s : Option PartStage) → LiveMove (begun_step nest d h w s)
+live_begun nest d h w (Some s) = tt
+live_begun nest d h w None = live_single nest d h w
 
 live_begin : (d : Draft) (h : Head) (t : Token) → LiveMove (begin_step d h t)
-live_begin d h (token.Keyword w) = live_begun d h (part_begun w) (action_of w)
+live_begin d h (token.Keyword w) = live_begun [] d h w (part_begun w)
 live_begin d h token.OpenBrace = tt
 live_begin d h token.Close = tt
 live_begin d h _ = tt
@@ -249,6 +291,28 @@ live_line d (token.Name n) m = either (among n d.labels)
     either false = tt
 live_line d (token.Keyword k) m = live_begin d (record { line = m; label = None }) (token.Keyword k)
 live_line d t m = live_begin d (record { line = m; label = None }) t
+
+live_close : (f : Frame) (nest : List Frame) (d : Draft) → LiveMove (close_step f nest d)
+live_close f nest d = either (is_filled f.operand f.inner)
+  where
+    either : (b : Bool) → LiveMove (if b then Ok (computed nest d f.head (deferred f f.inner)) else Err fault.Operand)
+    either true = live_computed nest d f.head (deferred f f.inner)
+    either false = tt
+
+live_inner : (f : Frame) (nest : List Frame) (d : Draft) (w : Keyword) (m : ℕ) → LiveMove (inner_step f nest d w m)
+live_inner f nest d w m = either (is_outer w)
+  where
+    either : (b : Bool) → LiveMove (if b then Err fault.Parenthesis else begun_step (f ∷ nest) d (record { line = m; label = None }) w (part_begun w))
+    either true = tt
+    either false = live_begun (f ∷ nest) d (record { line = m; label = None }) w (part_begun w)
+
+live_at_line : (nest : List Frame) (d : Draft) (t : Token) (m : ℕ) → LiveMove (at_line_step nest d t m)
+live_at_line [] d t m = live_line d t m
+live_at_line (f ∷ nest) d token.LineEnd m = tt
+live_at_line (f ∷ nest) d token.Close m = live_close f nest d
+live_at_line (f ∷ nest) d (token.Keyword w) m = live_inner f nest d w m
+live_at_line (f ∷ nest) d (token.Name n) m = tt
+live_at_line (f ∷ nest) d _ m = tt
 
 live_between : (d : Draft) (t : Token) (m : ℕ) → LiveMove (between_step d t m)
 live_between d token.LineEnd m = tt
@@ -265,18 +329,18 @@ live_instruction : (h : Head) (d : Draft) (t : Token) → LiveMove (at_instructi
 live_instruction h d token.LineEnd = tt
 live_instruction h d t = live_begin d h t
 
-live_whole : (d : Draft) (t : Token) → LiveMove (whole_step d t)
-live_whole d token.LineEnd = tt
-live_whole d _ = tt
+live_whole : (nest : List Frame) (d : Draft) (t : Token) → LiveMove (whole_step nest d t)
+live_whole nest d token.LineEnd = tt
+live_whole nest d _ = tt
 
 live_within : (s : Stage) (d : Draft) (t : Token) (m : ℕ) → IsLive (state.Within s d) → LiveMove (within_step s d t m)
 live_within stage.BetweenBlocks d t m h = live_between d t m
 live_within (stage.Block s) d t m h = live_block s d t m h
-live_within stage.AtLine d t m h = live_line d t m
+live_within (stage.AtLine nest) d t m h = live_at_line nest d t m
 live_within (stage.BehindLabel l n) d t m h = live_label l n d t
 live_within (stage.AtInstruction g) d t m h = live_instruction g d t
-live_within (stage.Part g s) d t m h = live_part s d g t
-live_within stage.BehindInstruction d t m h = live_whole d t
+live_within (stage.Part nest g s) d t m h = live_part s nest d g t
+live_within (stage.BehindInstruction nest) d t m h = live_whole nest d t
 
 live_state : (s : State) (t : Token) (m : ℕ) → IsLive s → LiveMove (state_step s t m)
 live_state state.Start t m h = live_start t

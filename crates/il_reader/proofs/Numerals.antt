@@ -1,22 +1,19 @@
 -- Each number of LINT can be written with a sign and digits.
-use Rattle.std.proofs.Common.{◌≡◌, ℕ, zero, suc, ◌+◌, ◌*◌, ◌≤◌, ◌<◌, Bool, true, false, ℤ, pos, List, [], ◌∷◌, ◌++◌, Option, Some, None, Result, Ok, Err, refl, sym, ap, ◌∙◌, subst, append_assoc, if◌then◌else◌, arith}
+use Rattle.std.proofs.Common.{◌≡◌, ℕ, zero, suc, ◌+◌, ◌*◌, ◌≤◌, Bool, true, false, ℤ, pos, List, [], ◌∷◌, ◌++◌, Some, None, Ok, Err, refl, sym, ap, ◌∙◌, subst, append_assoc, if◌then◌else◌, arith}
 use Rattle.std.proofs.lemmas.Int.{ints}
-use Rattle.std.specs.Prelude.{neg_ℤ, ◌+ℤ◌, ◌-ℤ◌, ◌*ℤ◌, negsuc}
+use Rattle.std.specs.Prelude.{neg_ℤ, negsuc}
 use Rattle.point_types.specs.declared.il_type.IlType.TheVariants as il
 use Rattle.point_types.specs.Value.{low_of, high_of, is_within}
-use Rattle.il_reader.specs.declared.fault.ReadFaultKind.{ReadFaultKind}
 use Rattle.il_reader.specs.declared.fault.ReadFaultKind.TheVariants as fault
 use Rattle.il_reader.specs.declared.token.Token.{Token}
 use Rattle.il_reader.specs.declared.token.Token.TheVariants as token
-use Rattle.il_reader.specs.declared.lexer.Lexed.{Lexed}
 use Rattle.il_reader.specs.declared.lexer.Mode.{Mode}
 use Rattle.il_reader.specs.declared.lexer.Mode.TheVariants as mode
-use Rattle.il_reader.specs.declared.numeral.Spelling.{Spelling}
 use Rattle.il_reader.specs.declared.numeral.Spelling.TheVariants as spelling
 use Rattle.il_reader.specs.declared.reader.Reader.{Reader}
 use Rattle.il_reader.specs.declared.state.State.{State}
 use Rattle.il_reader.specs.Tokens.{lexed, stands, number_stands, grown}
-use Rattle.il_reader.specs.Reading.{Move, step, stepped, onward, state_read, byte_read, fed_on, fed}
+use Rattle.il_reader.specs.Reading.{step, stepped, onward, state_read, byte_read, fed_on, fed}
 
 -- where no token is open
 abbrev pub clear : ℕ → ℕ → State → Reader

@@ -6,7 +6,8 @@ use Rattle.il_reader.specs.declared.fault.ReadFaultKind.{ReadFaultKind}
 use Rattle.il_reader.specs.declared.lexer.Lexed.{Lexed}
 use Rattle.il_reader.specs.declared.reader.Reader.{Reader}
 use Rattle.il_reader.specs.Tokens.{lexed, line_behind}
-use Rattle.il_reader.specs.Reading.{Move, byte_fed, byte_read, fed, fed_on, state_read, taken}
+use Rattle.il_reader.specs.Drafting.{Move}
+use Rattle.il_reader.specs.Reading.{byte_fed, byte_read, fed, fed_on, state_read, taken}
 
 abbrev behind_first : List ℕ → List ℕ
 behind_first rest = take (length rest - 1) (drop 1 rest)

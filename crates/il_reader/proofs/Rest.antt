@@ -1,14 +1,13 @@
 -- What remains to be read of a text, for each state.
-use Rattle.std.proofs.Common.{◌≡◌, ℕ, Bool, true, false, ℤ, List, [], ◌∷◌, Option, Some, None, Ok, Err}
+use Rattle.std.proofs.Common.{◌≡◌, ◌⊎◌, ℕ, suc, Bool, true, false, ℤ, List, [], ◌∷◌, length, Option, Some, Ok, Err}
 use Rattle.point_types.specs.declared.il_type.IlType.{IlType}
 use Rattle.point_types.specs.declared.operator.Condition.{Condition}
+use Rattle.point_types.specs.declared.operator.Operator.{Operator}
 use Rattle.il_reader.specs.declared.token.Keyword.TheVariants as word
 use Rattle.il_reader.specs.declared.token.Token.{Token}
 use Rattle.il_reader.specs.declared.token.Token.TheVariants as token
 use Rattle.il_reader.specs.declared.tree.Action.{Action}
 use Rattle.il_reader.specs.declared.tree.Action.TheVariants as action
-use Rattle.il_reader.specs.declared.tree.Simple.{Simple}
-use Rattle.il_reader.specs.declared.tree.Simple.TheVariants as simple
 use Rattle.il_reader.specs.declared.tree.Operand.{Operand}
 use Rattle.il_reader.specs.declared.tree.Program.{Program}
 use Rattle.il_reader.specs.declared.tree.Statement.{Statement}
@@ -16,18 +15,23 @@ use Rattle.il_reader.specs.declared.typing.Entry.{Entry}
 use Rattle.il_reader.specs.declared.typing.Typing.{Typing}
 use Rattle.il_reader.specs.declared.draft.Draft.{Draft}
 use Rattle.il_reader.specs.declared.draft.Head.{Head}
+use Rattle.il_reader.specs.declared.nest.Frame.{Frame}
 use Rattle.il_reader.specs.declared.stage.BlockStage.{BlockStage}
 use Rattle.il_reader.specs.declared.stage.BlockStage.TheVariants as block
 use Rattle.il_reader.specs.declared.stage.PartStage.{PartStage}
 use Rattle.il_reader.specs.declared.stage.PartStage.TheVariants as part
-use Rattle.il_reader.specs.declared.stage.Pair.{Pair}
 use Rattle.il_reader.specs.declared.stage.Stage.{Stage}
 use Rattle.il_reader.specs.declared.stage.Stage.TheVariants as stage
 use Rattle.il_reader.specs.declared.state.State.{State}
 use Rattle.il_reader.specs.declared.state.State.TheVariants as state
+use Rattle.il_reader.specs.Written.{Written, Inner, followed_by}
+use Rattle.il_reader.specs.Written as form
+use Rattle.il_reader.specs.Nesting.{takes_parentheses, has_depth, is_filled, frame_of, with_line, deferred}
 use Rattle.il_reader.specs.Declaration.{value_of, begun, bounded, started, made}
-use Rattle.il_reader.specs.Reading.{Move, with_entry, with_variables, with_externals, with_label, with_statement, titled_draft, operand_of, paired, is_loop, turns_of, step, onward}
-use Rattle.il_reader.specs.Grammar.{Placed, placed, past, IsNext, IsEnd, IsAction, IsLabelled, IsBody, Nature, Declaration, Block, IsFree, AreOthers, IsRange, IsStart, IsNature, IsTyped, AreDeclarations, AreBlocks, IsProgram}
+use Rattle.il_reader.specs.Drafting.{Move, with_entry, with_variables, with_externals, with_label, with_statement, titled_draft}
+use Rattle.il_reader.specs.Instructions.{operand_of, paired, is_loop, turns_of}
+use Rattle.il_reader.specs.Reading.{step, onward}
+use Rattle.il_reader.specs.Grammar.{Placed, placed, past, IsNext, IsEnd, IsEntry, IsSimple, IsInner, IsAction, IsLabelled, IsBody, Nature, Declaration, Block, IsFree, AreOthers, IsRange, IsStart, IsNature, IsTyped, AreDeclarations, AreBlocks, IsProgram}
 use Rattle.il_reader.proofs.Drafts.{listed, closed, after, after_blocks, finished}
 
 -- tokens in turn
@@ -40,42 +44,72 @@ run s (placed t m ∷ ts) = onward (step s t m) (λ s'. run s' ts)
 abbrev pub RestBody : Draft → List Placed → Program → Type 0
 RestBody d ts p = (body : List Statement) × (e : ℕ) × IsBody d.labels body e ts × (p ≡ finished d body e)
 
-abbrev pub RestWhole : Draft → List Placed → Program → Type 0
-RestWhole d ts p = (b : List Placed) × IsEnd ts b × RestBody d b p
+-- at the beginning of a line inside parentheses: first those of the inmost, up to the line behind the closing one
+abbrev pub RestInside : Frame → List Frame → Draft → List Placed → Program → Type 0
+RestInside f [] d ts p =
+    (rest : Inner) × (a b : List Placed) × IsInner 1 rest ts a × (is_filled f.operand (followed_by f.inner rest) ≡ true) × IsEnd a b × RestBody (with_statement d f.head (Some (action.Compute (deferred f (followed_by f.inner rest))))) b p
+RestInside f (g ∷ nest) d ts p =
+    (rest : Inner) × (a b : List Placed) × IsInner (suc (suc (length nest))) rest ts a × (is_filled f.operand (followed_by f.inner rest) ≡ true) × IsEnd a b × RestInside (with_line g f.head.line (deferred f (followed_by f.inner rest))) nest d b p
 
--- an instruction whose first token stands in line m
+abbrev pub RestLines : List Frame → Draft → List Placed → Program → Type 0
+RestLines [] d ts p = RestBody d ts p
+RestLines (f ∷ nest) d ts p = RestInside f nest d ts p
+
+abbrev pub RestWhole : List Frame → Draft → List Placed → Program → Type 0
+RestWhole nest d ts p = (b : List Placed) × IsEnd ts b × RestLines nest d b p
+
+-- behind an instruction on the result alone
+abbrev pub RestComputed : List Frame → Draft → Head → Written → List Placed → Program → Type 0
+RestComputed [] d h x ts p = RestWhole [] (with_statement d h (Some (action.Compute x))) ts p
+RestComputed (f ∷ nest) d h x ts p = RestWhole (with_line f h.line x ∷ nest) d ts p
+
+-- an instruction of the body whose first token stands in line m
 abbrev pub RestAction : Draft → Head → ℕ → List Placed → Program → Type 0
-RestAction d h m ts p = (x : Action) × (a : List Placed) × IsAction m x ts a × RestWhole (with_statement d h (Some x)) a p
+RestAction d h m ts p = (x : Action) × (a : List Placed) × IsAction m x ts a × RestWhole [] (with_statement d h (Some x)) a p
+
+-- an instruction on the result alone whose first token stands in line m
+abbrev pub RestSimple : List Frame → Draft → Head → ℕ → List Placed → Program → Type 0
+RestSimple nest d h m ts p = (x : Written) × (a : List Placed) × IsSimple (length nest) m x ts a × RestComputed nest d h x a p
 
 abbrev pub RestLabelled : Draft → Head → List Placed → Program → Type 0
-RestLabelled d h ts p = (x : Option Action) × (a : List Placed) × IsLabelled x ts a × RestWhole (with_statement d h x) a p
+RestLabelled d h ts p = (x : Option Action) × (a : List Placed) × IsLabelled x ts a × RestWhole [] (with_statement d h x) a p
 
-abbrev pub RestOperand : Draft → Head → (Operand → Simple) → List Placed → Program → Type 0
-RestOperand d h f ts p =
-    (t : Token) × (x : Operand) × (m : ℕ) × (a : List Placed) × (operand_of t ≡ Some x) × (ts ≡ placed t m ∷ a) × RestWhole (with_statement d h (Some (action.Compute (f x)))) a p
+abbrev pub RestOperand : List Frame → Draft → Head → (Operand → Written) → List Placed → Program → Type 0
+RestOperand nest d h f ts p =
+    (t : Token) × (x : Operand) × (m : ℕ) × (a : List Placed) × (operand_of t ≡ Some x) × (ts ≡ placed t m ∷ a) × RestComputed nest d h (f x) a p
 
-abbrev pub RestName : Draft → Head → (List ℕ → Action) → List Placed → Program → Type 0
-RestName d h f ts p = (n : List ℕ) × (m : ℕ) × (a : List Placed) × (ts ≡ placed (token.Name n) m ∷ a) × RestWhole (with_statement d h (Some (f n))) a p
+abbrev pub RestName : List Frame → Draft → Head → (List ℕ → Action) → List Placed → Program → Type 0
+RestName nest d h f ts p = (n : List ℕ) × (m : ℕ) × (a : List Placed) × (ts ≡ placed (token.Name n) m ∷ a) × RestWhole nest (with_statement d h (Some (f n))) a p
 
-abbrev pub RestPart : PartStage → Draft → Head → List Placed → Program → Type 0
-RestPart (part.BehindLoad negated) d h ts p = RestOperand d h (simple.Load negated) ts p
-RestPart (part.BehindOperator o negated) d h ts p = RestOperand d h (simple.Apply o negated) ts p
-RestPart (part.BehindPair o) d h ts p =
-    (t u : Token) × (x y : Operand) × (m i n : ℕ) × (a : List Placed) × (operand_of t ≡ Some x) × (operand_of u ≡ Some y) × (ts ≡ placed t m ∷ placed token.Comma i ∷ placed u n ∷ a) × RestWhole (with_statement d h (Some (action.Compute (paired o x y)))) a p
-RestPart (part.BehindFirst o x) d h ts p =
-    (u : Token) × (y : Operand) × (i n : ℕ) × (a : List Placed) × (operand_of u ≡ Some y) × (ts ≡ placed token.Comma i ∷ placed u n ∷ a) × RestWhole (with_statement d h (Some (action.Compute (paired o x y)))) a p
-RestPart (part.BehindFirstComma o x) d h ts p = RestOperand d h (paired o x) ts p
-RestPart (part.BehindStore negated) d h ts p = RestName d h (action.Store negated) ts p
-RestPart (part.BehindSet value) d h ts p = RestName d h (action.Set value) ts p
-RestPart (part.BehindJump c turns) d h ts p = RestName d h (λ n. action.Jump c n turns) ts p
-RestPart part.BehindBrace d h ts p =
-    (w n : List ℕ) × (v : ℤ) × (turns : ℕ) × (c : Condition) × (g i j k m : ℕ) × (a : List Placed) × (is_loop w ≡ true) × (turns_of v ≡ Some turns) × (ts ≡ placed (token.Name w) g ∷ placed (token.Decimal v) i ∷ placed token.CloseBrace j ∷ placed (token.Keyword (word.Jump c)) k ∷ placed (token.Name n) m ∷ a) × RestWhole (with_statement d h (Some (action.Jump c n (Some turns)))) a p
-RestPart part.BehindLoop d h ts p =
-    (n : List ℕ) × (v : ℤ) × (turns : ℕ) × (c : Condition) × (i j k m : ℕ) × (a : List Placed) × (turns_of v ≡ Some turns) × (ts ≡ placed (token.Decimal v) i ∷ placed token.CloseBrace j ∷ placed (token.Keyword (word.Jump c)) k ∷ placed (token.Name n) m ∷ a) × RestWhole (with_statement d h (Some (action.Jump c n (Some turns)))) a p
-RestPart (part.BehindTurns turns) d h ts p =
-    (n : List ℕ) × (c : Condition) × (j k m : ℕ) × (a : List Placed) × (ts ≡ placed token.CloseBrace j ∷ placed (token.Keyword (word.Jump c)) k ∷ placed (token.Name n) m ∷ a) × RestWhole (with_statement d h (Some (action.Jump c n (Some turns)))) a p
-RestPart (part.BehindPragma turns) d h ts p =
-    (n : List ℕ) × (c : Condition) × (k m : ℕ) × (a : List Placed) × (ts ≡ placed (token.Keyword (word.Jump c)) k ∷ placed (token.Name n) m ∷ a) × RestWhole (with_statement d h (Some (action.Jump c n (Some turns)))) a p
+-- behind an operator and an opening parenthesis
+abbrev pub RestEntry : List Frame → Draft → Head → Operator → Bool → List Placed → Program → Type 0
+RestEntry nest d h o negated ts p = (first : Option Operand) × (a : List Placed) × IsEntry first ts a × RestInside (frame_of h o negated first) nest d a p
+
+abbrev pub RestOpening : List Frame → Draft → Head → Operator → Bool → List Placed → Program → Type 0
+RestOpening nest d h o negated ts p =
+    (m : ℕ) × (a : List Placed) × (takes_parentheses o ≡ true) × (has_depth (length nest) ≡ true) × (ts ≡ placed token.Open m ∷ a) × RestEntry nest d h o negated a p
+
+abbrev pub RestPart : PartStage → List Frame → Draft → Head → List Placed → Program → Type 0
+RestPart (part.BehindLoad negated) nest d h ts p = RestOperand nest d h (form.Load negated) ts p
+RestPart (part.BehindOperator o negated) nest d h ts p = RestOperand nest d h (form.Apply o negated) ts p ⊎ RestOpening nest d h o negated ts p
+RestPart (part.BehindParenthesis o negated) nest d h ts p = RestEntry nest d h o negated ts p
+RestPart (part.BehindEntry o negated x) nest d h ts p = (a : List Placed) × IsEnd ts a × RestInside (frame_of h o negated (Some x)) nest d a p
+RestPart (part.BehindPair o) nest d h ts p =
+    (t u : Token) × (x y : Operand) × (m i n : ℕ) × (a : List Placed) × (operand_of t ≡ Some x) × (operand_of u ≡ Some y) × (ts ≡ placed t m ∷ placed token.Comma i ∷ placed u n ∷ a) × RestComputed nest d h (paired o x y) a p
+RestPart (part.BehindFirst o x) nest d h ts p =
+    (u : Token) × (y : Operand) × (i n : ℕ) × (a : List Placed) × (operand_of u ≡ Some y) × (ts ≡ placed token.Comma i ∷ placed u n ∷ a) × RestComputed nest d h (paired o x y) a p
+RestPart (part.BehindFirstComma o x) nest d h ts p = RestOperand nest d h (paired o x) ts p
+RestPart (part.BehindStore negated) nest d h ts p = RestName nest d h (action.Store negated) ts p
+RestPart (part.BehindSet value) nest d h ts p = RestName nest d h (action.Set value) ts p
+RestPart (part.BehindJump c turns) nest d h ts p = RestName nest d h (λ n. action.Jump c n turns) ts p
+RestPart part.BehindBrace nest d h ts p =
+    (w n : List ℕ) × (v : ℤ) × (turns : ℕ) × (c : Condition) × (g i j k m : ℕ) × (a : List Placed) × (is_loop w ≡ true) × (turns_of v ≡ Some turns) × (ts ≡ placed (token.Name w) g ∷ placed (token.Decimal v) i ∷ placed token.CloseBrace j ∷ placed (token.Keyword (word.Jump c)) k ∷ placed (token.Name n) m ∷ a) × RestWhole nest (with_statement d h (Some (action.Jump c n (Some turns)))) a p
+RestPart part.BehindLoop nest d h ts p =
+    (n : List ℕ) × (v : ℤ) × (turns : ℕ) × (c : Condition) × (i j k m : ℕ) × (a : List Placed) × (turns_of v ≡ Some turns) × (ts ≡ placed (token.Decimal v) i ∷ placed token.CloseBrace j ∷ placed (token.Keyword (word.Jump c)) k ∷ placed (token.Name n) m ∷ a) × RestWhole nest (with_statement d h (Some (action.Jump c n (Some turns)))) a p
+RestPart (part.BehindTurns turns) nest d h ts p =
+    (n : List ℕ) × (c : Condition) × (j k m : ℕ) × (a : List Placed) × (ts ≡ placed token.CloseBrace j ∷ placed (token.Keyword (word.Jump c)) k ∷ placed (token.Name n) m ∷ a) × RestWhole nest (with_statement d h (Some (action.Jump c n (Some turns)))) a p
+RestPart (part.BehindPragma turns) nest d h ts p =
+    (n : List ℕ) × (c : Condition) × (k m : ℕ) × (a : List Placed) × (ts ≡ placed (token.Keyword (word.Jump c)) k ∷ placed (token.Name n) m ∷ a) × RestWhole nest (with_statement d h (Some (action.Jump c n (Some turns)))) a p
 
 -- Declarations.
 
@@ -125,12 +159,12 @@ RestBlock (block.BehindStart z) d ts p = RestClosed z d ts p
 abbrev pub RestWithin : Stage → Draft → List Placed → Program → Type 0
 RestWithin stage.BetweenBlocks d ts p = RestTop d ts p
 RestWithin (stage.Block s) d ts p = RestBlock s d ts p
-RestWithin stage.AtLine d ts p = RestBody d ts p
+RestWithin (stage.AtLine nest) d ts p = RestLines nest d ts p
 RestWithin (stage.BehindLabel l n) d ts p =
     (m : ℕ) × (a : List Placed) × (ts ≡ placed token.Colon m ∷ a) × RestLabelled (with_label d n) (record { line = l; label = Some n }) a p
 RestWithin (stage.AtInstruction h) d ts p = RestLabelled d h ts p
-RestWithin (stage.Part h s) d ts p = RestPart s d h ts p
-RestWithin stage.BehindInstruction d ts p = RestWhole d ts p
+RestWithin (stage.Part nest h s) d ts p = RestPart s nest d h ts p
+RestWithin (stage.BehindInstruction nest) d ts p = RestWhole nest d ts p
 
 abbrev pub Rest : State → List Placed → Program → Type 0
 Rest state.Start ts p = IsProgram ts p

@@ -1,13 +1,17 @@
 -- Worked texts: what is read of them, or the line at fault; and worked values of the rules on declarations.
 -- IEC 61131-3 edition 2, 2.4.3 declarations, 3.2 instruction list.
 use Rattle.std.specs.Prelude.{◌≡◌, true, false, pos, [], ◌∷◌, Some, None, refl, codes}
+use Rattle.point_types.specs.declared.operator.Operator.TheVariants as op
 use Rattle.point_types.specs.declared.operator.Condition.TheVariants as condition
 use Rattle.point_types.specs.Keyword.{is_reserved, plain_words, conversions}
 use Rattle.il_reader.specs.declared.fault.ReadFaultKind.TheVariants as fault
 use Rattle.il_reader.specs.declared.tree.Action.TheVariants as action
+use Rattle.il_reader.specs.declared.tree.Operand.TheVariants as operand
+use Rattle.il_reader.specs.Written.{Apply, Defer, Close, Then}
 use Rattle.il_reader.specs.Declaration.{is_presence}
 use Rattle.il_reader.specs.Tokens.{keyword}
-use Rattle.il_reader.specs.Reading.{Reads, AtFault, TooSoon, outcome, turns_of}
+use Rattle.il_reader.specs.Instructions.{turns_of}
+use Rattle.il_reader.specs.Reading.{Reads, AtFault, TooSoon, outcome}
 
 pub counted_jump : outcome (codes "PROGRAM p\nx: {LOOP 9} JMP x\nEND_PROGRAM") ≡ Reads (record { name = codes "p"; variables = []; externals = []; statements = (record { line = 2; label = Some (codes "x"); action = Some (action.Jump condition.Always (codes "x") (Some 9)) }) ∷ []; end_line = 3 })
 unfolding keyword is_reserved plain_words conversions
@@ -28,6 +32,22 @@ external_and_presence = refl
 pub instruction_that_can_grow : outcome (codes "PROGRAM p\nLD") ≡ TooSoon (record { line = 2; kind = fault.Header })
 unfolding keyword is_reserved plain_words conversions
 instruction_that_can_grow = refl
+
+pub nested_parentheses : outcome (codes "PROGRAM p\nADD( 1\n\nSUB( x\n)\nMUL y\n)\nEND_PROGRAM") ≡ Reads (record { name = codes "p"; variables = []; externals = []; statements = (record { line = 2; label = None; action = Some (action.Compute (Defer op.Add false (Some (operand.Number (pos 1))) (Then 4 (Defer op.Sub false (Some (operand.Named (codes "x"))) Close) (Then 6 (Apply op.Mul false (operand.Named (codes "y"))) Close)))) }) ∷ []; end_line = 8 })
+unfolding keyword is_reserved plain_words conversions
+nested_parentheses = refl
+
+pub empty_parentheses : outcome (codes "PROGRAM p\nADD(\n)") ≡ AtFault (record { line = 3; kind = fault.Operand })
+unfolding keyword is_reserved plain_words conversions
+empty_parentheses = refl
+
+pub store_inside : outcome (codes "PROGRAM p\nADD( 1\nST a") ≡ AtFault (record { line = 3; kind = fault.Parenthesis })
+unfolding keyword is_reserved plain_words conversions
+store_inside = refl
+
+pub open_parentheses : outcome (codes "PROGRAM p\nADD( 1\nLD") ≡ TooSoon (record { line = 3; kind = fault.Parenthesis })
+unfolding keyword is_reserved plain_words conversions
+open_parentheses = refl
 
 pub presence_of_a_name : is_presence (codes "p_ok") (codes "p") ≡ true
 presence_of_a_name = refl

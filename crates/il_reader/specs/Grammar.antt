@@ -1,6 +1,6 @@
 -- The grammar over tokens: which tokens, each with its line, spell a program.
 -- IEC 61131-3 edition 2, annex B.1.4.3 variables, B.1.5.3 programs, B.2 instruction list.
-use Rattle.std.specs.Prelude.{◌≡◌, ◌⊎◌, ℕ, Bool, true, false, ℤ, List, [], ◌∷◌, ◌++◌, map, Option, Some, None, Result, Ok, Err}
+use Rattle.std.specs.Prelude.{◌≡◌, ◌⊎◌, ℕ, suc, Bool, true, false, ℤ, List, [], ◌∷◌, ◌++◌, map, Option, Some, None, Result, Ok, Err}
 use Rattle.point_types.specs.declared.il_type.IlType.{IlType}
 use Rattle.point_types.specs.declared.operator.Condition.{Condition}
 use Rattle.point_types.specs.Value.{is_bool}
@@ -13,18 +13,20 @@ use Rattle.il_reader.specs.declared.token.Keyword.TheVariants as word
 use Rattle.il_reader.specs.declared.token.Token.{Token}
 use Rattle.il_reader.specs.declared.token.Token.TheVariants as token
 use Rattle.il_reader.specs.declared.tree.Action.{Action}
+use Rattle.il_reader.specs.declared.tree.Operand.{Operand}
 use Rattle.il_reader.specs.declared.tree.Action.TheVariants as action
 use Rattle.il_reader.specs.declared.tree.External.{External}
 use Rattle.il_reader.specs.declared.tree.Program.{Program}
-use Rattle.il_reader.specs.declared.tree.Simple.{Simple}
-use Rattle.il_reader.specs.declared.tree.Simple.TheVariants as simple
 use Rattle.il_reader.specs.declared.tree.Statement.{Statement}
 use Rattle.il_reader.specs.declared.tree.Variable.{Variable}
 use Rattle.il_reader.specs.declared.typing.Entry.{Entry}
 use Rattle.il_reader.specs.declared.typing.Typing.{Typing}
 use Rattle.il_reader.specs.Declaration.{among, is_taken, has_room, with_name, empty_scope, value_of, whole, begun, bounded, started, made, variable_of, external_of}
-use Rattle.il_reader.specs.Reading.{operand_of, is_loop, turns_of}
+use Rattle.il_reader.specs.Nesting.{takes_parentheses, has_depth, is_filled}
+use Rattle.il_reader.specs.Instructions.{operand_of, is_loop, turns_of}
 use Rattle.il_reader.specs.Tokens.{lexed, at_end, line_behind}
+use Rattle.il_reader.specs.Written.{Written, Inner}
+use Rattle.il_reader.specs.Written as form
 
 -- The tokens of a text.
 
@@ -76,18 +78,30 @@ IsNext t l from to = past from ≡ placed t l ∷ to
 abbrev pub IsEnd : List Placed → List Placed → Type 0
 IsEnd from to = (l : ℕ) × (from ≡ placed token.LineEnd l ∷ to)
 
--- an instruction that begins in line l and works on the result alone, without its line's end
-abbrev pub IsSimple : ℕ → Simple → List Placed → List Placed → Type 0
-IsSimple l (simple.Load negated x) from to = (t : Token) × (m : ℕ) × (operand_of t ≡ Some x) × (from ≡ placed (token.Keyword (word.Load negated)) l ∷ placed t m ∷ to)
-IsSimple l (simple.Apply o negated x) from to = (t : Token) × (m : ℕ) × (operand_of t ≡ Some x) × (from ≡ placed (token.Keyword (word.Apply o negated)) l ∷ placed t m ∷ to)
-IsSimple l (simple.Limit x y) from to =
-    (t u : Token) × (m i n : ℕ) × (operand_of t ≡ Some x) × (operand_of u ≡ Some y) × (from ≡ placed (token.Keyword word.Limit) l ∷ placed t m ∷ placed token.Comma i ∷ placed u n ∷ to)
-IsSimple l (simple.Select x y) from to =
-    (t u : Token) × (m i n : ℕ) × (operand_of t ≡ Some x) × (operand_of u ≡ Some y) × (from ≡ placed (token.Keyword word.Select) l ∷ placed t m ∷ placed token.Comma i ∷ placed u n ∷ to)
-IsSimple l simple.Invert from to = from ≡ placed (token.Keyword word.Not) l ∷ to
-IsSimple l simple.Absolute from to = from ≡ placed (token.Keyword word.Absolute) l ∷ to
-IsSimple l (simple.Convert j k) from to = from ≡ placed (token.Keyword (word.Convert j k)) l ∷ to
-IsSimple l _ from to = ⊥
+-- what stands behind an opening parenthesis: an operand or nothing, and the line's end
+abbrev pub IsEntry : Option Operand → List Placed → List Placed → Type 0
+IsEntry None from to = IsEnd from to
+IsEntry (Some x) from to = (t : Token) × (m : ℕ) × (a : List Placed) × (operand_of t ≡ Some x) × (from ≡ placed t m ∷ a) × IsEnd a to
+
+abbrev mutual
+  -- an instruction that begins in line l and works on the result alone, without its line's end; depth: the parentheses around it
+  pub IsSimple : ℕ → ℕ → Written → List Placed → List Placed → Type 0
+  IsSimple depth l (form.Load negated x) from to = (t : Token) × (m : ℕ) × (operand_of t ≡ Some x) × (from ≡ placed (token.Keyword (word.Load negated)) l ∷ placed t m ∷ to)
+  IsSimple depth l (form.Apply o negated x) from to = (t : Token) × (m : ℕ) × (operand_of t ≡ Some x) × (from ≡ placed (token.Keyword (word.Apply o negated)) l ∷ placed t m ∷ to)
+  IsSimple depth l (form.Defer o negated first inner) from to =
+      (m : ℕ) × (a b : List Placed) × (takes_parentheses o ≡ true) × (has_depth depth ≡ true) × (is_filled first inner ≡ true) × (from ≡ placed (token.Keyword (word.Apply o negated)) l ∷ placed token.Open m ∷ a) × IsEntry first a b × IsInner (suc depth) inner b to
+  IsSimple depth l (form.Limit x y) from to =
+      (t u : Token) × (m i n : ℕ) × (operand_of t ≡ Some x) × (operand_of u ≡ Some y) × (from ≡ placed (token.Keyword word.Limit) l ∷ placed t m ∷ placed token.Comma i ∷ placed u n ∷ to)
+  IsSimple depth l (form.Select x y) from to =
+      (t u : Token) × (m i n : ℕ) × (operand_of t ≡ Some x) × (operand_of u ≡ Some y) × (from ≡ placed (token.Keyword word.Select) l ∷ placed t m ∷ placed token.Comma i ∷ placed u n ∷ to)
+  IsSimple depth l form.Invert from to = from ≡ placed (token.Keyword word.Not) l ∷ to
+  IsSimple depth l form.Absolute from to = from ≡ placed (token.Keyword word.Absolute) l ∷ to
+  IsSimple depth l (form.Convert j k) from to = from ≡ placed (token.Keyword (word.Convert j k)) l ∷ to
+
+  -- the lines inside parentheses, and the closing one without its line's end
+  pub IsInner : ℕ → Inner → List Placed → List Placed → Type 0
+  IsInner depth form.Close from to = (m : ℕ) × IsNext token.Close m from to
+  IsInner depth (form.Then l x rest) from to = (a b : List Placed) × IsSimple depth l x (past from) a × IsEnd a b × IsInner depth rest b to
 
 -- a jump, which a pragma counts
 abbrev pub IsJump : ℕ → Condition → List ℕ → Option ℕ → List Placed → List Placed → Type 0
@@ -97,7 +111,7 @@ IsJump l c n (Some turns) from to =
 
 -- an instruction that begins in line l, without its line's end
 abbrev pub IsAction : ℕ → Action → List Placed → List Placed → Type 0
-IsAction l (action.Compute x) from to = IsSimple l x from to
+IsAction l (action.Compute x) from to = IsSimple 0 l x from to
 IsAction l (action.Store negated n) from to = (m : ℕ) × (from ≡ placed (token.Keyword (word.Store negated)) l ∷ placed (token.Name n) m ∷ to)
 IsAction l (action.Set value n) from to = (m : ℕ) × (from ≡ placed (token.Keyword (word.Set value)) l ∷ placed (token.Name n) m ∷ to)
 IsAction l (action.Jump c n turns) from to = IsJump l c n turns from to

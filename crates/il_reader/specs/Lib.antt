@@ -2,6 +2,12 @@ pub mod Fault
 pub mod Declaration
 pub mod Tokens
 pub mod Spellings
+pub mod Written
+pub mod Codes
+pub mod Writing
+pub mod Nesting
+pub mod Drafting
+pub mod Instructions
 pub mod Reading
 pub mod Grammar
 pub mod Laws

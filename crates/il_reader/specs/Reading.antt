@@ -1,32 +1,20 @@
 -- Reading a text: an acceptor that is fed byte by byte, and token by token.
 -- IEC 61131-3 edition 2, 2.4.3 declarations, 2.5.3 programs, 3.2 instruction list.
-use Rattle.std.specs.Prelude.{◌≡◌, ℕ, Bool, true, false, ◌&&◌, ℤ, pos, List, [], ◌∷◌, ◌++◌, length, map, if◌then◌else◌, Option, Some, None, Result, Ok, Err, ◌⊎◌, nat_le, nat_lt, bytes_eq, codes, option_map}
+use Rattle.std.specs.Prelude.{◌≡◌, ℕ, Bool, true, false, List, [], ◌∷◌, length, if◌then◌else◌, Option, Some, None, Result, Ok, Err, ◌⊎◌, nat_lt}
 use Rattle.point_types.specs.declared.il_type.IlType.{IlType}
-use Rattle.point_types.specs.declared.operator.Operator.{Operator}
-use Rattle.point_types.specs.declared.operator.Condition.{Condition}
 use Rattle.point_types.specs.Value.{is_bool}
 use Rattle.il_reader.specs.declared.fault.ReadFault.{ReadFault}
 use Rattle.il_reader.specs.declared.fault.ReadFaultKind.{ReadFaultKind}
 use Rattle.il_reader.specs.declared.fault.ReadFaultKind.TheVariants as fault
-use Rattle.il_reader.specs.declared.token.Keyword.{Keyword}
 use Rattle.il_reader.specs.declared.token.Keyword.TheVariants as word
 use Rattle.il_reader.specs.declared.token.Token.{Token}
 use Rattle.il_reader.specs.declared.token.Token.TheVariants as token
 use Rattle.il_reader.specs.declared.tree.Program.{Program}
-use Rattle.il_reader.specs.declared.tree.Action.{Action}
-use Rattle.il_reader.specs.declared.tree.Action.TheVariants as action
-use Rattle.il_reader.specs.declared.tree.Simple.{Simple}
-use Rattle.il_reader.specs.declared.tree.Simple.TheVariants as simple
-use Rattle.il_reader.specs.declared.tree.Operand.{Operand}
-use Rattle.il_reader.specs.declared.tree.Operand.TheVariants as operand
 use Rattle.il_reader.specs.declared.typing.Typing.{Typing}
-use Rattle.il_reader.specs.declared.lexer.Mode.{Mode}
 use Rattle.il_reader.specs.declared.lexer.Mode.TheVariants as mode
 use Rattle.il_reader.specs.declared.lexer.Lexed.{Lexed}
 use Rattle.il_reader.specs.declared.draft.Draft.{Draft}
-use Rattle.il_reader.specs.declared.draft.Head.{Head}
-use Rattle.il_reader.specs.declared.stage.Pair.{Pair}
-use Rattle.il_reader.specs.declared.stage.Pair.TheVariants as pair
+use Rattle.il_reader.specs.declared.nest.Frame.{Frame}
 use Rattle.il_reader.specs.declared.stage.BlockStage.{BlockStage}
 use Rattle.il_reader.specs.declared.stage.BlockStage.TheVariants as block
 use Rattle.il_reader.specs.declared.stage.PartStage.{PartStage}
@@ -36,48 +24,13 @@ use Rattle.il_reader.specs.declared.stage.Stage.TheVariants as stage
 use Rattle.il_reader.specs.declared.state.State.{State}
 use Rattle.il_reader.specs.declared.state.State.TheVariants as state
 use Rattle.il_reader.specs.declared.reader.Reader.{Reader}
-use Rattle.il_reader.specs.Declaration.{among, is_taken, has_room, with_name, empty_scope, value_of, whole, begun, bounded, started, made, variable_of, external_of}
+use Rattle.il_reader.specs.Nesting.{end_fault}
+use Rattle.il_reader.specs.Declaration.{is_taken, has_room, value_of, whole, begun, bounded, started, made}
 use Rattle.il_reader.specs.Tokens.{lexed, at_end, line_behind}
-
--- What has been read.
-
-abbrev pub titled_draft : List ℕ → Draft
-titled_draft n = record { name = n; scope = empty_scope; variables = []; externals = []; pending = []; labels = []; statements = [] }
-
--- a name of the declaration at hand, of a variable or an external
-abbrev pub with_entry : Bool → Draft → ℕ → List ℕ → Draft
-with_entry x d m n = record d { scope = with_name x d.scope n; pending = d.pending ++ (record { line = m; name = n }) ∷ [] }
-
--- the declaration at hand is over
-abbrev pub with_variables : Draft → Typing → Draft
-with_variables d y = record d { variables = d.variables ++ map (variable_of y) d.pending; pending = [] }
-
-abbrev pub with_externals : Draft → IlType → Draft
-with_externals d k = record d { externals = d.externals ++ map (external_of k) d.pending; pending = [] }
-
-abbrev pub with_label : Draft → List ℕ → Draft
-with_label d n = record d { labels = d.labels ++ n ∷ [] }
-
-abbrev pub with_statement : Draft → Head → Option Action → Draft
-with_statement d h a = record d { statements = d.statements ++ (record { line = h.line; label = h.label; action = a }) ∷ [] }
-
-abbrev pub program_of : Draft → ℕ → Program
-program_of d m = record { name = d.name; variables = d.variables; externals = d.externals; statements = d.statements; end_line = m }
+use Rattle.il_reader.specs.Drafting.{Move, declares, goes, titled_draft, with_entry, with_externals, with_variables}
+use Rattle.il_reader.specs.Instructions.{at_instruction_step, at_line_step, behind_label_step, between_step, part_step, whole_step}
 
 -- One token: the state behind it, or its fault.
-
-abbrev pub Move : Type 0
-Move = Result State ReadFaultKind
-
-abbrev pub goes : Stage → Draft → Move
-goes s d = Ok (state.Within s d)
-
--- on in a block of declarations, in an instruction
-abbrev pub declares : BlockStage → Draft → Move
-declares s d = goes (stage.Block s) d
-
-abbrev pub continues : Head → PartStage → Draft → Move
-continues h s d = goes (stage.Part h s) d
 
 abbrev pub start_step : Token → Move
 start_step token.LineEnd = Ok state.Start
@@ -175,138 +128,6 @@ behind_start_step y d token.LineEnd = declares (block.BehindStart y) d
 behind_start_step y d token.Semicolon = declares (block.InBlock false) (with_variables d y)
 behind_start_step y d _ = Err fault.Declaration
 
--- The body.
-
--- a name, TRUE or FALSE, or a number
-abbrev pub operand_of : Token → Option Operand
-operand_of (token.Name n) = Some (operand.Named n)
-operand_of (token.Keyword (word.Truth b)) = Some (operand.Truth b)
-operand_of (token.Decimal n) = Some (operand.Number n)
-operand_of (token.Number n) = Some (operand.Number n)
-operand_of (token.Typed k n) = Some (operand.Typed k n)
-operand_of _ = None
-
--- a whole instruction
-abbrev pub done_step : Draft → Head → Action → Move
-done_step d h a = goes stage.BehindInstruction (with_statement d h (Some a))
-
-abbrev pub simple_step : Draft → Head → Option Simple → Move
-simple_step d h (Some x) = done_step d h (action.Compute x)
-simple_step d h None = Err fault.Operand
-
--- what an operator begins that has operands
-abbrev pub part_begun : Keyword → Option PartStage
-part_begun (word.Load negated) = Some (part.BehindLoad negated)
-part_begun (word.Store negated) = Some (part.BehindStore negated)
-part_begun (word.Set value) = Some (part.BehindSet value)
-part_begun (word.Jump c) = Some (part.BehindJump c None)
-part_begun (word.Apply o negated) = Some (part.BehindOperator o negated)
-part_begun word.Limit = Some (part.BehindPair pair.Limit)
-part_begun word.Select = Some (part.BehindPair pair.Select)
-part_begun _ = None
-
--- an instruction of one word
-abbrev pub action_of : Keyword → Option Action
-action_of (word.Return c) = Some (action.Return c)
-action_of word.Not = Some (action.Compute simple.Invert)
-action_of word.Absolute = Some (action.Compute simple.Absolute)
-action_of (word.Convert j k) = Some (action.Compute (simple.Convert j k))
-action_of _ = None
-
-abbrev pub begun_step : Draft → Head → Option PartStage → Option Action → Move
-begun_step d h (Some s) a = continues h s d
-begun_step d h None (Some a) = done_step d h a
-begun_step d h None None = Err fault.Operator
-
--- an instruction's first token, behind the label where there is one
-abbrev pub begin_step : Draft → Head → Token → Move
-begin_step d h (token.Keyword w) = begun_step d h (part_begun w) (action_of w)
-begin_step d h token.OpenBrace = continues h part.BehindBrace d
-begin_step d h token.Close = Err fault.Parenthesis
-begin_step d h _ = Err fault.Operator
-
--- at a line's beginning
-abbrev pub line_step : Draft → Token → ℕ → Move
-line_step d token.LineEnd m = goes stage.AtLine d
-line_step d (token.Keyword word.EndProgram) m = Ok (state.Over (program_of d m))
-line_step d (token.Name n) m = if among n d.labels then Err fault.Duplicate else goes (stage.BehindLabel m n) d
-line_step d t m = begin_step d (record { line = m; label = None }) t
-
-abbrev pub behind_label_step : ℕ → List ℕ → Draft → Token → Move
-behind_label_step l n d token.Colon = goes (stage.AtInstruction (record { line = l; label = Some n })) (with_label d n)
-behind_label_step l n d _ = Err fault.Operator
-
-abbrev pub at_instruction_step : Head → Draft → Token → Move
-at_instruction_step h d token.LineEnd = goes stage.AtLine (with_statement d h None)
-at_instruction_step h d t = begin_step d h t
-
-abbrev pub between_step : Draft → Token → ℕ → Move
-between_step d token.LineEnd m = goes stage.BetweenBlocks d
-between_step d (token.Keyword word.Var) m = declares (block.InBlock false) d
-between_step d (token.Keyword word.VarExternal) m = declares (block.InBlock true) d
-between_step d t m = line_step d t m
-
--- the two operands of LIMIT and of SEL
-abbrev pub paired : Pair → Operand → Operand → Simple
-paired pair.Limit x y = simple.Limit x y
-paired pair.Select x y = simple.Select x y
-
-abbrev pub behind_pair_step : Head → Pair → Draft → Option Operand → Move
-behind_pair_step h o d (Some x) = continues h (part.BehindFirst o x) d
-behind_pair_step h o d None = Err fault.Operand
-
-abbrev pub behind_first_step : Head → Pair → Operand → Draft → Token → Move
-behind_first_step h o x d token.Comma = continues h (part.BehindFirstComma o x) d
-behind_first_step h o x d _ = Err fault.Operand
-
-abbrev pub behind_store_step : Head → Bool → Draft → Token → Move
-behind_store_step h negated d (token.Name n) = done_step d h (action.Store negated n)
-behind_store_step h negated d _ = Err fault.Operand
-
-abbrev pub behind_set_step : Head → Bool → Draft → Token → Move
-behind_set_step h value d (token.Name n) = done_step d h (action.Set value n)
-behind_set_step h value d _ = Err fault.Operand
-
-abbrev pub behind_jump_step : Head → Condition → Option ℕ → Draft → Token → Move
-behind_jump_step h c turns d (token.Name n) = done_step d h (action.Jump c n turns)
-behind_jump_step h c turns d _ = Err fault.Label
-
--- The pragma {LOOP n} before a jump.
-
-abbrev pub is_loop : List ℕ → Bool
-is_loop w = bytes_eq w (codes "loop")
-
--- how often a counted jump is taken: 1 to 255 times
-abbrev pub turns_of : ℤ → Option ℕ
-turns_of (pos n) = if nat_le 1 n && nat_le n 255 then Some n else None
-turns_of _ = None
-
-abbrev pub behind_brace_step : Head → Draft → Token → Move
-behind_brace_step h d (token.Name w) = if is_loop w then continues h part.BehindLoop d else Err fault.Word
-behind_brace_step h d _ = Err fault.Word
-
-abbrev pub turns_step : Head → Draft → Option ℕ → Move
-turns_step h d (Some turns) = continues h (part.BehindTurns turns) d
-turns_step h d None = Err fault.Literal
-
-abbrev pub behind_loop_step : Head → Draft → Token → Move
-behind_loop_step h d (token.Decimal n) = turns_step h d (turns_of n)
-behind_loop_step h d _ = Err fault.Literal
-
-abbrev pub behind_turns_step : Head → ℕ → Draft → Token → Move
-behind_turns_step h turns d token.CloseBrace = continues h (part.BehindPragma turns) d
-behind_turns_step h turns d _ = Err fault.Word
-
-abbrev pub behind_pragma_step : Head → ℕ → Draft → Token → Move
-behind_pragma_step h turns d (token.Keyword (word.Jump c)) = continues h (part.BehindJump c (Some turns)) d
-behind_pragma_step h turns d _ = Err fault.Operator
-
--- behind a whole instruction
-abbrev pub whole_step : Draft → Token → Move
-whole_step d token.LineEnd = goes stage.AtLine d
-whole_step d token.Close = Err fault.Parenthesis
-whole_step d _ = Err fault.Operand
-
 abbrev pub block_step : BlockStage → Draft → Token → ℕ → Move
 block_step (block.InBlock x) d t m = in_block_step x d t m
 block_step (block.BehindName x) d t m = behind_name_step x d t
@@ -322,28 +143,14 @@ block_step (block.BehindRange y) d t m = behind_range_step y d t
 block_step (block.BehindAssign y) d t m = behind_assign_step y d t
 block_step (block.BehindStart y) d t m = behind_start_step y d t
 
-abbrev pub part_step : Head → PartStage → Draft → Token → Move
-part_step h (part.BehindLoad negated) d t = simple_step d h (option_map (simple.Load negated) (operand_of t))
-part_step h (part.BehindOperator o negated) d t = simple_step d h (option_map (simple.Apply o negated) (operand_of t))
-part_step h (part.BehindPair o) d t = behind_pair_step h o d (operand_of t)
-part_step h (part.BehindFirst o x) d t = behind_first_step h o x d t
-part_step h (part.BehindFirstComma o x) d t = simple_step d h (option_map (paired o x) (operand_of t))
-part_step h (part.BehindStore negated) d t = behind_store_step h negated d t
-part_step h (part.BehindSet value) d t = behind_set_step h value d t
-part_step h (part.BehindJump c turns) d t = behind_jump_step h c turns d t
-part_step h part.BehindBrace d t = behind_brace_step h d t
-part_step h part.BehindLoop d t = behind_loop_step h d t
-part_step h (part.BehindTurns turns) d t = behind_turns_step h turns d t
-part_step h (part.BehindPragma turns) d t = behind_pragma_step h turns d t
-
 abbrev pub within_step : Stage → Draft → Token → ℕ → Move
 within_step stage.BetweenBlocks d t m = between_step d t m
 within_step (stage.Block s) d t m = block_step s d t m
-within_step stage.AtLine d t m = line_step d t m
+within_step (stage.AtLine nest) d t m = at_line_step nest d t m
 within_step (stage.BehindLabel l n) d t m = behind_label_step l n d t
 within_step (stage.AtInstruction h) d t m = at_instruction_step h d t
-within_step (stage.Part h s) d t m = part_step h s d t
-within_step stage.BehindInstruction d t m = whole_step d t
+within_step (stage.Part nest h s) d t m = part_step nest h s d t
+within_step (stage.BehindInstruction nest) d t m = whole_step nest d t
 
 abbrev pub state_step : State → Token → ℕ → Move
 state_step state.Start t m = start_step t
@@ -413,13 +220,36 @@ pub data Outcome : Type 0 where
   AtFault : ReadFault → Outcome
   TooSoon : ReadFault → Outcome
 
-abbrev pub end_reached : ℕ → Move → Outcome
-end_reached l (Ok (state.Over p)) = Reads p
-end_reached l _ = TooSoon (record { line = l; kind = fault.Header })
+-- why a text that ends in a state has ended too soon: parentheses stand open, or END_PROGRAM is missing
+abbrev pub part_early : List Frame → PartStage → ReadFaultKind
+part_early nest (part.BehindParenthesis o negated) = fault.Parenthesis
+part_early nest (part.BehindEntry o negated x) = fault.Parenthesis
+part_early nest _ = end_fault nest
+
+abbrev pub stage_early : Stage → ReadFaultKind
+stage_early (stage.AtLine nest) = end_fault nest
+stage_early (stage.Part nest h s) = part_early nest s
+stage_early (stage.BehindInstruction nest) = end_fault nest
+stage_early _ = fault.Header
+
+abbrev pub early : State → ReadFaultKind
+early (state.Within s d) = stage_early s
+early _ = fault.Header
+
+-- in an open comment, or in a token that isn't whole
+abbrev pub half_fault : ReadFaultKind → ReadFaultKind → ReadFaultKind
+half_fault fault.Word k = fault.Word
+half_fault _ k = k
+
+-- behind the last token; k: why the text has ended too soon where that token can't follow, since it could still grow
+abbrev pub end_reached : ℕ → ReadFaultKind → Move → Outcome
+end_reached l k (Ok (state.Over p)) = Reads p
+end_reached l k (Ok s) = TooSoon (record { line = l; kind = early s })
+end_reached l k (Err _) = TooSoon (record { line = l; kind = k })
 
 abbrev pub end_read : Reader → Result (Option Token) ReadFaultKind → Outcome
-end_read r (Ok t) = end_reached r.last (stepped r.state t r.line)
-end_read r (Err k) = TooSoon (record { line = r.last; kind = k })
+end_read r (Ok t) = end_reached r.last (early r.state) (stepped r.state t r.line)
+end_read r (Err k) = TooSoon (record { line = r.last; kind = half_fault k (early r.state) })
 
 abbrev pub judged : Result Reader ReadFault → Outcome
 judged (Ok r) = end_read r (at_end r.mode)

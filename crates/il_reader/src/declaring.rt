@@ -1,6 +1,7 @@
 ghost use Rattle.std.specs.Prelude.{◌≡◌, IfOk, false};
 ghost use Rattle.il_reader.specs.Declaration.{begun, bounded, made, started, truth_value, value_of, whole_value};
-ghost use Rattle.il_reader.specs.Reading.{behind_assign_step, behind_colon_step, behind_comma_step, behind_dots_step, behind_external_step, behind_high_step, behind_low_step, behind_name_step, behind_open_step, behind_range_step, behind_start_step, behind_type_step, block_step, declare_step, declares, in_block_step, typed_step, with_variables};
+ghost use Rattle.il_reader.specs.Drafting.{declares, with_variables};
+ghost use Rattle.il_reader.specs.Reading.{behind_assign_step, behind_colon_step, behind_comma_step, behind_dots_step, behind_external_step, behind_high_step, behind_low_step, behind_name_step, behind_open_step, behind_range_step, behind_start_step, behind_type_step, block_step, declare_step, in_block_step, typed_step};
 
 use crate::draft::Draft;
 use crate::fault::ReadFaultKind;

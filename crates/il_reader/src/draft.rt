@@ -1,7 +1,7 @@
 ghost use Rattle.std.specs.Prelude.{◌≡◌, IfOk, map};
 
 use crate::scope::{Scope, is_listed};
-use crate::tree::{Action, External, InnerLine, Operand, Program, Simple, Statement, Variable};
+use crate::tree::{Action, External, Program, Statement, Variable};
 use crate::typing::{Entry, Typing};
 use point_types::{IlType, Items, Name};
 use std::alloc::{AllocError, Global};
@@ -30,7 +30,7 @@ pub struct Draft {
 impl Draft {
     ghost use Rattle.std.specs.Prelude.{◌≡◌, IfOk};
     ghost use Rattle.il_reader.specs.Declaration.{among};
-    ghost use Rattle.il_reader.specs.Reading.{program_of, titled_draft, with_entry, with_externals, with_label, with_statement, with_variables};
+    ghost use Rattle.il_reader.specs.Drafting.{program_of, titled_draft, with_entry, with_externals, with_label, with_statement, with_variables};
 
     /// A program of which the name is read.
     pub fn titled(alloc: Global, name: Name) -> Draft
@@ -125,8 +125,6 @@ impl Draft {
     pub fn add(mut self, head: Head, action: Option<Action>) -> Result<Draft, AllocError>
         ensures { IfOk result (λ d. d ≡ with_statement self head action) }
     {
-        // The checker wants to meet the types inside an action here.
-        let _inside: Option<(Simple, InnerLine, Operand)> = None;
         let Head { line, label } = head;
         self.statements.push(Statement {
             line,

@@ -18,13 +18,14 @@ pub enum ReadFaultKind {
     /// No operator where one must stand.
     #[error("Operator")]
     Operator,
-    /// No operand where one must stand, or more than one.
+    /// No operand where one must stand, or more than one; parentheses with nothing inside.
     #[error("Operand")]
     Operand,
     /// A label, or a jump without one.
     #[error("Label")]
     Label,
-    /// A parenthesis that closes nothing.
+    /// A parenthesis that closes nothing, one that stays open, or what only the body has inside: a
+    /// label, a store, a jump or a return.
     #[error("Parenthesis")]
     Parenthesis,
     /// What begins like a literal and is none, or a number outside LINT.
@@ -33,7 +34,8 @@ pub enum ReadFaultKind {
     /// A name that is declared twice.
     #[error("Duplicate")]
     Duplicate,
-    /// A text of more than 1,048,576 bytes, or more than 1,024 variables.
+    /// A text of more than 1,048,576 bytes, more than 1,024 variables, or more than 100 parentheses in
+    /// one another.
     #[error("TooLong")]
     TooLong,
     /// Memory was refused; this says nothing about the text.

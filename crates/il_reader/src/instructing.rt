@@ -1,37 +1,63 @@
-ghost use Rattle.std.specs.Prelude.{◌≡◌, IfOk, option_map};
-ghost use Rattle.il_reader.specs.Reading.{action_of, begin_step, behind_brace_step, behind_first_step, behind_jump_step, behind_loop_step, behind_pair_step, behind_pragma_step, behind_set_step, behind_store_step, behind_turns_step, continues, done_step, is_loop, operand_of, paired, part_begun, part_step, simple_step, turns_of, turns_step};
+ghost use Rattle.std.specs.Prelude.{◌≡◌, IfOk, Ok, option_map};
+ghost use Rattle.il_reader.specs.Drafting.{continues};
+ghost use Rattle.il_reader.specs.Instructions.{acted, begin_step, begun_step, behind_brace_step, behind_first_step, behind_jump_step, behind_loop_step, behind_operator_step, behind_pair_step, behind_pragma_step, behind_set_step, behind_store_step, behind_turns_step, computed, is_loop, operand_of, paired, part_begun, part_step, simple_step, single_step, turns_of, turns_step};
+ghost use Rattle.il_reader.specs.Writing.{written};
+ghost use Rattle.il_reader.specs.Written.{Apply, Load};
 
+use crate::computation::Computation;
 use crate::draft::{Draft, Head};
 use crate::fault::ReadFaultKind;
+use crate::nest::Nest;
+use crate::nesting::{act, behind_entry, behind_parenthesis, compute, enter};
 use crate::stage::{Pair, PartStage, Stage};
 use crate::state::{Move, State};
 use crate::token::{Keyword, Token};
-use crate::tree::{Action, InnerLine, Operand, Simple};
+use crate::tree::{Action, Operand, Simple};
 use point_types::{Condition, Name, Operator};
-use std::alloc::AllocError;
+use std::alloc::{AllocError, Global};
 
-/// Reads the first token of an instruction.
-pub fn begin(draft: Draft, head: Head, token: Token) -> Result<Move, AllocError>
+/// Reads the first token of an instruction of the body.
+pub fn begin(alloc: Global, draft: Draft, head: Head, token: Token) -> Result<Move, AllocError>
     ensures { IfOk result (λ m. m ≡ begin_step draft head token) }
 {
     match token {
-        Token::Keyword(word) => begin_with(draft, head, word),
-        Token::OpenBrace => Ok(goes_on(head, PartStage::BehindBrace, draft)),
+        Token::Keyword(word) => begin_with(Nest::new(alloc), draft, head, word),
+        Token::OpenBrace => Ok(goes_on(Nest::new(alloc), head, PartStage::BehindBrace, draft)),
         Token::Close => Ok(Err(ReadFaultKind::Parenthesis)),
         _ => Ok(Err(ReadFaultKind::Operator)),
     }
 }
 
-fn begin_with(draft: Draft, head: Head, word: Keyword) -> Result<Move, AllocError>
-    ensures { IfOk result (λ m. m ≡ begin_step draft head (Token.Keyword word)) }
+/// Reads the word that begins an instruction, inside these parentheses.
+pub fn begin_with(nest: Nest, draft: Draft, head: Head, word: Keyword) -> Result<Move, AllocError>
+    ensures { IfOk result (λ m. m ≡ begun_step nest draft head word (part_begun word)) }
 {
-    if let Some(part) = part_begun_by(word) {
-        return Ok(goes_on(head, part, draft));
+    match part_begun_by(word) {
+        Some(part) => Ok(goes_on(nest, head, part, draft)),
+        None => single(nest, draft, head, word),
     }
-    match action_of_word(word) {
-        Some(action) => add(draft, head, action),
-        None => Ok(Err(ReadFaultKind::Operator)),
+}
+
+// An instruction of one word.
+fn single(nest: Nest, draft: Draft, head: Head, word: Keyword) -> Result<Move, AllocError>
+    ensures { IfOk result (λ m. m ≡ single_step nest draft head word) }
+{
+    match word {
+        Keyword::Return(condition) => act_on(nest, draft, head, Action::Return(condition)),
+        Keyword::Not => compute_plain(nest, draft, head, Simple::Invert),
+        Keyword::Absolute => compute_plain(nest, draft, head, Simple::Absolute),
+        Keyword::Convert(from, to) => {
+            compute_plain(nest, draft, head, Simple::Convert { from, to })
+        }
+        _ => Ok(Err(ReadFaultKind::Operator)),
     }
+}
+
+fn compute_plain(nest: Nest, draft: Draft, head: Head, simple: Simple) -> Result<Move, AllocError>
+    ensures { IfOk result (λ m. m ≡ Ok (computed nest draft head (written simple))) }
+{
+    let state = compute(nest, draft, head, Computation::new(simple))?;
+    Ok(Ok(state))
 }
 
 // What an operator begins that has operands.
@@ -50,112 +76,132 @@ fn part_begun_by(word: Keyword) -> Option<PartStage>
     }
 }
 
-// An instruction of one word.
-fn action_of_word(word: Keyword) -> Option<Action>
-    ensures { result ≡ action_of word }
-{
-    match word {
-        Keyword::Return(condition) => Some(Action::Return(condition)),
-        Keyword::Not => Some(Action::Compute(Simple::Invert)),
-        Keyword::Absolute => Some(Action::Compute(Simple::Absolute)),
-        Keyword::Convert(from, to) => Some(Action::Compute(Simple::Convert { from, to })),
-        _ => None,
-    }
-}
-
 impl PartStage {
-    /// Reads a token behind the first one of an instruction.
-    pub fn step(self, head: Head, draft: Draft, token: Token) -> Result<Move, AllocError>
-        ensures { IfOk result (λ m. m ≡ part_step head self draft token) }
+    /// Reads a token behind the first one of an instruction, inside these parentheses.
+    pub fn step(
+        self,
+        alloc: Global,
+        nest: Nest,
+        head: Head,
+        draft: Draft,
+        token: Token,
+    ) -> Result<Move, AllocError>
+        ensures { IfOk result (λ m. m ≡ part_step nest head self draft token) }
     {
         match self {
-            PartStage::BehindLoad(negated) => compute(draft, head, load(negated, token)),
+            PartStage::BehindLoad(negated) => compute_if(nest, draft, head, load(negated, token)),
             PartStage::BehindOperator(operator, negated) => {
-                compute(draft, head, apply(operator, negated, token))
+                behind_operator(nest, head, operator, negated, draft, token)
             }
-            PartStage::BehindPair(pair) => Ok(behind_pair(head, pair, draft, token)),
+            PartStage::BehindParenthesis(operator, negated) => {
+                behind_parenthesis(nest, head, operator, negated, draft, token, alloc)
+            }
+            PartStage::BehindEntry(operator, negated, operand) => {
+                behind_entry(nest, head, operator, negated, operand, draft, token, alloc)
+            }
+            PartStage::BehindPair(pair) => Ok(behind_pair(nest, head, pair, draft, token)),
             PartStage::BehindFirst(pair, first) => {
-                Ok(behind_first(head, pair, first, draft, token))
+                Ok(behind_first(nest, head, pair, first, draft, token))
             }
             PartStage::BehindFirstComma(pair, first) => {
-                compute(draft, head, pair_up(pair, first, token))
+                compute_if(nest, draft, head, pair_up(pair, first, token))
             }
-            PartStage::BehindStore(negated) => behind_store(head, negated, draft, token),
-            PartStage::BehindSet(value) => behind_set(head, value, draft, token),
+            PartStage::BehindStore(negated) => behind_store(nest, head, negated, draft, token),
+            PartStage::BehindSet(value) => behind_set(nest, head, value, draft, token),
             PartStage::BehindJump(condition, turns) => {
-                behind_jump(head, condition, turns, draft, token)
+                behind_jump(nest, head, condition, turns, draft, token)
             }
-            PartStage::BehindBrace => Ok(behind_brace(head, draft, token)),
-            PartStage::BehindLoop => Ok(behind_loop(head, draft, token)),
-            PartStage::BehindTurns(turns) => Ok(behind_turns(head, turns, draft, token)),
-            PartStage::BehindPragma(turns) => Ok(behind_pragma(head, turns, draft, token)),
+            PartStage::BehindBrace => Ok(behind_brace(nest, head, draft, token)),
+            PartStage::BehindLoop => Ok(behind_loop(nest, head, draft, token)),
+            PartStage::BehindTurns(turns) => Ok(behind_turns(nest, head, turns, draft, token)),
+            PartStage::BehindPragma(turns) => Ok(behind_pragma(nest, head, turns, draft, token)),
         }
     }
 }
 
-// On at another place of the instruction.
-fn goes_on(head: Head, part: PartStage, draft: Draft) -> Move
-    ensures { result ≡ continues head part draft }
+/// On at another place of the instruction.
+pub fn goes_on(nest: Nest, head: Head, part: PartStage, draft: Draft) -> Move
+    ensures { result ≡ continues nest head part draft }
 {
-    Ok(State::Within(Stage::Part(head, part), draft))
-}
-
-// A whole instruction.
-fn add(draft: Draft, head: Head, action: Action) -> Result<Move, AllocError>
-    ensures { IfOk result (λ m. m ≡ done_step draft head action) }
-{
-    let draft = draft.add(head, Some(action))?;
-    Ok(Ok(State::Within(Stage::BehindInstruction, draft)))
+    Ok(State::Within(Stage::Part(nest, head, part), draft))
 }
 
 // A whole instruction, where its operand is one.
-fn compute(draft: Draft, head: Head, simple: Option<Simple>) -> Result<Move, AllocError>
-    ensures { IfOk result (λ m. m ≡ simple_step draft head simple) }
+fn compute_if(
+    nest: Nest,
+    draft: Draft,
+    head: Head,
+    computation: Option<Computation>,
+) -> Result<Move, AllocError>
+    ensures { IfOk result (λ m. m ≡ simple_step nest draft head computation) }
 {
-    // The checker wants to meet the types inside an instruction here.
-    let _inside: Option<(InnerLine, Operand)> = None;
-    match simple {
-        Some(simple) => add(draft, head, Action::Compute(simple)),
+    match computation {
+        Some(computation) => {
+            let state = compute(nest, draft, head, computation)?;
+            Ok(Ok(state))
+        }
         None => Ok(Err(ReadFaultKind::Operand)),
     }
 }
 
-fn load(negated: bool, token: Token) -> Option<Simple>
-    ensures { result ≡ option_map (Simple.Load negated) (operand_of token) }
+fn behind_operator(
+    nest: Nest,
+    head: Head,
+    operator: Operator,
+    negated: bool,
+    draft: Draft,
+    token: Token,
+) -> Result<Move, AllocError>
+    ensures { IfOk result (λ m. m ≡ behind_operator_step nest head operator negated draft token) }
 {
-    let operand = operand(token)?;
-    Some(Simple::Load { negated, operand })
+    match token {
+        Token::Open => Ok(enter(nest, head, operator, negated, draft)),
+        _ => compute_if(nest, draft, head, apply(operator, negated, token)),
+    }
 }
 
-fn apply(operator: Operator, negated: bool, token: Token) -> Option<Simple>
-    ensures { result ≡ option_map (Simple.Apply operator negated) (operand_of token) }
+fn load(negated: bool, token: Token) -> Option<Computation>
+    ensures { result ≡ option_map (Load negated) (operand_of token) }
 {
-    let operand = operand(token)?;
-    Some(Simple::Apply {
+    let operand = operand_from(token)?;
+    Some(Computation::new(Simple::Load { negated, operand }))
+}
+
+fn apply(operator: Operator, negated: bool, token: Token) -> Option<Computation>
+    ensures { result ≡ option_map (Apply operator negated) (operand_of token) }
+{
+    let operand = operand_from(token)?;
+    Some(Computation::new(Simple::Apply {
         operator,
         negated,
         operand,
-    })
+    }))
 }
 
-fn pair_up(pair: Pair, first: Operand, token: Token) -> Option<Simple>
+fn pair_up(pair: Pair, first: Operand, token: Token) -> Option<Computation>
     ensures { result ≡ option_map (paired pair first) (operand_of token) }
 {
-    let second = operand(token)?;
+    let second = operand_from(token)?;
+    Some(pair_of(pair, first, second))
+}
+
+fn pair_of(pair: Pair, first: Operand, second: Operand) -> Computation
+    ensures { result ≡ paired pair first second }
+{
     match pair {
-        Pair::Limit => Some(Simple::Limit {
+        Pair::Limit => Computation::new(Simple::Limit {
             input: first,
             most: second,
         }),
-        Pair::Select => Some(Simple::Select {
+        Pair::Select => Computation::new(Simple::Select {
             if_false: first,
             if_true: second,
         }),
     }
 }
 
-// A name, TRUE or FALSE, or a number.
-fn operand(token: Token) -> Option<Operand>
+/// A name, TRUE or FALSE, or a number.
+pub fn operand_from(token: Token) -> Option<Operand>
     ensures { result ≡ operand_of token }
 {
     match token {
@@ -177,53 +223,82 @@ fn truth(word: Keyword) -> Option<Operand>
     }
 }
 
-fn behind_pair(head: Head, pair: Pair, draft: Draft, token: Token) -> Move
-    ensures { result ≡ behind_pair_step head pair draft (operand_of token) }
+// A whole instruction of the body.
+fn act_on(nest: Nest, draft: Draft, head: Head, action: Action) -> Result<Move, AllocError>
+    ensures { IfOk result (λ m. m ≡ Ok (acted nest draft head action)) }
 {
-    match operand(token) {
-        Some(first) => goes_on(head, PartStage::BehindFirst(pair, first), draft),
+    let state = act(nest, draft, head, action)?;
+    Ok(Ok(state))
+}
+
+fn behind_pair(nest: Nest, head: Head, pair: Pair, draft: Draft, token: Token) -> Move
+    ensures { result ≡ behind_pair_step nest head pair draft (operand_of token) }
+{
+    match operand_from(token) {
+        Some(first) => goes_on(nest, head, PartStage::BehindFirst(pair, first), draft),
         None => Err(ReadFaultKind::Operand),
     }
 }
 
-fn behind_first(head: Head, pair: Pair, first: Operand, draft: Draft, token: Token) -> Move
-    ensures { result ≡ behind_first_step head pair first draft token }
+fn behind_first(
+    nest: Nest,
+    head: Head,
+    pair: Pair,
+    first: Operand,
+    draft: Draft,
+    token: Token,
+) -> Move
+    ensures { result ≡ behind_first_step nest head pair first draft token }
 {
     match token {
-        Token::Comma => goes_on(head, PartStage::BehindFirstComma(pair, first), draft),
+        Token::Comma => goes_on(nest, head, PartStage::BehindFirstComma(pair, first), draft),
         _ => Err(ReadFaultKind::Operand),
     }
 }
 
-fn behind_store(head: Head, negated: bool, draft: Draft, token: Token) -> Result<Move, AllocError>
-    ensures { IfOk result (λ m. m ≡ behind_store_step head negated draft token) }
+fn behind_store(
+    nest: Nest,
+    head: Head,
+    negated: bool,
+    draft: Draft,
+    token: Token,
+) -> Result<Move, AllocError>
+    ensures { IfOk result (λ m. m ≡ behind_store_step nest head negated draft token) }
 {
     match token {
-        Token::Name(name) => add(draft, head, Action::Store { negated, name }),
+        Token::Name(name) => act_on(nest, draft, head, Action::Store { negated, name }),
         _ => Ok(Err(ReadFaultKind::Operand)),
     }
 }
 
-fn behind_set(head: Head, value: bool, draft: Draft, token: Token) -> Result<Move, AllocError>
-    ensures { IfOk result (λ m. m ≡ behind_set_step head value draft token) }
+fn behind_set(
+    nest: Nest,
+    head: Head,
+    value: bool,
+    draft: Draft,
+    token: Token,
+) -> Result<Move, AllocError>
+    ensures { IfOk result (λ m. m ≡ behind_set_step nest head value draft token) }
 {
     match token {
-        Token::Name(name) => add(draft, head, Action::Set { value, name }),
+        Token::Name(name) => act_on(nest, draft, head, Action::Set { value, name }),
         _ => Ok(Err(ReadFaultKind::Operand)),
     }
 }
 
 fn behind_jump(
+    nest: Nest,
     head: Head,
     condition: Condition,
     turns: Option<u8>,
     draft: Draft,
     token: Token,
 ) -> Result<Move, AllocError>
-    ensures { IfOk result (λ m. m ≡ behind_jump_step head condition turns draft token) }
+    ensures { IfOk result (λ m. m ≡ behind_jump_step nest head condition turns draft token) }
 {
     match token {
-        Token::Name(label) => add(
+        Token::Name(label) => act_on(
+            nest,
             draft,
             head,
             Action::Jump {
@@ -236,20 +311,20 @@ fn behind_jump(
     }
 }
 
-fn behind_brace(head: Head, draft: Draft, token: Token) -> Move
-    ensures { result ≡ behind_brace_step head draft token }
+fn behind_brace(nest: Nest, head: Head, draft: Draft, token: Token) -> Move
+    ensures { result ≡ behind_brace_step nest head draft token }
 {
     match token {
-        Token::Name(name) => behind_brace_word(head, draft, &name),
+        Token::Name(name) => behind_brace_word(nest, head, draft, &name),
         _ => Err(ReadFaultKind::Word),
     }
 }
 
-fn behind_brace_word(head: Head, draft: Draft, name: &Name) -> Move
-    ensures { result ≡ behind_brace_step head draft (Token.Name name.now) }
+fn behind_brace_word(nest: Nest, head: Head, draft: Draft, name: &Name) -> Move
+    ensures { result ≡ behind_brace_step nest head draft (Token.Name name.now) }
 {
     if is_loop_word(name) {
-        goes_on(head, PartStage::BehindLoop, draft)
+        goes_on(nest, head, PartStage::BehindLoop, draft)
     } else {
         Err(ReadFaultKind::Word)
     }
@@ -261,20 +336,20 @@ fn is_loop_word(name: &Name) -> bool
     name.as_bytes() == b"loop".as_slice()
 }
 
-fn behind_loop(head: Head, draft: Draft, token: Token) -> Move
-    ensures { result ≡ behind_loop_step head draft token }
+fn behind_loop(nest: Nest, head: Head, draft: Draft, token: Token) -> Move
+    ensures { result ≡ behind_loop_step nest head draft token }
 {
     match token {
-        Token::Decimal(value) => behind_number(head, draft, turns_from(value)),
+        Token::Decimal(value) => behind_number(nest, head, draft, turns_from(value)),
         _ => Err(ReadFaultKind::Literal),
     }
 }
 
-fn behind_number(head: Head, draft: Draft, turns: Option<u8>) -> Move
-    ensures { result ≡ turns_step head draft turns }
+fn behind_number(nest: Nest, head: Head, draft: Draft, turns: Option<u8>) -> Move
+    ensures { result ≡ turns_step nest head draft turns }
 {
     match turns {
-        Some(turns) => goes_on(head, PartStage::BehindTurns(turns), draft),
+        Some(turns) => goes_on(nest, head, PartStage::BehindTurns(turns), draft),
         None => Err(ReadFaultKind::Literal),
     }
 }
@@ -290,21 +365,26 @@ fn turns_from(value: i64) -> Option<u8>
     }
 }
 
-fn behind_turns(head: Head, turns: u8, draft: Draft, token: Token) -> Move
-    ensures { result ≡ behind_turns_step head turns draft token }
+fn behind_turns(nest: Nest, head: Head, turns: u8, draft: Draft, token: Token) -> Move
+    ensures { result ≡ behind_turns_step nest head turns draft token }
 {
     match token {
-        Token::CloseBrace => goes_on(head, PartStage::BehindPragma(turns), draft),
+        Token::CloseBrace => goes_on(nest, head, PartStage::BehindPragma(turns), draft),
         _ => Err(ReadFaultKind::Word),
     }
 }
 
-fn behind_pragma(head: Head, turns: u8, draft: Draft, token: Token) -> Move
-    ensures { result ≡ behind_pragma_step head turns draft token }
+fn behind_pragma(nest: Nest, head: Head, turns: u8, draft: Draft, token: Token) -> Move
+    ensures { result ≡ behind_pragma_step nest head turns draft token }
 {
     match token {
         Token::Keyword(Keyword::Jump(condition)) => {
-            goes_on(head, PartStage::BehindJump(condition, Some(turns)), draft)
+            goes_on(
+                nest,
+                head,
+                PartStage::BehindJump(condition, Some(turns)),
+                draft,
+            )
         }
         _ => Err(ReadFaultKind::Operator),
     }

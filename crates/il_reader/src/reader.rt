@@ -58,17 +58,20 @@ impl Reader {
             mode,
             state,
         } = self;
+        let early = state.end_fault();
         let token = match mode.finish() {
             Ok(token) => token,
-            Err(kind) => return Ok(Err(ReadFault { line: last, kind })),
+            Err(kind) => {
+                let kind = half_token_fault(kind, early);
+                return Ok(Err(ReadFault { line: last, kind }));
+            }
         };
-        match state.step_if(alloc, token, line)? {
-            Ok(State::Over(program)) => Ok(Ok(program)),
-            _ => Ok(Err(ReadFault {
-                line: last,
-                kind: ReadFaultKind::Header,
-            })),
-        }
+        let kind = match state.step_if(alloc, token, line)? {
+            Ok(State::Over(program)) => return Ok(Ok(program)),
+            Ok(state) => state.end_fault(),
+            Err(_) => early,
+        };
+        Ok(Err(ReadFault { line: last, kind }))
     }
 }
 
@@ -98,7 +101,7 @@ pub fn read(alloc: Global, text: &str) -> Result<Program, ReadFault>
 }
 
 ghost use Rattle.std.specs.Prelude.{◌≡◌, ◌≤◌, ◌<◌, ◌^◌, IfOk, length};
-ghost use Rattle.il_reader.specs.Reading.{IsAnswer, answered, outcome};
+ghost use Rattle.il_reader.specs.Reading.{IsAnswer, answered, half_fault, outcome};
 ghost use Rattle.il_reader.specs.Tokens.{line_behind};
 
 fn read_bytes(alloc: Global, text: &[u8]) -> Result<Result<Program, ReadFault>, AllocError>
@@ -120,6 +123,16 @@ fn read_bytes(alloc: Global, text: &[u8]) -> Result<Result<Program, ReadFault>, 
         rest = after;
     }
     reader.finish(alloc)
+}
+
+// The fault of a text that ends in an open comment, or in a token that isn't whole.
+fn half_token_fault(half: ReadFaultKind, early: ReadFaultKind) -> ReadFaultKind
+    ensures { result ≡ half_fault half early }
+{
+    match half {
+        ReadFaultKind::Word => ReadFaultKind::Word,
+        _ => early,
+    }
 }
 
 // The line behind a byte.

@@ -1,23 +1,28 @@
+ghost use Rattle.std.specs.Prelude.{◌≡◌};
+ghost use Rattle.il_reader.specs.Reading.{part_early, stage_early};
+
 use crate::draft::Head;
+use crate::fault::ReadFaultKind;
+use crate::nest::Nest;
 use crate::tree::Operand;
 use crate::typing::Typing;
 use point_types::{Condition, IlType, Name, Operator};
 
-/// Where a text stands between its name and END_PROGRAM.
-#[derive(Clone, Copy, PartialEq, Eq, Debug)]
+/// Where a text stands between its name and END_PROGRAM, inside the parentheses of a nest.
+#[derive(Drop, Debug)]
 pub enum Stage {
     /// Behind the name or END_VAR: a block, or the body.
     BetweenBlocks,
     Block(BlockStage),
-    /// At the beginning of a line of the body.
-    AtLine,
+    /// At the beginning of a line of the body, or inside parentheses.
+    AtLine(Nest),
     /// Behind a name at the beginning of this line.
     BehindLabel(u32, Name),
     /// Behind a label and its colon.
     AtInstruction(Head),
-    Part(Head, PartStage),
+    Part(Nest, Head, PartStage),
     /// Behind a whole instruction.
-    BehindInstruction,
+    BehindInstruction(Nest),
 }
 
 /// Where a text stands in a block of declarations. The truth value tells whether the block is one of
@@ -54,6 +59,10 @@ pub enum PartStage {
     /// Behind LD or LDN.
     BehindLoad(bool),
     BehindOperator(Operator, bool),
+    /// Behind an operator and an opening parenthesis.
+    BehindParenthesis(Operator, bool),
+    /// Behind an operator, an opening parenthesis and an operand.
+    BehindEntry(Operator, bool, Operand),
     /// Behind LIMIT or SEL.
     BehindPair(Pair),
     /// Behind the first operand of LIMIT or SEL.
@@ -79,4 +88,30 @@ pub enum PartStage {
 pub enum Pair {
     Limit,
     Select,
+}
+
+impl Stage {
+    /// Why a text that ends here has ended too soon.
+    pub fn end_fault(&self) -> ReadFaultKind
+        ensures { result ≡ stage_early self.now }
+    {
+        match self {
+            Stage::AtLine(nest) => nest.end_fault(),
+            Stage::Part(nest, _, part) => part.end_fault(nest),
+            Stage::BehindInstruction(nest) => nest.end_fault(),
+            _ => ReadFaultKind::Header,
+        }
+    }
+}
+
+impl PartStage {
+    fn end_fault(&self, nest: &Nest) -> ReadFaultKind
+        ensures { result ≡ part_early nest.now self.now }
+    {
+        match self {
+            PartStage::BehindParenthesis(_, _) => ReadFaultKind::Parenthesis,
+            PartStage::BehindEntry(_, _, _) => ReadFaultKind::Parenthesis,
+            _ => nest.end_fault(),
+        }
+    }
 }

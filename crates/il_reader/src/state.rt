@@ -1,10 +1,14 @@
 ghost use Rattle.std.specs.Prelude.{◌≡◌, IfOk, Ok, None};
-ghost use Rattle.il_reader.specs.Reading.{at_instruction_step, behind_label_step, between_step, braced, declares, is_brace, line_step, over_step, start_step, state_step, step, stepped, taken, titled_step, whole_step, with_fault, within_step};
+ghost use Rattle.il_reader.specs.Drafting.{declares};
+ghost use Rattle.il_reader.specs.Instructions.{at_instruction_step, at_line_step, behind_label_step, between_step, line_step, whole_step};
+ghost use Rattle.il_reader.specs.Reading.{braced, early, is_brace, over_step, start_step, state_step, step, stepped, taken, titled_step, with_fault, within_step};
 
 use crate::draft::{Draft, Head};
 use crate::fault::ReadFaultKind;
 use crate::instructing::begin;
 use crate::lexer::Lexed;
+use crate::nest::Nest;
+use crate::nesting::begin_inside;
 use crate::stage::{BlockStage, Stage};
 use crate::token::{Keyword, Token};
 use crate::tree::Program;
@@ -44,6 +48,16 @@ impl State {
         match token {
             Some(token) => self.step(alloc, token, line),
             None => Ok(Ok(self)),
+        }
+    }
+
+    /// Why a text that ends here has ended too soon.
+    pub fn end_fault(&self) -> ReadFaultKind
+        ensures { result ≡ early self.now }
+    {
+        match self {
+            State::Within(stage, _) => stage.end_fault(),
+            _ => ReadFaultKind::Header,
         }
     }
 
@@ -124,24 +138,24 @@ fn step_within(
     ensures { IfOk result (λ m. m ≡ within_step stage draft token line) }
 {
     match stage {
-        Stage::BetweenBlocks => between_blocks(draft, token, line),
+        Stage::BetweenBlocks => between_blocks(alloc, draft, token, line),
         Stage::Block(stage) => stage.step(alloc, draft, token, line),
-        Stage::AtLine => at_line(draft, token, line),
+        Stage::AtLine(nest) => at_line_in(alloc, nest, draft, token, line),
         Stage::BehindLabel(first, name) => behind_label(first, name, draft, token),
-        Stage::AtInstruction(head) => at_instruction(head, draft, token),
-        Stage::Part(head, part) => part.step(head, draft, token),
-        Stage::BehindInstruction => Ok(behind_instruction(draft, token)),
+        Stage::AtInstruction(head) => at_instruction(alloc, head, draft, token),
+        Stage::Part(nest, head, part) => part.step(alloc, nest, head, draft, token),
+        Stage::BehindInstruction(nest) => Ok(behind_instruction(nest, draft, token)),
     }
 }
 
-fn between_blocks(draft: Draft, token: Token, line: u32) -> Result<Move, AllocError>
+fn between_blocks(alloc: Global, draft: Draft, token: Token, line: u32) -> Result<Move, AllocError>
     ensures { IfOk result (λ m. m ≡ between_step draft token line) }
 {
     match token {
         Token::LineEnd => Ok(Ok(State::Within(Stage::BetweenBlocks, draft))),
         Token::Keyword(Keyword::Var) => Ok(Ok(begin_block(false, draft))),
         Token::Keyword(Keyword::VarExternal) => Ok(Ok(begin_block(true, draft))),
-        _ => at_line(draft, token, line),
+        _ => at_line(alloc, draft, token, line),
     }
 }
 
@@ -151,16 +165,33 @@ fn begin_block(external: bool, draft: Draft) -> State
     State::Within(Stage::Block(BlockStage::InBlock(external)), draft)
 }
 
-fn at_line(draft: Draft, token: Token, line: u32) -> Result<Move, AllocError>
+// At the beginning of a line, of the body or inside parentheses.
+fn at_line_in(
+    alloc: Global,
+    nest: Nest,
+    draft: Draft,
+    token: Token,
+    line: u32,
+) -> Result<Move, AllocError>
+    ensures { IfOk result (λ m. m ≡ at_line_step nest draft token line) }
+{
+    let (inmost, outer) = nest.part();
+    match inmost {
+        Some(frame) => begin_inside(frame, outer, draft, token, line),
+        None => at_line(alloc, draft, token, line),
+    }
+}
+
+fn at_line(alloc: Global, draft: Draft, token: Token, line: u32) -> Result<Move, AllocError>
     ensures { IfOk result (λ m. m ≡ line_step draft token line) }
 {
     if let Token::Name(name) = token {
         return Ok(at_label(draft, line, name));
     }
     match token {
-        Token::LineEnd => Ok(Ok(State::Within(Stage::AtLine, draft))),
+        Token::LineEnd => Ok(Ok(State::Within(Stage::AtLine(Nest::new(alloc)), draft))),
         Token::Keyword(Keyword::EndProgram) => Ok(Ok(State::Over(draft.finish(line)))),
-        _ => begin(draft, Head { line, label: None }, token),
+        _ => begin(alloc, draft, Head { line, label: None }, token),
     }
 }
 
@@ -191,24 +222,24 @@ fn behind_label(line: u32, name: Name, draft: Draft, token: Token) -> Result<Mov
     }
 }
 
-fn at_instruction(head: Head, draft: Draft, token: Token) -> Result<Move, AllocError>
+fn at_instruction(alloc: Global, head: Head, draft: Draft, token: Token) -> Result<Move, AllocError>
     ensures { IfOk result (λ m. m ≡ at_instruction_step head draft token) }
 {
     match token {
         Token::LineEnd => {
             let draft = draft.add(head, None)?;
-            Ok(Ok(State::Within(Stage::AtLine, draft)))
+            Ok(Ok(State::Within(Stage::AtLine(Nest::new(alloc)), draft)))
         }
-        _ => begin(draft, head, token),
+        _ => begin(alloc, draft, head, token),
     }
 }
 
-fn behind_instruction(draft: Draft, token: Token) -> Move
-    ensures { result ≡ whole_step draft token }
+fn behind_instruction(nest: Nest, draft: Draft, token: Token) -> Move
+    ensures { result ≡ whole_step nest draft token }
 {
     match token {
-        Token::LineEnd => Ok(State::Within(Stage::AtLine, draft)),
-        Token::Close => Err(ReadFaultKind::Parenthesis),
+        Token::LineEnd => Ok(State::Within(Stage::AtLine(nest), draft)),
+        Token::Close => Err(nest.close_fault()),
         _ => Err(ReadFaultKind::Operand),
     }
 }

@@ -25,7 +25,7 @@ fn variables_of(alloc: Global, program: &Program) -> Result<String, Fail> {
 // The word of an instruction.
 fn word_of(action: &Action) -> &'static str {
     match action {
-        Action::Compute(simple) => simple_word(simple),
+        Action::Compute(computation) => simple_word(computation.as_simple()),
         Action::Store { negated: false, .. } => "ST",
         Action::Store { negated: true, .. } => "STN",
         Action::Set { value: true, .. } => "S",
@@ -40,7 +40,7 @@ fn word_of(action: &Action) -> &'static str {
     }
 }
 
-fn simple_word(simple: &Simple) -> &'static str {
+pub(crate) fn simple_word(simple: &Simple) -> &'static str {
     match simple {
         Simple::Load { negated: false, .. } => "LD",
         Simple::Load { negated: true, .. } => "LDN",
@@ -65,7 +65,7 @@ fn operator_word(operator: Operator) -> &'static str {
 }
 
 // Each statement's line, label and word.
-fn lines_of(alloc: Global, program: &Program) -> Result<String, Fail> {
+pub(crate) fn lines_of(alloc: Global, program: &Program) -> Result<String, Fail> {
     let mut lines = String::new(alloc);
     for statement in program.statements.as_slice() {
         let line = statement.line;
@@ -87,7 +87,7 @@ fn lines_of(alloc: Global, program: &Program) -> Result<String, Fail> {
 fn operand_of(program: &Program) -> Option<Operand> {
     let statement = program.statements.as_slice().first()?;
     match &statement.action {
-        Some(Action::Compute(simple)) => simple_operand(simple),
+        Some(Action::Compute(computation)) => simple_operand(computation.as_simple()),
         _ => None,
     }
 }
@@ -189,9 +189,9 @@ fn reads_instructions(rt: HostRuntime) -> Result<(), Fail> {
 }
 
 // Lines 1 and 2 of most texts that are refused.
-const HEAD: &str = "PROGRAM p\nVAR a : INT; END_VAR\n";
+pub(crate) const HEAD: &str = "PROGRAM p\nVAR a : INT; END_VAR\n";
 
-fn fault_of(alloc: Global, head: &str, rest: &str) -> Option<ReadFault> {
+pub(crate) fn fault_of(alloc: Global, head: &str, rest: &str) -> Option<ReadFault> {
     let mut text = String::new(alloc);
     if text.push_str(head).is_err() || text.push_str(rest).is_err() {
         return None;

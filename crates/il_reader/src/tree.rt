@@ -1,3 +1,4 @@
+use crate::computation::Computation;
 use point_types::{Condition, IlType, Items, Name, Operator, Var};
 
 /// A program as its text has it (IEC 61131-3 edition 2, 2.5.3 and 3.2). Lines are counted from 1.
@@ -40,7 +41,7 @@ pub struct Statement {
 /// What a line of the body does.
 #[derive(Drop, Debug)]
 pub enum Action {
-    Compute(Simple),
+    Compute(Computation),
     /// ST, or STN where negated.
     Store {
         negated: bool,

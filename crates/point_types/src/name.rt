@@ -37,6 +37,9 @@ impl Model for Name {
 }
 
 impl Name {
+    ghost use Rattle.std.specs.Prelude.{◌≡◌, IsTrue};
+    ghost use Rattle.point_types.specs.Name.{is_name, name_of};
+
     /// The name that these bytes spell, letters in any case; none where they spell no name or a
     /// reserved word (IEC 61131-3 edition 2, 2.1.2 and 2.1.3).
     pub fn from_bytes(text: &[u8]) -> Option<Name>
@@ -56,9 +59,10 @@ impl Name {
         }
     }
 
-    /// The bytes of the name, in lower case.
+    /// The bytes of the name, in lower case: 1 to 32, which keep the rule of names.
     pub fn as_bytes(&self) -> &[u8]
-        ensures { result.now ≡ self.now }
+        ensures bytes { result.now ≡ self.now }
+        ensures named { IsTrue (is_name self.now) }
     {
         &self.bytes[..self.length]
     }

@@ -77,7 +77,12 @@ pub(crate) fn plan_of(
 }
 
 /// The words of a kind for `v * 10^exponent`, by a scale factor.
-fn words_for(kind: Kind, v: i64, exponent: i8, factor: Option<i16>) -> Result<Words, Unencodable>
+pub fn words_for(
+    kind: Kind,
+    v: i64,
+    exponent: i8,
+    factor: Option<i16>,
+) -> Result<Words, Unencodable>
     requires numeric { kind ≢ kinds.String }
     requires scalable { IsExponent exponent }
     ensures { IsEncoding kind v exponent factor result }

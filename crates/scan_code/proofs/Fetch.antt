@@ -1,5 +1,5 @@
 -- Decoding finds what was spelled.
-use Rattle.std.proofs.Common.{◌≡◌, ℕ, zero, suc, ◌+◌, ◌*◌, ◌/◌, ◌%◌, ◌^◌, ◌<◌, Bool, true, false, ◌&&◌, if◌then◌else◌, ℤ, pos, negsuc, ◌-ℤ◌, List, [], ◌∷◌, ◌++◌, length, Option, Some, None, option_map, nat_lt, nat_le, nat_eq, refl, sym, ap, ◌∙◌, subst, arith, leb-true, lt-ltb, true≢false, ne_eqb, int_le}
+use Rattle.std.proofs.Common.{◌≡◌, ℕ, zero, suc, ◌+◌, ◌*◌, ◌/◌, ◌%◌, ◌^◌, ◌<◌, Bool, true, false, ◌&&◌, if◌then◌else◌, ℤ, pos, negsuc, ◌-ℤ◌, List, [], ◌∷◌, ◌++◌, length, Option, Some, None, option_map, nat_lt, nat_le, nat_eq, refl, sym, ap, ◌∙◌, arith, leb-true, lt-ltb, true≢false, ne_eqb, int_le}
 use Rattle.std.proofs.Math.Seq.{drop-append_seam}
 use Rattle.std.proofs.lemmas.Int.{ints}
 use Rattle.point_types.specs.declared.il_type.IlType.{IlType}
@@ -12,7 +12,7 @@ use Rattle.point_types.specs.Value.{low_of, high_of, is_within, is_bool, code_of
 use Rattle.scan_code.specs.Instruction.{whole_type, number_from, signed_from, typed_number, two_types, sized, decoded, decoded_at}
 use Rattle.scan_code.specs.Spelling.{spelled, place_bytes, bytes_of, unsigned, IsFine, SpelledInstructionsDecode}
 
-place_read : (n : ℕ) → number_from 0 (place_bytes n) ≡ n
+pub place_read : (n : ℕ) → number_from 0 (place_bytes n) ≡ n
 place_read n = omega arith
 
 -- the bytes of a number
@@ -41,7 +41,7 @@ top_none n h =
 eight_read : (n : ℕ) → n < 2 ^ 64 → number_from 0 (bytes_of 8 n []) ≡ n
 eight_read n h = ap (λ m. number_from m (bytes_of 8 n [])) (sym (top_none n h)) ∙ bytes_read 8 n []
 
-abbrev IsLong : ℤ → Type 0
+abbrev pub IsLong : ℤ → Type 0
 IsLong (pos n) = n < 2 ^ 63
 IsLong (negsuc n) = n < 2 ^ 63
 
@@ -56,7 +56,7 @@ unsigned_small : (n : ℤ) → IsLong n → unsigned n < 2 ^ 64
 unsigned_small (pos n) h = omega arith
 unsigned_small (negsuc n) h = omega arith
 
-number_read : (n : ℤ) → IsLong n → signed_from (bytes_of 8 (unsigned n) []) ≡ n
+pub number_read : (n : ℤ) → IsLong n → signed_from (bytes_of 8 (unsigned n) []) ≡ n
 number_read n h = ap signed (eight_read (unsigned n) (unsigned_small n h)) ∙ signed_read n h
 
 both_true : (a b : Bool) → (a && b) ≡ true → (a ≡ true) × (b ≡ true)
@@ -69,7 +69,7 @@ within_parts low high n h = both_true (int_le low n) (int_le n high) h
 is_long_pos : (n k : ℕ) → k < 2 ^ 63 → nat_le n k ≡ true → n < 2 ^ 63
 is_long_pos n k h e = let l = leb-true n k e in omega arith
 
-is_long : (k : IlType) (n : ℤ) → is_within (low_of k) (high_of k) n ≡ true → IsLong n
+pub is_long : (k : IlType) (n : ℤ) → is_within (low_of k) (high_of k) n ≡ true → IsLong n
 is_long il.Bool (pos n) h = is_long_pos n 1 (omega arith) (within_parts (low_of il.Bool) (high_of il.Bool) (pos n) h).1
 is_long il.Sint (pos n) h = is_long_pos n 127 (omega arith) (within_parts (low_of il.Sint) (high_of il.Sint) (pos n) h).1
 is_long il.Int (pos n) h = is_long_pos n 32767 (omega arith) (within_parts (low_of il.Int) (high_of il.Int) (pos n) h).1

@@ -1,3 +1,9 @@
+pub mod Image
+pub mod ImageExamples
+pub mod ImageLaws
+pub mod ImageReading
+pub mod ImageSpelling
+pub mod ImageWord
 pub mod Instruction
 pub mod Machine
 pub mod Spelling

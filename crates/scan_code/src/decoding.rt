@@ -1,9 +1,9 @@
 ghost use Rattle.std.specs.Prelude.{◌≡◌, ◌+◌, ◌*◌, ◌≤◌, length, IfSome};
 ghost use Rattle.scan_code.specs.declared.op.Op.TheVariants as does;
 ghost use Rattle.scan_code.specs.Instruction.{WithNumber, WithTypes, completed, decoded, decoded_at, signed_from, whole_type};
-ghost use Rattle.point_types.specs.Value.{high_of, is_within, low_of};
 ghost use Rattle.scan_code.specs.Spelling.{FitsBytes};
 
+use crate::image_rules::is_within;
 use crate::instructions;
 use crate::op::Op;
 use point_types::{Condition, IlType, Operator};
@@ -92,7 +92,7 @@ fn first(bytes: &[u8]) -> Option<(Op, usize)>
 }
 
 /// The number of a place, or an address: big-endian.
-fn place_from(high: u8, low: u8) -> u16
+pub(crate) fn place_from(high: u8, low: u8) -> u16
     ensures { result ≡ high * 256 + low }
 {
     u16::from_be_bytes([high, low])
@@ -108,7 +108,7 @@ fn number_at(arguments: &[u8]) -> Option<(Op, usize)>
         [kind, a, b, c, d, e, f, g, h, ..] => {
             let kind = whole_type(*kind)?;
             let n = number_from([*a, *b, *c, *d, *e, *f, *g, *h]);
-            if has_number(kind, n) {
+            if is_within(kind, n) {
                 Some((Op::LoadNumber(kind, n), 9))
             } else {
                 None
@@ -119,17 +119,10 @@ fn number_at(arguments: &[u8]) -> Option<(Op, usize)>
 }
 
 /// A number in two's complement, big-endian.
-fn number_from(bytes: [u8; 8]) -> i64
+pub(crate) fn number_from(bytes: [u8; 8]) -> i64
     ensures { result ≡ signed_from bytes }
 {
     i64::from_be_bytes(bytes)
-}
-
-/// Whether a number lies in its type's range.
-fn has_number(kind: IlType, n: i64) -> bool
-    ensures { result ≡ is_within (low_of kind) (high_of kind) n }
-{
-    kind.low() <= n && n <= kind.high()
 }
 
 /// CONV: the numbers of two different whole-number types.

@@ -3,6 +3,13 @@
 
 pub mod decoding;
 pub mod image;
+pub mod image_fault;
+mod image_names;
+mod image_reader;
+mod image_rules;
+#[cfg(test)]
+mod image_tests;
+mod image_writer;
 pub mod laws;
 pub mod op;
 pub mod spelling;
@@ -12,5 +19,7 @@ mod tests;
 
 pub use decoding::decode;
 pub use image::{Image, Tag};
+pub use image_fault::ImageFault;
+pub use image_names::have_names_of_their_own;
 pub use op::Op;
 pub use point_types::Var;

@@ -2,25 +2,10 @@ ghost use Rattle.std.specs.Prelude.{◌≡◌, ℕ, [], ◌∷◌, ◌++◌, OnO
 ghost use Rattle.point_types.specs.Value.{code_of};
 ghost use Rattle.scan_code.specs.Spelling.{place_bytes, bytes_of, unsigned};
 
-use crate::instructions;
 use crate::op::Op;
+use crate::{instruction, instructions};
 use point_types::{Condition, IlType, Operator};
 use std::alloc::AllocError;
-
-/// The pattern of an instruction, by its shape; up to four names are bound to its arguments.
-macro_rules! instruction {
-    (bare $name:ident $a:ident $b:ident $c:ident) => { Op::$name };
-    (operator $name:ident $a:ident $b:ident $c:ident) => { Op::Apply(Operator::$name) };
-    (leave $name:ident $a:ident $b:ident $c:ident) => { Op::Return(Condition::$name) };
-    (variable $name:ident $a:ident $b:ident $c:ident) => { Op::$name($a) };
-    (input $name:ident $a:ident $b:ident $c:ident) => { Op::$name($a) };
-    (output $name:ident $a:ident $b:ident $c:ident) => { Op::$name($a) };
-    (truth $name:ident $a:ident $b:ident $c:ident) => { Op::$name($a) };
-    (number $name:ident $a:ident $b:ident $c:ident) => { Op::$name($a, $b) };
-    (types $name:ident $a:ident $b:ident $c:ident) => { Op::$name($a, $b) };
-    (jump $name:ident $a:ident $b:ident $c:ident) => { Op::Jump(Condition::$name, $a) };
-    (repeat $name:ident $a:ident $b:ident $c:ident) => { Op::Repeat(Condition::$name, $a, $b, $c) };
-}
 
 /// Appends an instruction's code byte and arguments, by its shape.
 macro_rules! append {

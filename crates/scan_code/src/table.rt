@@ -48,3 +48,20 @@ macro_rules! instructions {
         }
     };
 }
+
+/// The pattern of an instruction of the table, by its shape; up to three names are bound to its arguments. `Op`,
+/// `Operator` and `Condition` stand for themselves where it is used.
+#[macro_export]
+macro_rules! instruction {
+    (bare $name:ident $a:ident $b:ident $c:ident) => { Op::$name };
+    (operator $name:ident $a:ident $b:ident $c:ident) => { Op::Apply(Operator::$name) };
+    (leave $name:ident $a:ident $b:ident $c:ident) => { Op::Return(Condition::$name) };
+    (variable $name:ident $a:ident $b:ident $c:ident) => { Op::$name($a) };
+    (input $name:ident $a:ident $b:ident $c:ident) => { Op::$name($a) };
+    (output $name:ident $a:ident $b:ident $c:ident) => { Op::$name($a) };
+    (truth $name:ident $a:ident $b:ident $c:ident) => { Op::$name($a) };
+    (number $name:ident $a:ident $b:ident $c:ident) => { Op::$name($a, $b) };
+    (types $name:ident $a:ident $b:ident $c:ident) => { Op::$name($a, $b) };
+    (jump $name:ident $a:ident $b:ident $c:ident) => { Op::Jump(Condition::$name, $a) };
+    (repeat $name:ident $a:ident $b:ident $c:ident) => { Op::Repeat(Condition::$name, $a, $b, $c) };
+}

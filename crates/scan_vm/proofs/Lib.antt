@@ -1,4 +1,8 @@
+pub mod Accepted
+pub mod Possible
 pub mod Progress
+pub mod Reached
+pub mod Readings
 pub mod Runs
 pub mod Scans
 pub mod Stack

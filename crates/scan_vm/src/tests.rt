@@ -1,9 +1,10 @@
-ghost use Rattle.std.specs.Prelude.{◌<◌, length};
+mod machines;
+mod programs;
 
 use crate::{Scan, Trap, TrapKind, Trial};
 use point_types::{Cause, Condition, IlType, Items, Name, Operator, Reading};
 use scan_code::{Image, Op, Tag, Var};
-use std::alloc::{AllocError, Global};
+use std::alloc::Global;
 use std::process::Abort;
 use std::test::Fail;
 
@@ -65,16 +66,14 @@ fn trial(
     vars: &[Var],
     tags: &[Tag],
     code: &[u8],
-) -> Result<Trial, AllocError>
-    requires { length code.now < 65536 }
-{
-    let image = Image {
+) -> Result<Trial, Fail> {
+    let image = Image::new(
         version,
-        vars: Items::from_vec(Vec::from_slice(alloc, vars)?),
-        tags: Items::from_vec(Vec::from_slice(alloc, tags)?),
-        code: Items::from_vec(Vec::from_slice(alloc, code)?),
-    };
-    Trial::new(alloc, image)
+        Items::from_vec(Vec::from_slice(alloc, vars)?),
+        Items::from_vec(Vec::from_slice(alloc, tags)?),
+        Items::from_vec(Vec::from_slice(alloc, code)?),
+    );
+    Ok(Trial::new(alloc, image.ok_or("an image")?)?)
 }
 
 fn first_variable(trial: &Trial) -> Option<i64> {
@@ -98,9 +97,7 @@ fn tried(
     alloc: Global,
     vars: &[Var],
     code: &[u8],
-) -> Result<(Result<Scan, Trap>, Option<i64>), AllocError>
-    requires { length code.now < 65536 }
-{
+) -> Result<(Result<Scan, Trap>, Option<i64>), Fail> {
     let mut trial = trial(alloc, 1, vars, &[], code)?;
     let outcome = trial.scan(&[]);
     Ok((outcome, first_variable(&trial)))
@@ -113,7 +110,7 @@ fn trapped(at: u32, kind: TrapKind) -> Result<Scan, Trap> {
 #[test]
 fn divides_and_adds(rt: HostRuntime) -> Result<(), Fail> {
     let seven = Var {
-        name: name(&rt, b"a"),
+        name: name(&rt, b"seven"),
         kind: IlType::Int,
         low: -32768,
         high: 32767,
@@ -281,13 +278,19 @@ fn defers_a_hundred_values(rt: HostRuntime) -> Result<(), Fail> {
     Ok(())
 }
 
-#[test]
-fn takes_each_of_62_counted_jumps(rt: HostRuntime) -> Result<(), Fail> {
-    let mut code = Vec::new(rt.alloc());
+/// 62 jumps back to themselves, each at most 255 times.
+fn sixty_two_jumps(alloc: Global) -> Result<Vec<u8>, Fail> {
+    let mut code = Vec::new(alloc);
     for k in 0..62u8 {
         Op::Repeat(Condition::Always, k, 255, 5 * k as u16).write(&mut code)?;
     }
     Op::End.write(&mut code)?;
+    Ok(code)
+}
+
+#[test]
+fn takes_each_of_62_counted_jumps(rt: HostRuntime) -> Result<(), Fail> {
+    let code = sixty_two_jumps(rt.alloc())?;
     assert!(rt; code.len() < 65536);
     let mut trial = trial(rt.alloc(), 2, &[], &[], &code)?;
     assert_eq!(rt; trial.scan(&[]), Ok(Scan { steps: 15873 }));

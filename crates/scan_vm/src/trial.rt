@@ -39,9 +39,10 @@ impl Trial {
     /// A trial of an image, its variables at their start values, no output set. All memory that its
     /// scans need is taken here.
     pub fn new(alloc: Global, image: Image) -> Result<Trial, AllocError>
-        requires { length image.code < 65536 }
         ensures { IfOk result (λ trial. trial ≡ started image) }
     {
+        let size = image.code.len();
+        prove!(size < 65536);
         let execution = Execution::new(alloc, &image)?;
         let before = Vec::from_slice(alloc, execution.variables())?;
         Ok(Trial {

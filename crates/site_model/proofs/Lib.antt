@@ -1,5 +1,6 @@
-mod Entries
+pub mod Entries
 mod Factors
 pub mod Lists
 mod Outs
-mod Owns
+pub mod Owns
+mod Numbers

@@ -9,5 +9,6 @@ pub mod Devices
 pub mod Tagging
 pub mod Serving
 pub mod Lengths
+pub mod Numbers
 pub mod File
 pub mod Views

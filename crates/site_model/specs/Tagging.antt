@@ -1,6 +1,6 @@
 -- Which tags the entries of the section `tag` of a site file stand for.
 -- SunSpec Device Information Model Specification, points; IEC 61131-3 edition 2, 2.1.2 identifiers, 2.3.1 elementary data types.
-use Rattle.std.specs.Prelude.{ℕ, ◌-◌, ℤ, pos, neg_ℤ, nat_eq, nat_lt, Bool, true, false, not, ◌&&◌, ◌||◌, is_some, List, [], ◌∷◌, ◌++◌, length, drop, find, slice_get, Option, None, Some, option_map, option_and_then, if◌then◌else◌, Result, Ok, Err, codes}
+use Rattle.std.specs.Prelude.{◌+◌, ℕ, ◌-◌, ℤ, pos, neg_ℤ, nat_eq, nat_lt, Bool, true, false, not, ◌&&◌, ◌||◌, is_some, List, [], ◌∷◌, ◌++◌, length, drop, find, slice_get, Option, None, Some, option_map, option_and_then, if◌then◌else◌, Result, Ok, Err, codes}
 use Rattle.std.specs.List.{list_any, position}
 use Rattle.std.specs.Option.{ok_or, option_map_or}
 use Rattle.std.specs.Str.{bytes_eq}
@@ -135,8 +135,13 @@ is_written other = false
 
 -- ---- where the point is
 
+-- the number of the device of a name, where the first one has number n
+abbrev pub number_named : ℕ → List ℕ → List SiteDevice → Option ℕ
+number_named n name [] = None
+number_named n name (d ∷ ds) = if bytes_eq name d.name then Some n else number_named (n + 1) name ds
+
 abbrev pub device_number : List SiteDevice → List ℕ → Option ℕ
-device_number devices name = position (λ d. bytes_eq d.name name) devices
+device_number devices name = number_named 0 name devices
 
 abbrev pub device_named : List SiteDevice → List ℕ → Result (Option ℕ) SiteFault
 device_named devices name = ok_or (option_map Some (device_number devices name)) fault.UnknownDevice

@@ -1,13 +1,15 @@
 //! From the text of a site file to the site.
-ghost use Rattle.std.specs.Prelude.{◌≡◌, ◌≢◌, ◌||◌, nat_lt, map, codes, false, Ok, Err, IfOk, IfErr};
+ghost use Rattle.std.specs.Prelude.{◌≡◌, ◌≢◌, ◌||◌, [], nat_lt, map, codes, false, Ok, Err, IfOk, IfErr};
 ghost use Rattle.std.specs.Option.{option_map_or};
 ghost use Rattle.toml.specs.Data.{get};
 ghost use Rattle.toml.specs.View.{view, items_view};
 ghost use Rattle.site_model.specs.File.{count, has_over, has_too_many, is_over, layout_of, layout_over, site_in, site_of};
+ghost use Rattle.site_model.specs.Tagging.{tags_behind};
 ghost use Rattle.site_model.specs.Views.{gateway_view, site_view, tag_view};
 ghost use Rattle.site_model.specs.declared.fault.SiteFault.TheVariants as fault;
 
 use crate::device::SiteDevice;
+use crate::device_numbers::device_numbers;
 use crate::devices::read_devices;
 use crate::fault::SiteFault;
 use crate::gateway::{Gateway, read_gateway};
@@ -66,15 +68,40 @@ fn read_sections(alloc: Global, defs: &[ModelDef], file: &Value) -> Result<Site,
 {
     let gateway = read_gateway(alloc, defs, file)?;
     let devices = read_devices(alloc, section_at(file, "device")?)?;
-    let scope = Scope {
-        devices: devices.as_slice(),
-        own: gateway.models.as_slice(),
+    let own = gateway.models.as_slice();
+    let tags = tags_over(
+        alloc,
+        devices.as_slice(),
+        own,
         defs,
-    };
-    let tags = read_tags(alloc, scope, section_at(file, "tag")?)?;
+        section_at(file, "tag")?,
+    )?;
     let entries = section_at(file, "served")?;
     let served = read_served(alloc, gateway.models.as_slice(), tags.as_slice(), entries)?;
     Ok(with_lookups(alloc, defs, gateway, devices, tags, served)?)
+}
+
+/// Reads the tags over these devices, the gateway's own models and all definitions.
+fn tags_over<'x>(
+    alloc: Global,
+    devices: &'x [SiteDevice],
+    own: &'x [ModelDef],
+    defs: &'x [ModelDef],
+    entries: &[Value],
+) -> Result<Items<SiteTag>, SiteFault>
+    ensures told { IfOk result
+        (λ tags. tags_behind devices.now own.now defs.now [] (items_view entries.now) ≡ Ok (map tag_view tags)) }
+    ensures refused { IfErr result (λ e. e ≢ fault.OutOfMemory
+        → tags_behind devices.now own.now defs.now [] (items_view entries.now) ≡ Err e) }
+{
+    let numbers = device_numbers(alloc, devices)?;
+    let scope = Scope {
+        devices,
+        numbers: &numbers,
+        own,
+        defs,
+    };
+    read_tags(alloc, scope, entries)
 }
 
 /// The site of these parts, with what it looks up for its callers.

@@ -3,6 +3,7 @@
 
 pub mod access;
 pub mod device;
+mod device_numbers;
 mod devices;
 pub mod fault;
 mod file;

@@ -2,6 +2,7 @@
 ghost use Rattle.std.specs.Prelude.{◌≡◌, ◌≢◌, [], map, option_map, nat_eq, nat_lt, find, is_some, Ok, Err, IfOk, IfErr, MatchResult};
 ghost use Rattle.std.specs.List.{list_any};
 ghost use Rattle.toml.specs.View.{view, items_view};
+ghost use Rattle.site_model.specs.Numbers.{NumbersDevices};
 ghost use Rattle.site_model.specs.Tag.{start_of};
 ghost use Rattle.site_model.specs.Tagging.{clashes, device_for, device_named, device_number, is_on_heading, is_same_device, is_same_point, is_same_side, model_for, point_for, tag_of, tag_placed, tags_behind};
 ghost use Rattle.site_model.specs.Views.{tag_keys_view, tag_view};
@@ -10,6 +11,7 @@ ghost use Rattle.site_model.specs.declared.fault.SiteFault.TheVariants as fault;
 
 use crate::access::Access;
 use crate::device::SiteDevice;
+use crate::device_numbers::DeviceNumbers;
 use crate::fault::SiteFault;
 use crate::gateway::{definition_of, model_of};
 use crate::tag::SiteTag;
@@ -22,16 +24,18 @@ use toml::Value;
 
 /// What tags can speak of: the devices, the gateway's own models, and all definitions.
 #[derive(Clone, Copy)]
-pub(crate) struct Scope<'a> {
+pub(crate) struct Scope<'a, 'n> {
     pub(crate) devices: &'a [SiteDevice],
+    pub(crate) numbers: &'n DeviceNumbers<'a>,
     pub(crate) own: &'a [ModelDef],
     pub(crate) defs: &'a [ModelDef],
+    ghost numbered: { NumbersDevices devices.now numbers.now.entries },
 }
 
 /// Reads the tags in order.
 pub(crate) fn read_tags(
     alloc: Global,
-    scope: Scope<'_>,
+    scope: Scope<'_, '_>,
     entries: &[Value],
 ) -> Result<Items<SiteTag>, SiteFault>
     ensures told { IfOk result
@@ -48,13 +52,13 @@ pub(crate) fn read_tags(
 }
 
 /// Reads a tag behind those before it.
-fn read_tag(scope: Scope<'_>, seen: &[SiteTag], entry: &Value) -> Result<SiteTag, SiteFault>
+fn read_tag(scope: Scope<'_, '_>, seen: &[SiteTag], entry: &Value) -> Result<SiteTag, SiteFault>
     ensures { MatchResult result
         (λ t. tag_of scope.entry.devices.now scope.entry.own.now scope.entry.defs.now (map tag_view seen.now) (view entry.now) ≡ Ok (tag_view t))
         (λ e. tag_of scope.entry.devices.now scope.entry.own.now scope.entry.defs.now (map tag_view seen.now) (view entry.now) ≡ Err e) }
 {
     let keys = keys_of(entry).ok_or(SiteFault::MissingKey)?;
-    let device = device_for(scope.devices, access_of(keys.access), keys.place.device)?;
+    let device = device_for(scope, access_of(keys.access), keys.place.device)?;
     let tag = tag_placed(scope, keys, device)?;
     if is_on_heading(&tag) || is_taken(seen, &tag) {
         return Err(SiteFault::Duplicate);
@@ -64,11 +68,11 @@ fn read_tag(scope: Scope<'_>, seen: &[SiteTag], entry: &Value) -> Result<SiteTag
 
 /// The number of the tag's device, which is asked for where its point is a device's.
 fn device_for(
-    devices: &[SiteDevice],
+    scope: Scope<'_, '_>,
     access: Option<Access>,
     name: Option<&str>,
 ) -> Result<Option<usize>, SiteFault>
-    ensures { result ≡ device_for devices.now access (option_map (λ s. s.now) name.entry) }
+    ensures { result ≡ device_for scope.entry.devices.now access (option_map (λ s. s.now) name.entry) }
 {
     let Some(access) = access else {
         return Ok(None);
@@ -79,21 +83,21 @@ fn device_for(
     let Some(name) = name else {
         return Err(SiteFault::MissingKey);
     };
-    match device_number(devices, name) {
+    match device_number(scope, name) {
         Some(number) => Ok(Some(number)),
         None => Err(SiteFault::UnknownDevice),
     }
 }
 
-fn device_number(devices: &[SiteDevice], name: &str) -> Option<usize>
-    ensures { result ≡ device_number devices.now name.now }
+fn device_number(scope: Scope<'_, '_>, name: &str) -> Option<usize>
+    ensures { result ≡ device_number scope.entry.devices.now name.now }
 {
-    devices.iter().position(|d| d.name.as_str() == name)
+    scope.numbers.get(name).copied()
 }
 
 /// The tag over its point, as far as it doesn't hang on the tags before it.
 fn tag_placed(
-    scope: Scope<'_>,
+    scope: Scope<'_, '_>,
     keys: TagKeys<'_>,
     device: Option<usize>,
 ) -> Result<SiteTag, SiteFault>
@@ -114,7 +118,7 @@ fn tag_placed(
 }
 
 /// The tag's model: one of the gateway's own, or any that is defined.
-fn model_for<'a>(scope: Scope<'a>, access: Option<Access>, id: i64) -> Option<&'a ModelDef>
+fn model_for<'a>(scope: Scope<'a, '_>, access: Option<Access>, id: i64) -> Option<&'a ModelDef>
     ensures { option_map (λ m. m.now) result ≡ model_for scope.entry.own.now scope.entry.defs.now access id }
 {
     match access {

@@ -8,6 +8,7 @@ mod faults;
 mod files;
 mod order;
 mod raws;
+mod read;
 
 use files::{LINES, SITE};
 

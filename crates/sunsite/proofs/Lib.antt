@@ -1,7 +1,13 @@
+pub mod AcceptedLemmas
+pub mod CoreLemmas
+mod FoundLemmas
 pub mod GivenLemmas
 pub mod LineLemmas
+pub mod MeaningLemmas
 pub mod NumberLemmas
 pub mod OutcomeLemmas
 pub mod ReportLemmas
+pub mod ScanLemmas
 pub mod SourceLemmas
 mod Texts
+pub mod WholeLemmas

@@ -2,15 +2,16 @@
 use Rattle.std.proofs.Common.{◌≡◌, ℕ, ℤ, List, [], ◌++◌, ap, sym, subst, ◌∙◌, map, refl, Option, Result, Ok, Err, IfOk}
 use Rattle.point_types.specs.declared.reading.Reading.{Reading}
 use Rattle.point_types.specs.Value.{Fault}
-use Rattle.scan_code.specs.declared.image.Image.{Image}
+use Rattle.scan_code.specs.Image.{Image}
 use Rattle.scan_code.specs.declared.image.Tag.{Tag}
 use Rattle.point_types.specs.declared.variable.Var.{Var}
 use Rattle.scan_code.specs.Machine.{State, Ending, Ended, Trapped, At_fault, opening, run}
+use Rattle.scan_code.specs.Table.{start_of}
 use Rattle.scan_vm.specs.declared.trap.TrapKind.{TrapKind}
 use Rattle.scan_vm.specs.declared.trap.TrapKind.TheVariants as kind
 use Rattle.scan_vm.specs.Outcome.{kind_of}
 use Rattle.scan_vm.specs.Trap.{trap_of, word_of}
-use Rattle.scan_vm.specs.Trial.{Ends, Standing, Traps, start_of, started, unset}
+use Rattle.scan_vm.specs.Trial.{Ends, Standing, Traps, started, unset}
 use Rattle.il_assemble.specs.Meaning.{Program, Outcome, Done, Fails, meaning}
 use Rattle.il_assemble.specs.Correct.{AreReadings, AreVariables, EndsAs, IsOver}
 use Rattle.il_reader.specs.declared.tree.Program.{Program as Tree}

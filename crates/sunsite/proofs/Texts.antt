@@ -4,7 +4,7 @@ use Rattle.std.proofs.lemmas.List.{drop_more}
 use Rattle.model_defs.specs.declared.fault.DefFault.{DefFault}
 use Rattle.model_defs.specs.declared.model.ModelDef.{ModelDef}
 use Rattle.model_defs.specs.Definition.{Breaks}
-use Rattle.sunsite.specs.Check.{AreRead, IsFirstBroken, IsRead}
+use Rattle.sunsite.specs.Defined.{AreRead, IsFirstBroken, IsRead}
 
 pub read_more : (texts : List (String Global)) (i : ℕ) (t : String Global) (before models : List ModelDef) (model : ModelDef)
     → i < length texts → t ≡ get_or texts i t → IsRead (string_bytes t) model → AreRead (map string_bytes (drop (i + 1) texts)) (before ++ model ∷ []) models

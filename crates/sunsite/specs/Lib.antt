@@ -1,7 +1,13 @@
+pub mod Accepted
 pub mod Check
+pub mod Defined
 pub mod Given
 pub mod Input
+pub mod Meant
 pub mod Outcome
+pub mod Probe
 pub mod Report
+pub mod Scans
+pub mod Simulate
 pub mod Told
 pub mod Worked

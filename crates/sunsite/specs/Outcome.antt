@@ -2,11 +2,12 @@
 -- IEC 61131-3 (edition 2), 3.2 for what the scan means.
 use Rattle.std.specs.Prelude.{◌≡◌, ◌⊎◌, ℕ, ℤ, List, [], ◌++◌, map, Option, Result, Ok, Err}
 use Rattle.point_types.specs.declared.reading.Reading.{Reading}
-use Rattle.scan_code.specs.declared.image.Image.{Image}
+use Rattle.scan_code.specs.Image.{Image}
 use Rattle.scan_code.specs.Machine.{State, Ended, Trapped, At_fault, opening, run}
+use Rattle.scan_code.specs.Table.{start_of}
 use Rattle.scan_vm.specs.Outcome.{kind_of}
 use Rattle.scan_vm.specs.Trap.{word_of}
-use Rattle.scan_vm.specs.Trial.{start_of, unset}
+use Rattle.scan_vm.specs.Trial.{unset}
 use Rattle.il_reader.specs.declared.tree.Program.{Program as Tree}
 use Rattle.il_assemble.specs.declared.fault.AsmFault.{AsmFault}
 use Rattle.il_assemble.specs.Meaning.{Program, Outcome, Done, Fails, meaning}

@@ -1,10 +1,11 @@
 -- The lines that the program prints.
-use Rattle.std.specs.Prelude.{ℕ, ℤ, pos, List, [], ◌∷◌, ◌++◌, Option, Some, None, if◌then◌else◌, codes}
+use Rattle.std.specs.Prelude.{ℕ, ◌+◌, ℤ, pos, List, [], ◌∷◌, ◌++◌, Option, Some, None, if◌then◌else◌, codes}
 use Rattle.std.specs.Fmt.{decimal, signed_decimal}
 use Rattle.point_types.specs.declared.il_type.IlType.{IlType}
 use Rattle.point_types.specs.declared.variable.Var.{Var}
 use Rattle.point_types.specs.Value.{is_bool, int_eq}
 use Rattle.scan_code.specs.declared.image.Tag.{Tag}
+use Rattle.gateway.specs.declared.cycle.Report.{Report}
 
 -- a value: TRUE or FALSE for a BOOL, else a decimal
 abbrev pub shown : IlType → ℤ → List ℕ
@@ -68,9 +69,43 @@ bad_definition_line kind = line_of (codes "refused: definition " ++ kind)
 abbrev pub bad_site_line : List ℕ → List ℕ
 bad_site_line kind = line_of (codes "refused: site " ++ kind)
 
-abbrev pub assembled_line : List ℕ
-assembled_line = line_of (codes "assembled")
+-- accepted, and the most steps of a scan
+abbrev pub accepted_lines : ℕ → List ℕ
+accepted_lines budget = line_of (codes "accepted") ++ line_of (codes "budget " ++ decimal budget)
+
+-- refused: verify KIND at N
+abbrev pub unverified_line : List ℕ → ℕ → List ℕ
+unverified_line kind at = line_of (codes "refused: verify " ++ kind ++ codes " at " ++ decimal at)
+
+-- refused: plant KIND
+abbrev pub bad_plant_line : List ℕ → List ℕ
+bad_plant_line kind = line_of (codes "refused: plant " ++ kind)
+
+-- refused: core KIND
+abbrev pub bad_core_line : List ℕ → List ℕ
+bad_core_line kind = line_of (codes "refused: core " ++ kind)
+
+-- refused: map KIND
+abbrev pub bad_map_line : List ℕ → List ℕ
+bad_map_line kind = line_of (codes "refused: map " ++ kind)
+
+-- listening PORT
+abbrev pub listening_line : ℕ → List ℕ
+listening_line port = line_of (codes "listening " ++ decimal port)
+
+-- link: KIND
+abbrev pub link_line : List ℕ → List ℕ
+link_line kind = line_of (codes "link: " ++ kind)
 
 -- refused: file PATH
 abbrev pub unusable_line : List ℕ → List ℕ
 unusable_line path = line_of (codes "refused: file " ++ path)
+
+-- scan K steps S writes W refused R lost T
+abbrev pub scan_line : ℕ → Report → List ℕ
+scan_line k r = line_of (codes "scan " ++ decimal k ++ codes " steps " ++ decimal r.steps ++ codes " writes " ++ decimal r.writes ++ codes " refused " ++ decimal r.refused ++ codes " lost " ++ decimal r.lost)
+
+-- the lines of scans from the k-th on
+abbrev pub scan_lines : ℕ → List Report → List ℕ
+scan_lines k [] = []
+scan_lines k (r ∷ rs) = scan_line k r ++ scan_lines (k + 1) rs

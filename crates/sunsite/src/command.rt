@@ -1,10 +1,19 @@
 //! The command line.
 use crate::check::check;
-use crate::outcome::write_lines;
+use crate::outcome::{tell_unlinked, write_lines};
+use crate::plant_run::{PlantRun, run_plant};
+use crate::probe::probe;
 use crate::report::unusable;
+use crate::simulate::simulate;
+use crate::socket::{SocketLink, loopback};
 use crate::source::{SourceFault, read_file};
+use clap::builder::ValueParser;
 use clap::{Arg, ArgAction, ArgMatches, Command};
+use modbus_frame::LinkFault;
 use std::alloc::{AllocError, AllocFailed, Global};
+use std::io::Write;
+use std::net::{Net, TcpStream};
+use std::process::Processes;
 use std::rt::{Env, Files};
 use std::{env, io};
 
@@ -13,32 +22,110 @@ const BAD_COMMAND_LINE: u8 = 2;
 
 /// What the words of the command line ask for.
 fn command<'a>(alloc: Global) -> Result<Command<'a>, AllocError> {
+    Command::new(alloc, "sunsite")
+        .about(
+            "A SunSpec Modbus gateway; without words, a trial scan of the program on standard input",
+        )
+        .subcommand_required(true)
+        .subcommand(check_command(alloc)?)?
+        .subcommand(simulate_command(alloc)?)?
+        .subcommand(run_command(alloc)?)?
+        .subcommand(probe_command(alloc)?)
+}
+
+fn check_command<'a>(alloc: Global) -> Result<Command<'a>, AllocError> {
     let site = Arg::new(alloc, "SITE")
         .required(true)
         .help("the site file (TOML)");
     let program = Arg::new(alloc, "PROGRAM")
         .required(true)
         .help("the program (Instruction List)");
-    let def = Arg::new(alloc, "def")
-        .long("def")
-        .value_name("FILE")
-        .action(ArgAction::Append)
-        .help("a model definition (JSON); the last one of an ID counts");
-    let check = Command::new(alloc, "check")
+    Command::new(alloc, "check")
         .about("Judges a program for a site")
         .arg(site)?
         .arg(program)?
-        .arg(def)?;
-    Command::new(alloc, "sunsite")
+        .arg(definition_files(alloc))
+}
+
+fn simulate_command<'a>(alloc: Global) -> Result<Command<'a>, AllocError> {
+    let plant = Arg::new(alloc, "PLANT")
+        .required(true)
+        .help("the plant file (TOML)");
+    Command::new(alloc, "simulate")
+        .about("Serves a plant of simulated inverters on a loopback port, for one connection")
+        .arg(plant)?
+        .arg(definition_files(alloc))
+}
+
+fn run_command<'a>(alloc: Global) -> Result<Command<'a>, AllocError> {
+    let site = Arg::new(alloc, "SITE")
+        .required(true)
+        .help("the site file (TOML)");
+    let program = Arg::new(alloc, "PROGRAM")
+        .required(true)
+        .help("the program (Instruction List)");
+    Command::new(alloc, "run")
         .about(
-            "A SunSpec Modbus gateway; without words, a trial scan of the program on standard input",
+            "Runs a program on a site whose devices are a simulated plant, and probes the gateway",
         )
-        .subcommand_required(true)
-        .subcommand(check)
+        .arg(site)?
+        .arg(program)?
+        .arg(plant_option(alloc))?
+        .arg(scans_option(alloc))?
+        .arg(exe_option(alloc))?
+        .arg(definition_files(alloc))
+}
+
+fn plant_option<'a>(alloc: Global) -> Arg<'a> {
+    Arg::new(alloc, "plant")
+        .long("plant")
+        .value_name("PLANT")
+        .required(true)
+        .help("the plant file (TOML)")
+}
+
+fn scans_option<'a>(alloc: Global) -> Arg<'a> {
+    Arg::new(alloc, "scans")
+        .long("scans")
+        .value_name("N")
+        .required(true)
+        .value_parser(ValueParser::unsigned(1, 1000))
+        .help("how many scans")
+}
+
+fn exe_option<'a>(alloc: Global) -> Arg<'a> {
+    Arg::new(alloc, "exe").long("exe").value_name("PATH").help(
+        "the program that is started for the plant and the probe, instead of this one",
+    )
+}
+
+fn probe_command<'a>(alloc: Global) -> Result<Command<'a>, AllocError> {
+    let port = Arg::new(alloc, "PORT")
+        .required(true)
+        .value_parser(ValueParser::unsigned(1, 65535))
+        .help("the loopback port of the device");
+    let unit = Arg::new(alloc, "unit")
+        .long("unit")
+        .value_name("U")
+        .value_parser(ValueParser::unsigned(0, 255))
+        .default_value("1")
+        .help("the unit that is asked");
+    Command::new(alloc, "probe")
+        .about("Prints the points of a device on a loopback port")
+        .arg(port)?
+        .arg(unit)
+}
+
+fn definition_files<'a>(alloc: Global) -> Arg<'a> {
+    Arg::new(alloc, "def")
+        .long("def")
+        .value_name("FILE")
+        .action(ArgAction::Append)
+        .help("a model definition (JSON); the last one of an ID counts")
 }
 
 /// Runs what the words of the command line ask for, and gives the status.
-pub fn run(rt: &(impl Input + Print + Eprint + AllocGlobal + Env + Files)) -> u8 {
+pub fn run(rt: &(impl Input + Print + Eprint + AllocGlobal + Env + Files + Net + Processes)) -> u8 {
     let alloc = rt.alloc();
     match words(rt) {
         Ok(words) => obeyed(rt, alloc, words.as_slice()),
@@ -53,7 +140,7 @@ fn words(rt: &(impl AllocGlobal + Env)) -> io::Result<Vec<String>> {
 
 /// Obeys the words; a command line that isn't one is told by `clap`.
 fn obeyed(
-    rt: &(impl Input + Print + Eprint + AllocGlobal + Files),
+    rt: &(impl Input + Print + Eprint + AllocGlobal + Files + Net + Processes),
     alloc: Global,
     words: &[String],
 ) -> u8 {
@@ -61,9 +148,12 @@ fn obeyed(
         return write_lines(&mut io::writer(rt), b"refused: memory\n", 1);
     };
     match command.try_get_matches_from(words) {
-        Ok(matches) => match matches.subcommand_matches("check") {
-            Some(matches) => checked(rt, alloc, matches),
-            None => BAD_COMMAND_LINE,
+        Ok(matches) => match matches.subcommand() {
+            Some(("check", matches)) => checked(rt, alloc, matches),
+            Some(("simulate", matches)) => simulated(rt, alloc, matches),
+            Some(("run", matches)) => ran(rt, alloc, words, matches),
+            Some(("probe", matches)) => probed(rt, alloc, matches),
+            _ => BAD_COMMAND_LINE,
         },
         Err(fault) => {
             let _ = fault.print(rt);
@@ -87,11 +177,62 @@ fn checked(
             sources.defs.as_slice(),
             &mut out,
         ),
-        Err(Refusal::OutOfMemory) => write_lines(&mut out, b"refused: memory\n", 1),
-        Err(Refusal::File(path)) => match unusable(alloc, path) {
-            Ok(line) => write_lines(&mut out, line.as_bytes(), 1),
-            Err(_) => write_lines(&mut out, b"refused: memory\n", 1),
-        },
+        Err(refusal) => refusal.tell(alloc, &mut out),
+    }
+}
+
+/// Runs `simulate` on the files that are named.
+fn simulated(
+    rt: &(impl Input + Print + AllocGlobal + Files + Net),
+    alloc: Global,
+    matches: &ArgMatches<'_>,
+) -> u8 {
+    let mut out = io::writer(rt);
+    match read_plant(rt, alloc, matches) {
+        Ok((plant, defs)) => simulate(rt, alloc, plant.as_str(), defs.as_slice(), &mut out),
+        Err(refusal) => refusal.tell(alloc, &mut out),
+    }
+}
+
+/// Runs `run` on the files that are named; word 0 is this program.
+fn ran(
+    rt: &(impl Input + Print + AllocGlobal + Files + Net + Processes),
+    alloc: Global,
+    words: &[String],
+    matches: &ArgMatches<'_>,
+) -> u8 {
+    let mut out = io::writer(rt);
+    let itself = match words.first() {
+        Some(word) => word.as_str(),
+        None => "sunsite",
+    };
+    match read_sources(rt, alloc, matches) {
+        Ok(sources) => run_plant(
+            rt,
+            alloc,
+            &PlantRun {
+                site: sources.site.as_str(),
+                program: sources.program.as_str(),
+                defs: sources.defs.as_slice(),
+                plant: matches.get_str("plant").unwrap_or("-"),
+                def_paths: matches.get_strs("def").unwrap_or(&[]),
+                scans: matches.get_one("scans").unwrap_or(1),
+                exe: matches.get_str("exe").unwrap_or(itself),
+            },
+            &mut out,
+        ),
+        Err(refusal) => refusal.tell(alloc, &mut out),
+    }
+}
+
+/// Runs `probe` on the port that is named.
+fn probed(rt: &(impl Print + AllocGlobal + Net), alloc: Global, matches: &ArgMatches<'_>) -> u8 {
+    let mut out = io::writer(rt);
+    let port = matches.get_one("PORT").unwrap_or(0);
+    let unit = matches.get_one("unit").unwrap_or(1);
+    match TcpStream::connect(rt, loopback(port)) {
+        Ok(stream) => probe(alloc, SocketLink::new(stream), unit, &mut out),
+        Err(_) => tell_unlinked(alloc, LinkFault::Read, &mut out),
     }
 }
 
@@ -108,6 +249,19 @@ struct Sources {
 enum Refusal<'a> {
     File(&'a str),
     OutOfMemory,
+}
+
+impl Refusal<'_> {
+    /// Writes its line, and gives the status.
+    fn tell<W: Write>(self, alloc: Global, out: &mut W) -> u8 {
+        match self {
+            Refusal::OutOfMemory => write_lines(out, b"refused: memory\n", 1),
+            Refusal::File(path) => match unusable(alloc, path) {
+                Ok(line) => write_lines(out, line.as_bytes(), 1),
+                Err(_) => write_lines(out, b"refused: memory\n", 1),
+            },
+        }
+    }
 }
 
 impl From<AllocError> for Refusal<'_> {
@@ -130,17 +284,38 @@ fn read_sources<'a>(
 ) -> Result<Sources, Refusal<'a>> {
     let site = text(rt, alloc, matches.get_str("SITE").unwrap_or("-"))?;
     let program = text(rt, alloc, matches.get_str("PROGRAM").unwrap_or("-"))?;
+    let defs = read_definitions(rt, alloc, matches)?;
+    Ok(Sources {
+        site,
+        program,
+        defs,
+    })
+}
+
+/// Reads the plant file, and then the definitions.
+fn read_plant<'a>(
+    rt: &(impl Input + AllocGlobal + Files),
+    alloc: Global,
+    matches: &ArgMatches<'a>,
+) -> Result<(String, Vec<String>), Refusal<'a>> {
+    let plant = text(rt, alloc, matches.get_str("PLANT").unwrap_or("-"))?;
+    let defs = read_definitions(rt, alloc, matches)?;
+    Ok((plant, defs))
+}
+
+/// The texts of the model definitions that are handed in, in order.
+fn read_definitions<'a>(
+    rt: &(impl Input + AllocGlobal + Files),
+    alloc: Global,
+    matches: &ArgMatches<'a>,
+) -> Result<Vec<String>, Refusal<'a>> {
     let mut defs = Vec::new(alloc);
     if let Some(paths) = matches.get_strs("def") {
         for path in paths {
             defs.push(text(rt, alloc, path)?)?;
         }
     }
-    Ok(Sources {
-        site,
-        program,
-        defs,
-    })
+    Ok(defs)
 }
 
 /// The text of a file.

@@ -2,7 +2,7 @@ ghost use Rattle.std.specs.Prelude.{◌≡◌, ◌≢◌, ◌++◌, ◌∷◌, [
 ghost use Rattle.model_defs.specs.declared.fault.DefFault.TheVariants as fault;
 ghost use Rattle.model_defs.specs.declared.model.ModelDef.{ModelDef};
 ghost use Rattle.model_defs.specs.Definition.{Breaks};
-ghost use Rattle.sunsite.specs.Check.{AreRead, IsFirstBroken, IsRead};
+ghost use Rattle.sunsite.specs.Defined.{AreRead, IsFirstBroken, IsRead};
 
 use model_defs::{DefFault, ModelDef, read, shipped};
 use std::alloc::Global;
@@ -34,7 +34,7 @@ fn shipped_definitions(alloc: Global) -> Result<Vec<ModelDef>, DefFault>
 }
 
 /// The shipped definition of a model; each one that is shipped can be read.
-fn shipped_definition(alloc: Global, id: u16) -> Result<Option<ModelDef>, DefFault>
+pub fn shipped_definition(alloc: Global, id: u16) -> Result<Option<ModelDef>, DefFault>
     ensures { IfErr result (λ e. e ≡ fault.OutOfMemory) }
 {
     let Some(text) = shipped(id) else {

@@ -1,7 +1,9 @@
 //! The program `sunsite`: a trial scan of the Instruction List program on standard input, and `check`, which judges a
-//! program for a site.
+//! program for a site, `simulate`, which serves a plant of simulated inverters, `run`, which runs a program on such a
+//! plant, and `probe`, which prints the points of a device.
 #![tactic(auto)]
 
+mod accepted;
 mod check;
 mod command;
 mod definitions;
@@ -9,8 +11,13 @@ mod given;
 mod input;
 mod number;
 mod outcome;
+mod plant_run;
+mod probe;
 mod report;
 mod scan;
+mod scans;
+mod simulate;
+mod socket;
 mod source;
 #[cfg(test)]
 mod tests;
@@ -18,7 +25,8 @@ mod trial;
 
 use outcome::write_lines;
 use source::{SourceFault, read_text};
-use std::process::ExitCode;
+use std::net::Net;
+use std::process::{ExitCode, Processes};
 use std::rt::{Env, Files};
 use std::{env, io};
 
@@ -27,7 +35,7 @@ fn main(rt: HostRuntime) -> ExitCode {
 }
 
 /// The status of the run: without words a trial scan of standard input, else what the words ask for.
-fn run(rt: &(impl Input + Print + Eprint + AllocGlobal + Env + Files)) -> u8 {
+fn run(rt: &(impl Input + Print + Eprint + AllocGlobal + Env + Files + Net + Processes)) -> u8 {
     if has_words(rt) {
         command::run(rt)
     } else {

@@ -1,10 +1,17 @@
 ghost use Rattle.std.specs.Prelude.{◌≡◌, string_bytes, IfOk};
-ghost use Rattle.sunsite.specs.Report.{assembled_line};
+ghost use Rattle.modbus_frame.specs.Fault.{link_fault_word};
+ghost use Rattle.sunsite.specs.Report.{accepted_lines, link_line, no_memory_line};
+ghost use Rattle.sunsite.specs.Scans.{IsUnlinked};
 ghost use Rattle.sunsite.specs.Told.{IsTold, refused_with};
 
+use crate::report::{accepted, link_failed};
+use modbus_frame::LinkFault;
 use std::alloc::{AllocError, Global};
 use std::io::Write;
 use std::marker::Model;
+
+/// The status of a link that failed.
+const FAILED_LINK: u8 = 3;
 
 /// Lines to print, and the status that goes with them.
 #[derive(Drop, Debug)]
@@ -32,13 +39,26 @@ impl Outcome {
         }
     }
 
-    /// The line `assembled`, with status 0.
-    pub fn assembled(alloc: Global) -> Result<Outcome, AllocError>
-        ensures { IfOk result (λ o. o ≡ record { lines = assembled_line; status = 0 }) }
+    /// The lines `accepted` and `budget N`, with status 0.
+    pub fn accepted(alloc: Global, budget: u32) -> Result<Outcome, AllocError>
+        ensures { IfOk result (λ o. o ≡ record { lines = accepted_lines budget; status = 0 }) }
     {
-        let mut lines = Vec::new(alloc);
-        lines.extend_from_slice(b"assembled\n")?;
-        Ok(Outcome { lines, status: 0 })
+        let lines = accepted(alloc, budget)?;
+        Ok(Outcome {
+            lines: lines.into_bytes(),
+            status: 0,
+        })
+    }
+
+    /// The line `link: KIND`, with status 3.
+    pub fn unlinked(alloc: Global, fault: LinkFault) -> Result<Outcome, AllocError>
+        ensures { IfOk result (λ o. o ≡ record { lines = link_line (link_fault_word fault); status = FAILED_LINK }) }
+    {
+        let line = link_failed(alloc, fault.word())?;
+        Ok(Outcome {
+            lines: line.into_bytes(),
+            status: FAILED_LINK,
+        })
     }
 
     /// Writes the lines and gives the status; a failed write gives status 1.
@@ -56,5 +76,22 @@ pub fn write_lines<W: Write>(out: &mut W, lines: &[u8], status: u8) -> u8
     match out.write_all(lines) {
         Ok(()) => status,
         Err(_) => 1,
+    }
+}
+
+/// Writes that memory was refused, and gives the status.
+pub fn tell_no_memory<W: Write>(out: &mut W) -> u8
+    ensures { IsTold (W.contents out.old) (W.contents out.new) (refused_with no_memory_line) result }
+{
+    write_lines(out, b"refused: memory\n", 1)
+}
+
+/// Writes that a link failed, and gives the status.
+pub fn tell_unlinked<W: Write>(alloc: Global, fault: LinkFault, out: &mut W) -> u8
+    ensures { IsUnlinked fault (W.contents out.old) (W.contents out.new) result }
+{
+    match Outcome::unlinked(alloc, fault) {
+        Ok(outcome) => outcome.tell(out),
+        Err(AllocError) => tell_no_memory(out),
     }
 }

@@ -1,4 +1,4 @@
-ghost use Rattle.std.specs.Prelude.{◌≡◌, ◌++◌, ◌<◌, length, IfOk, OnOk};
+ghost use Rattle.std.specs.Prelude.{◌≡◌, ◌++◌, IfOk, OnOk};
 ghost use Rattle.sunsite.specs.Outcome.{TellsImage};
 ghost use Rattle.sunsite.specs.Report as report;
 
@@ -15,7 +15,6 @@ pub fn scan_outcome(
     image: Image,
     readings: &[Reading],
 ) -> Result<Outcome, AllocError>
-    requires { length image.code < 65536 }
     ensures { IfOk result (TellsImage image readings.now) }
 {
     let mut trial = Trial::new(alloc, image)?;

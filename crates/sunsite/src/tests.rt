@@ -1,2 +1,6 @@
 mod check;
+mod plants;
+mod probe;
+mod scans;
+mod simulate;
 mod trial;

@@ -1,4 +1,4 @@
-ghost use Rattle.std.specs.Prelude.{IfOk, ◌<◌, length};
+ghost use Rattle.std.specs.Prelude.{IfOk};
 ghost use Rattle.sunsite.specs.Input as input;
 ghost use Rattle.sunsite.specs.Outcome.{IsTrial, TellsGivenImage, TellsInput, TellsTree};
 
@@ -54,7 +54,6 @@ fn outcome_of_program(
 
 /// What is told of an image, with the input lines.
 fn outcome_of_image(alloc: Global, image: Image, inputs: &[u8]) -> Result<Outcome, AllocError>
-    requires { length image.code < 65536 }
     ensures { IfOk result (TellsGivenImage image (input.lines_of inputs.now)) }
 {
     match readings_given(alloc, image.tags.as_slice(), inputs)? {

@@ -4,7 +4,7 @@ use Rattle.point_types.specs.declared.reading.Reading.{Reading}
 use Rattle.point_types.specs.declared.il_type.IlType.{IlType}
 use Rattle.point_types.specs.Value.{Value, Fault, WrongType, truth, applied, inverted, is_bool, int_eq, ◌>>=◌}
 use Rattle.scan_code.specs.Table.{input_kind, output_kind, storable, output_value, read_value, declared_value, or_wrong, acts, absolute_of, converted, selected}
-use Rattle.scan_code.specs.declared.image.Image.{Image}
+use Rattle.scan_code.specs.Image.{Image}
 use Rattle.scan_code.specs.declared.op.Op.{Op}
 use Rattle.scan_code.specs.declared.op.Op.TheVariants as does
 use Rattle.scan_code.specs.Machine.{State, Step, Goes, Ends, Traps, then_goes, on_place, on_deferred, on_two_deferred, counted, done, most_deferred, put_variable, put_output, if_true}

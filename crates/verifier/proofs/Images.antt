@@ -2,7 +2,7 @@
 use Rattle.std.proofs.Common.{◌≡◌, ℕ, zero, suc, ◌+◌, ◌<◌, List, [], ◌∷◌, length, map, drop, Result, Ok, Err, Option, Some, None, option_map, option_and_then, slice_get, Bool, true, false, not, ◌&&◌, IsTrue, ℤ, ◌≤ℤ◌, int_le, nat_eq, nat_le, nat_lt, refl, sym, ap, subst, ◌∙◌, arith, if◌then◌else◌}
 use Rattle.point_types.specs.declared.il_type.IlType.{IlType}
 use Rattle.point_types.specs.Value.{low_of, high_of, is_within, is_ranged, code_of, ◌>>=◌}
-use Rattle.scan_code.specs.declared.image.Image.{Image}
+use Rattle.scan_code.specs.Image.{Image}
 use Rattle.scan_code.specs.declared.image.Tag.{Tag}
 use Rattle.scan_code.specs.declared.op.Op.{Op}
 use Rattle.scan_code.specs.declared.op.Op.TheVariants as does
@@ -184,7 +184,7 @@ listed_is image zero at n jumps ended es e = go (ended && nat_le (length image.c
 listed_is image (suc most) at n jumps ended es e = listed_past image most at n jumps ended es (nat_le (length image.code) at) e (λ next i rest. listed_is image most next (n + 1) (jumps_after jumps i) (is_end i) rest)
 
 -- the links of an image's tags
-abbrev IsLinked : Tag → Link → Type 0
+abbrev pub IsLinked : Tag → Link → Type 0
 IsLinked tag link = (tag.output ≡ is_stored link.site.access) × (tag.kind ≡ link.site.kind)
 
 same_bool_is : (a b : Bool) → same_bool a b ≡ true → a ≡ b
@@ -215,13 +215,13 @@ refused_is : {A : Type 0} (n : ℕ) (r : Result A RefusalKind) (a : A) → refus
 refused_is n (Ok b) a e = ap Ok (ok_is b a e)
 refused_is n (Err x) a e = absurd (cc)
 
-abbrev AreLinked : List Tag → List Link → Type 0
+abbrev pub AreLinked : List Tag → List Link → Type 0
 AreLinked [] [] = Unit {0}
 AreLinked [] (l ∷ ls) = ⊥
 AreLinked (t ∷ ts) [] = ⊥
 AreLinked (t ∷ ts) (l ∷ ls) = IsLinked t l × AreLinked ts ls
 
-links_are : (site : List SiteTag) (n : ℕ) (tags : List Tag) (links : List Link) → links_from site n tags ≡ Ok links → AreLinked tags links
+pub links_are : (site : List SiteTag) (n : ℕ) (tags : List Tag) (links : List Link) → links_from site n tags ≡ Ok links → AreLinked tags links
 links_are site n [] [] e = tt
 links_are site n [] (l ∷ ls) e = absurd (cc)
 links_are site n (t ∷ ts) links e = by_both (refused_at n (link_of site t)) (λ link. links_from site (n + 1) ts >>= λ others. Ok (link ∷ others)) links e

@@ -1,5 +1,7 @@
 pub mod Comparing
 pub mod Spans
+pub mod Spread
+pub mod Overlaying
 pub mod Lists
 pub mod Covering
 pub mod Made
@@ -22,3 +24,9 @@ pub mod BareValues
 pub mod BareSteps
 pub mod BareRun
 pub mod BareWords
+pub mod HeadsAre
+pub mod Lengths
+pub mod Passing
+pub mod Promised
+pub mod SameFacts
+pub mod FewListed

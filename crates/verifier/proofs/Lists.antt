@@ -46,3 +46,7 @@ pub get_within : {A : Type 0} (xs : List A) (i : ℕ) (x : A) → slice_get xs i
 get_within [] i x e = grind arith
 get_within (y ∷ ys) zero x e = omega arith
 get_within (y ∷ ys) (suc i) x e = let h = get_within ys i x e in omega arith
+
+pub map_one : {A B : Type 0} (xs : List A) (x : B) → map (λ _. x) xs ≡ replicate (length xs) x
+map_one [] x = refl
+map_one (y ∷ ys) x = ap (λ rest. x ∷ rest) (map_one ys x)

@@ -12,7 +12,7 @@ use Rattle.verifier.specs.Span.{Between}
 use Rattle.verifier.specs.Flow.{Frame, TagRange}
 use Rattle.verifier.specs.Fit.{IsIn}
 use Rattle.verifier.specs.Sound.{AreInRanges, OutputInRange}
-use Rattle.scan_code.specs.declared.image.Image.{Image}
+use Rattle.scan_code.specs.Image.{Image}
 use Rattle.scan_code.specs.declared.image.Tag.{Tag}
 
 -- from an address on every instruction decodes, and the last one is END

@@ -6,7 +6,7 @@ use Rattle.std.proofs.lemmas.Option.{slice_get-map}
 use Rattle.point_types.specs.declared.operator.Condition.{Condition}
 use Rattle.point_types.specs.declared.operator.Condition.TheVariants as when
 use Rattle.point_types.specs.declared.reading.Reading.{Reading}
-use Rattle.scan_code.specs.declared.image.Image.{Image}
+use Rattle.scan_code.specs.Image.{Image}
 use Rattle.scan_code.specs.declared.op.Op.{Op}
 use Rattle.scan_code.specs.declared.op.Op.TheVariants as does
 use Rattle.scan_code.specs.Machine.{State, Step, Goes, Ends, Traps, step, after_step, run}

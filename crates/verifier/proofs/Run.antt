@@ -6,7 +6,7 @@ use Rattle.scan_code.specs.declared.op.Op.TheVariants as does
 use Rattle.point_types.specs.declared.reading.Reading.{Reading}
 use Rattle.point_types.specs.declared.operator.Condition.{Condition}
 use Rattle.verifier.specs.Flow.{Frame, Way, flow}
-use Rattle.scan_code.specs.declared.image.Image.{Image}
+use Rattle.scan_code.specs.Image.{Image}
 use Rattle.scan_code.specs.Machine.{State, Step, Goes, Ends, Traps, Ending, Ended, Trapped, Unfinished, step, after_step, run}
 use Rattle.scan_code.specs.Table.{no_turns}
 use Rattle.verifier.specs.Fit.{Fits}

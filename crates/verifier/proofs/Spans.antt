@@ -1,5 +1,5 @@
 -- Operations on spans hold every result of members.
-use Rattle.std.proofs.Common.{◌≡◌, Bool, true, false, not, inl, inr, ℤ, pos, ◌*ℤ◌, ◌≤ℤ◌, int_le, int_div, int_rem, refl, sym, subst, arith, Option, Some, None}
+use Rattle.std.proofs.Common.{◌≡◌, Bool, true, false, not, inl, inr, ℤ, pos, ◌-ℤ◌, ◌*ℤ◌, ◌≤ℤ◌, int_le, int_div, int_rem, refl, sym, subst, arith, Option, Some, None}
 use Rattle.std.proofs.lemmas.Int.{ints}
 use Rattle.point_types.specs.Value.{number_of}
 use Rattle.scan_code.specs.Table.{magnitude}
@@ -15,7 +15,7 @@ use Rattle.intervals.proofs.Products.{product_holds}
 use Rattle.intervals.proofs.Quotients.{quotient_holds}
 use Rattle.intervals.proofs.Remainders.{remainder_holds}
 use Rattle.intervals.proofs.Sums.{joined_is_least}
-use Rattle.verifier.specs.Flow.{flipped}
+use Rattle.verifier.specs.Flow.{flipped, truths}
 use Rattle.verifier.specs.Span.{Span, Empty, Between, spanning, left_of, joined, intersected, lies_in, has_member, absolute_span, cut_by, mirrored}
 use Rattle.verifier.specs.Fit.{IsIn}
 use Rattle.verifier.proofs.Comparing.{both_true, le_true, true_le, and_left, and_right}
@@ -79,8 +79,8 @@ absolute_in (Between a b) n h = subst (λ (m : ℤ). IsIn (absolute_span (Betwee
 
 pub flipped_in : (s : Span) (b : Bool) → IsIn s (number_of b) → IsIn (flipped s) (number_of (not b))
 flipped_in Empty b h = absurd h
-flipped_in (Between l m) true h = (omega (arith, ints, h.0, h.1), omega (arith, ints, h.0, h.1))
-flipped_in (Between l m) false h = (omega (arith, ints, h.0, h.1), omega (arith, ints, h.0, h.1))
+flipped_in (Between l m) true h = in_intersected (Between (pos 1 -ℤ m) (pos 1 -ℤ l)) truths (pos 0) (omega (arith, ints, h.0, h.1), omega (arith, ints, h.0, h.1)) (omega (arith, ints), omega (arith, ints))
+flipped_in (Between l m) false h = in_intersected (Between (pos 1 -ℤ m) (pos 1 -ℤ l)) truths (pos 1) (omega (arith, ints, h.0, h.1), omega (arith, ints, h.0, h.1)) (omega (arith, ints), omega (arith, ints))
 
 pub stands_mirrored : (o : Relation) (x y : ℤ) → Stands o x y → Stands (mirrored o) y x
 stands_mirrored is.Lt x y h = h

@@ -17,7 +17,7 @@ use Rattle.verifier.specs.Fact.{Fact, Known, Consequences, OfVariable, OfInput, 
 use Rattle.verifier.specs.Flow.{on_result as flow_result, way_to, way_where, later, earlier, tested, number_at, inverted_known, absolute_known, converted_known, applied_known, selected_known, Frame, TagRange, bool_result, stored_fact, widened, Way, flow, need, check, goes_on, with_value, source_value, presence_value}
 use Rattle.verifier.specs.declared.refusal.RefusalKind.TheVariants.{Jump, NoResult, WrongType, StoreRange}
 use Rattle.verifier.specs.declared.refusal.RefusalKind.{RefusalKind}
-use Rattle.scan_code.specs.declared.image.Image.{Image}
+use Rattle.scan_code.specs.Image.{Image}
 use Rattle.scan_code.specs.declared.image.Tag.{Tag}
 use Rattle.scan_code.specs.Table.{input_kind, output_kind}
 use Rattle.scan_code.specs.Machine.{on_result as step_result, State, Step, Goes, Ends, Traps, done, then_goes, on_place, with_result, put_variable, put_output, if_true, counted}

@@ -1,7 +1,7 @@
 -- Readings of outputs are never read.
 use Rattle.std.proofs.Common.{◌≡◌, ℕ, zero, suc, ◌+◌, List, Option, Some, None, slice_get, Bool, true, false, refl, ap, ◌∙◌, if◌then◌else◌}
 use Rattle.point_types.specs.declared.reading.Reading.{Reading}
-use Rattle.scan_code.specs.declared.image.Image.{Image}
+use Rattle.scan_code.specs.Image.{Image}
 use Rattle.scan_code.specs.declared.image.Tag.{Tag}
 use Rattle.scan_code.specs.declared.op.Op.{Op}
 use Rattle.scan_code.specs.declared.op.Op.TheVariants as does

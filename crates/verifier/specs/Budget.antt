@@ -137,3 +137,16 @@ pub record HasLongest (listing : List (ℕ × Op)) (reached : List Bool) : Type 
 
 abbrev pub LongestIsAPath : Type 0
 LongestIsAPath = (listing : List (ℕ × Op)) (reached : List Bool) → 0 < longest_of listing reached → HasLongest listing reached
+
+-- at most so many instructions
+abbrev pub IsUpTo : ℕ → Length → Type 0
+IsUpTo most None = Unit {0}
+IsUpTo most (Some n) = n ≤ most
+
+abbrev pub AreUpTo : ℕ → List Length → Type 0
+AreUpTo most later = (n : ℕ) → IsUpTo most (length_at later n)
+
+-- how often an instruction jumps back at most
+abbrev pub turns_of : Op → ℕ
+turns_of (does.Repeat condition k n to) = n
+turns_of other = 0

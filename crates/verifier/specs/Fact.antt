@@ -1,41 +1,14 @@
 -- What is known before an instruction, and how facts meet.
 -- IEC 61131-3 edition 2, 2.4.3 (variables), 3.2.2 (the current result and deferred values).
 use Rattle.std.specs.Prelude.{ℕ, Bool, true, false, ◌&&◌, ◌||◌, not, List, [], ◌∷◌, length, map, replicate, if◌then◌else◌, Option, Some, None, slice_get, slice_set, nat_eq, option_and_then}
-use Rattle.point_types.specs.declared.il_type.IlType.{IlType}
-use Rattle.point_types.specs.Value.{code_of, int_eq}
+use Rattle.point_types.specs.Value.{code_of}
 use Rattle.verifier.specs.Span.{Span, Empty, Between, joined, intersected}
-
--- a variable or an input that a value equals
-pub data Origin : Type 0 where
-  OfVariable : (place : ℕ) → Origin
-  OfInput : (place : ℕ) → Origin
-
--- what follows from a truth: spans of variables and inputs, and inputs that are present
-pub record Consequences : Type 0 where
-  pub variables : List (Option Span)
-  pub inputs : List (Option Span)
-  pub present : List Bool
-
-pub record Known : Type 0 where
-  pub kind : IlType
-  pub span : Span
-  pub origin : Option Origin
-  pub where_true : Consequences
-  pub where_false : Consequences
-
--- a value that is nothing is None
-pub record Fact : Type 0 where
-  pub variables : List Span
-  pub inputs : List Span
-  pub present : List Bool
-  pub deferred : List (Option Known)  -- the last one first
-  pub result : Option Known
-
-abbrev pub same_span : Span → Span → Bool
-same_span Empty Empty = true
-same_span Empty (Between a b) = false
-same_span (Between a b) Empty = false
-same_span (Between a b) (Between c d) = int_eq a c && int_eq b d
+pub use Rattle.verifier.specs.Span.{same_span}
+pub use Rattle.verifier.specs.declared.known.Origin.{Origin}
+pub use Rattle.verifier.specs.declared.known.Origin.TheVariants.{OfVariable, OfInput}
+pub use Rattle.verifier.specs.declared.known.Consequences.{Consequences}
+pub use Rattle.verifier.specs.declared.known.Known.{Known}
+pub use Rattle.verifier.specs.declared.fact.Fact.{Fact}
 
 abbrev pub same_optional : Option Span → Option Span → Bool
 same_optional None None = true

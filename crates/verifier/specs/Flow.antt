@@ -11,7 +11,7 @@ use Rattle.scan_code.specs.declared.op.Op.{Op}
 use Rattle.scan_code.specs.declared.op.Op.TheVariants as does
 use Rattle.point_types.specs.Value.{low_of, high_of, is_bool, code_of, number_of, ◌>>=◌}
 use Rattle.point_types.specs.declared.variable.Var.{Var}
-use Rattle.verifier.specs.Span.{Span, Empty, Between, only, joined, lies_in, has_member, operated, absolute_span, cut_by, mirrored, opposite}
+use Rattle.verifier.specs.Span.{Span, Empty, Between, only, joined, intersected, lies_in, has_member, operated, absolute_span, cut_by, mirrored, opposite}
 use Rattle.intervals.specs.declared.Relation.{Relation}
 use Rattle.intervals.specs.declared.Relation.TheVariants as is
 use Rattle.verifier.specs.declared.refusal.RefusalKind.{RefusalKind}
@@ -76,9 +76,13 @@ source_value c k s o = record {
 abbrev pub presence_value : Frame → ℕ → Known
 presence_value c t = record (plain_value c il.Bool (Between (pos 0) (pos 1))) { where_true = record (none_of c) { present = slice_set (none_of c).present t true } }
 
+abbrev pub truths : Span
+truths = Between (pos 0) (pos 1)
+
+-- 1 - high..1 - low, of the span of a BOOL, which lies in 0..1
 abbrev pub flipped : Span → Span
 flipped Empty = Empty
-flipped (Between a b) = Between (pos 1 -ℤ b) (pos 1 -ℤ a)
+flipped (Between a b) = intersected (Between (pos 1 -ℤ b) (pos 1 -ℤ a)) truths
 
 abbrev pub inverted_known : Known → Known
 inverted_known v = record { kind = v.kind; span = flipped v.span; origin = None; where_true = v.where_false; where_false = v.where_true }

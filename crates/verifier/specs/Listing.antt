@@ -2,7 +2,7 @@
 -- IEC 61131-3 edition 2, 3.2 leaves the form of compiled code open; this is this project's bytecode.
 use Rattle.std.specs.Prelude.{ℕ, zero, suc, ◌+◌, Bool, true, false, ◌&&◌, List, [], ◌∷◌, length, if◌then◌else◌, Result, Ok, Err, Option, Some, None, slice_get, nat_eq, nat_le, nat_lt}
 use Rattle.point_types.specs.Value.{◌>>=◌}
-use Rattle.scan_code.specs.declared.image.Image.{Image}
+use Rattle.scan_code.specs.Image.{Image}
 use Rattle.scan_code.specs.declared.image.Tag.{Tag}
 use Rattle.scan_code.specs.declared.op.Op.{Op}
 use Rattle.scan_code.specs.declared.op.Op.TheVariants as does

@@ -5,7 +5,7 @@ use Rattle.point_types.specs.declared.reading.Cause.TheVariants as cause
 use Rattle.point_types.specs.declared.reading.Reading.{Reading}
 use Rattle.point_types.specs.declared.reading.Reading.TheVariants as reading
 use Rattle.point_types.specs.declared.variable.Var.{Var}
-use Rattle.scan_code.specs.declared.image.Image.{Image}
+use Rattle.scan_code.specs.Image.{Image}
 use Rattle.scan_code.specs.declared.op.Op.{Op}
 use Rattle.scan_code.specs.Machine.{State, Ending, Ended, Trapped, Unfinished, run, opening}
 use Rattle.site_model.specs.declared.tag.SiteTag.{SiteTag}

@@ -1,6 +1,7 @@
 -- What may be left of a span of numbers, and the span of what an operation makes of members.
 -- IEC 61131-3 edition 2, 2.5.1.5 (standard functions), 2.5.1.5.4 table 28 (comparison).
-use Rattle.std.specs.Prelude.{Bool, true, false, ◌&&◌, ℤ, pos, int_le, Option, Some, None}
+use Rattle.std.specs.Prelude.{◌≡◌, refl, Bool, true, false, ◌&&◌, ℤ, pos, int_le, Option, Some, None}
+use Rattle.point_types.specs.Value.{int_eq}
 use Rattle.point_types.specs.declared.operator.Operator.{Operator}
 use Rattle.point_types.specs.declared.operator.Operator.TheVariants as op
 use Rattle.intervals.specs.declared.Span.{Span as Interval}
@@ -8,6 +9,7 @@ use Rattle.intervals.specs.declared.Relation.{Relation}
 use Rattle.intervals.specs.declared.Relation.TheVariants as is
 use Rattle.intervals.specs.Ends.{between, sum_of, difference_of, product_of, quotient_of, remainder_of, lesser_of, greater_of, absolute_of, joined_of}
 use Rattle.intervals.specs.Cut.{cut_of}
+use Rattle.intervals.specs.Members.{IsOfLint}
 
 -- all empty spans are one
 pub data Span : Type 0 where
@@ -23,6 +25,26 @@ spanning s = Between s.low s.high
 abbrev pub left_of : Option Interval → Span
 left_of None = Empty
 left_of (Some s) = spanning s
+
+-- and back
+abbrev pub interval_of : Span → Option Interval
+interval_of Empty = None
+interval_of (Between a b) = Some (between a b)
+
+pub back_again : (s : Option Interval) → interval_of (left_of s) ≡ s
+back_again None = refl
+back_again (Some s) = refl
+
+-- where there is one, its ends are numbers of LINT, the low one not over the high one
+abbrev pub IsOfLintIfAny : Option Interval → Type 0
+IsOfLintIfAny None = Unit {0}
+IsOfLintIfAny (Some s) = IsOfLint s
+
+abbrev pub same_span : Span → Span → Bool
+same_span Empty Empty = true
+same_span Empty (Between a b) = false
+same_span (Between a b) Empty = false
+same_span (Between a b) (Between c d) = int_eq a c && int_eq b d
 
 -- the least span over both
 abbrev pub joined : Span → Span → Span

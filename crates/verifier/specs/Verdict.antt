@@ -2,19 +2,16 @@
 -- IEC 61131-3 edition 2, 3.2.2 table 52 (instruction list operators), 2.4.3 (external variables).
 use Rattle.std.specs.Prelude.{ℕ, ◌+◌, List, [], ◌∷◌, length, map, if◌then◌else◌, Result, Ok, Err, Option, Some, None, slice_get, nat_le}
 use Rattle.point_types.specs.Value.{◌>>=◌}
-use Rattle.scan_code.specs.declared.image.Image.{Image}
+use Rattle.scan_code.specs.Image.{Image}
 use Rattle.site_model.specs.declared.tag.SiteTag.{SiteTag}
 use Rattle.verifier.specs.declared.refusal.RefusalKind.TheVariants.{OverBudget}
-use Rattle.verifier.specs.Flow.{Frame, TagRange}
+use Rattle.verifier.specs.Flow.{Frame}
 use Rattle.verifier.specs.declared.refusal.Refusal.{Refusal}
-use Rattle.verifier.specs.declared.link.Link.{Link}
-use Rattle.verifier.specs.Links.{is_stored, links_from}
-use Rattle.verifier.specs.Listing.{is_there, listing_of}
+use Rattle.verifier.specs.Links.{links_from}
+use Rattle.verifier.specs.Listing.{listing_of}
+pub use Rattle.verifier.specs.Ranges.{range_of}
 use Rattle.verifier.specs.Slots.{Slot, flow_of, slots}
 use Rattle.verifier.specs.Budget.{budget}
-
-abbrev pub range_of : Link → TagRange
-range_of link = record { output = is_stored link.site.access; kind = link.site.kind; low = link.site.low; high = link.site.high; has_default = is_there link.site.default }
 
 -- first the tags are looked at, then the code
 abbrev pub frame_of : Image → List SiteTag → ℕ → Result Frame Refusal

@@ -5,7 +5,7 @@ use Rattle.point_types.specs.declared.il_type.IlType.TheVariants as il
 use Rattle.point_types.specs.declared.operator.Operator.TheVariants as op
 use Rattle.point_types.specs.declared.operator.Condition.TheVariants as when
 use Rattle.point_types.specs.declared.variable.Var.{Var}
-use Rattle.scan_code.specs.declared.image.Image.{Image}
+use Rattle.scan_code.specs.Image.{Image}
 use Rattle.scan_code.specs.declared.op.Op.{Op}
 use Rattle.scan_code.specs.declared.op.Op.TheVariants as does
 use Rattle.verifier.specs.declared.refusal.RefusalKind.{RefusalKind}

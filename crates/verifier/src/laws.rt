@@ -1,5 +1,6 @@
 ghost use Rattle.verifier.specs.Bare.{BareAgrees, BareRunsOut, BareStaysInWords, NeverWraps, WrappedKeepsWords};
 ghost use Rattle.verifier.specs.Budget.{LongestIsAPath, NoPathIsLonger};
+ghost use Rattle.verifier.specs.Promise.{AcceptedKeepPromises};
 ghost use Rattle.verifier.specs.Sound.{EveryScanEnds, RunsOut, RunsWell, YesIsAccepted};
 ghost use Rattle.verifier.specs.Worked.{WorkedVerdicts};
 
@@ -57,4 +58,10 @@ pub fn never_wraps()
 pub fn longest_is_of_a_path()
     ensures no_longer { NoPathIsLonger }
     ensures as_long { LongestIsAPath }
+{}
+
+/// What is accepted keeps its promise: every number of scans end without a trap and within the budget,
+/// with variables, outputs and deferred values in their ranges.
+pub fn accepted_keep_promises()
+    ensures { AcceptedKeepPromises }
 {}

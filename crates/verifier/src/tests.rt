@@ -1,10 +1,15 @@
+mod facts;
+mod images;
+mod values;
+mod verdicts;
+
 use crate::link::links;
 use crate::listing::listing;
 use crate::refusal::{Refusal, RefusalKind};
 use point_types::{Condition, IlType, Items, Kind, Name, Var};
 use scan_code::{Image, Op, Tag};
 use site_model::{Access, Sf, SiteTag};
-use std::alloc::{AllocError, Global};
+use std::alloc::Global;
 use std::process::Abort;
 use std::test::Fail;
 
@@ -91,13 +96,10 @@ fn finds_the_tags_of_a_site(rt: HostRuntime) -> Result<(), Fail> {
     Ok(())
 }
 
-fn image(alloc: Global, version: u8, vars: &[Var], code: &[u8]) -> Result<Image, AllocError> {
-    Ok(Image {
-        version,
-        vars: Items::from_vec(Vec::from_slice(alloc, vars)?),
-        tags: Items::new(alloc),
-        code: Items::from_vec(Vec::from_slice(alloc, code)?),
-    })
+fn image(alloc: Global, version: u8, vars: &[Var], code: &[u8]) -> Result<Image, Fail> {
+    let vars = Items::from_vec(Vec::from_slice(alloc, vars)?);
+    let code = Items::from_vec(Vec::from_slice(alloc, code)?);
+    Ok(Image::new(version, vars, Items::new(alloc), code).ok_or("an image")?)
 }
 
 #[test]

@@ -69,6 +69,18 @@ fn counted_jumps_want_version_2_and_unused_externals_are_left_out(
     Ok(())
 }
 
+#[test]
+fn images_have_their_sizes(rt: HostRuntime) -> Result<(), Fail> {
+    for (text, version, size) in [(CODES[0].0, 1, 89), (CODES[2].0, 2, 87)] {
+        let tree = read(rt.alloc(), text)?;
+        let image = assemble(rt.alloc(), &tree)?;
+        let bytes = image.write(rt.alloc())?;
+        assert_eq!(rt; bytes.len(), size);
+        assert_eq!(rt; bytes.get(4).copied(), Some(version));
+    }
+    Ok(())
+}
+
 /// Lines, and the first static fault of the program with them from line 2 on.
 static FAULTS: [(&str, u32, AsmFaultKind); 9] = [
     ("LD q", 2, AsmFaultKind::UnknownName),

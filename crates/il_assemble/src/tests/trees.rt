@@ -1,5 +1,7 @@
 use crate::{AsmFault, AsmFaultKind, assemble};
-use il_reader::{Action, External, InnerLine, Operand, Program, Simple, Statement, Variable};
+use il_reader::{
+    Action, Computation, External, InnerLine, Operand, Program, Simple, Statement, Variable,
+};
 use point_types::{IlType, Items, Name, Operator, Var};
 use std::alloc::Global;
 use std::test::Fail;
@@ -17,7 +19,7 @@ fn line(line: u32, action: Action) -> Statement {
 }
 
 fn load(operand: Operand) -> Action {
-    Action::Compute(load_of(operand))
+    Action::Compute(Computation::new(load_of(operand)))
 }
 
 fn load_of(operand: Operand) -> Simple {
@@ -84,7 +86,7 @@ fn a_deferred_operator(rt: HostRuntime) -> Result<(), Fail> {
     };
     let statements = vec![in rt.alloc();
         line(5, load(Operand::Number(2))),
-        line(6, Action::Compute(deferred)),
+        line(6, Action::Compute(Computation::new(deferred))),
         line(9, store("x")?),
     ]?;
     let tree = program(variables, Vec::new(rt.alloc()), statements)?;
@@ -122,7 +124,7 @@ fn nested(alloc: Global, depth: u32) -> Result<Program, Fail> {
     };
     let statements = vec![in alloc;
         line(5, load(Operand::Number(1))),
-        line(6, Action::Compute(outermost)),
+        line(6, Action::Compute(Computation::new(outermost))),
         line(900, store("y")?),
     ]?;
     let variables = vec![in alloc; int(3, "y")?]?;
@@ -165,5 +167,20 @@ fn a_variable_more_than_there_may_be(rt: HostRuntime) -> Result<(), Fail> {
     assert_eq!(rt; assemble(alloc, &wide).err(), extra);
     let tagged = program(Vec::new(alloc), externals, Vec::new(alloc))?;
     assert_eq!(rt; assemble(alloc, &tagged).err(), extra);
+    Ok(())
+}
+
+#[test]
+fn a_name_that_comes_twice(rt: HostRuntime) -> Result<(), Fail> {
+    let alloc = rt.alloc();
+    let variables = vec![in alloc; int(3, "a")?, int(4, "a")?]?;
+    let twice = program(variables, Vec::new(alloc), Vec::new(alloc))?;
+    assert_eq!(rt;
+        assemble(alloc, &twice).err(),
+        Some(AsmFault {
+            line: 3,
+            kind: AsmFaultKind::TooLong
+        })
+    );
     Ok(())
 }

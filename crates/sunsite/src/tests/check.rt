@@ -50,10 +50,55 @@ fn told(
 }
 
 #[test]
-fn a_good_program_is_assembled(rt: HostRuntime) -> Result<(), Fail> {
+fn a_good_program_is_accepted(rt: HostRuntime) -> Result<(), Fail> {
     let (lines, status) = told(&rt, SITE, PROGRAM, &[])?;
-    assert_eq!(rt; lines.as_str(), "assembled\n");
+    assert_eq!(rt; lines.as_str(), "accepted\nbudget 3\n");
     assert_eq!(rt; status, 0);
+    Ok(())
+}
+
+/// Programs, and what is printed of them.
+static VERDICTS: [(&str, &str); 8] = [
+    (
+        "PROGRAM p\nVAR a : INT; END_VAR\nLD a\nADD 1\nST a\nEND_PROGRAM\n",
+        "refused: verify Overflow at 3\n",
+    ),
+    (
+        "PROGRAM p\nVAR a : INT (0..100) := 100; END_VAR\nLD a\nADD 1\nST a\nEND_PROGRAM\n",
+        "refused: verify StoreRange at 4\n",
+    ),
+    (
+        "PROGRAM p\nVAR_EXTERNAL inv1_w : DINT; END_VAR\nVAR w : DINT; END_VAR\nLD inv1_w\nST w\nEND_PROGRAM\n",
+        "refused: verify MayBeMissing at 0\n",
+    ),
+    (
+        "PROGRAM p\nVAR_EXTERNAL nope : INT; END_VAR\nVAR w : INT; END_VAR\nLD nope\nST w\nEND_PROGRAM\n",
+        "refused: verify TagUnknown at 0\n",
+    ),
+    (
+        "PROGRAM p\nVAR x : INT (0..10); y : INT; END_VAR\nLD x\nEQ 0\nJMPC skip\nLD 100\nDIV x\nST y\nskip:\nEND_PROGRAM\n",
+        "accepted\nbudget 11\n",
+    ),
+    (
+        "PROGRAM p\nVAR x : INT (0..10); y : INT; END_VAR\nLD 100\nDIV x\nST y\nEND_PROGRAM\n",
+        "refused: verify ZeroDivisor at 3\n",
+    ),
+    (
+        "PROGRAM p\nVAR z : INT (0..100); END_VAR\nLD 0\nST z\nagain: LD z\nADD 7\nMIN 100\nST z\n{LOOP 9} JMP again\nEND_PROGRAM\n",
+        "accepted\nbudget 120\n",
+    ),
+    (
+        "PROGRAM p\nVAR_EXTERNAL inv1_w : DINT; END_VAR\nVAR w : DINT; END_VAR\nx: LD inv1_w_OK\nJMPCN e\nLD inv1_w\nST w\n{LOOP 2} JMP x\ne:\nEND_PROGRAM\n",
+        "accepted\nbudget 18\n",
+    ),
+];
+
+#[test]
+fn a_program_is_accepted_where_no_scan_can_go_wrong(rt: HostRuntime) -> Result<(), Fail> {
+    for (program, printed) in VERDICTS.iter() {
+        let (lines, _) = told(&rt, SITE, program, &[])?;
+        assert_eq!(rt; lines.as_str(), *printed);
+    }
     Ok(())
 }
 
@@ -101,7 +146,7 @@ fn a_definition_is_added_or_replaces_that_of_its_id(rt: HostRuntime) -> Result<(
     let (lines, _) = told(&rt, site.as_str(), PROGRAM, &[])?;
     assert_eq!(rt; lines.as_str(), "refused: site UnknownModel\n");
     let (lines, _) = told(&rt, site.as_str(), PROGRAM, &[DEFINITION])?;
-    assert_eq!(rt; lines.as_str(), "assembled\n");
+    assert_eq!(rt; lines.as_str(), "accepted\nbudget 3\n");
     let other = DEFINITION.replace(rt.alloc(), "64001", "103")?;
     let (lines, _) = told(&rt, SITE, PROGRAM, &[other.as_str()])?;
     assert_eq!(rt; lines.as_str(), "refused: site UnknownPoint\n");

@@ -56,6 +56,12 @@ fn prints_variables_and_steps(rt: HostRuntime) -> Result<(), Fail> {
             0,
         ),
         (
+            "x : DINT;",
+            "LD 2\nMUL( 3\nADD 4\n)\nST x",
+            "x=14\nsteps 9\n",
+            0,
+        ),
+        (
             "z : INT (0..100);",
             "LD 0\nST z\nagain: LD z\nADD 7\nMIN 100\nST z\n{LOOP 9} JMP again",
             "z=70\nsteps 93\n",
@@ -91,6 +97,18 @@ fn prints_variables_and_steps(rt: HostRuntime) -> Result<(), Fail> {
         assert_eq!(rt; lines.as_str(), printed);
         assert_eq!(rt; gave, status);
     }
+    Ok(())
+}
+
+#[test]
+fn a_hundred_parentheses_are_evaluated_from_within(rt: HostRuntime) -> Result<(), Fail> {
+    let opened = "ADD( 1\n".repeat(rt.alloc(), 100)?;
+    let closed = ")\n".repeat(rt.alloc(), 100)?;
+    let text = format!(in rt.alloc(); "PROGRAM p\nVAR y : DINT; END_VAR\nLD 1\n{opened}{closed}")?;
+    let text = format!(in rt.alloc(); "{text}ST y\nEND_PROGRAM\n")?;
+    let (lines, status) = told(&rt, text.as_str())?;
+    assert_eq!(rt; lines.as_str(), "y=101\nsteps 303\n");
+    assert_eq!(rt; status, 0);
     Ok(())
 }
 
@@ -226,12 +244,9 @@ fn told_of_tags(rt: &impl AllocGlobal, lines: &str) -> Result<(String, u8), Fail
         Err(_) => return Err("refused".into()),
     };
     let code = Vec::from_slice(rt.alloc(), &[2, 0, 0, 7, 0, 3, 0])?;
-    let image = Image {
-        version: 1,
-        vars: Items::new(rt.alloc()),
-        tags: Items::from_vec(tags),
-        code: Items::from_vec(code),
-    };
+    let vars = Items::new(rt.alloc());
+    let image = Image::new(1, vars, Items::from_vec(tags), Items::from_vec(code));
+    let image = image.ok_or("an image")?;
     let outcome = scan_outcome(rt.alloc(), image, readings.as_slice())?;
     let Outcome { lines, status } = outcome;
     Ok((String::from_utf8(lines)?, status))

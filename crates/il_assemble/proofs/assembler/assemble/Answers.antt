@@ -1,5 +1,6 @@
 use Rattle.std.proofs.Common.{rules}
-use Rattle.il_assemble.proofs.Elaborating.{few_counted, made}
+use Rattle.il_assemble.proofs.Elaborating.{few_counted}
+use Rattle.il_assemble.proofs.Rules.{made}
 use Rattle.il_assemble.proofs.assembler.assemble.Goals as goal
 
 pub emit_lines-requires : goal.emit_lines-requires
@@ -10,5 +11,13 @@ emit_lines-requires c =
 pub returns-clause-assembled : goal.returns-clause-assembled
 returns-clause-assembled c =
     let t = c.args.program.now in
-    made t c.in_ok-uses.uses.items (search rules) (search rules) (search rules) (search rules) (search rules) (search rules)
-    c.in_ok-addresses.addresses.items (search rules) _ _ _ _ (search rules) (search rules) (search rules) (search rules)
+    let m = made t c.in_ok-uses.uses.items (search rules) (search rules) (search rules) (search rules) (search rules) (search rules)
+    c.in_ok-addresses.addresses.items (search rules) _ _ _ _ (search rules) (search rules) (search rules) (search rules) (search rules) in
+    m.assembled
+
+pub invariant_of-result : goal.invariant_of-result
+invariant_of-result c =
+    let t = c.args.program.now in
+    let m = made t c.in_ok-uses.uses.items (search rules) (search rules) (search rules) (search rules) (search rules) (search rules)
+    c.in_ok-addresses.addresses.items (search rules) _ _ _ _ (search rules) (search rules) (search rules) (search rules) (search rules) in
+    m.proper

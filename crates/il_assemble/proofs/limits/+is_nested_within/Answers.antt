@@ -1,4 +1,4 @@
-use Rattle.std.proofs.Common.{rules, ◌≡◌}
+use Rattle.std.proofs.Common.{rules}
 use Rattle.il_assemble.proofs.Forms.{deferred}
 use Rattle.il_assemble.proofs.limits.+is_nested_within.Goals as goal
 

@@ -1,4 +1,4 @@
-use Rattle.std.proofs.Common.{◌≡◌, ap, sym, ◌∙◌}
+use Rattle.std.proofs.Common.{ap, sym, ◌∙◌}
 use Rattle.il_reader.specs.Tokens.{keyword, look_up, or_else, conversion_keywords}
 use Rattle.il_reader.proofs.keyword.find_keyword.Goals as goal
 

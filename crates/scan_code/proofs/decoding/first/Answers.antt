@@ -1,4 +1,4 @@
-use Rattle.std.proofs.Common.{rules, ◌≡◌, ℕ, ◌≤◌, Bool, true, false, get_or, arith, sym}
+use Rattle.std.proofs.Common.{◌≤◌, get_or, arith}
 use Rattle.scan_code.proofs.Bytes.{no_form}
 use Rattle.scan_code.proofs.decoding.first.Goals as goal
 

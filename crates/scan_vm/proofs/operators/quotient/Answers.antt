@@ -1,4 +1,4 @@
-use Rattle.std.proofs.Common.{rules, ◌≡◌, ◌∙◌, ap, FitsSigned, w64}
+use Rattle.std.proofs.Common.{rules, ◌∙◌, ap, FitsSigned, w64}
 use Rattle.std.specs.Int.{IsNonZero, CanDivide}
 use Rattle.std.specs.Int.RustNames.{int_div}
 use Rattle.std.specs.Option.{SomeIff}

@@ -1,4 +1,4 @@
-use Rattle.std.proofs.Common.{rules, ◌≡◌, ◌∙◌, ◌-ℤ◌, FitsSigned, w64}
+use Rattle.std.proofs.Common.{rules, ◌∙◌, ◌-ℤ◌, FitsSigned, w64}
 use Rattle.std.specs.Option.{SomeIff}
 use Rattle.scan_vm.proofs.Told.{on_numbers_named, told_on_numbers}
 use Rattle.scan_vm.proofs.operators.sub.Goals as goal

@@ -1,7 +1,7 @@
 use Rattle.std.proofs.Common.{List, drop, map, string_bytes}
 use Rattle.model_defs.specs.declared.fault.DefFault.{DefFault}
 use Rattle.model_defs.specs.declared.model.ModelDef.{ModelDef}
-use Rattle.sunsite.specs.Check.{AreRead, IsFirstBroken}
+use Rattle.sunsite.specs.Defined.{AreRead, IsFirstBroken}
 use Rattle.sunsite.proofs.definitions.push_definitions.Given as goal
 
 -- whatever the texts that remain give, all of them give

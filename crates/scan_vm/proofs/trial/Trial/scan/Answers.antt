@@ -1,4 +1,4 @@
-use Rattle.std.proofs.Common.{rules, ◌≡◌, ◌∙◌, ap, sym, length, ℤ, Option, None, replicate}
+use Rattle.std.proofs.Common.{◌≡◌, ◌∙◌, ap, length}
 use Rattle.std.proofs.lemmas.List.{length-replicate}
 use Rattle.scan_vm.specs.Trap.{trap_of}
 use Rattle.scan_vm.proofs.Scans.{ends_so, opens_itself, traps_so}

@@ -1,0 +1,19 @@
+mod Ending
+mod Exact
+mod Filling
+pub mod Parts
+mod Replaying
+pub mod Scanning
+mod Serving
+pub mod Settled
+mod Sized
+mod Spelled
+mod Totals
+pub mod Dropping
+pub mod Requesting
+pub mod Searched
+pub mod Talking
+pub mod Reading
+pub mod Found
+pub mod Blocks
+pub mod Replying

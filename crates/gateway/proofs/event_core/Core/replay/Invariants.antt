@@ -1,0 +1,12 @@
+use Rattle.std.proofs.Common.{◌≡◌, ◌++◌, List, length, take, drop}
+use Rattle.gateway.specs.declared.event.Answer.{Answer}
+use Rattle.gateway.specs.Core.{IsSame, RunsFrom}
+use Rattle.gateway.specs.SiteRun.{Standing}
+use Rattle.gateway.proofs.event_core.Core.replay.Given as goal
+
+-- whatever the events behind lead to, all of them lead to, with the answers so far in front
+abbrev pub invariant-loop-i : goal.invariant-loop-i
+invariant-loop-i g l =
+    ((rest : List Answer) (end : Standing) → RunsFrom l.initial.self l.self.standing (drop l.i l.events) rest end → RunsFrom l.initial.self l.initial.self.standing l.events (take l.i l.answers ++ rest) end)
+    × IsSame l.initial.self l.self
+    × (length l.answers ≡ length l.events)

@@ -1,0 +1,31 @@
+-- What is proved of the served image and of scans over a link.
+use Rattle.std.specs.Prelude.{◌≡◌, ◌<◌, ◌≤ℤ◌, ℕ, ℤ, List, [], ◌∷◌, ◌++◌, length, Option, Ok}
+use Rattle.register_map.specs.Layout.{Layout}
+use Rattle.site_model.specs.declared.tag.SiteTag.{SiteTag}
+use Rattle.point_writer.specs.declared.write.Write.{Write}
+use Rattle.point_writer.specs.SetPoint.{IsSetPoint}
+use Rattle.gateway.specs.declared.cycle.Report.{Report}
+use Rattle.gateway.specs.declared.event.Event.TheVariants as event
+use Rattle.gateway.specs.declared.event.Answer.{Answer}
+use Rattle.gateway.specs.Control.{Advances, IsPlanned, steps_of}
+use Rattle.gateway.specs.Core.{Gateway, RunsOn}
+use Rattle.gateway.specs.Cycle.{Scans}
+use Rattle.gateway.specs.Polling.{Polling}
+use Rattle.point_types.specs.declared.reading.Reading.{Reading}
+use Rattle.site_model.specs.declared.site.Site.{Site}
+use Rattle.gateway.specs.ServedImage.{IsServedImage}
+
+-- a site, the last scan and the settings have one served image at most
+abbrev pub AtMostOneServedImage : Type 0
+AtMostOneServedImage = (site : Site) (outputs : List (Option ℤ)) (readings : List Reading) (sets : List (Option ℤ)) (a b : List ℕ) →
+    IsServedImage site outputs readings sets a → IsServedImage site outputs readings sets b → a ≡ b
+
+-- After a scan over a link the core stands at the site run of what came of the wanted blocks, and then of the scan.
+abbrev pub ScansFollowTheSiteRun : Type 0
+ScansFollowTheSiteRun = (site : Site) (maps : List (Option Layout)) (p : Polling) (s : Gateway) (q : Polling) (t : Gateway) (report : Report) (scans : Scans Advances IsPlanned steps_of site maps p s q t report) →
+    (answers : List Answer) × RunsOn s ((scans.taken).events ++ event.Scan ∷ []) answers t
+
+-- What is written for an output is a set point of a tag, by the blocks that were known at the scan, for a number in the tag's range.
+abbrev pub WritesAreSetPoints : Type 0
+WritesAreSetPoints = (g : Gateway) (i : ℕ) (w : Write) → i < length g.site.outs → IsPlanned g i (Ok w) →
+    (t : SiteTag) × (v : ℤ) × IsSetPoint g.maps g.site.wants (g.standing.last).blocks t v w × (t.low ≤ℤ v) × (v ≤ℤ t.high)

@@ -1,0 +1,15 @@
+pub mod Points
+pub mod ServedImage
+pub mod SiteRun
+pub mod Core
+pub mod Fault
+pub mod LinkRun
+pub mod Polling
+pub mod Waiting
+pub mod Asking
+pub mod Finding
+pub mod WorkedRequests
+pub mod Cycle
+pub mod Clients
+pub mod Control
+pub mod Laws

@@ -1,0 +1,26 @@
+use modbus_frame::Pdu;
+use site_model::Words;
+
+/// What happens to a gateway. Events of all devices and clients come in one list.
+#[derive(Debug, PartialEq, Eq, Drop)]
+pub enum Event {
+    /// A device, by its number, answered the registers of one of its models, from the model's ID on.
+    Block(usize, u16, Words),
+    /// A device didn't answer for one of its models.
+    Lost(usize, u16),
+    /// The program is to run once.
+    Scan,
+    /// A client of the gateway sent a request.
+    Client(Pdu),
+}
+
+/// What a gateway does on an event.
+#[derive(Debug, PartialEq, Eq, Drop)]
+pub enum Answer {
+    /// Nothing.
+    None,
+    /// So many points of devices may have to be written: `Core::write` gives each.
+    Writes(usize),
+    /// This goes back to the client.
+    Reply(Pdu),
+}

@@ -1,0 +1,305 @@
+ghost use Rattle.std.specs.Prelude.{◌≡◌, ◌<◌, length, IfSome};
+ghost use Rattle.std.specs.List.{position};
+ghost use Rattle.site_model.specs.Wants.{same_want};
+ghost use Rattle.gateway.specs.SiteRun.{told, with_block};
+
+use crate::event::{Answer, Event};
+use crate::fault::CoreFault;
+use crate::known::Known;
+use crate::opening::{blank_image, no_inputs, no_numbers, nothing_known};
+use crate::point::OwnPoint;
+use crate::points::own_points;
+use crate::request::read;
+use crate::scan::scan;
+use crate::served::serve;
+use crate::setting::write;
+use modbus_frame::{Exception, Pdu, Request, Response, exception_pdu, parse_request, response_pdu};
+use point_types::{Items, Reading};
+use point_writer::plan::plan;
+use point_writer::{NoWrite, Write};
+use register_map::Map;
+use scan_vm::Machine;
+use site_model::{Site, Words};
+use std::alloc::Global;
+use std::marker::Model;
+
+/// The core of a gateway: its site, the program that runs, what is known of the devices, and what clients set. It goes
+/// from event to event, takes memory when it is made alone, and never waits.
+#[derive(Drop)]
+pub struct Core<const DEPTH: usize> {
+    pub(crate) site: Site,
+    pub(crate) maps: Vec<Option<Map>>,
+    pub(crate) machine: Machine<DEPTH>,
+    pub(crate) points: Items<OwnPoint>,
+    pub(crate) known: Known,
+    /// The served image, from the base on.
+    pub(crate) image: Vec<u16>,
+    /// Room for the settings that a request is about to make.
+    pub(crate) room: Vec<Option<i64>>,
+    /// Room for the readings of the program's tags.
+    pub(crate) inputs: Vec<Reading>,
+}
+
+impl<const DEPTH: usize> Model for Core<DEPTH> {
+    ghost use Rattle.gateway.specs.Core.{Gateway, IsCore, standing_of};
+
+    ghost Value = { Gateway };
+
+    ghost view = { λ c. record { site = c.site; maps = c.maps.items; machine = c.machine; standing = standing_of c.machine c.known } };
+
+    ghost invariant = { λ c. IsCore c.site c.maps.items c.machine c.points c.known c.image.items c.room.items c.inputs.items };
+}
+
+impl<const DEPTH: usize> Core<DEPTH> {
+    ghost use Rattle.std.specs.Prelude.{◌≡◌, ◌<◌, ◌≤◌, length, IfOk, IfErr, OnOk};
+    ghost use Rattle.verifier.specs.Verified.{HasLinks};
+    ghost use Rattle.gateway.specs.declared.fault.CoreFault.TheVariants.{Foreign};
+    ghost use Rattle.modbus_frame.specs.Message.{request_of, IsAnswerTo, IsRequest};
+    ghost use Rattle.point_writer.specs.SetPoint.{IsPlanFor, WritesASetPoint};
+    ghost use Rattle.site_model.specs.Readings.{AreSettings};
+    ghost use Rattle.gateway.specs.Core.{IsSame, RunsOn, StepsOn, gateway_of, numbers_of};
+    ghost use Rattle.gateway.specs.SiteRun.{Does, IsScan, Replies, SaysWrote, WritesAt, after_block};
+
+    /// A core on which nothing happened yet; all memory that its events need is taken here. `maps` has an entry for each
+    /// of the site's devices. Foreign: the program was accepted for tags that the site doesn't have so.
+    pub fn new(
+        alloc: Global,
+        site: Site,
+        machine: Machine<DEPTH>,
+        maps: Vec<Option<Map>>,
+    ) -> Result<Core<DEPTH>, CoreFault>
+        requires { length maps.items ≡ length site.devices }
+        ensures opened { IfOk result (λ core. core ≡ gateway_of site maps.items machine.entry) }
+        ensures matched { OnOk result (HasLinks site.tags machine.entry.accepted.links) }
+        ensures foreign { IfErr result (λ e. e ≡ Foreign → HasLinks site.tags machine.entry.accepted.links → ⊥) }
+    {
+        if !machine.verified().matches(&site) {
+            return Err(CoreFault::Foreign);
+        }
+        let points = own_points(alloc, &site)?;
+        let known = nothing_known(alloc, &site)?;
+        let mut image = blank_image(alloc, points.as_slice())?;
+        let room = no_numbers(alloc, site.tags())?;
+        let inputs = no_inputs(alloc, machine.verified().links())?;
+        serve(points.as_slice(), &site, &known, &mut image);
+        Ok(Core {
+            site,
+            maps,
+            machine,
+            points,
+            known,
+            image,
+            room,
+            inputs,
+        })
+    }
+
+    /// What happens on one event: the words of a wanted block are kept, or forgotten; the program runs once; a client's
+    /// request is answered. A block that isn't wanted is ignored, and one without words, or whose first word isn't the
+    /// model's ID, is as a lost one.
+    pub fn step(&mut self, event: Event) -> Answer
+        ensures run { StepsOn self.old event result self.new }
+        ensures same { IsSame self.old self.new }
+    {
+        self.advance(&event)
+    }
+
+    /// What happens on these events, one after another; each answer is put into its event's place.
+    pub fn replay(&mut self, events: &[Event], answers: &mut [Answer])
+        requires { length answers.old ≡ length events.now }
+        ensures run { RunsOn self.old events.now answers.new self.new }
+        ensures same { IsSame self.old self.new }
+    {
+        for (i, event) in events.iter().enumerate() {
+            answers[i] = self.advance(event);
+        }
+    }
+
+    fn advance(&mut self, event: &Event) -> Answer
+        ensures run { StepsOn self.old event.now result self.new }
+        ensures same { IsSame self.old self.new }
+    {
+        match event {
+            Event::Block(device, model, words) => {
+                self.note(*device, *model, told(*model, words));
+                Answer::None
+            }
+            Event::Lost(device, model) => {
+                self.note(*device, *model, None);
+                Answer::None
+            }
+            Event::Scan => {
+                self.scan();
+                Answer::Writes(self.site.outs().len())
+            }
+            Event::Client(pdu) => Answer::Reply(self.reply(pdu)),
+        }
+    }
+
+    /// What is written to the i-th of the site's `out` tags after the last scan, by the blocks that were known at it
+    /// (SunSpec Device Information Model Specification, points and scale factors). NotSet before any scan.
+    pub fn write(&self, i: usize) -> Result<Write, NoWrite>
+        requires { i < length self.now.site.outs }
+        ensures plan { IsPlanFor self.now.site.tags self.now.site.outs self.now.site.wants self.now.maps self.now.standing.last.blocks self.now.standing.last.outputs i result }
+        ensures set_point { WritesASetPoint self.now.site.tags self.now.site.outs self.now.site.wants self.now.maps self.now.standing.last.blocks self.now.standing.last.outputs i result }
+        ensures ranged { AreSettings self.now.site.tags self.now.standing.last.outputs }
+        ensures sized { IfOk result (λ w. (1 ≤ length w.words) × (length w.words ≤ 123)) }
+    {
+        plan(
+            &self.site,
+            &self.known.outputs,
+            &self.known.scanned,
+            &self.maps,
+            i,
+        )
+    }
+
+    /// The site that was handed in.
+    pub fn site(&self) -> &Site
+        ensures { result.now ≡ self.now.site }
+    {
+        &self.site
+    }
+
+    /// The maps of the site's devices that were handed in.
+    pub(crate) fn maps(&self) -> &[Option<Map>]
+        ensures { result.now ≡ self.now.maps }
+    {
+        &self.maps
+    }
+
+    /// How many instructions the last scan took; 0 before any.
+    pub fn steps(&self) -> u32
+        ensures { result ≡ self.now.standing.last.steps }
+    {
+        self.known.steps
+    }
+
+    /// The machine that was handed in, as it stands now.
+    pub fn machine(&self) -> &Machine<DEPTH>
+        ensures machine { result.now ≡ self.now.machine }
+        ensures variables { self.now.standing.variables ≡ self.now.machine.variables }
+    {
+        &self.machine
+    }
+
+    /// What is known of a block from now on, where it is wanted.
+    fn note(&mut self, device: usize, model: u16, entry: Option<Words>)
+        ensures after { self.new.standing ≡ after_block self.old.site (device, model) entry self.old.standing }
+        ensures same { IsSame self.old self.new }
+    {
+        note(
+            self.site.wants(),
+            &mut self.known.blocks,
+            device,
+            model,
+            entry,
+        );
+    }
+
+    /// The program runs once.
+    fn scan(&mut self)
+        ensures scan { IsScan self.old.site self.old.machine.accepted.image (numbers_of self.old.machine.accepted) self.old.machine.accepted.budget self.old.standing self.new.standing }
+        ensures same { IsSame self.old self.new }
+    {
+        scan(
+            &self.site,
+            &mut self.machine,
+            &mut self.known,
+            &mut self.inputs,
+        );
+        serve(
+            self.points.as_slice(),
+            &self.site,
+            &self.known,
+            &mut self.image,
+        );
+    }
+
+    /// Answers a client's PDU, and does what it asks for.
+    pub(crate) fn reply(&mut self, pdu: &Pdu) -> Pdu
+        ensures reply { Replies self.old.site self.old.standing pdu.now (request_of pdu.now) result self.new.standing }
+        ensures same { IsSame self.old self.new }
+    {
+        match parse_request(pdu) {
+            Ok(request) => {
+                let answer = self.answer(&request);
+                response_pdu(&request, &answer)
+            }
+            Err(exception) => exception_pdu(pdu, exception),
+        }
+    }
+
+    fn answer(&mut self, request: &Request) -> Result<Response, Exception>
+        requires { IsRequest request.now }
+        ensures answer { Does self.old.site self.old.standing request.now result self.new.standing }
+        ensures fits { IsAnswerTo request.now result }
+        ensures same { IsSame self.old self.new }
+    {
+        match request {
+            Request::Read { addr, qty } => read(&self.image, self.site.base(), *addr, *qty),
+            Request::WriteOne { addr, value } => self.set(*addr, &[*value]),
+            Request::WriteMany { addr, words } => self.set(*addr, words.as_slice()),
+        }
+    }
+
+    /// Sets the tags of whole points, all of them or none.
+    fn set(&mut self, addr: u16, words: &[u16]) -> Result<Response, Exception>
+        ensures answer { WritesAt self.old.site self.old.standing addr words.now result self.new.standing }
+        ensures wrote { SaysWrote result }
+        ensures same { IsSame self.old self.new }
+    {
+        let answer = write(
+            &self.site,
+            self.points.as_slice(),
+            addr,
+            words,
+            &mut self.known.sets,
+            &mut self.room,
+        );
+        serve(
+            self.points.as_slice(),
+            &self.site,
+            &self.known,
+            &mut self.image,
+        );
+        answer
+    }
+}
+
+/// The words of a block, which begin with its model's ID.
+fn told(model: u16, words: &Words) -> Option<Words>
+    ensures { result ≡ told model words.now }
+{
+    match words.as_slice() {
+        [first, ..] if *first == model => Words::from_slice(words.as_slice()),
+        _ => None,
+    }
+}
+
+/// Replaces what is known of a block, where it is wanted.
+fn note(
+    wants: &[(usize, u16)],
+    blocks: &mut [Option<Words>],
+    device: usize,
+    model: u16,
+    entry: Option<Words>,
+)
+    requires { length blocks.old ≡ length wants.now }
+    ensures after { blocks.new ≡ with_block wants.now (device, model) entry blocks.old }
+    ensures len { length blocks.new ≡ length blocks.old }
+{
+    if let Some(i) = place_of(wants, device, model) {
+        blocks[i] = entry;
+    }
+}
+
+/// The number of a device and a model's ID among the wants.
+fn place_of(wants: &[(usize, u16)], device: usize, model: u16) -> Option<usize>
+    ensures place { result ≡ position (same_want (device, model)) wants.now }
+    ensures inside { IfSome result (λ i. i < length wants.now) }
+{
+    wants
+        .iter()
+        .position(|want| want.0 == device && want.1 == model)
+}

@@ -1,0 +1,18 @@
+//! What is proved of the definitions that the contracts cite; the functions do nothing.
+
+ghost use Rattle.gateway.specs.Laws.{AtMostOneServedImage, ScansFollowTheSiteRun, WritesAreSetPoints};
+
+/// A site, the last scan and what clients set have one served image at most.
+pub fn served_images_are_exact()
+    ensures { AtMostOneServedImage }
+{}
+
+/// After a scan over a link the core stands at the site run of what came of the wanted blocks, and then of the scan.
+pub fn scans_follow_the_site_run()
+    ensures { ScansFollowTheSiteRun }
+{}
+
+/// What a scan over a link writes for an output is a set point of its tag, for a number in the tag's range.
+pub fn writes_are_set_points()
+    ensures { WritesAreSetPoints }
+{}

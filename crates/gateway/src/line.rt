@@ -1,0 +1,125 @@
+ghost use Rattle.std.specs.Prelude.{◌≡◌, None, IfOk};
+ghost use Rattle.modbus_frame.specs.Exchange.{left};
+ghost use Rattle.modbus_frame.specs.Message.{HasQuantity};
+ghost use Rattle.gateway.specs.Asking.{AsksUnless};
+ghost use Rattle.gateway.specs.LinkRun.{next_id, Suits};
+
+use crate::exchange::exchange;
+use crate::outcome::Outcome;
+use modbus_frame::{FrameReader, Link, LinkFault, Request};
+use std::marker::Model;
+
+/// A link, and what is asked over it: one unit after another, by at most so many reads and writes.
+#[derive(Drop)]
+pub(crate) struct Line<L: Link> {
+    pub(crate) link: L,
+    reader: FrameReader,
+    pub(crate) id: u16,
+    fault: Option<LinkFault>,
+    unit: u8,
+    turns: u32,
+}
+
+impl<L: Link> Model for Line<L> {
+    ghost use Rattle.std.specs.Prelude.{◌≡◌, None};
+    ghost use Rattle.modbus_frame.specs.Exchange.{left};
+    ghost use Rattle.gateway.specs.Asking.{Asking};
+
+    ghost Value = { Asking };
+
+    ghost view = { λ l. record {
+      polling = record {
+        coming = left l.reader (L.coming l.link);
+        sent = L.sent l.link;
+        failures = L.failures l.link;
+        calls = L.calls l.link;
+        id = l.id;
+        fault = l.fault;
+      };
+      unit = l.unit;
+      turns = l.turns;
+    } };
+
+    ghost invariant = { λ l. l.fault ≡ None → l.reader.held.fault ≡ None };
+}
+
+impl<L: Link> Line<L> {
+    /// A line on which nothing was asked yet: the first transaction is 0, and nothing is kept.
+    pub(crate) fn new(link: L) -> Line<L>
+        ensures { result ≡ record {
+          polling = record {
+            coming = L.coming link;
+            sent = L.sent link;
+            failures = L.failures link;
+            calls = L.calls link;
+            id = 0;
+            fault = None;
+          };
+          unit = 0;
+          turns = 0;
+        } }
+    {
+        Line {
+            link,
+            reader: FrameReader::new(),
+            id: 0,
+            fault: None,
+            unit: 0,
+            turns: 0,
+        }
+    }
+
+    /// The fault that ended its work.
+    pub(crate) fn fault(&self) -> Option<LinkFault>
+        ensures { result ≡ self.now.polling.fault }
+    {
+        self.fault
+    }
+
+    /// From now on requests go to this unit.
+    pub(crate) fn turn_to(&mut self, unit: u8)
+        ensures { self.new ≡ record self.old { unit = unit } }
+    {
+        self.unit = unit;
+    }
+
+    /// From now on at most so many reads and writes are made.
+    pub(crate) fn allow(&mut self, turns: u32)
+        ensures { self.new ≡ record self.old { turns = turns } }
+    {
+        self.turns = turns;
+    }
+
+    /// Sends a request and gives its outcome. A fault is kept, and answers each request behind it.
+    pub(crate) fn ask(&mut self, request: &Request) -> Result<Outcome, LinkFault>
+        requires { HasQuantity request.now }
+        ensures asks { AsksUnless self.old.polling.fault self.old request.now result self.new }
+        ensures suits { IfOk result (Suits request.now) }
+    {
+        if let Some(fault) = self.fault {
+            return Err(fault);
+        }
+        let id = self.id;
+        self.id = next_id(id);
+        match exchange(
+            &mut self.link,
+            &mut self.reader,
+            id,
+            self.unit,
+            request,
+            &mut self.turns,
+        ) {
+            Ok(outcome) => Ok(outcome),
+            Err(fault) => {
+                self.fault = Some(fault);
+                Err(fault)
+            }
+        }
+    }
+}
+
+fn next_id(id: u16) -> u16
+    ensures { result ≡ next_id id }
+{
+    id.wrapping_add(1)
+}

@@ -1,0 +1,103 @@
+ghost use Rattle.std.specs.Prelude.{◌≡◌, None, Err, IfSome, IfOk, IfErr};
+ghost use Rattle.modbus_frame.specs.Message.{HasQuantity};
+ghost use Rattle.gateway.specs.Finding.{FindsAll, StopsUnless};
+ghost use Rattle.gateway.specs.LinkRun.{Suits};
+ghost use Rattle.gateway.specs.Polling.{Asks, CountsCalls};
+
+use crate::line::Line;
+use crate::outcome::Outcome;
+use modbus_frame::{Link, LinkFault, Request};
+use register_map::Map;
+use site_model::Site;
+use std::alloc::Global;
+use std::marker::Model;
+
+/// The most reads and writes of one call.
+pub(crate) const MOST_CALLS: u32 = 1_000_000;
+
+/// Asks the units on a link, one request at a time. Transactions begin at 0 and rise by one with each request.
+///
+/// After a [`LinkFault`] its work is over: each call answers that fault and touches nothing.
+#[derive(Drop)]
+pub struct Poller<L: Link> {
+    pub(crate) line: Line<L>,
+}
+
+impl<L: Link> Model for Poller<L> {
+    ghost use Rattle.gateway.specs.Polling.{Polling};
+
+    ghost Value = { Polling };
+
+    ghost view = { λ p. (p.line).polling };
+}
+
+impl<L: Link> Poller<L> {
+    /// A poller of the units on a link.
+    pub fn new(link: L) -> Poller<L>
+        ensures { result ≡ record {
+          coming = L.coming link;
+          sent = L.sent link;
+          failures = L.failures link;
+          calls = L.calls link;
+          id = 0;
+          fault = None;
+        } }
+    {
+        Poller {
+            line: Line::new(link),
+        }
+    }
+
+    /// Sends a request to a unit and gives its outcome: what the first frame with its transaction and unit says. Other
+    /// frames are dropped; with the 17th the request is stale. Bytes behind the frame that decides stay for the next
+    /// call. A reading request asks for 1 to 125 registers, a writing one carries 1 to 123.
+    ///
+    /// [`LinkFault`]: Read and Write where the link failed, Frame where the bytes that came are no frame, End where they
+    /// end inside one or before the reply, Turns after 1,000,000 reads and writes.
+    pub fn ask(&mut self, unit: u8, request: &Request) -> Result<Outcome, LinkFault>
+        requires { HasQuantity request.now }
+
+        // The request went out, and these frames decided it; or a front of it, and the fault has its cause.
+        ensures asks { self.old.fault ≡ None → Asks self.old unit request.now result self.new }
+        ensures suits { IfOk result (Suits request.now) }
+        ensures calls { self.old.fault ≡ None → CountsCalls self.old.calls self.new.calls result }
+
+        // After a fault it answers that fault, and touches nothing.
+        ensures stands { IfSome self.old.fault (λ fault. (result ≡ Err fault) × (self.new ≡ self.old)) }
+    {
+        self.line.turn_to(unit);
+        self.line.allow(MOST_CALLS);
+        self.line.ask(request)
+    }
+
+    /// The maps of a site's devices, in the order of its file; `None` for a device that has none. A device's map is
+    /// looked for at its own base alone, where the file says one, else at 40000, 50000 and 0. A device that answers a
+    /// read with something else than words or an exception has no map. Memory is taken before the first byte is sent.
+    ///
+    /// [`LinkFault`]: as for [`ask`](Poller::ask), over all requests; OutOfMemory where there is no memory for the maps.
+    pub fn find(&mut self, alloc: Global, site: &Site) -> Result<Vec<Option<Map>>, LinkFault>
+        // The requests are the reads of the searches, one device after another, and these are their results.
+        ensures found { self.old.fault ≡ None
+            → IfOk result (λ maps. FindsAll site.now.devices self.old maps.items self.new) }
+        ensures stopped { self.old.fault ≡ None
+            → IfErr result (λ fault. StopsUnless site.now.devices self.old fault self.new) }
+        ensures calls { self.old.fault ≡ None → CountsCalls self.old.calls self.new.calls result }
+
+        // After a fault it answers that fault, and touches nothing.
+        ensures stands { IfSome self.old.fault (λ fault. (result ≡ Err fault) × (self.new ≡ self.old)) }
+    {
+        if let Some(fault) = self.line.fault() {
+            return Err(fault);
+        }
+        let devices = site.devices();
+        let mut maps = match Vec::with_capacity(alloc, devices.len()) {
+            Ok(maps) => maps,
+            Err(_) => return Err(LinkFault::OutOfMemory),
+        };
+        self.line.allow(MOST_CALLS);
+        match self.line.find(devices, &mut maps) {
+            Ok(()) => Ok(maps),
+            Err(fault) => Err(fault),
+        }
+    }
+}

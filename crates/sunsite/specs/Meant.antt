@@ -1,0 +1,31 @@
+-- The site run of a program whose scans do what the program means.
+-- IEC 61131-3 edition 2, 3.2 (instruction list; one scan after another).
+use Rattle.std.specs.Prelude.{◌≡◌, List, [], ◌∷◌, length, map}
+use Rattle.site_model.specs.declared.site.Site.{Site}
+use Rattle.il_assemble.specs.Meaning.{Program, Done, meaning}
+use Rattle.verifier.specs.Verified.{Acceptance}
+use Rattle.gateway.specs.Core.{numbers_of}
+use Rattle.gateway.specs.SiteRun.{IsScan, Standing, Steps, reading_at}
+use Rattle.gateway.specs.declared.event.Answer.{Answer}
+use Rattle.gateway.specs.declared.event.Answer.TheVariants as answer
+use Rattle.gateway.specs.declared.event.Event.{Event}
+use Rattle.gateway.specs.declared.event.Event.TheVariants as event
+
+-- On what is known and set the scan ends without a trap and within the budget, and leaves the variables and the outputs
+-- that the program means on this scan's readings.
+pub record IsMeantScan (p : Program) (site : Site) (a : Acceptance) (s t : Standing) : Type 0 where
+  pub scan : IsScan site a.image (numbers_of a) a.budget s t
+  pub means : meaning p (map (reading_at scan.readings) (numbers_of a)) s.variables ≡ Done (scan.end).variables (scan.end).outputs
+
+-- one event of the site run
+abbrev pub StepsAsMeant : Program → Site → Acceptance → Standing → Event → Answer → Standing → Type 0
+StepsAsMeant p site a s event.Scan r t = (r ≡ answer.Writes (length site.outs)) × IsMeantScan p site a s t
+StepsAsMeant p site a s (event.Block device model words) r t = Steps site a.image (numbers_of a) a.budget s (event.Block device model words) r t
+StepsAsMeant p site a s (event.Lost device model) r t = Steps site a.image (numbers_of a) a.budget s (event.Lost device model) r t
+StepsAsMeant p site a s (event.Client pdu) r t = Steps site a.image (numbers_of a) a.budget s (event.Client pdu) r t
+
+-- events, one after another, with their answers in order
+abbrev pub RunsAsMeant : Program → Site → Acceptance → Standing → List Event → List Answer → Standing → Type 0
+RunsAsMeant p site a s [] answers t = (answers ≡ []) × (t ≡ s)
+RunsAsMeant p site a s (e ∷ es) answers t =
+    (r : Answer) × (rest : List Answer) × (next : Standing) × StepsAsMeant p site a s e r next × (answers ≡ r ∷ rest) × RunsAsMeant p site a next es rest t

@@ -1,0 +1,31 @@
+-- Lists of which most places are empty, by those that aren't.
+use Rattle.std.specs.Prelude.{ℕ, suc, ◌≡◌, List, [], ◌∷◌, ◌++◌, replicate, Option, Some, None}
+
+-- each kept item behind so many empty places, and then those at the end
+abbrev pub places : {A : Type 0} → List (ℕ × A) → ℕ → List (Option A)
+places [] at_end = replicate at_end None
+places (k ∷ ks) at_end = replicate k.0 None ++ Some k.1 ∷ places ks at_end
+
+abbrev pub empty_before : {A : Type 0} → List (ℕ × A) → ℕ → ℕ
+empty_before [] at_end = at_end
+empty_before (k ∷ ks) at_end = k.0
+
+-- from the first kept item on
+abbrev pub from_kept : {A : Type 0} → List (ℕ × A) → ℕ → List (Option A)
+from_kept [] at_end = []
+from_kept (k ∷ ks) at_end = Some k.1 ∷ places ks at_end
+
+-- how many aren't empty
+abbrev pub filled : {A : Type 0} → List (Option A) → ℕ
+filled [] = 0
+filled (None ∷ ks) = filled ks
+filled (Some x ∷ ks) = suc (filled ks)
+
+-- where so many of the empty places before it are left
+abbrev pub places_left : {A : Type 0} → ℕ → List (ℕ × A) → ℕ → List (Option A)
+places_left left ks at_end = replicate left None ++ from_kept ks at_end
+
+-- the first of a list is taken off, if there is one
+abbrev pub IsNext : {A : Type 0} → List A → List A → Option A → Type 0
+IsNext before after None = (before ≡ []) × (after ≡ [])
+IsNext before after (Some first) = before ≡ first ∷ after

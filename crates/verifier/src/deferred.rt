@@ -1,0 +1,103 @@
+ghost use Rattle.std.specs.Prelude.{◌≡◌, ◌∷◌, IfOk, map};
+ghost use Rattle.verifier.specs.Fact.{met_value, zipped};
+ghost use Rattle.verifier.specs.Flow.{first_deferred, forgets_in};
+
+use crate::known::{Known, met_value};
+use crate::refusal::RefusalKind;
+use point_types::Items;
+use std::alloc::{AllocError, Global};
+
+/// A value that may be nothing, once more.
+pub fn copied_value(alloc: Global, value: &Option<Known>) -> Result<Option<Known>, AllocError>
+    ensures { IfOk result (λ copy. copy ≡ value.now) }
+{
+    match value {
+        Some(known) => Ok(Some(known.copied(alloc)?)),
+        None => Ok(None),
+    }
+}
+
+/// Deferred values, once more.
+pub fn copied_values(
+    alloc: Global,
+    values: &[Option<Known>],
+) -> Result<Items<Option<Known>>, AllocError>
+    ensures { IfOk result (λ copies. copies ≡ values.now) }
+{
+    let mut copies = Vec::with_capacity(alloc, values.len())?;
+    for value in values {
+        copies.push(copied_value(alloc, value)?)?;
+    }
+    Ok(Items::from_vec(copies))
+}
+
+/// What is still known of a value once a variable has another value.
+pub fn forgets_in(value: Option<Known>, v: usize) -> Option<Known>
+    ensures { result ≡ forgets_in v value }
+{
+    match value {
+        Some(known) => Some(known.forgets(v)),
+        None => None,
+    }
+}
+
+/// What is still known of deferred values once a variable has another value.
+pub fn forgetting(
+    alloc: Global,
+    values: Items<Option<Known>>,
+    v: usize,
+) -> Result<Items<Option<Known>>, AllocError>
+    ensures { IfOk result (λ kept. kept ≡ map (forgets_in v) values) }
+{
+    let mut kept = Vec::with_capacity(alloc, values.len())?;
+    for value in values.into_vec() {
+        kept.push(forgets_in(value, v))?;
+    }
+    Ok(Items::from_vec(kept))
+}
+
+/// What is known of deferred values on ways that meet.
+pub fn met_values(
+    alloc: Global,
+    ones: Items<Option<Known>>,
+    others: Items<Option<Known>>,
+) -> Result<Items<Option<Known>>, AllocError>
+    ensures { IfOk result (λ values. values ≡ zipped met_value ones others) }
+{
+    let mut values = Vec::with_capacity(alloc, ones.len())?;
+    let mut ones = ones.into_vec().into_iter();
+    let mut others = others.into_vec().into_iter();
+    while let Some(one) = ones.next() {
+        let Some(other) = others.next() else {
+            break;
+        };
+        values.push(met_value(one, other))?;
+    }
+    Ok(Items::from_vec(values))
+}
+
+/// The last deferred value, and the others.
+pub fn first_deferred(
+    values: Items<Option<Known>>,
+) -> Result<(Option<Known>, Items<Option<Known>>), RefusalKind>
+    ensures { result ≡ first_deferred values }
+{
+    if values.len() == 0 {
+        return Err(RefusalKind::Stack);
+    }
+    let mut others = values.into_vec();
+    let first = others.remove(0);
+    Ok((first, Items::from_vec(others)))
+}
+
+/// The deferred values with one more, which is the last.
+pub fn deferring(
+    value: Known,
+    values: Items<Option<Known>>,
+) -> Result<Items<Option<Known>>, AllocError>
+    ensures { IfOk result (λ deferred. deferred ≡ Some value ∷ values) }
+{
+    let mut values = values.into_vec();
+    values.insert(0, Some(value))?;
+    Ok(Items::from_vec(values))
+}

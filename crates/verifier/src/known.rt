@@ -1,0 +1,204 @@
+ghost use Rattle.std.specs.Prelude.{◌≡◌, IfOk, None, Some, if◌then◌else◌};
+ghost use Rattle.point_types.specs.Value.{is_bool};
+ghost use Rattle.verifier.specs.Span.{only};
+
+use crate::frame::Frame;
+use crate::span::Span;
+use point_types::{IlType, Items};
+use std::alloc::{AllocError, Global};
+
+/// A variable or an input of the image, by its number, that a value equals.
+#[derive(Clone, Copy, PartialEq, Eq, Debug)]
+pub enum Origin {
+    OfVariable(usize),
+    OfInput(usize),
+}
+
+/// What follows from a truth: for each variable and each tag a span that it lies in, if any, and
+/// whether the tag's input is present.
+#[derive(Drop, Debug)]
+pub struct Consequences {
+    pub variables: Items<Option<Span>>,
+    pub inputs: Items<Option<Span>>,
+    pub present: Items<bool>,
+}
+
+/// What is known of a value: its type, a span that it lies in, what it equals, and what follows where it
+/// is TRUE and where it is FALSE.
+#[derive(Drop, Debug)]
+pub struct Known {
+    pub kind: IlType,
+    pub span: Span,
+    pub origin: Option<Origin>,
+    pub where_true: Consequences,
+    pub where_false: Consequences,
+}
+
+impl Known {
+    ghost use Rattle.std.specs.Prelude.{◌≡◌, IfOk};
+    ghost use Rattle.verifier.specs.Fact.{met_known};
+    ghost use Rattle.verifier.specs.Flow.{forgets, inverted_known, plain_value, presence_value, source_value};
+
+    /// A value that equals nothing known, and of which nothing follows.
+    pub fn plain(
+        alloc: Global,
+        frame: &Frame,
+        kind: IlType,
+        span: Span,
+    ) -> Result<Known, AllocError>
+        ensures { IfOk result (λ v. v ≡ plain_value frame.now kind span) }
+    {
+        Ok(Known {
+            kind,
+            span,
+            origin: None,
+            where_true: nothing(alloc, frame)?,
+            where_false: nothing(alloc, frame)?,
+        })
+    }
+
+    /// The value of a variable or an input. Where it is a BOOL, it is 1 where TRUE, and 0 where FALSE.
+    pub fn source(
+        alloc: Global,
+        frame: &Frame,
+        kind: IlType,
+        span: Span,
+        origin: Origin,
+    ) -> Result<Known, AllocError>
+        ensures { IfOk result (λ v. v ≡ source_value frame.now kind span origin) }
+    {
+        Ok(Known {
+            kind,
+            span,
+            origin: Some(origin),
+            where_true: own(alloc, frame, kind, origin, 1)?,
+            where_false: own(alloc, frame, kind, origin, 0)?,
+        })
+    }
+
+    /// Whether an input has a value; where that is TRUE, it has one.
+    pub fn presence(alloc: Global, frame: &Frame, t: usize) -> Result<Known, AllocError>
+        ensures { IfOk result (λ v. v ≡ presence_value frame.now t) }
+    {
+        Ok(Known {
+            kind: IlType::Bool,
+            span: Span::between(0, 1),
+            origin: None,
+            where_true: nothing(alloc, frame)?.with_presence(t),
+            where_false: nothing(alloc, frame)?,
+        })
+    }
+
+    /// The same once more.
+    pub fn copied(&self, alloc: Global) -> Result<Known, AllocError>
+        ensures { IfOk result (λ v. v ≡ self.now) }
+    {
+        Ok(Known {
+            kind: self.kind,
+            span: self.span,
+            origin: self.origin,
+            where_true: self.where_true.copied(alloc)?,
+            where_false: self.where_false.copied(alloc)?,
+        })
+    }
+
+    /// NOT of a BOOL: what follows changes places.
+    pub fn inverted(self) -> Known
+        ensures { result ≡ inverted_known self }
+    {
+        Known {
+            kind: self.kind,
+            span: self.span.flipped(),
+            origin: None,
+            where_true: self.where_false,
+            where_false: self.where_true,
+        }
+    }
+
+    /// What is still known once a variable has another value.
+    pub fn forgets(self, v: usize) -> Known
+        ensures { result ≡ forgets v self }
+    {
+        Known {
+            kind: self.kind,
+            span: self.span,
+            origin: origin_without(self.origin, v),
+            where_true: self.where_true.without(v),
+            where_false: self.where_false.without(v),
+        }
+    }
+
+    /// What is known on both ways that meet; nothing where the types differ.
+    pub fn met(self, other: Known) -> Option<Known>
+        ensures { result ≡ met_known self other }
+    {
+        if self.kind != other.kind {
+            return None;
+        }
+        Some(Known {
+            kind: self.kind,
+            span: self.span.joined(other.span),
+            origin: met_origin(self.origin, other.origin),
+            where_true: self.where_true.met(other.where_true),
+            where_false: self.where_false.met(other.where_false),
+        })
+    }
+}
+
+ghost use Rattle.verifier.specs.Fact.{OfVariable, met_origin, met_value, with_span};
+ghost use Rattle.verifier.specs.Flow.{names, none_of};
+
+/// What is known of two values, or nothings, on ways that meet.
+pub fn met_value(one: Option<Known>, other: Option<Known>) -> Option<Known>
+    ensures { result ≡ met_value one other }
+{
+    match (one, other) {
+        (Some(one), Some(other)) => one.met(other),
+        _ => None,
+    }
+}
+
+/// Nothing follows, for the frame's variables and inputs.
+pub fn nothing(alloc: Global, frame: &Frame) -> Result<Consequences, AllocError>
+    ensures { IfOk result (λ c. c ≡ none_of frame.now) }
+{
+    Consequences::none(alloc, frame.variables.len(), frame.links.len())
+}
+
+/// What follows where a source is this truth: that it is this number, if it is a BOOL.
+fn own(
+    alloc: Global,
+    frame: &Frame,
+    kind: IlType,
+    origin: Origin,
+    truth: i64,
+) -> Result<Consequences, AllocError>
+    ensures { IfOk result (λ c. c ≡ (if is_bool kind then with_span (Some origin) (only truth) (none_of frame.now) else none_of frame.now)) }
+{
+    let none = nothing(alloc, frame)?;
+    if kind == IlType::Bool {
+        Ok(none.with_span(Some(origin), Span::only(truth)))
+    } else {
+        Ok(none)
+    }
+}
+
+/// What a value still equals once a variable has another value.
+fn origin_without(origin: Option<Origin>, v: usize) -> Option<Origin>
+    ensures { result ≡ (if names (OfVariable v) origin then None else origin) }
+{
+    match origin {
+        Some(Origin::OfVariable(u)) if u == v => None,
+        _ => origin,
+    }
+}
+
+/// What a value equals on both ways that meet.
+fn met_origin(one: Option<Origin>, other: Option<Origin>) -> Option<Origin>
+    ensures { result ≡ met_origin one other }
+{
+    match (one, other) {
+        (Some(a), Some(b)) if a == b => Some(a),
+        _ => None,
+    }
+}

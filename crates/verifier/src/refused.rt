@@ -1,0 +1,27 @@
+use crate::refusal::{Refusal, RefusalKind};
+use scan_code::Image;
+
+/// An image that is refused: why, and at which instruction, counted from 0; for the kinds of tags the
+/// number of the image's tag, and 0 for OverBudget and OutOfMemory.
+#[derive(Drop, Debug)]
+pub struct Refused {
+    pub image: Image,
+    pub at: usize,
+    pub kind: RefusalKind,
+}
+
+impl Refused {
+    ghost use Rattle.std.specs.Prelude.{◌≡◌};
+    ghost use Rattle.verifier.specs.Judging.{refused};
+
+    /// The image that was handed in, with its refusal.
+    pub(crate) fn new(image: Image, refusal: Refusal) -> Refused
+        ensures { result ≡ refused image refusal }
+    {
+        Refused {
+            image,
+            at: refusal.at,
+            kind: refusal.kind,
+        }
+    }
+}

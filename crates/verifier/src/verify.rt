@@ -1,0 +1,116 @@
+ghost use Rattle.std.specs.Prelude.{◌≡◌, ◌<◌, length, IfOk};
+ghost use Rattle.verifier.specs.Judging.{IsVerdict, judged_of, judged_with, linked_frame, within_budget};
+ghost use Rattle.verifier.specs.Listing.{listing_of};
+ghost use Rattle.verifier.specs.Promise.{KeepsPromise};
+ghost use Rattle.verifier.specs.Word.{AnswersOrWantsMemory};
+
+use crate::budget::most_steps;
+use crate::fact::Fact;
+use crate::frame::Frame;
+use crate::link::{Link, links};
+use crate::listing::listing;
+use crate::pass::pass;
+use crate::refusal::{Refusal, RefusalKind};
+use crate::refused::Refused;
+use crate::verified::Verified;
+use point_types::Items;
+use scan_code::{Image, Op};
+use site_model::Site;
+use std::alloc::{AllocError, Global};
+
+/// The greatest budget, in instructions of one scan.
+const MOST_STEPS: usize = 1_000_000;
+
+/// Judges a program against the tags of a site. What is accepted never goes wrong: whatever the readings,
+/// each number in the range of the site's tag and one for each tag with a default, every number of scans
+/// end without a trap and within the budget, with at most DEPTH deferred values, each variable in its
+/// declared range, and each output that is set in the range of the site's tag, one that programs store
+/// (IEC 61131-3 edition 2, 3.2).
+///
+/// Refused is the first tag that isn't the site's; else the first instruction that isn't one; else the
+/// first that may go wrong; else a budget over 1,000,000. The image is handed back.
+pub fn verify<const DEPTH: usize>(
+    alloc: Global,
+    image: Image,
+    site: &Site,
+) -> Result<Verified<DEPTH>, Refused>
+    ensures verdict { IsVerdict DEPTH image site.now.tags result }
+    ensures promise { IfOk result (λ accepted. KeepsPromise DEPTH accepted) }
+{
+    let links = match links(alloc, site.tags(), image.tags.as_slice()) {
+        Ok(links) => links,
+        Err(refusal) => return Err(Refused::new(image, refusal)),
+    };
+    match judge(alloc, &image, links.as_slice(), DEPTH) {
+        Ok(budget) => Ok(Verified {
+            image,
+            links,
+            budget,
+        }),
+        Err(refusal) => Err(Refused::new(image, refusal)),
+    }
+}
+
+/// The budget of a program whose tags are linked.
+fn judge(alloc: Global, image: &Image, links: &[Link], depth: usize) -> Result<u32, Refusal>
+    ensures { AnswersOrWantsMemory (λ budget. budget) (judged_with image.now links.now depth) result }
+{
+    let listing = match listed(alloc, image) {
+        Ok(listing) => listing,
+        Err(refusal) => return Err(refusal),
+    };
+    let frame = frame_of(alloc, image, links, depth, listing)?;
+    judge_frame(alloc, &frame)
+}
+
+/// The instructions of an image; they are few, since each has a byte.
+fn listed(alloc: Global, image: &Image) -> Result<Items<(usize, Op)>, Refusal>
+    ensures listed { AnswersOrWantsMemory (λ listing. listing) (listing_of image.now) result }
+    ensures few { IfOk result (λ listing. length listing < 65536) }
+{
+    let _ = &image.code;
+    listing(alloc, image)
+}
+
+fn frame_of(
+    alloc: Global,
+    image: &Image,
+    links: &[Link],
+    depth: usize,
+    listing: Items<(usize, Op)>,
+) -> Result<Frame, AllocError>
+    ensures { IfOk result (λ frame. frame ≡ linked_frame image.now links.now depth listing) }
+{
+    Ok(Frame {
+        variables: Items::from_vec(Vec::from_slice(alloc, image.vars.as_slice())?),
+        links: Items::from_vec(Vec::from_slice(alloc, links)?),
+        depth,
+        listing,
+    })
+}
+
+/// The budget, where no instruction refuses.
+fn judge_frame(alloc: Global, frame: &Frame) -> Result<u32, Refusal>
+    requires { length frame.now.listing < 65536 }
+    ensures { AnswersOrWantsMemory (λ budget. budget) (judged_of frame.now) result }
+{
+    let reached = match pass::<Fact>(alloc, frame) {
+        Ok(reached) => reached,
+        Err(refusal) => return Err(refusal),
+    };
+    let steps = most_steps(alloc, frame.instructions(), reached.as_slice())?;
+    within_budget(steps)
+}
+
+fn within_budget(steps: usize) -> Result<u32, Refusal>
+    ensures { result ≡ within_budget steps }
+{
+    if steps <= MOST_STEPS {
+        Ok(steps as u32)
+    } else {
+        Err(Refusal {
+            at: 0,
+            kind: RefusalKind::OverBudget,
+        })
+    }
+}
