@@ -10,4 +10,5 @@ pub mod ReportLemmas
 pub mod ScanLemmas
 pub mod SourceLemmas
 mod Texts
+pub mod UnitLemmas
 pub mod WholeLemmas

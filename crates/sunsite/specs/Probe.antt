@@ -1,4 +1,4 @@
--- What `probe` prints of a unit: a line for each model, below it one for each point that is present, and where its registers end.
+-- What `probe` prints: the lines of some map. That it is the map of the unit that was asked, and the words those that it gave, is not said here.
 -- SunSpec Device Information Model Specification, models in Modbus registers and the table of types.
 use Rattle.std.specs.Prelude.{◌≡◌, ◌⊎◌, ℕ, nat_le, ◌&&◌, Bool, List, [], ◌∷◌, ◌++◌, ℤ, Option, None, Some, option_and_then, if◌then◌else◌, codes}
 use Rattle.std.specs.Fmt.{decimal, signed_decimal}
@@ -48,14 +48,19 @@ point_lines (p ∷ ps) words = shown_line p.name (shown_number p words) ++ point
 abbrev pub ArePoints : List ℕ → Type 0
 ArePoints lines = (lines ≡ []) ⊎ ((points : List Point) × (words : List ℕ) × (lines ≡ point_lines points words))
 
--- the lines of a unit, of which the last says where its registers end
-abbrev pub AreUnitLines : List ℕ → Type 0
-AreUnitLines lines = (models : List ℕ) × (map : Layout) × (lines ≡ models ++ end_line map.end)
+-- the models of a map, each with its points
+abbrev pub AreModels : List Block → List ℕ → Type 0
+AreModels [] lines = lines ≡ []
+AreModels (b ∷ bs) lines = (points rest : List ℕ) × ArePoints points × AreModels bs rest × (lines ≡ model_line b ++ points ++ rest)
+
+-- the lines of a unit's models, and behind them where its registers end
+abbrev pub AreUnitLines : Layout → List ℕ → Type 0
+AreUnitLines map lines = (models : List ℕ) × AreModels map.blocks models × (lines ≡ models ++ end_line map.end)
 
 -- a unit's lines; or why it has no map; or why the link failed
 abbrev pub TellsAsked : Told → Type 0
 TellsAsked told =
-    ((lines : List ℕ) × AreUnitLines lines × (told ≡ record { lines = lines; status = 0 }))
+    ((map : Layout) × (lines : List ℕ) × AreUnitLines map lines × (told ≡ record { lines = lines; status = 0 }))
     ⊎ ((fault : MapFault) × (told ≡ refused_with (bad_map_line (map_fault_word fault))))
     ⊎ ((fault : LinkFault) × (told ≡ record { lines = link_line (link_fault_word fault); status = 3 }))
 

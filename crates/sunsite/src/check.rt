@@ -2,7 +2,7 @@ ghost use Rattle.std.specs.Prelude.{map, string_bytes, IfOk};
 ghost use Rattle.sunsite.specs.Check.{IsCheck, TellsInputs};
 
 use crate::accepted::accept;
-use crate::outcome::{Outcome, write_lines};
+use crate::outcome::{Outcome, tell_no_memory};
 use std::alloc::{AllocError, Global};
 use std::io::Write;
 
@@ -15,7 +15,7 @@ pub fn check<W: Write>(alloc: Global, site: &str, program: &str, defs: &[String]
 {
     match outcome_of(alloc, site, program, defs) {
         Ok(outcome) => outcome.tell(out),
-        Err(AllocError) => write_lines(out, b"refused: memory\n", 1),
+        Err(AllocError) => tell_no_memory(out),
     }
 }
 

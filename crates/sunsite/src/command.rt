@@ -1,6 +1,6 @@
 //! The command line.
 use crate::check::check;
-use crate::outcome::{tell_unlinked, write_lines};
+use crate::outcome::{tell_no_memory, tell_unlinked, write_lines};
 use crate::plant_run::{PlantRun, run_plant};
 use crate::probe::probe;
 use crate::report::unusable;
@@ -16,6 +16,9 @@ use std::net::{Net, TcpStream};
 use std::process::Processes;
 use std::rt::{Env, Files};
 use std::{env, io};
+
+#[cfg(test)]
+mod tests;
 
 /// The status of a command line that isn't one.
 const BAD_COMMAND_LINE: u8 = 2;
@@ -129,7 +132,7 @@ pub fn run(rt: &(impl Input + Print + Eprint + AllocGlobal + Env + Files + Net +
     let alloc = rt.alloc();
     match words(rt) {
         Ok(words) => obeyed(rt, alloc, words.as_slice()),
-        Err(_) => write_lines(&mut io::writer(rt), b"refused: memory\n", 1),
+        Err(_) => tell_no_memory(&mut io::writer(rt)),
     }
 }
 
@@ -145,7 +148,7 @@ fn obeyed(
     words: &[String],
 ) -> u8 {
     let Ok(command) = command(alloc) else {
-        return write_lines(&mut io::writer(rt), b"refused: memory\n", 1);
+        return tell_no_memory(&mut io::writer(rt));
     };
     match command.try_get_matches_from(words) {
         Ok(matches) => match matches.subcommand() {
@@ -255,10 +258,10 @@ impl Refusal<'_> {
     /// Writes its line, and gives the status.
     fn tell<W: Write>(self, alloc: Global, out: &mut W) -> u8 {
         match self {
-            Refusal::OutOfMemory => write_lines(out, b"refused: memory\n", 1),
+            Refusal::OutOfMemory => tell_no_memory(out),
             Refusal::File(path) => match unusable(alloc, path) {
                 Ok(line) => write_lines(out, line.as_bytes(), 1),
-                Err(_) => write_lines(out, b"refused: memory\n", 1),
+                Err(_) => tell_no_memory(out),
             },
         }
     }

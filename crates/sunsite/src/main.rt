@@ -23,7 +23,7 @@ mod source;
 mod tests;
 mod trial;
 
-use outcome::write_lines;
+use outcome::{tell_no_memory, write_lines};
 use source::{SourceFault, read_text};
 use std::net::Net;
 use std::process::{ExitCode, Processes};
@@ -36,10 +36,10 @@ fn main(rt: HostRuntime) -> ExitCode {
 
 /// The status of the run: without words a trial scan of standard input, else what the words ask for.
 fn run(rt: &(impl Input + Print + Eprint + AllocGlobal + Env + Files + Net + Processes)) -> u8 {
-    if has_words(rt) {
-        command::run(rt)
-    } else {
-        trial_of_input(rt)
+    match has_words(rt) {
+        Ok(true) => command::run(rt),
+        Ok(false) => trial_of_input(rt),
+        Err(_) => tell_no_memory(&mut io::writer(rt)),
     }
 }
 
@@ -48,13 +48,10 @@ fn trial_of_input(rt: &(impl Input + Print + AllocGlobal)) -> u8 {
     match read_text(rt.alloc(), rt.reader()) {
         Ok(text) => trial::trial(rt.alloc(), text.as_str(), &mut out),
         Err(SourceFault::Unusable) => write_lines(&mut out, b"refused: file -\n", 1),
-        Err(SourceFault::OutOfMemory) => write_lines(&mut out, b"refused: memory\n", 1),
+        Err(SourceFault::OutOfMemory) => tell_no_memory(&mut out),
     }
 }
 
-fn has_words(rt: &(impl AllocGlobal + Env)) -> bool {
-    match env::args(rt) {
-        Ok(words) => words.count() > 1,
-        Err(_) => false,
-    }
+fn has_words(rt: &(impl AllocGlobal + Env)) -> io::Result<bool> {
+    Ok(env::args(rt)?.count() > 1)
 }

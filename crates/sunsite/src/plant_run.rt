@@ -1,5 +1,5 @@
 //! A whole run over loopback: a simulated plant in a second process, the gateway's scans of it, and a probe of the gateway.
-use crate::outcome::{tell_unlinked, write_lines};
+use crate::outcome::{tell_no_memory, tell_unlinked, write_lines};
 use crate::report::unusable;
 use crate::scans::{DEPTH, scans};
 use crate::socket::{SocketLink, loopback};
@@ -205,6 +205,6 @@ fn port_in(line: &[u8]) -> Option<u16> {
 fn no_start<W: Write>(alloc: Global, path: &str, out: &mut W) -> u8 {
     match unusable(alloc, path) {
         Ok(line) => write_lines(out, line.as_bytes(), 1),
-        Err(_) => write_lines(out, b"refused: memory\n", 1),
+        Err(_) => tell_no_memory(out),
     }
 }

@@ -1,11 +1,12 @@
 //! The points of a device, as they are read over a link.
 ghost use Rattle.std.specs.Prelude.{◌≡◌, ◌≢◌, ◌≤◌, ◌++◌, ℕ, List, true, IfOk, OnOk};
 ghost use Rattle.point_types.specs.declared.kind.Kind.TheVariants as kinds;
+ghost use Rattle.register_map.specs.Layout.{Layout};
 ghost use Rattle.site_model.specs.Tagging.{is_numeric};
 ghost use Rattle.sunsite.specs.Probe.{ArePoints, AreUnitLines, IsProbe, TellsAsked, point_lines, shown_line, shown_number};
 
 use crate::definitions::shipped_definition;
-use crate::outcome::{Outcome, write_lines};
+use crate::outcome::{Outcome, tell_no_memory};
 use crate::report::{no_map, push_end, push_model, push_point};
 use gateway::{Outcome as Answer, Poller};
 use modbus_frame::{Link, LinkFault, Request, Words};
@@ -32,7 +33,7 @@ pub fn probe<L: Link + Drop, W: Write>(alloc: Global, link: L, unit: u8, out: &m
 {
     match outcome_of(alloc, link, unit) {
         Ok(outcome) => outcome.tell(out),
-        Err(AllocError) => write_lines(out, b"refused: memory\n", 1),
+        Err(AllocError) => tell_no_memory(out),
     }
 }
 
@@ -69,7 +70,7 @@ impl<T: Drop> From<AllocFailed<T>> for NoModels {
 
 /// The lines of a unit's models.
 fn models_of<L: Link + Drop>(alloc: Global, link: L, unit: u8) -> Result<Vec<u8>, NoModels>
-    ensures { IfOk result (λ lines. AreUnitLines lines.items) }
+    ensures { IfOk result (λ lines. (map : Layout) × AreUnitLines map lines.items) }
 {
     let mut device = Device {
         poller: Poller::new(link),

@@ -3,7 +3,7 @@ ghost use Rattle.std.specs.Prelude.{map, string_bytes, IfOk};
 ghost use Rattle.sunsite.specs.Simulate.{GivesPlant, TellsPlant};
 
 use crate::definitions::definitions;
-use crate::outcome::{Outcome, tell_unlinked, write_lines};
+use crate::outcome::{Outcome, tell_no_memory, tell_unlinked, write_lines};
 use crate::report::{listening, no_plant, undefined};
 use crate::socket::{SocketLink, loopback};
 use inverter_sim::{Plant, PlantFault, serve_link};
@@ -25,7 +25,7 @@ pub fn simulate<R: Net, W: Write>(
     match plant_of(alloc, plant, defs) {
         Ok(Ok(plant)) => served(rt, alloc, plant, out),
         Ok(Err(refused)) => refused.tell(out),
-        Err(AllocError) => write_lines(out, b"refused: memory\n", 1),
+        Err(AllocError) => tell_no_memory(out),
     }
 }
 
@@ -68,7 +68,7 @@ fn served<R: Net, W: Write>(rt: &R, alloc: Global, plant: Plant, out: &mut W) ->
         return tell_unlinked(alloc, LinkFault::Read, out);
     };
     let Ok(line) = listening(alloc, address.port()) else {
-        return write_lines(out, b"refused: memory\n", 1);
+        return tell_no_memory(out);
     };
     match write_lines(out, line.as_bytes(), 0) {
         0 => connected(alloc, &listener, plant, out),

@@ -1,4 +1,6 @@
 mod check;
+mod files;
+mod gateways;
 mod plants;
 mod probe;
 mod scans;

@@ -4,7 +4,7 @@ ghost use Rattle.sunsite.specs.Outcome.{IsTrial, TellsGivenImage, TellsInput, Te
 
 use crate::given::readings_given;
 use crate::input::program_length;
-use crate::outcome::{Outcome, write_lines};
+use crate::outcome::{Outcome, tell_no_memory};
 use crate::report::{bad_input, unassembled, unread};
 use crate::scan::scan_outcome;
 use il_assemble::{AsmFaultKind, assemble};
@@ -21,7 +21,7 @@ pub fn trial<W: Write>(alloc: Global, input: &str, out: &mut W) -> u8
 {
     match outcome_of(alloc, input) {
         Ok(outcome) => outcome.tell(out),
-        Err(AllocError) => write_lines(out, b"refused: memory\n", 1),
+        Err(AllocError) => tell_no_memory(out),
     }
 }
 

@@ -3,6 +3,7 @@ pub mod Spans
 pub mod Spread
 pub mod Overlaying
 pub mod Lists
+pub mod Marking
 pub mod Covering
 pub mod Made
 pub mod Listings

@@ -1,5 +1,5 @@
 -- One more span over those at entry.
-use Rattle.std.proofs.Common.{◌≡◌, ℕ, zero, suc, Bool, true, false, arith, if◌then◌else◌, List, [], ◌∷◌, ◌++◌, length, replicate, Option, Some, None, slice_get, slice_set, refl, ap, sym}
+use Rattle.std.proofs.Common.{◌≡◌, ℕ, zero, suc, Bool, true, false, arith, if◌then◌else◌, List, [], ◌∷◌, ◌++◌, length, replicate, Option, Some, None, refl, ap}
 use Rattle.verifier.specs.Span.{Span, Empty, Between, same_span}
 use Rattle.point_types.specs.Value.{int_eq}
 use Rattle.verifier.proofs.Comparing.{and_left, and_right, both_true, eq_in, eq_out}
@@ -24,11 +24,6 @@ overlaid_none (s ∷ spans) = ap (λ rest. s ∷ rest) (overlaid_none spans)
 pub none_changes : (spans : List Span) (n : ℕ) → AreChanges spans (replicate n None)
 none_changes spans zero = tt
 none_changes spans (suc n) = (tt, none_changes (after_first spans) n)
-
--- with another span behind so many, or none any more
-abbrev pub written : Option ℕ → List Span → Span → List Span
-written None spans s = spans
-written (Some n) spans s = slice_set spans n s
 
 same_self : (s : Span) → same_span s s ≡ true
 same_self Empty = refl

@@ -1,5 +1,5 @@
 -- Lists of which most places are empty, by those that aren't.
-use Rattle.std.specs.Prelude.{ℕ, suc, ◌≡◌, List, [], ◌∷◌, ◌++◌, replicate, Option, Some, None}
+use Rattle.std.specs.Prelude.{ℕ, suc, ◌≡◌, Bool, true, false, List, [], ◌∷◌, ◌++◌, replicate, Option, Some, None}
 
 -- each kept item behind so many empty places, and then those at the end
 abbrev pub places : {A : Type 0} → List (ℕ × A) → ℕ → List (Option A)
@@ -14,6 +14,20 @@ empty_before (k ∷ ks) at_end = k.0
 abbrev pub from_kept : {A : Type 0} → List (ℕ × A) → ℕ → List (Option A)
 from_kept [] at_end = []
 from_kept (k ∷ ks) at_end = Some k.1 ∷ places ks at_end
+
+abbrev pub is_filled : {A : Type 0} → Option A → Bool
+is_filled None = false
+is_filled (Some x) = true
+
+-- the first of two places that isn't empty
+abbrev pub either_place : {A : Type 0} → Option A → Option A → Option A
+either_place None other = other
+either_place (Some x) other = Some x
+
+-- the second of two places, where the first one isn't empty
+abbrev pub both_places : {A : Type 0} → Option A → Option A → Option A
+both_places None other = None
+both_places (Some x) other = other
 
 -- how many aren't empty
 abbrev pub filled : {A : Type 0} → List (Option A) → ℕ

@@ -10,9 +10,6 @@ use std::alloc::{AllocError, Global};
 use std::marker::Model;
 use std::rc::Rc;
 
-#[cfg(test)]
-mod tests;
-
 /// The span of each variable or of each tag. Only those are kept that differ from the span at entry; the
 /// spans at entry are shared.
 #[derive(Drop, Debug)]
@@ -139,17 +136,16 @@ impl Changes {
     }
 
     /// What is left of the spans where those that follow, if any, hold too.
-    pub fn narrowed(&self, alloc: Global, follows: &[Option<Span>]) -> Result<Changes, AllocError>
+    pub fn narrowed(&self, alloc: Global, follows: &Sparse<Span>) -> Result<Changes, AllocError>
         ensures { IfOk result (λ changes. changes ≡ zipped applied_span self.now follows.now) }
     {
         let mut changes = self.begun(alloc)?;
-        let (mut spans, mut known) = (self.spans(), follows);
+        let (mut spans, mut known) = (self.spans(), follows.rest());
         while let Some(span) = spans.next() {
-            let [other, after @ ..] = known else {
+            let Some(other) = known.next() else {
                 break;
             };
-            changes.push(narrowed_span(span, *other))?;
-            known = after;
+            changes.push(narrowed_span(span, other))?;
         }
         Ok(changes)
     }

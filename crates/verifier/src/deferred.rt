@@ -32,12 +32,16 @@ pub fn copied_values(
 }
 
 /// What is still known of a value once a variable has another value.
-pub fn forgets_in(value: Option<Known>, v: usize) -> Option<Known>
-    ensures { result ≡ forgets_in v value }
+pub fn forgets_in(
+    alloc: Global,
+    value: Option<Known>,
+    v: usize,
+) -> Result<Option<Known>, AllocError>
+    ensures { IfOk result (λ kept. kept ≡ forgets_in v value) }
 {
     match value {
-        Some(known) => Some(known.forgets(v)),
-        None => None,
+        Some(known) => Ok(Some(known.forgets(alloc, v)?)),
+        None => Ok(None),
     }
 }
 
@@ -51,7 +55,7 @@ pub fn forgetting(
 {
     let mut kept = Vec::with_capacity(alloc, values.len())?;
     for value in values.into_vec() {
-        kept.push(forgets_in(value, v))?;
+        kept.push(forgets_in(alloc, value, v)?)?;
     }
     Ok(Items::from_vec(kept))
 }
@@ -71,7 +75,7 @@ pub fn met_values(
         let Some(other) = others.next() else {
             break;
         };
-        values.push(met_value(one, other))?;
+        values.push(met_value(alloc, one, other))?;
     }
     Ok(Items::from_vec(values))
 }

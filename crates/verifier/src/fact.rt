@@ -7,21 +7,21 @@ use crate::changes::Changes;
 use crate::deferred::{copied_value, copied_values, forgets_in, forgetting, met_values};
 use crate::frame::Frame;
 use crate::known::{Consequences, Known, Origin, met_value};
-use crate::parts::{
-    declared_ranges, none_present, present_in_both, present_in_either, site_ranges,
-};
+use crate::parts::{declared_ranges, none_present, site_ranges};
+use crate::presence::Presence;
 use crate::span::Span;
 use point_types::Items;
 use std::alloc::{AllocError, Global};
 
 /// What is known before an instruction: a span for each variable and each tag, which inputs are present,
 /// the deferred values, the last one first, and the result; a value that is nothing is None. Of the spans
-/// only those are kept that differ from the ranges that are declared.
+/// only those are kept that differ from the ranges that are declared, and of the inputs those that are
+/// present.
 #[derive(Drop, Debug)]
 pub struct Fact {
     pub variables: Changes,
     pub inputs: Changes,
-    pub present: Items<bool>,
+    pub present: Presence,
     pub deferred: Items<Option<Known>>,
     pub result: Option<Known>,
 }
@@ -37,7 +37,7 @@ impl Fact {
                 declared_ranges(alloc, frame.variables.as_slice())?,
             )?,
             inputs: Changes::at_entry(alloc, site_ranges(alloc, frame.links.as_slice())?)?,
-            present: none_present(alloc, frame.links.as_slice())?,
+            present: none_present(alloc, frame.links.as_slice()),
             deferred: Items::new(alloc),
             result: None,
         })
@@ -50,7 +50,7 @@ impl Fact {
         Ok(Fact {
             variables: self.variables.copied(alloc)?,
             inputs: self.inputs.copied(alloc)?,
-            present: Items::from_vec(Vec::from_slice(alloc, self.present.as_slice())?),
+            present: self.present.copied(alloc)?,
             deferred: copied_values(alloc, self.deferred.as_slice())?,
             result: copied_value(alloc, &self.result)?,
         })
@@ -68,11 +68,9 @@ impl Fact {
         ensures { IfOk result (λ fact. fact ≡ under follows.now self.now) }
     {
         Ok(Fact {
-            variables: self
-                .variables
-                .narrowed(alloc, follows.variables.as_slice())?,
-            inputs: self.inputs.narrowed(alloc, follows.inputs.as_slice())?,
-            present: present_in_either(alloc, self.present.as_slice(), follows.present.as_slice())?,
+            variables: self.variables.narrowed(alloc, &follows.variables)?,
+            inputs: self.inputs.narrowed(alloc, &follows.inputs)?,
+            present: self.present.either(alloc, &follows.present)?,
             deferred: copied_values(alloc, self.deferred.as_slice())?,
             result: copied_value(alloc, &self.result)?,
         })
@@ -132,7 +130,7 @@ impl Fact {
             inputs: self.inputs,
             present: self.present,
             deferred: forgetting(alloc, self.deferred, v)?,
-            result: forgets_in(self.result, v),
+            result: forgets_in(alloc, self.result, v)?,
         })
     }
 
@@ -140,7 +138,7 @@ impl Fact {
     pub fn stored(self, alloc: Global, v: usize, value: Known) -> Result<Fact, AllocError>
         ensures { IfOk result (λ fact. fact ≡ stored_fact v value self) }
     {
-        let kept = value.forgets(v);
+        let kept = value.forgets(alloc, v)?;
         let fact = self.with_span(alloc, v, kept.span)?.forgotten(alloc, v)?;
         Ok(fact.with_value(Known {
             kind: kept.kind,
@@ -187,9 +185,9 @@ impl Fact {
         Ok(Some(Fact {
             variables: self.variables.joined(alloc, &other.variables)?,
             inputs: self.inputs.joined(alloc, &other.inputs)?,
-            present: present_in_both(alloc, self.present.as_slice(), other.present.as_slice())?,
+            present: self.present.both(alloc, &other.present)?,
             deferred: met_values(alloc, self.deferred, other.deferred)?,
-            result: met_value(self.result, other.result),
+            result: met_value(alloc, self.result, other.result),
         }))
     }
 }

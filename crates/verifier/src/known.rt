@@ -3,8 +3,10 @@ ghost use Rattle.point_types.specs.Value.{is_bool};
 ghost use Rattle.verifier.specs.Span.{only};
 
 use crate::frame::Frame;
+use crate::presence::Presence;
 use crate::span::Span;
-use point_types::{IlType, Items};
+use crate::sparse::Sparse;
+use point_types::IlType;
 use std::alloc::{AllocError, Global};
 
 /// A variable or an input of the image, by its number, that a value equals.
@@ -15,12 +17,12 @@ pub enum Origin {
 }
 
 /// What follows from a truth: for each variable and each tag a span that it lies in, if any, and
-/// whether the tag's input is present.
+/// whether the tag's input is present. Only those are kept of which something follows.
 #[derive(Drop, Debug)]
 pub struct Consequences {
-    pub variables: Items<Option<Span>>,
-    pub inputs: Items<Option<Span>>,
-    pub present: Items<bool>,
+    pub variables: Sparse<Span>,
+    pub inputs: Sparse<Span>,
+    pub present: Presence,
 }
 
 /// What is known of a value: its type, a span that it lies in, what it equals, and what follows where it
@@ -40,21 +42,16 @@ impl Known {
     ghost use Rattle.verifier.specs.Flow.{forgets, inverted_known, plain_value, presence_value, source_value};
 
     /// A value that equals nothing known, and of which nothing follows.
-    pub fn plain(
-        alloc: Global,
-        frame: &Frame,
-        kind: IlType,
-        span: Span,
-    ) -> Result<Known, AllocError>
-        ensures { IfOk result (λ v. v ≡ plain_value frame.now kind span) }
+    pub fn plain(alloc: Global, frame: &Frame, kind: IlType, span: Span) -> Known
+        ensures { result ≡ plain_value frame.now kind span }
     {
-        Ok(Known {
+        Known {
             kind,
             span,
             origin: None,
-            where_true: nothing(alloc, frame)?,
-            where_false: nothing(alloc, frame)?,
-        })
+            where_true: nothing(alloc, frame),
+            where_false: nothing(alloc, frame),
+        }
     }
 
     /// The value of a variable or an input. Where it is a BOOL, it is 1 where TRUE, and 0 where FALSE.
@@ -84,8 +81,8 @@ impl Known {
             kind: IlType::Bool,
             span: Span::between(0, 1),
             origin: None,
-            where_true: nothing(alloc, frame)?.with_presence(t),
-            where_false: nothing(alloc, frame)?,
+            where_true: nothing(alloc, frame).with_presence(alloc, t)?,
+            where_false: nothing(alloc, frame),
         })
     }
 
@@ -116,20 +113,20 @@ impl Known {
     }
 
     /// What is still known once a variable has another value.
-    pub fn forgets(self, v: usize) -> Known
-        ensures { result ≡ forgets v self }
+    pub fn forgets(self, alloc: Global, v: usize) -> Result<Known, AllocError>
+        ensures { IfOk result (λ kept. kept ≡ forgets v self) }
     {
-        Known {
+        Ok(Known {
             kind: self.kind,
             span: self.span,
             origin: origin_without(self.origin, v),
-            where_true: self.where_true.without(v),
-            where_false: self.where_false.without(v),
-        }
+            where_true: self.where_true.without(alloc, v)?,
+            where_false: self.where_false.without(alloc, v)?,
+        })
     }
 
     /// What is known on both ways that meet; nothing where the types differ.
-    pub fn met(self, other: Known) -> Option<Known>
+    pub fn met(self, alloc: Global, other: Known) -> Option<Known>
         ensures { result ≡ met_known self other }
     {
         if self.kind != other.kind {
@@ -139,8 +136,8 @@ impl Known {
             kind: self.kind,
             span: self.span.joined(other.span),
             origin: met_origin(self.origin, other.origin),
-            where_true: self.where_true.met(other.where_true),
-            where_false: self.where_false.met(other.where_false),
+            where_true: self.where_true.met(alloc, other.where_true),
+            where_false: self.where_false.met(alloc, other.where_false),
         })
     }
 }
@@ -149,18 +146,18 @@ ghost use Rattle.verifier.specs.Fact.{OfVariable, met_origin, met_value, with_sp
 ghost use Rattle.verifier.specs.Flow.{names, none_of};
 
 /// What is known of two values, or nothings, on ways that meet.
-pub fn met_value(one: Option<Known>, other: Option<Known>) -> Option<Known>
+pub fn met_value(alloc: Global, one: Option<Known>, other: Option<Known>) -> Option<Known>
     ensures { result ≡ met_value one other }
 {
     match (one, other) {
-        (Some(one), Some(other)) => one.met(other),
+        (Some(one), Some(other)) => one.met(alloc, other),
         _ => None,
     }
 }
 
-/// Nothing follows, for the frame's variables and inputs.
-pub fn nothing(alloc: Global, frame: &Frame) -> Result<Consequences, AllocError>
-    ensures { IfOk result (λ c. c ≡ none_of frame.now) }
+/// Nothing follows, for the frame's variables and inputs; takes no memory.
+pub fn nothing(alloc: Global, frame: &Frame) -> Consequences
+    ensures { result ≡ none_of frame.now }
 {
     Consequences::none(alloc, frame.variables.len(), frame.links.len())
 }
@@ -175,9 +172,9 @@ fn own(
 ) -> Result<Consequences, AllocError>
     ensures { IfOk result (λ c. c ≡ (if is_bool kind then with_span (Some origin) (only truth) (none_of frame.now) else none_of frame.now)) }
 {
-    let none = nothing(alloc, frame)?;
+    let none = nothing(alloc, frame);
     if kind == IlType::Bool {
-        Ok(none.with_span(Some(origin), Span::only(truth)))
+        none.with_span(alloc, Some(origin), Span::only(truth))
     } else {
         Ok(none)
     }

@@ -23,12 +23,11 @@ pub mod listing;
 pub mod operand;
 mod parts;
 pub mod pass;
+pub mod presence;
 pub mod refusal;
 pub mod refused;
 pub mod span;
 pub mod sparse;
-#[cfg(test)]
-mod tests;
 pub mod verified;
 pub mod verify;
 

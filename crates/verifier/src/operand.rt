@@ -46,7 +46,7 @@ pub fn selected(alloc: Global, frame: &Frame, chooser: &Known, a: &Known, b: &Kn
     if chooser.kind != IlType::Bool || a.kind != b.kind {
         return Ok(Err(RefusalKind::WrongType));
     }
-    Ok(Ok(Known::plain(alloc, frame, a.kind, a.span.joined(b.span))?))
+    Ok(Ok(Known::plain(alloc, frame, a.kind, a.span.joined(b.span))))
 }
 
 /// ABS of a whole number.
@@ -57,7 +57,7 @@ pub fn absolute(alloc: Global, frame: &Frame, v: &Known) -> Made
         return Ok(Err(RefusalKind::WrongType));
     }
     match v.span.absolute(v.kind) {
-        Some(span) => Ok(Ok(Known::plain(alloc, frame, v.kind, span)?)),
+        Some(span) => Ok(Ok(Known::plain(alloc, frame, v.kind, span))),
         None => Ok(Err(RefusalKind::Overflow)),
     }
 }
@@ -70,7 +70,7 @@ pub fn converted(alloc: Global, frame: &Frame, from: IlType, to: IlType, v: &Kno
         return Ok(Err(RefusalKind::WrongType));
     }
     if v.span.lies_in(to.low(), to.high()) {
-        Ok(Ok(Known::plain(alloc, frame, to, v.span)?))
+        Ok(Ok(Known::plain(alloc, frame, to, v.span)))
     } else {
         Ok(Err(RefusalKind::Overflow))
     }
@@ -88,7 +88,7 @@ fn and(alloc: Global, frame: &Frame, d: &Known, r: &Known) -> Made
         span: d.span.both(r.span),
         origin: None,
         where_true: d.where_true.united(alloc, &r.where_true)?,
-        where_false: nothing(alloc, frame)?,
+        where_false: nothing(alloc, frame),
     }))
 }
 
@@ -103,7 +103,7 @@ fn or(alloc: Global, frame: &Frame, d: &Known, r: &Known) -> Made
         kind: IlType::Bool,
         span: d.span.either(r.span),
         origin: None,
-        where_true: nothing(alloc, frame)?,
+        where_true: nothing(alloc, frame),
         where_false: d.where_false.united(alloc, &r.where_false)?,
     }))
 }
@@ -115,7 +115,7 @@ fn xor(alloc: Global, frame: &Frame, d: &Known, r: &Known) -> Made
     if d.kind != IlType::Bool || r.kind != IlType::Bool {
         return Ok(Err(RefusalKind::WrongType));
     }
-    Ok(Ok(Known::plain(alloc, frame, IlType::Bool, Span::between(0, 1))?))
+    Ok(Ok(Known::plain(alloc, frame, IlType::Bool, Span::between(0, 1))))
 }
 
 /// An operator on whole numbers of one type, whose results lie in that type. No divisor is 0.
@@ -134,7 +134,7 @@ fn within_type(alloc: Global, frame: &Frame, kind: IlType, span: Option<Span>) -
     ensures { IfOk result (λ v. v ≡ within_type frame.now kind span) }
 {
     match span {
-        Some(span) => Ok(Ok(Known::plain(alloc, frame, kind, span)?)),
+        Some(span) => Ok(Ok(Known::plain(alloc, frame, kind, span))),
         None => Ok(Err(RefusalKind::Overflow)),
     }
 }
@@ -193,9 +193,9 @@ fn related(
 ) -> Result<Consequences, AllocError>
     ensures { IfOk result (λ c. c ≡ relation_sets frame.now o d.now r.now) }
 {
-    let none = nothing(alloc, frame)?;
-    let of_first = none.with_span(d.origin, d.span.cut_by(o, r.span));
-    Ok(of_first.with_span(r.origin, r.span.cut_by(mirrored(o), d.span)))
+    let none = nothing(alloc, frame);
+    let of_first = none.with_span(alloc, d.origin, d.span.cut_by(o, r.span))?;
+    of_first.with_span(alloc, r.origin, r.span.cut_by(mirrored(o), d.span))
 }
 
 /// How b stands to a where a stands so to b.

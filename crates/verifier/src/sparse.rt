@@ -1,4 +1,4 @@
-ghost use Rattle.std.specs.Prelude.{◌≡◌, ◌∷◌, [], ◌++◌, length, None, OnErr, OnOk, IfOk, replicate};
+ghost use Rattle.std.specs.Prelude.{◌≡◌, ◌∷◌, [], ◌++◌, length, None, OnErr, OnOk, IfOk, replicate, slice_get, slice_set};
 ghost use Rattle.verifier.specs.Places.{IsNext, empty_before, filled};
 
 use std::alloc::{AllocError, Global};
@@ -85,6 +85,47 @@ impl<T: Copy> Sparse<T> {
                 Ok(())
             }
         }
+    }
+
+    /// The place of a number, if there is one.
+    pub fn get(&self, number: usize) -> Option<Option<T>>
+        ensures { result ≡ slice_get self.now number }
+    {
+        let (mut places, mut before) = (self.rest(), number);
+        while let Some(place) = places.next() {
+            if before == 0 {
+                return Some(place);
+            }
+            before -= 1;
+        }
+        None
+    }
+
+    /// With another place at a number, if there is one.
+    pub fn with(
+        &self,
+        alloc: Global,
+        number: usize,
+        place: Option<T>,
+    ) -> Result<Sparse<T>, AllocError>
+        ensures { IfOk result (λ changed. changed ≡ slice_set self.now number place) }
+    {
+        let mut changed = Sparse::empty(alloc, 0);
+        let (mut places, mut before) = (self.rest(), Some(number));
+        while let Some(old) = places.next() {
+            match before {
+                Some(0) => {
+                    changed.push(place)?;
+                    before = None;
+                }
+                Some(more) => {
+                    changed.push(old)?;
+                    before = Some(more - 1);
+                }
+                None => changed.push(old)?,
+            }
+        }
+        Ok(changed)
     }
 
     /// The places, from the first one on.

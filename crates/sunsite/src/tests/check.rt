@@ -161,3 +161,18 @@ fn a_file_that_is_not_there_is_refused_by_its_path(rt: HostRuntime) -> Result<()
     assert_eq!(rt; line.as_str(), "refused: file no/such/site.toml\n");
     Ok(())
 }
+
+/// Run with each allocation refused in turn, it shows that the want of memory is told, and nothing else.
+#[test]
+fn the_verdict_is_told_or_that_memory_was_refused(rt: HostRuntime) -> Result<(), Fail> {
+    let mut out = Vec::with_capacity(rt.alloc(), 64)?;
+    let status = check(rt.alloc(), SITE, PROGRAM, &[], &mut out);
+    let lines = String::from_utf8(out)?;
+    let told = if status == 0 {
+        "accepted\nbudget 3\n"
+    } else {
+        "refused: memory\n"
+    };
+    assert_eq!(rt; lines.as_str(), told);
+    Ok(())
+}

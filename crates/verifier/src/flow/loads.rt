@@ -8,7 +8,6 @@ use crate::flow::{Ways, goes_on};
 use crate::frame::Frame;
 use crate::known::{Known, Origin};
 use crate::link::Link;
-use crate::parts::present_at;
 use crate::refusal::RefusalKind;
 use crate::span::Span;
 use point_types::IlType;
@@ -41,7 +40,7 @@ impl Fact {
         let Some(span) = self.inputs.get(t) else {
             return Ok(Err(RefusalKind::Code));
         };
-        let Some(is_present) = present_at(self.present.as_slice(), t) else {
+        let Some(is_present) = self.present.get(t) else {
             return Ok(Err(RefusalKind::Code));
         };
         if !is_loadable(link, is_present) {
@@ -66,7 +65,7 @@ impl Fact {
         ensures { IfOk result (λ ways. ways ≡ flow frame.now at (does.LoadBool truth) self) }
     {
         let span = Span::only(if truth { 1 } else { 0 });
-        let known = Known::plain(alloc, frame, IlType::Bool, span)?;
+        let known = Known::plain(alloc, frame, IlType::Bool, span);
         goes_on(alloc, at + 1, self.with_value(known))
     }
 
@@ -82,7 +81,7 @@ impl Fact {
         requires { at + 1 < 2 ^ 64 }
         ensures { IfOk result (λ ways. ways ≡ flow frame.now at (does.LoadNumber kind number) self) }
     {
-        let known = Known::plain(alloc, frame, kind, Span::only(number))?;
+        let known = Known::plain(alloc, frame, kind, Span::only(number));
         goes_on(alloc, at + 1, self.with_value(known))
     }
 }

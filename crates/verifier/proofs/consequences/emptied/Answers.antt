@@ -4,4 +4,4 @@ use Rattle.verifier.proofs.Lists.{map_one}
 use Rattle.verifier.proofs.consequences.emptied.Goals as goal
 
 pub returns : goal.returns
-returns c = rw (map_one {B = Option Span} c.args.spans None, ← c.into_vec.ensures) c.none_of_all.ensures
+returns c = rw (map_one {B = Option Span} c.args.spans.now None, ← c.len.ensures) c.empty.ensures

@@ -1,5 +1,5 @@
 use Rattle.std.proofs.Common.{◌≡◌, ◌++◌, length, slice_set}
-use Rattle.verifier.proofs.Overlaying.{written}
+use Rattle.verifier.proofs.Lists.{written}
 use Rattle.verifier.proofs.changes.Changes.with.Given as goal
 
 abbrev pub invariant-loop-old : goal.invariant-loop-old
