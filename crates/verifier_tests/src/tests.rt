@@ -1,5 +1,6 @@
 mod changes;
 mod facts;
+mod full_fact;
 mod images;
 mod values;
 mod verdicts;

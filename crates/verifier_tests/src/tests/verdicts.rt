@@ -3,13 +3,20 @@
 ghost use Rattle.std.specs.Prelude.{◌≡◌};
 ghost use Rattle.point_types.specs.Value.{is_ranged, is_within};
 
+use crate::tests::full_fact::FullFact;
 use model_defs::ModelDef;
 use point_types::{IlType, Items, Name, Var};
 use scan_code::{Image, Tag};
 use site_model::Site;
 use std::alloc::Global;
 use std::test::Fail;
-use verifier::refusal::RefusalKind;
+use verifier::as_fact::AsFact;
+use verifier::budget::most_steps;
+use verifier::frame::Frame;
+use verifier::link::links;
+use verifier::listing::listing;
+use verifier::pass::pass;
+use verifier::refusal::{Refusal, RefusalKind};
 use verifier::verify::verify;
 
 pub(crate) const SITE: &str = "[gateway]
@@ -375,6 +382,47 @@ fn judges_programs(rt: HostRuntime) -> Result<(), Fail> {
     for row in &ROWS {
         let image = image(rt.alloc(), row)?;
         assert!(rt; verdict(rt.alloc(), image, &site) == row.verdict);
+    }
+    Ok(())
+}
+
+/// The budget by facts of this kind, or why the program is refused.
+fn judged<F: AsFact>(alloc: Global, image: &Image, site: &Site) -> Result<usize, Refusal> {
+    let links = links(alloc, site.tags(), image.tags.as_slice())?;
+    let listing = listing(alloc, image)?;
+    let frame = Frame {
+        variables: Items::from_vec(Vec::from_slice(alloc, image.vars.as_slice())?),
+        links,
+        depth: 32,
+        listing,
+    };
+    let out_of_memory = Refusal {
+        at: 0,
+        kind: RefusalKind::OutOfMemory,
+    };
+    if frame.size() >= 65_536 {
+        return Err(out_of_memory);
+    }
+    let reached = pass::<F>(alloc, &frame)?;
+    if reached.len() != frame.size() {
+        return Err(out_of_memory);
+    }
+    Ok(most_steps(alloc, frame.instructions(), reached.as_slice())?)
+}
+
+#[test]
+fn full_facts_give_the_same(rt: HostRuntime) -> Result<(), Fail> {
+    let site = site(rt.alloc(), SITE)?;
+    for row in &ROWS {
+        let image = image(rt.alloc(), row)?;
+        match (judged::<FullFact>(rt.alloc(), &image, &site), row.verdict) {
+            (Ok(steps), Ok(budget)) => assert_eq!(rt; steps, budget as usize),
+            (Err(refusal), Err((kind, at))) => {
+                assert_eq!(rt; refusal.kind, kind);
+                assert_eq!(rt; refusal.at, at);
+            }
+            _ => Err("another verdict")?,
+        }
     }
     Ok(())
 }
