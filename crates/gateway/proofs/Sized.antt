@@ -9,7 +9,7 @@ use Rattle.register_map.specs.Layout.{Layout}
 use Rattle.site_model.specs.declared.site.Site.{Site}
 use Rattle.site_model.specs.declared.tag.SiteTag.{SiteTag}
 use Rattle.site_model.specs.Readings.{known_at}
-use Rattle.site_model.specs.Wants.{Want, is_output, outs_from, outs_of}
+use Rattle.site_model.specs.Wants.{is_output, outs_from, outs_of}
 use Rattle.point_writer.specs.declared.write.Write.{Write}
 use Rattle.point_writer.specs.declared.write.NoWrite.{NoWrite}
 use Rattle.point_writer.specs.SetPoint.{WritesASetPoint}

@@ -7,7 +7,7 @@ use Rattle.il_reader.specs.Reading.{reading}
 use Rattle.gateway.specs.Core.{Gateway}
 use Rattle.gateway.specs.Polling.{Polling}
 use Rattle.sunsite.specs.declared.accepted.Accepted.{Accepted}
-use Rattle.sunsite.specs.Accepted.{Accepts, AcceptsProgram, Gives, GivesSite}
+use Rattle.sunsite.specs.Accepted.{AcceptsProgram, Gives, GivesSite}
 use Rattle.sunsite.specs.Check.{TellsInputs}
 use Rattle.sunsite.specs.Defined.{AreRead}
 use Rattle.sunsite.specs.Report.{accepted_lines}

@@ -1,5 +1,5 @@
 -- A search finds one map, or none, for each device.
-use Rattle.std.proofs.Common.{◌≡◌, ℕ, suc, List, [], ◌∷◌, length, ap, ◌∙◌, refl, Option, Some, None, Ok, Err, IfSome}
+use Rattle.std.proofs.Common.{◌≡◌, suc, List, [], ◌∷◌, length, ap, ◌∙◌, refl, Option, Some, None, Ok, Err, IfSome}
 use Rattle.modbus_frame.specs.declared.link.LinkFault.{LinkFault}
 use Rattle.register_map.specs.Layout.{Layout}
 use Rattle.site_model.specs.declared.device.SiteDevice.{SiteDevice}

@@ -7,7 +7,7 @@ use Rattle.point_types.specs.declared.il_type.IlType.TheVariants as il
 use Rattle.point_types.specs.declared.reading.Reading.{Reading}
 use Rattle.point_types.specs.declared.reading.Reading.TheVariants as reading
 use Rattle.point_types.specs.Name.{is_digit, is_underscore, name_of}
-use Rattle.point_types.specs.Value.{low_of, high_of, is_within, is_bool}
+use Rattle.point_types.specs.Value.{low_of, high_of, is_within}
 use Rattle.scan_code.specs.declared.image.Tag.{Tag}
 use Rattle.il_assemble.specs.Correct.{AreReadings, IsReading}
 use Rattle.sunsite.specs.declared.given.Entry.{Entry}

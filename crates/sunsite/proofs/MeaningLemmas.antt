@@ -1,5 +1,5 @@
 -- Each scan of an accepted program does what the program means.
-use Rattle.std.proofs.Common.{◌≡◌, ℕ, zero, suc, ◌∙◌, ◌≤◌, Bool, true, false, ◌&&◌, List, [], ◌∷◌, length, map, take, drop, slice_get, ℤ, pos, ◌≤ℤ◌, int_le, Option, Some, None, Result, Ok, Err, refl, sym, ap, subst, arith}
+use Rattle.std.proofs.Common.{◌≡◌, ℕ, zero, suc, ◌∙◌, true, List, [], ◌∷◌, length, map, slice_get, ℤ, pos, ◌≤ℤ◌, int_le, Option, Some, None, Result, Ok, Err, refl, sym, ap, subst, arith}
 use Rattle.std.proofs.lemmas.Int.{ints}
 use Rattle.point_types.specs.declared.reading.Reading.{Reading}
 use Rattle.point_types.specs.declared.reading.Reading.TheVariants as reading
@@ -14,8 +14,7 @@ use Rattle.modbus_frame.specs.declared.message.Response.{Response}
 use Rattle.modbus_frame.specs.declared.message.Response.TheVariants as response
 use Rattle.scan_code.proofs.Fetch.{within_parts}
 use Rattle.scan_code.specs.declared.image.Tag.{Tag}
-use Rattle.scan_code.specs.Image.{Image}
-use Rattle.scan_code.specs.Machine.{State, Ending, Ended, Trapped, Unfinished, opening, run}
+use Rattle.scan_code.specs.Machine.{Ended, opening, run}
 use Rattle.scan_code.specs.Table.{start_of}
 use Rattle.scan_vm.proofs.Accepted.{IsFramed, framed}
 use Rattle.scan_vm.proofs.Reached.{EndsInSamePlaces, run_same}
@@ -33,11 +32,9 @@ use Rattle.verifier.proofs.Comparing.{and_left, and_right, both_true, le_true, t
 use Rattle.verifier.proofs.Images.{AreLinked, IsLinked, links_are}
 use Rattle.verifier.proofs.Scans.{runs_well, yes_is_accepted}
 use Rattle.verifier.specs.Bare.{BareEnding, BareEnded, BareUnfinished, EndsWithinAlike, bare_opening, bare_run}
-use Rattle.verifier.specs.Budget.{budget}
 use Rattle.verifier.specs.declared.link.Link.{Link}
 use Rattle.verifier.specs.Links.{links_from}
-use Rattle.verifier.specs.Ranges.{range_of}
-use Rattle.verifier.specs.Sound.{AreInRanges, AreReadings, HasRange, InRanges, IsFine, IsReadingOf, IsYes}
+use Rattle.verifier.specs.Sound.{AreInRanges, AreReadings, InRanges, IsFine, IsReadingOf, IsYes}
 use Rattle.verifier.specs.Verdict.{judged}
 use Rattle.verifier.specs.Verified.{Acceptance, HasAlike, HasLinks, IsAlike}
 use Rattle.gateway.proofs.Scanning.{inputs_fit, none_in}
@@ -48,7 +45,7 @@ use Rattle.gateway.specs.declared.event.Answer.{Answer}
 use Rattle.gateway.specs.declared.event.Event.{Event}
 use Rattle.gateway.specs.declared.event.Event.TheVariants as event
 use Rattle.gateway.specs.declared.point.OwnPoint.{OwnPoint}
-use Rattle.sunsite.specs.Accepted.{IsAcceptedFor, most_deferred}
+use Rattle.sunsite.specs.Accepted.{most_deferred}
 use Rattle.sunsite.specs.Meant.{IsMeantScan, RunsAsMeant, StepsAsMeant}
 
 -- ---- numbers in their ranges

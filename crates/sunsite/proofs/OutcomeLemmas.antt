@@ -13,11 +13,9 @@ use Rattle.scan_vm.specs.Outcome.{kind_of}
 use Rattle.scan_vm.specs.Trap.{trap_of, word_of}
 use Rattle.scan_vm.specs.Trial.{Ends, Standing, Traps, started, unset}
 use Rattle.il_assemble.specs.Meaning.{Program, Outcome, Done, Fails, meaning}
-use Rattle.il_assemble.specs.Correct.{AreReadings, AreVariables, EndsAs, IsOver}
+use Rattle.il_assemble.specs.Correct.{AreVariables, EndsAs, IsOver}
 use Rattle.il_reader.specs.declared.tree.Program.{Program as Tree}
 use Rattle.il_assemble.specs.Assembled.{IsAssembled}
-use Rattle.il_assemble.specs.Code.{image_of}
-use Rattle.il_assemble.specs.Elaboration.{elaborated}
 use Rattle.il_assemble.proofs.Elaborating.{starts_are_in_range}
 use Rattle.sunsite.specs.Outcome.{TellsGiven, TellsGivenImage, TellsImage, TellsKnown, TellsResolved, TellsScan, TellsTree, starts}
 use Rattle.sunsite.specs.Given.{readings_given}

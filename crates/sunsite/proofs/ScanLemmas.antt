@@ -1,12 +1,11 @@
 -- Scans one after another: what they do to the core, and what is printed of them.
-use Rattle.std.proofs.Common.{◌≡◌, ◌≢◌, ◌⊎◌, inl, inr, ℕ, ◌+◌, ◌<◌, ◌≤◌, List, [], ◌∷◌, ◌++◌, length, Option, None, Some, Result, Ok, Err, refl, sym, ap, subst, ◌∙◌, arith, append_assoc}
-use Rattle.std.specs.Prelude.{IfOk, IfErr}
+use Rattle.std.proofs.Common.{◌≡◌, ◌≢◌, inl, inr, ℕ, ◌+◌, ◌<◌, List, [], ◌∷◌, ◌++◌, length, Option, None, refl, sym, ap, subst, ◌∙◌, arith, append_assoc}
 use Rattle.std.specs.Io.KnownBytes.{Appends}
 use Rattle.std.proofs.KnownBytes.{Appends-nil, Appends-trans}
 use Rattle.std.proofs.lemmas.List.{append-nil, length-append}
 use Rattle.modbus_frame.specs.declared.link.LinkFault.{LinkFault}
 use Rattle.gateway.specs.Control.{Advances, IsPlanned, steps_of}
-use Rattle.gateway.specs.Core.{Gateway, IsSame, RunsFrom, numbers_of}
+use Rattle.gateway.specs.Core.{Gateway, IsSame, RunsFrom}
 use Rattle.gateway.specs.Cycle.{RunsTo, Scans, StopsScan}
 use Rattle.gateway.specs.Polling.{Polling}
 use Rattle.gateway.specs.SiteRun.{Standing}
@@ -17,7 +16,7 @@ use Rattle.gateway.specs.declared.event.Event.TheVariants as event
 use Rattle.gateway.proofs.Parts.{same_then, steps_same}
 use Rattle.sunsite.specs.Report.{no_memory_line, scan_line, scan_lines}
 use Rattle.sunsite.specs.Scans.{AreScans, DoesScans, End, IsBroken, IsLast, IsPrinted, IsUnlinked, IsUnlinkedBehind, IsWhole, LeavesOff}
-use Rattle.sunsite.specs.Told.{IsTold, Told, refused_with}
+use Rattle.sunsite.specs.Told.{IsTold, refused_with}
 
 -- ---- what is told
 

@@ -1,5 +1,5 @@
 -- From the texts to the core behind all its scans.
-use Rattle.std.proofs.Common.{◌≡◌, ℕ, List, Option, None, Ok, subst, sym}
+use Rattle.std.proofs.Common.{◌≡◌, ℕ, List, Option, Ok, subst, sym}
 use Rattle.scan_code.specs.Image.{Image}
 use Rattle.scan_vm.specs.Machine.{opened}
 use Rattle.il_assemble.specs.Correct.{DoesWhatItMeans}
@@ -15,12 +15,6 @@ use Rattle.sunsite.specs.Scans.{DoesScans, LeavesOff, OpensCore, RunsScans, Star
 use Rattle.sunsite.specs.Accepted.{Accepts, most_deferred}
 use Rattle.sunsite.proofs.MeaningLemmas.{all_meant}
 use Rattle.sunsite.proofs.ScanLemmas.{follows_all}
-
-pub starts_unfailed : (site program : List ℕ) (texts : List (List ℕ)) (p q : Polling) (core : Gateway) → StartsCore site program texts p q (Ok core) → q.fault ≡ None
-starts_unfailed site program texts p q core (s, tree, a, accepts, opens) = unfailed_by s a p q core opens
-  where
-    unfailed_by : (s : Site) (a : Acceptance) (p q : Polling) (core : Gateway) → OpensCore s a p q (Ok core) → q.fault ≡ None
-    unfailed_by s a p q core (maps, works, found, linked, is) = found.2.fault
 
 runs_opened : (site program : List ℕ) (texts : List (List ℕ)) (n : ℕ) (p middle q : Polling) (old new : Option (List ℕ)) (first core : Gateway) (status : ℕ) (s : Site) (tree : Program) (a : Acceptance)
     → Accepts site program texts s tree a → OpensCore s a p middle (Ok first) → (events : List Event) → DoesScans n middle first events q core old new status → RunsScans site program texts n p q old new core status

@@ -3,7 +3,6 @@
 use Rattle.std.specs.Prelude.{ℕ, suc, ◌+◌, ◌-◌, Bool, true, false, not, ◌&&◌, ℤ, pos, ◌+ℤ◌, ◌-ℤ◌, ◌*ℤ◌, List, [], ◌∷◌, map, take, drop, if◌then◌else◌, Option, Some, None, Result, Ok, Err, nat_eq, bytes_eq, codes, option_map, slice_get, slice_set}
 use Rattle.std.specs.Char.{to_ascii_lowercase}
 use Rattle.point_types.specs.declared.il_type.IlType.{IlType}
-use Rattle.point_types.specs.declared.il_type.IlType.TheVariants as il
 use Rattle.point_types.specs.declared.reading.Reading.{Reading}
 use Rattle.point_types.specs.declared.reading.Reading.TheVariants as reading
 use Rattle.point_types.specs.declared.reading.Cause.TheVariants as cause

@@ -1,6 +1,6 @@
 -- What the program without words prints: the outcome of one scan of a program, or why there is none.
 -- IEC 61131-3 (edition 2), 3.2 for what the scan means.
-use Rattle.std.specs.Prelude.{◌≡◌, ◌⊎◌, ℕ, ℤ, List, [], ◌++◌, map, Option, Result, Ok, Err}
+use Rattle.std.specs.Prelude.{◌≡◌, ◌⊎◌, ℕ, ℤ, List, ◌++◌, map, Option, Result, Ok, Err}
 use Rattle.point_types.specs.declared.reading.Reading.{Reading}
 use Rattle.scan_code.specs.Image.{Image}
 use Rattle.scan_code.specs.Machine.{State, Ended, Trapped, At_fault, opening, run}

@@ -1,6 +1,6 @@
 -- Worked input lines: the readings that they give, or the line that is refused.
 -- IEC 61131-3 edition 2, 2.2.1 numeric literals.
-use Rattle.std.specs.Prelude.{◌≡◌, ℕ, false, true, pos, negsuc, List, [], ◌∷◌, ◌++◌, Some, None, Ok, Err, refl, codes}
+use Rattle.std.specs.Prelude.{◌≡◌, false, true, pos, negsuc, [], ◌∷◌, Some, None, Ok, Err, refl, codes}
 use Rattle.point_types.specs.declared.il_type.IlType.TheVariants as il
 use Rattle.point_types.specs.declared.reading.Reading.TheVariants as reading
 use Rattle.point_types.specs.Keyword.{is_reserved, plain_words, conversions}

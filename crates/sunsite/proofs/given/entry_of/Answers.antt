@@ -1,4 +1,4 @@
-use Rattle.std.proofs.Common.{rules, refl, ◌≡◌, ◌+◌, ap, sym, ◌∙◌, slice_get, drop, Some, None}
+use Rattle.std.proofs.Common.{refl, ◌≡◌, ◌+◌, ap, sym, ◌∙◌, slice_get, drop, Some, None}
 use Rattle.std.proofs.lemmas.Option.{slice_get_read}
 use Rattle.point_types.specs.Name.{name_of}
 use Rattle.sunsite.specs.Given.{reading_given}

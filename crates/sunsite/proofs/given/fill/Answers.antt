@@ -1,4 +1,4 @@
-use Rattle.std.proofs.Common.{arith, rules, ◌≡◌, ◌<◌, ◌≤◌, ◌+◌, ◌∙◌, ap, length}
+use Rattle.std.proofs.Common.{arith, rules, ◌<◌, ◌≤◌, ◌+◌, ◌∙◌, ap, length}
 use Rattle.sunsite.specs.Input.{lines_of}
 use Rattle.sunsite.specs.Given.{slots_given}
 use Rattle.sunsite.proofs.LineLemmas.{lines_split, line_length-some}

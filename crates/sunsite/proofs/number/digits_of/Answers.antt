@@ -1,4 +1,4 @@
-use Rattle.std.proofs.Common.{arith, ◌≡◌, ◌∙◌, sym, rules, w64}
+use Rattle.std.proofs.Common.{arith, ◌∙◌, sym, rules, w64}
 use Rattle.std.proofs.lemmas.Int.{to_z-of_z}
 use mir.Val.{SFits, to_z}
 use Rattle.sunsite.proofs.NumberLemmas.{digits_on}

@@ -1,8 +1,3 @@
-use Rattle.std.proofs.Common.{rules, ◌≡◌, ◌≢◌, ◌≤◌, ◌++◌, ℕ, List, true, IfOk, OnOk, ◌+◌, ◌-◌, ◌*◌, ◌<◌, length, ◌/◌, ◌%◌, Bool, false, nat_eq, nat_lt, [], ◌∷◌, slice_index_or, slice_set, bit_and, bit_or, Fits, w8, w32, w64, Bor, MutBor}
-use Rattle.point_types.specs.declared.kind.Kind.TheVariants as kinds
-use Rattle.register_map.specs.Layout.{Layout}
-use Rattle.site_model.specs.Tagging.{is_numeric}
-use Rattle.sunsite.specs.Probe.{ArePoints, AreUnitLines, IsProbe, TellsAsked, point_lines, shown_line, shown_number}
 use Rattle.sunsite.proofs.UnitLemmas.{models_more, unit_lines}
 use Rattle.sunsite.proofs.probe.models_of.Goals as goal
 

@@ -1,4 +1,4 @@
-use Rattle.std.proofs.Common.{◌≡◌, ◌∙◌, ℕ, ap, sym, arith, length, ◌+◌, Some, None}
+use Rattle.std.proofs.Common.{◌≡◌, ◌∙◌, ap, sym, arith, length, ◌+◌, Some, None}
 use Rattle.verifier.specs.Places.{places}
 use Rattle.verifier.proofs.Spread.{end_is_short, length_next, push_empty, push_kept}
 use Rattle.verifier.proofs.sparse.Sparse.push.Goals as goal
