@@ -18,7 +18,7 @@ use register_map::{Block, Map};
 use site_model::{Site, SiteDevice, Words, WriteFunction};
 
 /// A request to a unit.
-#[derive(Debug, PartialEq, Eq, Drop)]
+#[derive(Drop)]
 pub struct Call {
     /// The unit that is asked.
     pub unit: u8,

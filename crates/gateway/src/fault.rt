@@ -5,12 +5,11 @@ use thiserror::Error;
 
 /// Why there is no core for a site and a program.
 #[derive(Clone, Copy, PartialEq, Eq, Debug, Error)]
+#[error("{}", self.word())]
 pub enum CoreFault {
     /// The program was accepted for tags that the site doesn't have so.
-    #[error("Foreign")]
     Foreign = 1,
     /// Memory was refused.
-    #[error("OutOfMemory")]
     OutOfMemory,
 }
 

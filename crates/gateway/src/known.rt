@@ -2,7 +2,7 @@ use point_types::Reading;
 use site_model::Words;
 
 /// What a gateway knows, each list as long as the site's wants or its tags.
-#[derive(Debug, Drop)]
+#[derive(Drop)]
 pub(crate) struct Known {
     /// The words of the wanted blocks.
     pub(crate) blocks: Vec<Option<Words>>,

@@ -23,8 +23,6 @@ mod request;
 mod scan;
 mod served;
 mod setting;
-#[cfg(test)]
-mod tests;
 mod words;
 
 pub use answering::serve_client;

@@ -1,4 +1,5 @@
-ghost use Rattle.std.specs.Prelude.{◌≡◌, None, IfOk};
+ghost use Rattle.std.specs.Prelude.{◌≡◌, ℕ, List, None, IfOk};
+ghost use Rattle.std.specs.Io.KnownBytes.{prepend_known};
 ghost use Rattle.modbus_frame.specs.Exchange.{left};
 ghost use Rattle.modbus_frame.specs.Message.{HasQuantity};
 ghost use Rattle.gateway.specs.Asking.{AsksUnless};
@@ -12,9 +13,9 @@ use std::marker::Model;
 /// A link, and what is asked over it: one unit after another, by at most so many reads and writes.
 #[derive(Drop)]
 pub(crate) struct Line<L: Link> {
-    pub(crate) link: L,
+    link: L,
     reader: FrameReader,
-    pub(crate) id: u16,
+    id: u16,
     fault: Option<LinkFault>,
     unit: u8,
     turns: u32,
@@ -44,15 +45,15 @@ impl<L: Link> Model for Line<L> {
 }
 
 impl<L: Link> Line<L> {
-    /// A line on which nothing was asked yet: the first transaction is 0, and nothing is kept.
-    pub(crate) fn new(link: L) -> Line<L>
+    /// A line on which nothing was asked yet: this is the first transaction, and nothing is kept.
+    pub(crate) fn beginning_at(link: L, id: u16) -> Line<L>
         ensures { result ≡ record {
           polling = record {
             coming = L.coming link;
             sent = L.sent link;
             failures = L.failures link;
             calls = L.calls link;
-            id = 0;
+            id = id;
             fault = None;
           };
           unit = 0;
@@ -62,11 +63,21 @@ impl<L: Link> Line<L> {
         Line {
             link,
             reader: FrameReader::new(),
-            id: 0,
+            id,
             fault: None,
             unit: 0,
             turns: 0,
         }
+    }
+
+    /// The link, of which some bytes may be read ahead.
+    pub(crate) fn link(&self) -> &L
+        ensures sent { L.sent result.now ≡ self.now.polling.sent }
+        ensures failures { L.failures result.now ≡ self.now.polling.failures }
+        ensures calls { L.calls result.now ≡ self.now.polling.calls }
+        ensures coming { (ahead : List ℕ) × (self.now.polling.coming ≡ prepend_known ahead (L.coming result.now)) }
+    {
+        &self.link
     }
 
     /// The fault that ended its work.

@@ -1,4 +1,5 @@
-ghost use Rattle.std.specs.Prelude.{◌≡◌, None, Err, IfSome, IfOk, IfErr};
+ghost use Rattle.std.specs.Prelude.{◌≡◌, ℕ, List, None, Err, IfSome, IfOk, IfErr};
+ghost use Rattle.std.specs.Io.KnownBytes.{prepend_known};
 ghost use Rattle.modbus_frame.specs.Message.{HasQuantity};
 ghost use Rattle.gateway.specs.Finding.{FindsAll, StopsUnless};
 ghost use Rattle.gateway.specs.LinkRun.{Suits};
@@ -15,7 +16,7 @@ use std::marker::Model;
 /// The most reads and writes of one call.
 pub(crate) const MOST_CALLS: u32 = 1_000_000;
 
-/// Asks the units on a link, one request at a time. Transactions begin at 0 and rise by one with each request.
+/// Asks the units on a link, one request at a time. Transactions rise by one with each request, and begin again at 0.
 ///
 /// After a [`LinkFault`] its work is over: each call answers that fault and touches nothing.
 #[derive(Drop)]
@@ -32,7 +33,7 @@ impl<L: Link> Model for Poller<L> {
 }
 
 impl<L: Link> Poller<L> {
-    /// A poller of the units on a link.
+    /// A poller of the units on a link, whose first transaction is 0.
     pub fn new(link: L) -> Poller<L>
         ensures { result ≡ record {
           coming = L.coming link;
@@ -43,9 +44,33 @@ impl<L: Link> Poller<L> {
           fault = None;
         } }
     {
+        Poller::beginning_at(link, 0)
+    }
+
+    /// A poller of the units on a link, whose first transaction is this.
+    pub fn beginning_at(link: L, transaction: u16) -> Poller<L>
+        ensures { result ≡ record {
+          coming = L.coming link;
+          sent = L.sent link;
+          failures = L.failures link;
+          calls = L.calls link;
+          id = transaction;
+          fault = None;
+        } }
+    {
         Poller {
-            line: Line::new(link),
+            line: Line::beginning_at(link, transaction),
         }
+    }
+
+    /// The link. Bytes that were read ahead, behind the last frame, don't come from it any more.
+    pub fn link(&self) -> &L
+        ensures sent { L.sent result.now ≡ self.now.sent }
+        ensures failures { L.failures result.now ≡ self.now.failures }
+        ensures calls { L.calls result.now ≡ self.now.calls }
+        ensures coming { (ahead : List ℕ) × (self.now.coming ≡ prepend_known ahead (L.coming result.now)) }
+    {
+        self.line.link()
     }
 
     /// Sends a request to a unit and gives its outcome: what the first frame with its transaction and unit says. Other

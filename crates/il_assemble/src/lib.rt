@@ -12,8 +12,6 @@ mod measure;
 mod names;
 mod scope;
 mod source;
-#[cfg(test)]
-mod tests;
 mod typing;
 mod uses;
 

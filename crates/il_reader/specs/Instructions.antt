@@ -1,8 +1,9 @@
 -- Reading the body of a program token by token: lines, labels, instructions, and parentheses over lines.
 -- IEC 61131-3 edition 2, 3.2 instruction list.
-use Rattle.std.specs.Prelude.{ℕ, Bool, true, false, ◌&&◌, ℤ, pos, List, [], ◌∷◌, length, if◌then◌else◌, Option, Some, None, Ok, Err, nat_le, bytes_eq, codes, option_map}
+use Rattle.std.specs.Prelude.{◌≡◌, ℕ, Bool, true, false, ◌&&◌, ℤ, pos, List, [], ◌∷◌, length, if◌then◌else◌, Option, Some, None, Result, Ok, Err, nat_le, bytes_eq, codes, option_map}
 use Rattle.point_types.specs.declared.operator.Operator.{Operator}
 use Rattle.point_types.specs.declared.operator.Condition.{Condition}
+use Rattle.il_reader.specs.declared.fault.ReadFaultKind.{ReadFaultKind}
 use Rattle.il_reader.specs.declared.fault.ReadFaultKind.TheVariants as fault
 use Rattle.il_reader.specs.declared.token.Keyword.{Keyword}
 use Rattle.il_reader.specs.declared.token.Keyword.TheVariants as word
@@ -37,6 +38,18 @@ operand_of (token.Decimal n) = Some (operand.Number n)
 operand_of (token.Number n) = Some (operand.Number n)
 operand_of (token.Typed k n) = Some (operand.Typed k n)
 operand_of _ = None
+
+-- on at a place of the instruction, where there is one
+abbrev pub continues_if : List Frame → Head → Draft → Result PartStage ReadFaultKind → Move
+continues_if nest h d (Ok s) = continues nest h s d
+continues_if nest h d (Err k) = Err k
+
+-- a place to go on, or a fault, that gives this move whatever has been read: inside these parentheses, inside any
+abbrev pub GoesOnInside : List Frame → Result PartStage ReadFaultKind → (Head → Draft → Move) → Type 0
+GoesOnInside nest next on = (h : Head) (d : Draft) → continues_if nest h d next ≡ on h d
+
+abbrev pub GoesOn : Result PartStage ReadFaultKind → (List Frame → Head → Draft → Move) → Type 0
+GoesOn next on = (nest : List Frame) → GoesOnInside nest next (on nest)
 
 -- a whole instruction of the body
 abbrev pub acted : List Frame → Draft → Head → Action → State
@@ -202,6 +215,15 @@ behind_turns_step nest h turns d _ = Err fault.Word
 abbrev pub behind_pragma_step : List Frame → Head → ℕ → Draft → Token → Move
 behind_pragma_step nest h turns d (token.Keyword (word.Jump c)) = continues nest h (part.BehindJump c (Some turns)) d
 behind_pragma_step nest h turns d _ = Err fault.Operator
+
+-- on at the next line unless there is a fault
+abbrev pub goes_unless : List Frame → Draft → Option ReadFaultKind → Move
+goes_unless nest d None = goes (stage.AtLine nest) d
+goes_unless nest d (Some k) = Err k
+
+-- a fault, or none, that gives this move whatever has been read
+abbrev pub StopsOn : List Frame → Option ReadFaultKind → (Draft → Move) → Type 0
+StopsOn nest k on = (d : Draft) → goes_unless nest d k ≡ on d
 
 -- behind a whole instruction
 abbrev pub whole_step : List Frame → Draft → Token → Move

@@ -36,6 +36,11 @@ frame_of h o negated first = record { head = h; operator = o; negated = negated;
 abbrev pub with_line : Frame → ℕ → Written → Frame
 with_line f m x = record f { inner = followed_by f.inner (Then m x Close) }
 
+-- one more line in the inmost parentheses
+abbrev pub with_inner : List Frame → ℕ → Written → List Frame
+with_inner [] m x = []
+with_inner (f ∷ nest) m x = with_line f m x ∷ nest
+
 -- what parentheses compute with these lines inside
 abbrev pub deferred : Frame → Inner → Written
 deferred f inner = Defer f.operator f.negated f.operand inner

@@ -48,6 +48,15 @@ over_step p _ = Err fault.Header
 
 -- Declarations. The Bool of a stage tells whether it is in a block of externals.
 
+-- on at a place of the block, where there is one
+abbrev pub declares_if : Draft → Result BlockStage ReadFaultKind → Move
+declares_if d (Ok s) = declares s d
+declares_if d (Err k) = Err k
+
+-- a place to go on, or a fault, that gives this move whatever has been read
+abbrev pub LeadsOn : Result BlockStage ReadFaultKind → (Draft → Move) → Type 0
+LeadsOn next on = (d : Draft) → declares_if d next ≡ on d
+
 -- one more name, which has to be free
 abbrev pub declare_step : Bool → Draft → List ℕ → ℕ → Move
 declare_step x d n m = if has_room x d.scope then (if is_taken x n d.scope then Err fault.Duplicate else declares (block.BehindName x) (with_entry x d m n)) else Err fault.TooLong

@@ -65,7 +65,7 @@ impl Computation {
 }
 
 /// Lines inside parentheses, as far as they have been read. Contracts see them as they are written.
-#[derive(Drop, Debug)]
+#[derive(Drop)]
 pub struct InnerLines {
     lines: Vec<InnerLine>,
 }

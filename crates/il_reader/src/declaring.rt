@@ -1,7 +1,7 @@
 ghost use Rattle.std.specs.Prelude.{◌≡◌, IfOk, false};
 ghost use Rattle.il_reader.specs.Declaration.{begun, bounded, made, started, truth_value, value_of, whole_value};
 ghost use Rattle.il_reader.specs.Drafting.{declares, with_variables};
-ghost use Rattle.il_reader.specs.Reading.{behind_assign_step, behind_colon_step, behind_comma_step, behind_dots_step, behind_external_step, behind_high_step, behind_low_step, behind_name_step, behind_open_step, behind_range_step, behind_start_step, behind_type_step, block_step, declare_step, in_block_step, typed_step};
+ghost use Rattle.il_reader.specs.Reading.{LeadsOn, behind_assign_step, behind_colon_step, behind_comma_step, behind_dots_step, behind_external_step, behind_high_step, behind_low_step, behind_name_step, behind_open_step, behind_range_step, behind_start_step, behind_type_step, block_step, declare_step, declares_if, in_block_step, typed_step};
 
 use crate::draft::Draft;
 use crate::fault::ReadFaultKind;
@@ -25,17 +25,22 @@ impl BlockStage {
     {
         match self {
             BlockStage::InBlock(external) => in_block(external, draft, token, line),
-            BlockStage::BehindName(external) => Ok(behind_name(external, draft, token)),
+            BlockStage::BehindName(external) => {
+                let next = behind_name(external, &draft, token);
+                Ok(goes_on_if(next, draft))
+            }
             BlockStage::BehindComma(external) => behind_comma(external, draft, token, line),
-            BlockStage::BehindColon(external) => Ok(behind_colon(external, draft, token)),
+            BlockStage::BehindColon(external) => {
+                Ok(goes_on_if(behind_colon(external, token), draft))
+            }
             BlockStage::BehindExternal(kind) => behind_external(alloc, kind, draft, token),
             BlockStage::BehindType(typing) => behind_type(alloc, typing, draft, token),
-            BlockStage::BehindOpen(kind) => Ok(behind_open(kind, draft, token)),
-            BlockStage::BehindLow(typing) => Ok(behind_low(typing, draft, token)),
-            BlockStage::BehindDots(typing) => Ok(behind_dots(typing, draft, token)),
-            BlockStage::BehindHigh(typing) => Ok(behind_high(typing, draft, token)),
+            BlockStage::BehindOpen(kind) => Ok(goes_on_if(behind_open(kind, token), draft)),
+            BlockStage::BehindLow(typing) => Ok(goes_on_if(behind_low(typing, token), draft)),
+            BlockStage::BehindDots(typing) => Ok(goes_on_if(behind_dots(typing, token), draft)),
+            BlockStage::BehindHigh(typing) => Ok(goes_on_if(behind_high(typing, token), draft)),
             BlockStage::BehindRange(typing) => behind_range(alloc, typing, draft, token),
-            BlockStage::BehindAssign(typing) => Ok(behind_assign(typing, draft, token)),
+            BlockStage::BehindAssign(typing) => Ok(goes_on_if(behind_assign(typing, token), draft)),
             BlockStage::BehindStart(typing) => behind_start(alloc, typing, draft, token),
         }
     }
@@ -46,6 +51,16 @@ fn goes_on(stage: BlockStage, draft: Draft) -> Move
     ensures { result ≡ declares stage draft }
 {
     Ok(State::Within(Stage::Block(stage), draft))
+}
+
+// On where there is a place to go on, with all that has been read.
+fn goes_on_if(next: Result<BlockStage, ReadFaultKind>, draft: Draft) -> Move
+    ensures { result ≡ declares_if draft next }
+{
+    match next {
+        Ok(stage) => goes_on(stage, draft),
+        Err(kind) => Err(kind),
+    }
 }
 
 fn in_block(external: bool, draft: Draft, token: Token, line: u32) -> Result<Move, AllocError>
@@ -75,16 +90,14 @@ fn declare(external: bool, draft: Draft, name: Name, line: u32) -> Result<Move, 
     Ok(goes_on(BlockStage::BehindName(external), draft))
 }
 
-fn behind_name(external: bool, draft: Draft, token: Token) -> Move
-    ensures { result ≡ behind_name_step external draft token }
+fn behind_name(external: bool, draft: &Draft, token: Token) -> Result<BlockStage, ReadFaultKind>
+    ensures { declares_if draft.now result ≡ behind_name_step external draft.now token }
 {
     match token {
-        Token::LineEnd => goes_on(BlockStage::BehindName(external), draft),
-        Token::Comma if draft.scope.has_room(external) => {
-            goes_on(BlockStage::BehindComma(external), draft)
-        }
+        Token::LineEnd => Ok(BlockStage::BehindName(external)),
+        Token::Comma if draft.scope.has_room(external) => Ok(BlockStage::BehindComma(external)),
         Token::Comma => Err(ReadFaultKind::TooLong),
-        Token::Colon => goes_on(BlockStage::BehindColon(external), draft),
+        Token::Colon => Ok(BlockStage::BehindColon(external)),
         _ => Err(ReadFaultKind::Declaration),
     }
 }
@@ -99,24 +112,24 @@ fn behind_comma(external: bool, draft: Draft, token: Token, line: u32) -> Result
     }
 }
 
-fn behind_colon(external: bool, draft: Draft, token: Token) -> Move
-    ensures { result ≡ behind_colon_step external draft token }
+fn behind_colon(external: bool, token: Token) -> Result<BlockStage, ReadFaultKind>
+    ensures { LeadsOn result (λ draft. behind_colon_step external draft token) }
 {
     match token {
-        Token::LineEnd => goes_on(BlockStage::BehindColon(external), draft),
-        Token::Keyword(Keyword::Type(kind)) => behind_kind(external, draft, kind),
+        Token::LineEnd => Ok(BlockStage::BehindColon(external)),
+        Token::Keyword(Keyword::Type(kind)) => behind_kind(external, kind),
         _ => Err(ReadFaultKind::Declaration),
     }
 }
 
-fn behind_kind(external: bool, draft: Draft, kind: IlType) -> Move
-    ensures { result ≡ typed_step external draft kind }
+fn behind_kind(external: bool, kind: IlType) -> Result<BlockStage, ReadFaultKind>
+    ensures { LeadsOn result (λ draft. typed_step external draft kind) }
 {
     if external {
-        return goes_on(BlockStage::BehindExternal(kind), draft);
+        return Ok(BlockStage::BehindExternal(kind));
     }
     match Typing::whole(kind) {
-        Some(typing) => goes_on(BlockStage::BehindType(typing), draft),
+        Some(typing) => Ok(BlockStage::BehindType(typing)),
         None => Err(ReadFaultKind::Declaration),
     }
 }
@@ -173,58 +186,58 @@ fn behind_range(
     }
 }
 
-fn behind_open(kind: IlType, draft: Draft, token: Token) -> Move
-    ensures { result ≡ behind_open_step kind draft token }
+fn behind_open(kind: IlType, token: Token) -> Result<BlockStage, ReadFaultKind>
+    ensures { LeadsOn result (λ draft. behind_open_step kind draft token) }
 {
     if let Token::LineEnd = token {
-        return goes_on(BlockStage::BehindOpen(kind), draft);
+        return Ok(BlockStage::BehindOpen(kind));
     }
     match low_end(kind, token) {
-        Some(typing) => goes_on(BlockStage::BehindLow(typing), draft),
+        Some(typing) => Ok(BlockStage::BehindLow(typing)),
         None => Err(ReadFaultKind::Declaration),
     }
 }
 
-fn behind_low(typing: Typing, draft: Draft, token: Token) -> Move
-    ensures { result ≡ behind_low_step typing draft token }
+fn behind_low(typing: Typing, token: Token) -> Result<BlockStage, ReadFaultKind>
+    ensures { LeadsOn result (λ draft. behind_low_step typing draft token) }
 {
     match token {
-        Token::LineEnd => goes_on(BlockStage::BehindLow(typing), draft),
-        Token::Dots => goes_on(BlockStage::BehindDots(typing), draft),
+        Token::LineEnd => Ok(BlockStage::BehindLow(typing)),
+        Token::Dots => Ok(BlockStage::BehindDots(typing)),
         _ => Err(ReadFaultKind::Declaration),
     }
 }
 
-fn behind_dots(typing: Typing, draft: Draft, token: Token) -> Move
-    ensures { result ≡ behind_dots_step typing draft token }
+fn behind_dots(typing: Typing, token: Token) -> Result<BlockStage, ReadFaultKind>
+    ensures { LeadsOn result (λ draft. behind_dots_step typing draft token) }
 {
     if let Token::LineEnd = token {
-        return goes_on(BlockStage::BehindDots(typing), draft);
+        return Ok(BlockStage::BehindDots(typing));
     }
     match high_end(&typing, token) {
-        Some(typing) => goes_on(BlockStage::BehindHigh(typing), draft),
+        Some(typing) => Ok(BlockStage::BehindHigh(typing)),
         None => Err(ReadFaultKind::Declaration),
     }
 }
 
-fn behind_high(typing: Typing, draft: Draft, token: Token) -> Move
-    ensures { result ≡ behind_high_step typing draft token }
+fn behind_high(typing: Typing, token: Token) -> Result<BlockStage, ReadFaultKind>
+    ensures { LeadsOn result (λ draft. behind_high_step typing draft token) }
 {
     match token {
-        Token::LineEnd => goes_on(BlockStage::BehindHigh(typing), draft),
-        Token::Close => goes_on(BlockStage::BehindRange(typing), draft),
+        Token::LineEnd => Ok(BlockStage::BehindHigh(typing)),
+        Token::Close => Ok(BlockStage::BehindRange(typing)),
         _ => Err(ReadFaultKind::Declaration),
     }
 }
 
-fn behind_assign(typing: Typing, draft: Draft, token: Token) -> Move
-    ensures { result ≡ behind_assign_step typing draft token }
+fn behind_assign(typing: Typing, token: Token) -> Result<BlockStage, ReadFaultKind>
+    ensures { LeadsOn result (λ draft. behind_assign_step typing draft token) }
 {
     if let Token::LineEnd = token {
-        return goes_on(BlockStage::BehindAssign(typing), draft);
+        return Ok(BlockStage::BehindAssign(typing));
     }
     match start_value(&typing, token) {
-        Some(typing) => goes_on(BlockStage::BehindStart(typing), draft),
+        Some(typing) => Ok(BlockStage::BehindStart(typing)),
         None => Err(ReadFaultKind::Declaration),
     }
 }

@@ -7,14 +7,14 @@ use point_types::{IlType, Items, Name};
 use std::alloc::{AllocError, Global};
 
 /// The line of a statement's first token, and its label.
-#[derive(Clone, Copy, PartialEq, Eq, Debug)]
+#[derive(Clone, Copy)]
 pub struct Head {
     pub line: u32,
     pub label: Option<Name>,
 }
 
 /// A program as far as it has been read.
-#[derive(Drop, Debug)]
+#[derive(Drop)]
 pub struct Draft {
     pub name: Name,
     /// The names that are declared, those of the declaration that is being read included.

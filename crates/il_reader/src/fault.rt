@@ -5,41 +5,31 @@ use thiserror::Error;
 
 /// Why a text is no program.
 #[derive(Clone, Copy, PartialEq, Eq, Debug, Error)]
+#[error("{}", self.word())]
 pub enum ReadFaultKind {
     /// Bytes that are no token, a word that is no name, or a comment that is never closed.
-    #[error("Word")]
     Word,
     /// PROGRAM, its name or END_PROGRAM is missing, or text stands behind END_PROGRAM.
-    #[error("Header")]
     Header,
     /// A declaration that isn't one, or a start value outside its type.
-    #[error("Declaration")]
     Declaration,
     /// No operator where one must stand.
-    #[error("Operator")]
     Operator,
     /// No operand where one must stand, or more than one; parentheses with nothing inside.
-    #[error("Operand")]
     Operand,
     /// A label, or a jump without one.
-    #[error("Label")]
     Label,
     /// A parenthesis that closes nothing, one that stays open, or what only the body has inside: a
     /// label, a store, a jump or a return.
-    #[error("Parenthesis")]
     Parenthesis,
     /// What begins like a literal and is none, or a number outside LINT.
-    #[error("Literal")]
     Literal,
     /// A name that is declared twice.
-    #[error("Duplicate")]
     Duplicate,
     /// A text of more than 1,048,576 bytes, more than 1,024 variables, or more than 100 parentheses in
     /// one another.
-    #[error("TooLong")]
     TooLong,
     /// Memory was refused; this says nothing about the text.
-    #[error("OutOfMemory")]
     OutOfMemory,
 }
 

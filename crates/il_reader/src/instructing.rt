@@ -1,6 +1,6 @@
 ghost use Rattle.std.specs.Prelude.{◌≡◌, IfOk, Ok, option_map};
 ghost use Rattle.il_reader.specs.Drafting.{continues};
-ghost use Rattle.il_reader.specs.Instructions.{acted, begin_step, begun_step, behind_brace_step, behind_first_step, behind_jump_step, behind_loop_step, behind_operator_step, behind_pair_step, behind_pragma_step, behind_set_step, behind_store_step, behind_turns_step, computed, is_loop, operand_of, paired, part_begun, part_step, simple_step, single_step, turns_of, turns_step};
+ghost use Rattle.il_reader.specs.Instructions.{GoesOn, acted, begin_step, begun_step, behind_brace_step, behind_first_step, behind_jump_step, behind_loop_step, behind_operator_step, behind_pair_step, behind_pragma_step, behind_set_step, behind_store_step, behind_turns_step, computed, continues_if, is_loop, operand_of, paired, part_begun, part_step, simple_step, single_step, turns_of, turns_step};
 ghost use Rattle.il_reader.specs.Writing.{written};
 ghost use Rattle.il_reader.specs.Written.{Apply, Load};
 
@@ -99,9 +99,14 @@ impl PartStage {
             PartStage::BehindEntry(operator, negated, operand) => {
                 behind_entry(nest, head, operator, negated, operand, draft, token, alloc)
             }
-            PartStage::BehindPair(pair) => Ok(behind_pair(nest, head, pair, draft, token)),
+            PartStage::BehindPair(pair) => Ok(goes_on_if(
+                nest,
+                head,
+                behind_pair(pair, token),
+                draft,
+            )),
             PartStage::BehindFirst(pair, first) => {
-                Ok(behind_first(nest, head, pair, first, draft, token))
+                Ok(goes_on_if(nest, head, behind_first(pair, first, token), draft))
             }
             PartStage::BehindFirstComma(pair, first) => {
                 compute_if(nest, draft, head, pair_up(pair, first, token))
@@ -111,10 +116,20 @@ impl PartStage {
             PartStage::BehindJump(condition, turns) => {
                 behind_jump(nest, head, condition, turns, draft, token)
             }
-            PartStage::BehindBrace => Ok(behind_brace(nest, head, draft, token)),
-            PartStage::BehindLoop => Ok(behind_loop(nest, head, draft, token)),
-            PartStage::BehindTurns(turns) => Ok(behind_turns(nest, head, turns, draft, token)),
-            PartStage::BehindPragma(turns) => Ok(behind_pragma(nest, head, turns, draft, token)),
+            PartStage::BehindBrace => Ok(goes_on_if(nest, head, behind_brace(token), draft)),
+            PartStage::BehindLoop => Ok(goes_on_if(nest, head, behind_loop(token), draft)),
+            PartStage::BehindTurns(turns) => Ok(goes_on_if(
+                nest,
+                head,
+                behind_turns(turns, token),
+                draft,
+            )),
+            PartStage::BehindPragma(turns) => Ok(goes_on_if(
+                nest,
+                head,
+                behind_pragma(turns, token),
+                draft,
+            )),
         }
     }
 }
@@ -124,6 +139,21 @@ pub fn goes_on(nest: Nest, head: Head, part: PartStage, draft: Draft) -> Move
     ensures { result ≡ continues nest head part draft }
 {
     Ok(State::Within(Stage::Part(nest, head, part), draft))
+}
+
+/// On where there is a place to go on, with all that has been read.
+pub fn goes_on_if(
+    nest: Nest,
+    head: Head,
+    next: Result<PartStage, ReadFaultKind>,
+    draft: Draft,
+) -> Move
+    ensures { result ≡ continues_if nest head draft next }
+{
+    match next {
+        Ok(part) => goes_on(nest, head, part, draft),
+        Err(kind) => Err(kind),
+    }
 }
 
 // A whole instruction, where its operand is one.
@@ -155,7 +185,10 @@ fn behind_operator(
     ensures { IfOk result (λ m. m ≡ behind_operator_step nest head operator negated draft token) }
 {
     match token {
-        Token::Open => Ok(enter(nest, head, operator, negated, draft)),
+        Token::Open => {
+            let next = enter(&nest, operator, negated);
+            Ok(goes_on_if(nest, head, next, draft))
+        }
         _ => compute_if(nest, draft, head, apply(operator, negated, token)),
     }
 }
@@ -231,27 +264,20 @@ fn act_on(nest: Nest, draft: Draft, head: Head, action: Action) -> Result<Move, 
     Ok(Ok(state))
 }
 
-fn behind_pair(nest: Nest, head: Head, pair: Pair, draft: Draft, token: Token) -> Move
-    ensures { result ≡ behind_pair_step nest head pair draft (operand_of token) }
+fn behind_pair(pair: Pair, token: Token) -> Result<PartStage, ReadFaultKind>
+    ensures { GoesOn result (λ nest head draft. behind_pair_step nest head pair draft (operand_of token)) }
 {
     match operand_from(token) {
-        Some(first) => goes_on(nest, head, PartStage::BehindFirst(pair, first), draft),
+        Some(first) => Ok(PartStage::BehindFirst(pair, first)),
         None => Err(ReadFaultKind::Operand),
     }
 }
 
-fn behind_first(
-    nest: Nest,
-    head: Head,
-    pair: Pair,
-    first: Operand,
-    draft: Draft,
-    token: Token,
-) -> Move
-    ensures { result ≡ behind_first_step nest head pair first draft token }
+fn behind_first(pair: Pair, first: Operand, token: Token) -> Result<PartStage, ReadFaultKind>
+    ensures { GoesOn result (λ nest head draft. behind_first_step nest head pair first draft token) }
 {
     match token {
-        Token::Comma => goes_on(nest, head, PartStage::BehindFirstComma(pair, first), draft),
+        Token::Comma => Ok(PartStage::BehindFirstComma(pair, first)),
         _ => Err(ReadFaultKind::Operand),
     }
 }
@@ -311,20 +337,20 @@ fn behind_jump(
     }
 }
 
-fn behind_brace(nest: Nest, head: Head, draft: Draft, token: Token) -> Move
-    ensures { result ≡ behind_brace_step nest head draft token }
+fn behind_brace(token: Token) -> Result<PartStage, ReadFaultKind>
+    ensures { GoesOn result (λ nest head draft. behind_brace_step nest head draft token) }
 {
     match token {
-        Token::Name(name) => behind_brace_word(nest, head, draft, &name),
+        Token::Name(name) => behind_brace_word(&name),
         _ => Err(ReadFaultKind::Word),
     }
 }
 
-fn behind_brace_word(nest: Nest, head: Head, draft: Draft, name: &Name) -> Move
-    ensures { result ≡ behind_brace_step nest head draft (Token.Name name.now) }
+fn behind_brace_word(name: &Name) -> Result<PartStage, ReadFaultKind>
+    ensures { GoesOn result (λ nest head draft. behind_brace_step nest head draft (Token.Name name.now)) }
 {
     if is_loop_word(name) {
-        goes_on(nest, head, PartStage::BehindLoop, draft)
+        Ok(PartStage::BehindLoop)
     } else {
         Err(ReadFaultKind::Word)
     }
@@ -336,20 +362,20 @@ fn is_loop_word(name: &Name) -> bool
     name.as_bytes() == b"loop".as_slice()
 }
 
-fn behind_loop(nest: Nest, head: Head, draft: Draft, token: Token) -> Move
-    ensures { result ≡ behind_loop_step nest head draft token }
+fn behind_loop(token: Token) -> Result<PartStage, ReadFaultKind>
+    ensures { GoesOn result (λ nest head draft. behind_loop_step nest head draft token) }
 {
     match token {
-        Token::Decimal(value) => behind_number(nest, head, draft, turns_from(value)),
+        Token::Decimal(value) => behind_number(turns_from(value)),
         _ => Err(ReadFaultKind::Literal),
     }
 }
 
-fn behind_number(nest: Nest, head: Head, draft: Draft, turns: Option<u8>) -> Move
-    ensures { result ≡ turns_step nest head draft turns }
+fn behind_number(turns: Option<u8>) -> Result<PartStage, ReadFaultKind>
+    ensures { GoesOn result (λ nest head draft. turns_step nest head draft turns) }
 {
     match turns {
-        Some(turns) => goes_on(nest, head, PartStage::BehindTurns(turns), draft),
+        Some(turns) => Ok(PartStage::BehindTurns(turns)),
         None => Err(ReadFaultKind::Literal),
     }
 }
@@ -365,26 +391,21 @@ fn turns_from(value: i64) -> Option<u8>
     }
 }
 
-fn behind_turns(nest: Nest, head: Head, turns: u8, draft: Draft, token: Token) -> Move
-    ensures { result ≡ behind_turns_step nest head turns draft token }
+fn behind_turns(turns: u8, token: Token) -> Result<PartStage, ReadFaultKind>
+    ensures { GoesOn result (λ nest head draft. behind_turns_step nest head turns draft token) }
 {
     match token {
-        Token::CloseBrace => goes_on(nest, head, PartStage::BehindPragma(turns), draft),
+        Token::CloseBrace => Ok(PartStage::BehindPragma(turns)),
         _ => Err(ReadFaultKind::Word),
     }
 }
 
-fn behind_pragma(nest: Nest, head: Head, turns: u8, draft: Draft, token: Token) -> Move
-    ensures { result ≡ behind_pragma_step nest head turns draft token }
+fn behind_pragma(turns: u8, token: Token) -> Result<PartStage, ReadFaultKind>
+    ensures { GoesOn result (λ nest head draft. behind_pragma_step nest head turns draft token) }
 {
     match token {
         Token::Keyword(Keyword::Jump(condition)) => {
-            goes_on(
-                nest,
-                head,
-                PartStage::BehindJump(condition, Some(turns)),
-                draft,
-            )
+            Ok(PartStage::BehindJump(condition, Some(turns)))
         }
         _ => Err(ReadFaultKind::Operator),
     }

@@ -6,7 +6,7 @@ use std::marker::Model;
 const WORD_CAPACITY: usize = 32;
 
 /// A word of at most 32 characters. Contracts see its bytes.
-#[derive(Drop, Debug)]
+#[derive(Drop)]
 pub struct Lexeme {
     bytes: [u8; 32],
     length: usize,

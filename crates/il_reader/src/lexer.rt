@@ -12,7 +12,7 @@ use crate::token::{Keyword, Token};
 use point_types::{IlType, Operator};
 
 /// What stands open between two bytes of a text.
-#[derive(Drop, Debug)]
+#[derive(Drop)]
 pub enum Mode {
     /// Nothing.
     Clear,
@@ -43,7 +43,7 @@ pub enum Mode {
 
 /// What a byte makes of a text: the token that it ends, the token that is whole with it, and what
 /// stands open behind it.
-#[derive(Drop, Debug)]
+#[derive(Drop)]
 pub struct Lexed {
     pub ended: Option<Token>,
     pub own: Option<Token>,

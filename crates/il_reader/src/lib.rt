@@ -26,10 +26,3 @@ pub use computation::Computation;
 pub use fault::{ReadFault, ReadFaultKind};
 pub use reader::read;
 pub use tree::{Action, External, InnerLine, Operand, Program, Simple, Statement, Variable};
-
-#[cfg(test)]
-mod nesting_tests;
-#[cfg(test)]
-mod tests;
-#[cfg(test)]
-mod token_tests;

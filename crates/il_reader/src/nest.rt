@@ -7,13 +7,13 @@ use std::alloc::{AllocError, Global};
 use std::marker::Model;
 
 /// The parentheses that stand open. Contracts see them as a list, the inmost first.
-#[derive(Drop, Debug)]
+#[derive(Drop)]
 pub struct Nest {
     frames: Vec<Frame>,
 }
 
 /// Parentheses that stand open: the instruction that opened them, and the lines inside so far.
-#[derive(Drop, Debug)]
+#[derive(Drop)]
 pub struct Frame {
     /// Where the instruction stands, with a label in the body alone.
     pub head: Head,
@@ -39,6 +39,7 @@ impl Model for Nest {
 
 impl Nest {
     ghost use Rattle.std.specs.Prelude.{◌≡◌, [], ◌∷◌, IfOk, MatchOption, length};
+    ghost use Rattle.il_reader.specs.Nesting.{with_inner};
 
     /// No parentheses; takes no memory.
     pub fn new(alloc: Global) -> Nest
@@ -72,6 +73,17 @@ impl Nest {
         let Nest { mut frames } = self;
         let inmost = frames.pop();
         (inmost, Nest { frames })
+    }
+
+    /// With one more line in the inmost parentheses.
+    pub fn add(self, line: u32, computation: Computation) -> Result<Nest, AllocError>
+        ensures { IfOk result (λ nest. nest ≡ with_inner self line computation) }
+    {
+        let (inmost, outer) = self.part();
+        match inmost {
+            Some(frame) => outer.open(frame.add(line, computation)?),
+            None => Ok(outer),
+        }
     }
 }
 

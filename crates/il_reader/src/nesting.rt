@@ -1,11 +1,11 @@
 ghost use Rattle.std.specs.Prelude.{◌≡◌, IfOk};
 ghost use Rattle.il_reader.specs.Nesting.{is_outer, takes_parentheses};
-ghost use Rattle.il_reader.specs.Instructions.{acted, behind_entry_step, behind_parenthesis_step, close_step, computed, enter_step, entered_step, inner_step, inside_step, opened, operand_of};
+ghost use Rattle.il_reader.specs.Instructions.{GoesOnInside, GoesOn, acted, behind_entry_step, behind_parenthesis_step, close_step, computed, enter_step, entered_step, inner_step, inside_step, opened, operand_of};
 
 use crate::computation::{Computation, InnerLines};
 use crate::draft::{Draft, Head};
 use crate::fault::ReadFaultKind;
-use crate::instructing::{begin_with, goes_on, operand_from};
+use crate::instructing::{begin_with, goes_on_if, operand_from};
 use crate::nest::{Frame, Nest};
 use crate::stage::{PartStage, Stage};
 use crate::state::{Move, State};
@@ -34,30 +34,21 @@ pub fn compute(
 ) -> Result<State, AllocError>
     ensures { IfOk result (λ s. s ≡ computed nest draft head computation) }
 {
-    let (inmost, outer) = nest.part();
-    match inmost {
-        Some(frame) => {
-            let frame = frame.add(head.line, computation)?;
-            let nest = outer.open(frame)?;
-            Ok(State::Within(Stage::BehindInstruction(nest), draft))
-        }
-        None => act(outer, draft, head, Action::Compute(computation)),
+    if nest.depth() == 0 {
+        return act(nest, draft, head, Action::Compute(computation));
     }
+    let nest = nest.add(head.line, computation)?;
+    Ok(State::Within(Stage::BehindInstruction(nest), draft))
 }
 
 /// An opening parenthesis behind an operator.
-pub fn enter(nest: Nest, head: Head, operator: Operator, negated: bool, draft: Draft) -> Move
-    ensures { result ≡ enter_step nest head operator negated draft }
+pub fn enter(nest: &Nest, operator: Operator, negated: bool) -> Result<PartStage, ReadFaultKind>
+    ensures { GoesOnInside nest.now result (λ head draft. enter_step nest.now head operator negated draft) }
 {
     if !may_open(operator) {
         Err(ReadFaultKind::Operand)
     } else if nest.depth() < MOST_OPEN {
-        goes_on(
-            nest,
-            head,
-            PartStage::BehindParenthesis(operator, negated),
-            draft,
-        )
+        Ok(PartStage::BehindParenthesis(operator, negated))
     } else {
         Err(ReadFaultKind::TooLong)
     }
@@ -87,27 +78,22 @@ pub fn behind_parenthesis(
 {
     match token {
         Token::LineEnd => open(nest, head, operator, negated, None, draft, alloc),
-        _ => Ok(entered(nest, head, operator, negated, draft, operand_from(token))),
+        _ => {
+            let next = entered(operator, negated, operand_from(token));
+            Ok(goes_on_if(nest, head, next, draft))
+        }
     }
 }
 
 fn entered(
-    nest: Nest,
-    head: Head,
     operator: Operator,
     negated: bool,
-    draft: Draft,
     operand: Option<Operand>,
-) -> Move
-    ensures { result ≡ entered_step nest head operator negated draft operand }
+) -> Result<PartStage, ReadFaultKind>
+    ensures { GoesOn result (λ nest head draft. entered_step nest head operator negated draft operand) }
 {
     match operand {
-        Some(operand) => goes_on(
-            nest,
-            head,
-            PartStage::BehindEntry(operator, negated, operand),
-            draft,
-        ),
+        Some(operand) => Ok(PartStage::BehindEntry(operator, negated, operand)),
         None => Err(ReadFaultKind::Operand),
     }
 }

@@ -5,7 +5,7 @@ ghost use Rattle.il_reader.specs.Tokens.{base_named, below, digit_in, digit_of, 
 use crate::text::{is_decimal_digit, lower_case};
 
 /// A base other than ten (IEC 61131-3 edition 2, 2.2.1).
-#[derive(Clone, Copy, PartialEq, Eq, Debug)]
+#[derive(Clone, Copy)]
 pub enum Base {
     Two,
     Eight,
@@ -13,7 +13,7 @@ pub enum Base {
 }
 
 /// How a number is spelled, as far as it has been read (IEC 61131-3 edition 2, 2.2.1).
-#[derive(Clone, Copy, PartialEq, Eq, Debug)]
+#[derive(Clone, Copy)]
 pub enum Spelling {
     /// Decimal digits that `#` can still make a base: no sign, no leading zero, no underscore.
     Plain,

@@ -1,6 +1,6 @@
 use crate::fault::{ReadFault, ReadFaultKind};
 use crate::lexer::{Lexed, Mode};
-use crate::state::State;
+use crate::state::{Move, State};
 use crate::tree::Program;
 use std::alloc::{AllocError, Global};
 
@@ -8,7 +8,7 @@ use std::alloc::{AllocError, Global};
 const TEXT_LIMIT: usize = 1_048_576;
 
 /// How a text stands between two of its bytes.
-#[derive(Drop, Debug)]
+#[derive(Drop)]
 pub struct Reader {
     /// The line of the next byte.
     pub line: u32,
@@ -59,19 +59,16 @@ impl Reader {
             state,
         } = self;
         let early = state.end_fault();
-        let token = match mode.finish() {
-            Ok(token) => token,
+        match mode.finish() {
+            Ok(token) => {
+                let moved = state.step_if(alloc, token, line)?;
+                Ok(ended(moved, early, last))
+            }
             Err(kind) => {
                 let kind = half_token_fault(kind, early);
-                return Ok(Err(ReadFault { line: last, kind }));
+                Ok(Err(ReadFault { line: last, kind }))
             }
-        };
-        let kind = match state.step_if(alloc, token, line)? {
-            Ok(State::Over(program)) => return Ok(Ok(program)),
-            Ok(state) => state.end_fault(),
-            Err(_) => early,
-        };
-        Ok(Err(ReadFault { line: last, kind }))
+        }
     }
 }
 
@@ -101,7 +98,7 @@ pub fn read(alloc: Global, text: &str) -> Result<Program, ReadFault>
 }
 
 ghost use Rattle.std.specs.Prelude.{◌≡◌, ◌≤◌, ◌<◌, ◌^◌, IfOk, length};
-ghost use Rattle.il_reader.specs.Reading.{IsAnswer, answered, half_fault, outcome};
+ghost use Rattle.il_reader.specs.Reading.{IsAnswer, answered, end_reached, half_fault, outcome};
 ghost use Rattle.il_reader.specs.Tokens.{line_behind};
 
 fn read_bytes(alloc: Global, text: &[u8]) -> Result<Result<Program, ReadFault>, AllocError>
@@ -123,6 +120,20 @@ fn read_bytes(alloc: Global, text: &[u8]) -> Result<Result<Program, ReadFault>, 
         rest = after;
     }
     reader.finish(alloc)
+}
+
+// The answer behind the last token of a text: its program, or why it has ended too soon.
+fn ended(moved: Move, early: ReadFaultKind, line: u32) -> Result<Program, ReadFault>
+    ensures { result ≡ answered (end_reached line early moved) }
+{
+    match moved {
+        Ok(State::Over(program)) => Ok(program),
+        Ok(state) => Err(ReadFault {
+            line,
+            kind: state.end_fault(),
+        }),
+        Err(_) => Err(ReadFault { line, kind: early }),
+    }
 }
 
 // The fault of a text that ends in an open comment, or in a token that isn't whole.

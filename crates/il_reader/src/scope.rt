@@ -11,7 +11,7 @@ const VARIABLE_LIMIT: usize = 1024;
 const EXTERNAL_LIMIT: usize = 1024;
 
 /// The names that are declared.
-#[derive(Drop, Debug)]
+#[derive(Drop)]
 pub struct Scope {
     pub variables: Items<Name>,
     pub externals: Items<Name>,

@@ -9,7 +9,7 @@ use crate::typing::Typing;
 use point_types::{Condition, IlType, Name, Operator};
 
 /// Where a text stands between its name and END_PROGRAM, inside the parentheses of a nest.
-#[derive(Drop, Debug)]
+#[derive(Drop)]
 pub enum Stage {
     /// Behind the name or END_VAR: a block, or the body.
     BetweenBlocks,
@@ -27,7 +27,7 @@ pub enum Stage {
 
 /// Where a text stands in a block of declarations. The truth value tells whether the block is one of
 /// externals.
-#[derive(Clone, Copy, PartialEq, Eq, Debug)]
+#[derive(Clone, Copy)]
 pub enum BlockStage {
     /// A declaration, or END_VAR.
     InBlock(bool),
@@ -54,7 +54,7 @@ pub enum BlockStage {
 }
 
 /// Where a text stands behind the first token of an instruction.
-#[derive(Clone, Copy, PartialEq, Eq, Debug)]
+#[derive(Clone, Copy)]
 pub enum PartStage {
     /// Behind LD or LDN.
     BehindLoad(bool),
@@ -84,7 +84,7 @@ pub enum PartStage {
 }
 
 /// An operator with two operands beside the result.
-#[derive(Clone, Copy, PartialEq, Eq, Debug)]
+#[derive(Clone, Copy)]
 pub enum Pair {
     Limit,
     Select,

@@ -1,6 +1,6 @@
 ghost use Rattle.std.specs.Prelude.{◌≡◌, IfOk, Ok, None};
 ghost use Rattle.il_reader.specs.Drafting.{declares};
-ghost use Rattle.il_reader.specs.Instructions.{at_instruction_step, at_line_step, behind_label_step, between_step, line_step, whole_step};
+ghost use Rattle.il_reader.specs.Instructions.{StopsOn, at_instruction_step, at_line_step, behind_label_step, between_step, line_step, whole_step};
 ghost use Rattle.il_reader.specs.Reading.{braced, early, is_brace, over_step, start_step, state_step, step, stepped, taken, titled_step, with_fault, within_step};
 
 use crate::draft::{Draft, Head};
@@ -16,7 +16,7 @@ use point_types::Name;
 use std::alloc::{AllocError, Global};
 
 /// Where a text stands, with what has been read.
-#[derive(Drop, Debug)]
+#[derive(Drop)]
 pub enum State {
     /// Before PROGRAM.
     Start,
@@ -237,9 +237,19 @@ fn at_instruction(alloc: Global, head: Head, draft: Draft, token: Token) -> Resu
 fn behind_instruction(nest: Nest, draft: Draft, token: Token) -> Move
     ensures { result ≡ whole_step nest draft token }
 {
+    match fault_behind(&nest, token) {
+        None => Ok(State::Within(Stage::AtLine(nest), draft)),
+        Some(kind) => Err(kind),
+    }
+}
+
+// Why a token can't follow a whole instruction, where it can't.
+fn fault_behind(nest: &Nest, token: Token) -> Option<ReadFaultKind>
+    ensures { StopsOn nest.now result (λ draft. whole_step nest.now draft token) }
+{
     match token {
-        Token::LineEnd => Ok(State::Within(Stage::AtLine(nest), draft)),
-        Token::Close => Err(nest.close_fault()),
-        _ => Err(ReadFaultKind::Operand),
+        Token::LineEnd => None,
+        Token::Close => Some(nest.close_fault()),
+        _ => Some(ReadFaultKind::Operand),
     }
 }

@@ -1,7 +1,7 @@
 use point_types::{Condition, IlType, Name, Operator};
 
 /// A word with a meaning of its own (IEC 61131-3 edition 2, 2.1.3 and 3.2).
-#[derive(Clone, Copy, PartialEq, Eq, Debug)]
+#[derive(Clone, Copy)]
 pub enum Keyword {
     Program,
     EndProgram,
@@ -29,7 +29,7 @@ pub enum Keyword {
 }
 
 /// The smallest parts of a text: words, literals and marks.
-#[derive(Clone, Copy, PartialEq, Eq, Debug)]
+#[derive(Clone, Copy)]
 pub enum Token {
     Keyword(Keyword),
     Name(Name),

@@ -5,14 +5,14 @@ use crate::tree::Variable;
 use point_types::{IlType, Name, Var};
 
 /// A name of a declaration, and its line.
-#[derive(Clone, Copy, PartialEq, Eq, Debug)]
+#[derive(Clone, Copy)]
 pub struct Entry {
     pub line: u32,
     pub name: Name,
 }
 
 /// What a declaration says of its names: the type, the range and the start value, which lies in it.
-#[derive(Clone, Copy, PartialEq, Eq, Debug)]
+#[derive(Clone, Copy)]
 pub struct Typing {
     pub kind: IlType,
     pub low: i64,

@@ -5,31 +5,24 @@ use thiserror::Error;
 
 /// Why a text is no plant file.
 #[derive(Clone, Copy, PartialEq, Eq, Debug, Error)]
+#[error("{}", self.word())]
 pub enum PlantFault {
     /// No TOML.
-    #[error("NotToml")]
     NotToml,
     /// A key is missing or of another kind.
-    #[error("MissingKey")]
     MissingKey,
     /// A model that has no definition, or a value's model that isn't its device's.
-    #[error("UnknownModel")]
     UnknownModel,
     /// A value's point that its model doesn't have.
-    #[error("UnknownPoint")]
     UnknownPoint,
     /// A number outside its limits, no watts, models that don't begin with 1, a map past the last register, or a value
     /// for a string, for ID or for L.
-    #[error("BadRange")]
     BadRange,
     /// A unit, a model or a point twice, or two faults of one request.
-    #[error("Duplicate")]
     Duplicate,
     /// More entries than a plant has.
-    #[error("TooMany")]
     TooMany,
     /// Memory for the tree or the plant was refused.
-    #[error("OutOfMemory")]
     OutOfMemory,
 }
 

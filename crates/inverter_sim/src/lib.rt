@@ -17,6 +17,3 @@ pub use place::Place;
 pub use plant::Plant;
 pub use points::{Scale, TickPoints};
 pub use serving::serve_link;
-
-#[cfg(test)]
-mod tests;

@@ -5,12 +5,11 @@ use thiserror::Error;
 
 /// Why a stream of frames can't go on.
 #[derive(Clone, Copy, Debug, PartialEq, Eq, Error)]
+#[error("{}", self.word())]
 pub enum FrameFault {
     /// The third and fourth byte of a frame, its protocol identifier, aren't zero.
-    #[error("BadProtocol")]
     BadProtocol,
     /// The length of a frame lies outside 2..254.
-    #[error("BadLength")]
     BadLength,
 }
 

@@ -25,6 +25,3 @@ pub use pdu::Pdu;
 pub use request::{parse_request, request_pdu};
 pub use response::{exception_pdu, parse_response, response_pdu};
 pub use words::Words;
-
-#[cfg(test)]
-mod tests;

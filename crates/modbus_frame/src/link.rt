@@ -52,24 +52,19 @@ pub struct Down;
 
 /// Why work over a link ended.
 #[derive(Clone, Copy, Debug, PartialEq, Eq, Error)]
+#[error("{}", self.word())]
 pub enum LinkFault {
     /// A read failed.
-    #[error("Read")]
     Read,
     /// A write failed.
-    #[error("Write")]
     Write,
     /// The bytes that came are no frames.
-    #[error("Frame")]
     Frame(FrameFault),
     /// The bytes ended before a reply or inside a frame.
-    #[error("End")]
     End,
     /// One call used up its reads and writes.
-    #[error("Turns")]
     Turns,
     /// There was no memory.
-    #[error("OutOfMemory")]
     OutOfMemory,
 }
 

@@ -44,12 +44,11 @@ impl Exception {
 
 /// Why a reply isn't what was asked for.
 #[derive(Clone, Copy, Debug, PartialEq, Eq, Error)]
+#[error("{}", self.word())]
 pub enum ReplyFault {
     /// The device answered with an exception.
-    #[error("Exception")]
     Exception(Exception),
     /// The bytes are no reply to this request.
-    #[error("Mismatch")]
     Mismatch,
 }
 

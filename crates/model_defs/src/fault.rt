@@ -7,36 +7,27 @@ use thiserror::Error;
 /// the model; its id; groups that repeat; point by point its keys, its type and access, its size, its name;
 /// then of the points together the header, the length, the scale factors.
 #[derive(Clone, Copy, PartialEq, Eq, Debug, Error)]
+#[error("{}", self.word())]
 pub enum DefFault {
     /// No JSON, or not UTF-8.
-    #[error("NotJson")]
     NotJson,
     /// A key is missing or of another JSON kind.
-    #[error("MissingKey")]
     MissingKey,
     /// A type or an access word that isn't known, or an id outside 1..65534.
-    #[error("BadType")]
     BadType,
     /// A size that isn't the kind's, or a string without registers.
-    #[error("BadSize")]
     BadSize,
     /// Two points of one name.
-    #[error("DuplicateName")]
     DuplicateName,
     /// A scale factor that names no point of kind sunssf, or a number outside -10..10.
-    #[error("BadScalePoint")]
     BadScalePoint,
     /// The group has groups of its own.
-    #[error("Repeating")]
     Repeating,
     /// More than 123 registers behind ID and L.
-    #[error("TooLong")]
     TooLong,
     /// The first two points aren't ID and L, both uint16.
-    #[error("BadHeader")]
     BadHeader,
     /// Memory for the tree or the definition was refused.
-    #[error("OutOfMemory")]
     OutOfMemory,
 }
 

@@ -15,6 +15,3 @@ pub use model::ModelDef;
 pub use models::shipped;
 pub use point::{Point, PointName, Points, Sf};
 pub use reader::read;
-
-#[cfg(test)]
-mod tests;

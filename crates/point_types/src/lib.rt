@@ -12,8 +12,6 @@ pub mod name;
 pub mod operator;
 pub mod reading;
 pub mod scaling;
-#[cfg(test)]
-mod tests;
 pub mod variable;
 pub mod words;
 

@@ -7,6 +7,3 @@ pub mod plan;
 pub mod write;
 
 pub use write::{NoWrite, Write};
-
-#[cfg(test)]
-mod tests;

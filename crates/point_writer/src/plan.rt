@@ -49,7 +49,7 @@ pub fn plan(
 }
 
 /// The words that set a tag to the number that the program stored.
-pub(crate) fn plan_of(
+pub fn plan_of(
     tag: &SiteTag,
     output: Option<i64>,
     wants: &[(usize, u16)],

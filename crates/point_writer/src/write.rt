@@ -18,22 +18,18 @@ pub struct Write {
 
 /// Why a tag isn't written, by the first cause that holds.
 #[derive(Clone, Copy, PartialEq, Eq, Debug, Error)]
+#[error("{}", self.word())]
 pub enum NoWrite {
     /// The program didn't store it.
-    #[error("NotSet")]
     NotSet = 1,
     /// Its device has no map, the map hasn't its model, no words of that block are known, or its point or its factor lies
     /// past the map's length or the known words.
-    #[error("NoBlock")]
     NoBlock,
     /// The scale factor is absent or outside -10..10.
-    #[error("BadScale")]
     BadScale,
     /// No raw number is the value by that factor.
-    #[error("Inexact")]
     Inexact,
     /// The raw number lies outside the point's kind, or its words would read as absent.
-    #[error("OutOfType")]
     OutOfType,
 }
 

@@ -7,12 +7,11 @@ use thiserror::Error;
 
 /// Why a read of registers gave no words.
 #[derive(Clone, Copy, Debug, PartialEq, Eq, Error)]
+#[error("{}", self.word())]
 pub enum ReadFault {
     /// The device answered with an exception, as for registers that it doesn't have.
-    #[error("Refused")]
     Refused,
     /// There was no answer to the read.
-    #[error("Failed")]
     Failed,
 }
 

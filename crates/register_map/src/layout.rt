@@ -78,21 +78,17 @@ impl Map {
 
 /// Why no map was found.
 #[derive(Clone, Copy, Debug, PartialEq, Eq, Error)]
+#[error("{}", self.word())]
 pub enum MapFault {
     /// No base has the mark `SunS`.
-    #[error("NoMark")]
     NoMark = 1,
     /// The first model isn't the common model, whose ID is 1.
-    #[error("NotCommon")]
     NotCommon,
     /// A header lies past the last register.
-    #[error("PastEnd")]
     PastEnd,
     /// There are more than [`MOST_MODELS`] models.
-    #[error("TooMany")]
     TooMany,
     /// A register couldn't be read.
-    #[error("Read")]
     Read,
 }
 

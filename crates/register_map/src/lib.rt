@@ -14,6 +14,3 @@ pub use access::{ReadFault, Registers};
 pub use discovery::{chain, discover};
 pub use layout::{Block, MOST_MODELS, Map, MapFault};
 pub use memory::{MemRegisters, PlannedFault};
-
-#[cfg(test)]
-mod tests;

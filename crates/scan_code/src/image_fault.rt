@@ -3,24 +3,19 @@ use thiserror::Error;
 
 /// Why bytes are no image, by number from 1 on; of several the one that is met first from left to right.
 #[derive(Clone, Copy, PartialEq, Eq, Debug, Error)]
+#[error("{}", self.word())]
 pub enum ImageFault {
     /// One of the first four bytes is there and isn't that of `ILSC`.
-    #[error("Mark")]
     Mark,
     /// A version other than 1 and 2.
-    #[error("Version")]
     Version,
     /// The bytes end too soon.
-    #[error("Cut")]
     Cut,
     /// Bytes behind the code.
-    #[error("Rest")]
     Rest,
     /// A count of over 1,024 variables or tags, a name that isn't one in lower case or comes twice, a type
     /// over 7, a direction over 1, or a range or a start value outside its bounds.
-    #[error("Field")]
     Field,
-    #[error("OutOfMemory")]
     OutOfMemory,
 }
 

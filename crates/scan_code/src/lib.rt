@@ -7,15 +7,11 @@ pub mod image_fault;
 mod image_names;
 mod image_reader;
 mod image_rules;
-#[cfg(test)]
-mod image_tests;
 mod image_writer;
 pub mod laws;
 pub mod op;
 pub mod spelling;
 pub mod table;
-#[cfg(test)]
-mod tests;
 
 pub use decoding::decode;
 pub use image::{Image, Tag};

@@ -2,7 +2,6 @@ pub mod Accepted
 pub mod Possible
 pub mod Progress
 pub mod Reached
-pub mod Readings
 pub mod Runs
 pub mod Scans
 pub mod Stack

@@ -7,8 +7,6 @@ mod deferred_words;
 mod execution;
 pub mod machine;
 mod operators;
-#[cfg(test)]
-mod tests;
 pub mod trap;
 pub mod trial;
 mod value;

@@ -3,28 +3,22 @@ use thiserror::Error;
 /// Why a scan stopped, by the first of these that holds of an instruction: Code, Stack, Type,
 /// ZeroDivisor, Overflow, MissingPoint, StoreRange.
 #[derive(Clone, Copy, PartialEq, Eq, Debug, Error)]
+#[error("{}", self.word())]
 pub enum TrapKind {
     /// No result where one is wanted, or a value of a wrong or another type.
-    #[error("Type")]
     WrongType,
     /// A number outside its type.
-    #[error("Overflow")]
     Overflow,
     /// DIV or MOD by 0.
-    #[error("ZeroDivisor")]
     ZeroDivisor,
     /// A load of an input without a value.
-    #[error("MissingPoint")]
     MissingPoint,
     /// No instruction at the address, a variable or a tag past its table or of the other direction,
     /// or a jump in the wrong direction.
-    #[error("Code")]
     Code,
     /// No deferred value where one is wanted, or 128 of them where one more is deferred.
-    #[error("Stack")]
     Stack,
     /// A store outside the variable's declared range.
-    #[error("StoreRange")]
     StoreRange,
 }
 

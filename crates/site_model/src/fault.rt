@@ -6,40 +6,30 @@ use thiserror::Error;
 /// Why a text is no site file. The rules are looked at in this order: the text is TOML; no list is too long; then the
 /// gateway, the devices, the tags and what is served, entry by entry, and within an entry as the faults are listed.
 #[derive(Clone, Copy, PartialEq, Eq, Debug, Error)]
+#[error("{}", self.word())]
 pub enum SiteFault {
     /// No TOML.
-    #[error("NotToml")]
     NotToml,
     /// A key is missing or of another kind.
-    #[error("MissingKey")]
     MissingKey,
     /// No device has this name.
-    #[error("UnknownDevice")]
     UnknownDevice,
     /// No definition has this ID, or it isn't among the gateway's models.
-    #[error("UnknownModel")]
     UnknownModel,
     /// The model has no point of this name.
-    #[error("UnknownPoint")]
     UnknownPoint,
     /// An `out` or `set` tag on a point that can't be written.
-    #[error("NotWritable")]
     NotWritable,
     /// A number outside its range: an exponent, low, high, default, bit, unit, base or write function, the gateway's
     /// models (1 isn't first, or one is there twice), its map past 65535, a value that can't be encoded, a text too long.
-    #[error("BadRange")]
     BadRange,
     /// A word that isn't allowed where it stands, a point of a kind that isn't, or keys that don't go together.
-    #[error("BadType")]
     BadType,
     /// A name, a unit, or a point that is used already.
-    #[error("Duplicate")]
     Duplicate,
     /// More than 16 gateway models, 64 devices, 1,024 tags or 256 served entries.
-    #[error("TooMany")]
     TooMany,
     /// Memory for the tree or the site was refused.
-    #[error("OutOfMemory")]
     OutOfMemory,
 }
 

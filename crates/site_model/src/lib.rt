@@ -34,6 +34,3 @@ pub use site::Site;
 pub use tag::{Sf, SiteTag};
 pub use text::Text;
 pub use words::Words;
-
-#[cfg(test)]
-mod tests;

@@ -9,9 +9,6 @@ use crate::wants::{place_of_want, want_of};
 use crate::words::Words;
 use point_types::{Cause, Reading, scaled, scaled_down, value};
 
-#[cfg(test)]
-mod tests;
-
 /// Reads all tags, one entry of `into` each: `in` tags by the known words of their blocks, `set` tags by the numbers that
 /// were set. A tag with a default is Default where it would be Absent (SunSpec Device Information Model Specification,
 /// points and scale factors). Takes no memory.

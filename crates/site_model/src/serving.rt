@@ -193,7 +193,7 @@ fn has_room(point: &Point, text: &str) -> bool
 }
 
 /// Whether words of the kind stand for this raw number.
-pub(crate) fn can_be_encoded(point: Kind, raw: i64) -> bool
+fn can_be_encoded(point: Kind, raw: i64) -> bool
     ensures { result ≡ can_be_encoded point raw }
 {
     match raw_range(point) {

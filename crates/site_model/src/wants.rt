@@ -9,9 +9,6 @@ use crate::tag::SiteTag;
 use point_types::Items;
 use std::alloc::{AllocError, Global};
 
-#[cfg(test)]
-mod tests;
-
 /// The device and the model's ID of each `in` and `out` tag, each pair once, by first use.
 pub fn wants_of(alloc: Global, tags: &[SiteTag]) -> Result<Items<(usize, u16)>, AllocError>
     ensures { IfOk result (λ wants. wants ≡ wants_of tags.now) }

@@ -12,7 +12,7 @@ use std::rc::Rc;
 
 /// The span of each variable or of each tag. Only those are kept that differ from the span at entry; the
 /// spans at entry are shared.
-#[derive(Drop, Debug)]
+#[derive(Drop)]
 pub struct Changes {
     at_entry: Rc<Items<Span>>,
     kept: Sparse<Span>,

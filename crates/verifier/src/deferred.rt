@@ -1,9 +1,8 @@
-ghost use Rattle.std.specs.Prelude.{◌≡◌, ◌∷◌, IfOk, map};
+ghost use Rattle.std.specs.Prelude.{◌≡◌, ◌∷◌, IfOk, drop, map};
 ghost use Rattle.verifier.specs.Fact.{met_value, zipped};
-ghost use Rattle.verifier.specs.Flow.{first_deferred, forgets_in};
+ghost use Rattle.verifier.specs.Flow.{forgets_in};
 
 use crate::known::{Known, met_value};
-use crate::refusal::RefusalKind;
 use point_types::Items;
 use std::alloc::{AllocError, Global};
 
@@ -80,28 +79,49 @@ pub fn met_values(
     Ok(Items::from_vec(values))
 }
 
-/// The last deferred value, and the others.
-pub fn first_deferred(
-    values: Items<Option<Known>>,
-) -> Result<(Option<Known>, Items<Option<Known>>), RefusalKind>
-    ensures { result ≡ first_deferred values }
+/// The same of values that are lent.
+pub fn met_lent(
+    alloc: Global,
+    ones: &[Option<Known>],
+    others: &[Option<Known>],
+) -> Result<Items<Option<Known>>, AllocError>
+    ensures { IfOk result (λ values. values ≡ zipped met_value ones.now others.now) }
 {
-    if values.len() == 0 {
-        return Err(RefusalKind::Stack);
-    }
+    let ones = copied_values(alloc, ones)?;
+    met_values(alloc, ones, copied_values(alloc, others)?)
+}
+
+/// The same of one value of each.
+pub fn met_value_lent(
+    alloc: Global,
+    one: &Option<Known>,
+    other: &Option<Known>,
+) -> Result<Option<Known>, AllocError>
+    ensures { IfOk result (λ value. value ≡ met_value one.now other.now) }
+{
+    let one = copied_value(alloc, one)?;
+    Ok(met_value(alloc, one, copied_value(alloc, other)?))
+}
+
+/// The deferred values but for the last one, if there is one.
+pub fn without_last(values: Items<Option<Known>>) -> Items<Option<Known>>
+    ensures { result ≡ drop 1 values }
+{
     let mut others = values.into_vec();
-    let first = others.remove(0);
-    Ok((first, Items::from_vec(others)))
+    if !others.is_empty() {
+        others.remove(0);
+    }
+    Items::from_vec(others)
 }
 
 /// The deferred values with one more, which is the last.
 pub fn deferring(
-    value: Known,
+    value: Option<Known>,
     values: Items<Option<Known>>,
 ) -> Result<Items<Option<Known>>, AllocError>
-    ensures { IfOk result (λ deferred. deferred ≡ Some value ∷ values) }
+    ensures { IfOk result (λ deferred. deferred ≡ value ∷ values) }
 {
     let mut values = values.into_vec();
-    values.insert(0, Some(value))?;
+    values.insert(0, value)?;
     Ok(Items::from_vec(values))
 }

@@ -1,8 +1,10 @@
 ghost use Rattle.std.specs.Prelude.{◌≡◌, ◌<◌, ◌+◌, ◌^◌, ◌++◌, IfOk, OnOk};
+ghost use Rattle.verifier.specs.Branches.{refused_or, with_made};
 ghost use Rattle.verifier.specs.Flow.{flow, goes_on, way_to};
 
 use crate::fact::Fact;
 use crate::frame::Frame;
+use crate::known::Known;
 use crate::refusal::RefusalKind;
 use point_types::Items;
 use scan_code::Op;
@@ -47,6 +49,28 @@ impl Fact {
             Op::Repeat(condition, counter, count, to) => {
                 self.repeat(alloc, frame, at, condition, counter, count, usize::from(to))
             }
+        }
+    }
+
+    /// The next instruction follows with the result that was made, if one was.
+    fn with_made(self, alloc: Global, at: usize, made: Result<Known, RefusalKind>) -> Ways
+        requires { at + 1 < 2 ^ 64 }
+        ensures { IfOk result (λ ways. ways ≡ with_made at self made) }
+    {
+        match made {
+            Ok(value) => goes_on(alloc, at + 1, self.with_value(value)),
+            Err(kind) => Ok(Err(kind)),
+        }
+    }
+
+    /// The next instruction follows with the same, unless it is refused.
+    fn unless(self, alloc: Global, at: usize, refusal: Option<RefusalKind>) -> Ways
+        requires { at + 1 < 2 ^ 64 }
+        ensures { IfOk result (λ ways. ways ≡ refused_or refusal (goes_on (at + 1) self)) }
+    {
+        match refusal {
+            None => goes_on(alloc, at + 1, self),
+            Some(kind) => Ok(Err(kind)),
         }
     }
 }

@@ -8,7 +8,7 @@ use std::marker::Model;
 
 /// What is fixed while a program is judged: its variables, the site's tags that its tags are, how many
 /// values may be deferred, and its instructions with their addresses.
-#[derive(Drop, Debug)]
+#[derive(Drop)]
 pub struct Frame {
     pub variables: Items<Var>,
     pub links: Items<Link>,

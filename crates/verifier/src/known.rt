@@ -18,7 +18,7 @@ pub enum Origin {
 
 /// What follows from a truth: for each variable and each tag a span that it lies in, if any, and
 /// whether the tag's input is present. Only those are kept of which something follows.
-#[derive(Drop, Debug)]
+#[derive(Drop)]
 pub struct Consequences {
     pub variables: Sparse<Span>,
     pub inputs: Sparse<Span>,
@@ -27,7 +27,7 @@ pub struct Consequences {
 
 /// What is known of a value: its type, a span that it lies in, what it equals, and what follows where it
 /// is TRUE and where it is FALSE.
-#[derive(Drop, Debug)]
+#[derive(Drop)]
 pub struct Known {
     pub kind: IlType,
     pub span: Span,
@@ -37,8 +37,11 @@ pub struct Known {
 }
 
 impl Known {
-    ghost use Rattle.std.specs.Prelude.{◌≡◌, IfOk};
-    ghost use Rattle.verifier.specs.Fact.{met_known};
+    ghost use Rattle.std.specs.Prelude.{◌≡◌, IfOk, Some, if◌then◌else◌};
+    ghost use Rattle.point_types.specs.Value.{number_of};
+    ghost use Rattle.verifier.specs.Branches.{joined_known};
+    ghost use Rattle.verifier.specs.Fact.{OfVariable, met_known};
+    ghost use Rattle.verifier.specs.Span.{only};
     ghost use Rattle.verifier.specs.Flow.{forgets, inverted_known, plain_value, presence_value, source_value};
 
     /// A value that equals nothing known, and of which nothing follows.
@@ -125,20 +128,57 @@ impl Known {
         })
     }
 
+    /// What is known of it in a variable that gets it: it equals that variable.
+    pub fn stored(self, alloc: Global, v: usize) -> Result<Known, AllocError>
+        ensures { IfOk result (λ value. value ≡ record (forgets v self) { origin = Some (OfVariable v) }) }
+    {
+        let mut value = self.forgets(alloc, v)?;
+        value.origin = Some(Origin::OfVariable(v));
+        Ok(value)
+    }
+
+    /// The same where it is this truth.
+    pub fn being(&self, alloc: Global, truth: bool) -> Result<Known, AllocError>
+        ensures { IfOk result (λ value. value ≡ record self.now { span = only (number_of truth) }) }
+    {
+        let mut value = self.copied(alloc)?;
+        value.span = Span::only(if truth { 1 } else { 0 });
+        Ok(value)
+    }
+
+    /// What follows where it is this truth.
+    pub fn follows(&self, truth: bool) -> &Consequences
+        ensures { result.now ≡ (if truth then self.now.where_true else self.now.where_false) }
+    {
+        if truth {
+            &self.where_true
+        } else {
+            &self.where_false
+        }
+    }
+
     /// What is known on both ways that meet; nothing where the types differ.
     pub fn met(self, alloc: Global, other: Known) -> Option<Known>
         ensures { result ≡ met_known self other }
     {
-        if self.kind != other.kind {
-            return None;
+        if self.kind == other.kind {
+            Some(self.joined(alloc, other))
+        } else {
+            None
         }
-        Some(Known {
+    }
+
+    /// What is known on both ways that meet, of a value of the type of this one.
+    fn joined(self, alloc: Global, other: Known) -> Known
+        ensures { result ≡ joined_known self other }
+    {
+        Known {
             kind: self.kind,
             span: self.span.joined(other.span),
             origin: met_origin(self.origin, other.origin),
             where_true: self.where_true.met(alloc, other.where_true),
             where_false: self.where_false.met(alloc, other.where_false),
-        })
+        }
     }
 }
 

@@ -6,7 +6,7 @@ use std::alloc::{AllocError, Global};
 use std::marker::Model;
 
 /// Of each tag, whether its input is known to be present; only those are kept that are.
-#[derive(Drop, Debug)]
+#[derive(Drop)]
 pub struct Presence {
     kept: Sparse<()>,
 }

@@ -3,7 +3,7 @@ use scan_code::Image;
 
 /// An image that is refused: why, and at which instruction, counted from 0; for the kinds of tags the
 /// number of the image's tag, and 0 for OverBudget and OutOfMemory.
-#[derive(Drop, Debug)]
+#[derive(Drop)]
 pub struct Refused {
     pub image: Image,
     pub at: usize,

@@ -6,7 +6,7 @@ use std::marker::Model;
 
 /// A list of so many places, of which only those that aren't empty are kept: each with the number of
 /// empty places before it, and then how many are empty at the end.
-#[derive(Drop, Debug)]
+#[derive(Drop)]
 pub struct Sparse<T> {
     kept: Vec<(usize, T)>,
     empty_at_end: usize,

@@ -8,7 +8,7 @@ use site_model::{Access, Site, SiteTag};
 use std::marker::Model;
 
 /// A program that was accepted for a site, to be run with at most DEPTH deferred values.
-#[derive(Drop, Debug)]
+#[derive(Drop)]
 pub struct Verified<const DEPTH: usize> {
     pub(crate) image: Image,
     pub(crate) links: Items<Link>,

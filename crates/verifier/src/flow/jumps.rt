@@ -1,7 +1,7 @@
 ghost use Rattle.std.specs.Prelude.{◌≡◌, ◌<◌, ◌+◌, ◌^◌, IfOk, MatchResult, true};
 ghost use Rattle.scan_code.specs.declared.op.Op.TheVariants as does;
-ghost use Rattle.verifier.specs.Branches.{jumps_where, stays_where};
-ghost use Rattle.verifier.specs.Flow.{bool_result, earlier, flow, later, tested};
+ghost use Rattle.verifier.specs.Branches.{jumps_where, refused_or, stays_where};
+ghost use Rattle.verifier.specs.Flow.{bool_result, earlier, flow, goes_on, later, tested};
 
 use crate::fact::Fact;
 use crate::flow::{Ways, add_way, goes_on};
@@ -15,7 +15,7 @@ use std::alloc::{AllocError, Global};
 impl Fact {
     /// JMP, JMPC, JMPCN: to a later instruction.
     pub(crate) fn jump(
-        self,
+        &self,
         alloc: Global,
         frame: &Frame,
         at: usize,
@@ -23,12 +23,12 @@ impl Fact {
         to: usize,
     ) -> Ways
         requires { at + 1 < 2 ^ 64 }
-        ensures { IfOk result (λ ways. ways ≡ flow frame.now at (does.Jump condition to) self) }
+        ensures { IfOk result (λ ways. ways ≡ flow frame.now at (does.Jump condition to) self.now) }
     {
-        let target = later(at, number_at(frame.listing.as_slice(), to));
+        let target = later(at, number_at(frame.instructions(), to));
         match condition {
             Condition::Always => match target {
-                Ok(number) => goes_on(alloc, number, self),
+                Ok(number) => goes_on(alloc, number, self.copied(alloc)?),
                 Err(kind) => Ok(Err(kind)),
             },
             Condition::IfTrue => self.jump_where(alloc, at, true, target),
@@ -62,9 +62,15 @@ impl Fact {
     }
 
     /// RET, RETC, RETCN: the scan ends.
-    pub(crate) fn leave(self, alloc: Global, frame: &Frame, at: usize, condition: Condition) -> Ways
+    pub(crate) fn leave(
+        &self,
+        alloc: Global,
+        frame: &Frame,
+        at: usize,
+        condition: Condition,
+    ) -> Ways
         requires { at + 1 < 2 ^ 64 }
-        ensures { IfOk result (λ ways. ways ≡ flow frame.now at (does.Return condition) self) }
+        ensures { IfOk result (λ ways. ways ≡ flow frame.now at (does.Return condition) self.now) }
     {
         match condition {
             Condition::Always => Ok(Ok(Items::new(alloc))),
@@ -102,16 +108,33 @@ impl Fact {
         requires { at + 1 < 2 ^ 64 }
         ensures { IfOk result (λ ways. ways ≡ flow frame.now at (does.Repeat condition counter count to) self) }
     {
-        if self.deferred.len() != 0 {
-            return Ok(Err(RefusalKind::Stack));
+        let refusal = self.repeat_refusal(frame, at, condition, counter, count, to);
+        self.unless(alloc, at, refusal)
+    }
+
+    /// Why a counted jump is refused, if it is.
+    fn repeat_refusal(
+        &self,
+        frame: &Frame,
+        at: usize,
+        condition: Condition,
+        counter: u8,
+        count: u8,
+        to: usize,
+    ) -> Option<RefusalKind>
+        requires { at + 1 < 2 ^ 64 }
+        ensures { flow frame.now at (does.Repeat condition counter count to) self.now ≡ refused_or result (goes_on (at + 1) self.now) }
+    {
+        if self.depth() != 0 {
+            return Some(RefusalKind::Stack);
         }
         if let Err(kind) = self.tested(condition) {
-            return Ok(Err(kind));
+            return Some(kind);
         }
-        if let Err(kind) = earlier(at, number_at(frame.listing.as_slice(), to)) {
-            return Ok(Err(kind));
+        match earlier(at, number_at(frame.listing.as_slice(), to)) {
+            Ok(_) => None,
+            Err(kind) => Some(kind),
         }
-        goes_on(alloc, at + 1, self)
     }
 
     /// The result, which is a BOOL.

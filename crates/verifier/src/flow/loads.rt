@@ -1,5 +1,6 @@
 ghost use Rattle.std.specs.Prelude.{◌≡◌, ◌<◌, ◌+◌, ◌^◌, ◌||◌, IfOk};
 ghost use Rattle.scan_code.specs.declared.op.Op.TheVariants as does;
+ghost use Rattle.verifier.specs.Branches.{with_made};
 ghost use Rattle.verifier.specs.Flow.{flow};
 ghost use Rattle.verifier.specs.Listing.{is_there};
 
@@ -8,6 +9,7 @@ use crate::flow::{Ways, goes_on};
 use crate::frame::Frame;
 use crate::known::{Known, Origin};
 use crate::link::Link;
+use crate::operand::Made;
 use crate::refusal::RefusalKind;
 use crate::span::Span;
 use point_types::IlType;
@@ -19,20 +21,38 @@ impl Fact {
         requires { at + 1 < 2 ^ 64 }
         ensures { IfOk result (λ ways. ways ≡ flow frame.now at (does.LoadVariable v) self) }
     {
+        let made = self.variable_value(alloc, frame, at, v)?;
+        self.with_made(alloc, at, made)
+    }
+
+    /// What is known of a variable that is loaded.
+    fn variable_value(&self, alloc: Global, frame: &Frame, at: usize, v: usize) -> Made
+        requires { at + 1 < 2 ^ 64 }
+        ensures { IfOk result (λ made. flow frame.now at (does.LoadVariable v) self.now ≡ with_made at self.now made) }
+    {
         let Some(variable) = frame.variables.as_slice().get(v) else {
             return Ok(Err(RefusalKind::Code));
         };
         let Some(span) = self.variables.get(v) else {
             return Ok(Err(RefusalKind::Code));
         };
-        let known = Known::source(alloc, frame, variable.kind, span, Origin::OfVariable(v))?;
-        goes_on(alloc, at + 1, self.with_value(known))
+        let origin = Origin::OfVariable(v);
+        Ok(Ok(Known::source(alloc, frame, variable.kind, span, origin)?))
     }
 
     /// LDT: the result is an input, which has a default or is known to be present.
     pub(crate) fn load_input(self, alloc: Global, frame: &Frame, at: usize, t: usize) -> Ways
         requires { at + 1 < 2 ^ 64 }
         ensures { IfOk result (λ ways. ways ≡ flow frame.now at (does.LoadInput t) self) }
+    {
+        let made = self.input_value(alloc, frame, at, t)?;
+        self.with_made(alloc, at, made)
+    }
+
+    /// What is known of an input that is loaded.
+    fn input_value(&self, alloc: Global, frame: &Frame, at: usize, t: usize) -> Made
+        requires { at + 1 < 2 ^ 64 }
+        ensures { IfOk result (λ made. flow frame.now at (does.LoadInput t) self.now ≡ with_made at self.now made) }
     {
         let Some(link) = frame.link(t) else {
             return Ok(Err(RefusalKind::Code));
@@ -46,8 +66,8 @@ impl Fact {
         if !is_loadable(link, is_present) {
             return Ok(Err(RefusalKind::MayBeMissing));
         }
-        let known = Known::source(alloc, frame, link.site.kind, span, Origin::OfInput(t))?;
-        goes_on(alloc, at + 1, self.with_value(known))
+        let origin = Origin::OfInput(t);
+        Ok(Ok(Known::source(alloc, frame, link.site.kind, span, origin)?))
     }
 
     /// LDP: the result says whether an input is present.

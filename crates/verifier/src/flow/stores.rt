@@ -1,7 +1,8 @@
-ghost use Rattle.std.specs.Prelude.{◌≡◌, ◌<◌, ◌+◌, ◌^◌, IfOk, nat_eq};
+ghost use Rattle.std.specs.Prelude.{◌≡◌, ◌<◌, ◌+◌, ◌^◌, IfOk, nat_eq, slice_get};
 ghost use Rattle.point_types.specs.Value.{code_of};
 ghost use Rattle.scan_code.specs.declared.op.Op.TheVariants as does;
-ghost use Rattle.verifier.specs.Flow.{flow};
+ghost use Rattle.verifier.specs.Branches.{refused_or, set_variable_flow, set_output_flow, stored_result};
+ghost use Rattle.verifier.specs.Flow.{flow, goes_on, widened};
 ghost use Rattle.verifier.specs.Span.{Between, has_member, lies_in};
 
 use crate::fact::Fact;
@@ -11,33 +12,48 @@ use crate::known::Known;
 use crate::link::Link;
 use crate::refusal::RefusalKind;
 use point_types::{IlType, Var};
-use std::alloc::Global;
+use std::alloc::{AllocError, Global};
 
 impl Fact {
     /// STV: a variable gets the result, which lies in its range.
-    pub(crate) fn store_variable(
-        mut self,
-        alloc: Global,
-        frame: &Frame,
-        at: usize,
-        v: usize,
-    ) -> Ways
+    pub(crate) fn store_variable(self, alloc: Global, frame: &Frame, at: usize, v: usize) -> Ways
         requires { at + 1 < 2 ^ 64 }
         ensures { IfOk result (λ ways. ways ≡ flow frame.now at (does.StoreVariable v) self) }
     {
+        match self.store_refusal(frame, at, v) {
+            Some(kind) => Ok(Err(kind)),
+            None => goes_on(alloc, at + 1, self.with_stored_result(alloc, v)?),
+        }
+    }
+
+    /// Why a variable can't get the result, if so.
+    fn store_refusal(&self, frame: &Frame, at: usize, v: usize) -> Option<RefusalKind>
+        requires { at + 1 < 2 ^ 64 }
+        ensures { flow frame.now at (does.StoreVariable v) self.now ≡ refused_or result (goes_on (at + 1) (stored_result v self.now.result self.now)) }
+    {
         let Some(variable) = frame.variables.as_slice().get(v) else {
-            return Ok(Err(RefusalKind::Code));
+            return Some(RefusalKind::Code);
         };
-        let Some(value) = self.result.take() else {
-            return Ok(Err(RefusalKind::NoResult));
+        let Some(value) = &self.result else {
+            return Some(RefusalKind::NoResult);
         };
         if !same_kind(variable.kind, value.kind) {
-            return Ok(Err(RefusalKind::WrongType));
+            return Some(RefusalKind::WrongType);
         }
-        if !fits_variable(&value, variable) {
-            return Ok(Err(RefusalKind::StoreRange));
+        if !fits_variable(value, variable) {
+            return Some(RefusalKind::StoreRange);
         }
-        goes_on(alloc, at + 1, self.stored(alloc, v, value)?)
+        None
+    }
+
+    /// What is known where a variable has got the result.
+    fn with_stored_result(mut self, alloc: Global, v: usize) -> Result<Fact, AllocError>
+        ensures { IfOk result (λ fact. fact ≡ stored_result v self.result self) }
+    {
+        match self.result.take() {
+            Some(value) => self.stored(alloc, v, value),
+            None => Ok(self),
+        }
     }
 
     /// STT: an output gets the result, which lies in its tag's range.
@@ -45,19 +61,28 @@ impl Fact {
         requires { at + 1 < 2 ^ 64 }
         ensures { IfOk result (λ ways. ways ≡ flow frame.now at (does.StoreOutput t) self) }
     {
+        let refusal = self.output_refusal(frame, at, t);
+        self.unless(alloc, at, refusal)
+    }
+
+    /// Why an output can't get the result, if so.
+    fn output_refusal(&self, frame: &Frame, at: usize, t: usize) -> Option<RefusalKind>
+        requires { at + 1 < 2 ^ 64 }
+        ensures { flow frame.now at (does.StoreOutput t) self.now ≡ refused_or result (goes_on (at + 1) self.now) }
+    {
         let Some(link) = frame.link(t) else {
-            return Ok(Err(RefusalKind::Code));
+            return Some(RefusalKind::Code);
         };
         let Some(value) = &self.result else {
-            return Ok(Err(RefusalKind::NoResult));
+            return Some(RefusalKind::NoResult);
         };
         if !same_kind(link.site.kind, value.kind) {
-            return Ok(Err(RefusalKind::WrongType));
+            return Some(RefusalKind::WrongType);
         }
         if !fits_link(value, link) {
-            return Ok(Err(RefusalKind::StoreRange));
+            return Some(RefusalKind::StoreRange);
         }
-        goes_on(alloc, at + 1, self)
+        None
     }
 
     /// SETV: a variable is TRUE where the result is.
@@ -65,19 +90,7 @@ impl Fact {
         requires { at + 1 < 2 ^ 64 }
         ensures { IfOk result (λ ways. ways ≡ flow frame.now at (does.SetVariable v) self) }
     {
-        let Some(variable) = frame.variables.as_slice().get(v) else {
-            return Ok(Err(RefusalKind::Code));
-        };
-        if let Err(kind) = self.bool_result() {
-            return Ok(Err(kind));
-        }
-        if variable.kind != IlType::Bool {
-            return Ok(Err(RefusalKind::WrongType));
-        }
-        if !takes(variable, 1) {
-            return Ok(Err(RefusalKind::StoreRange));
-        }
-        goes_on(alloc, at + 1, self.widened(alloc, v, 1)?)
+        self.setting_variable(alloc, frame, at, v, 1)
     }
 
     /// RSTV: a variable is FALSE where the result is TRUE.
@@ -85,19 +98,44 @@ impl Fact {
         requires { at + 1 < 2 ^ 64 }
         ensures { IfOk result (λ ways. ways ≡ flow frame.now at (does.ResetVariable v) self) }
     {
+        self.setting_variable(alloc, frame, at, v, 0)
+    }
+
+    /// A variable may have got this truth.
+    fn setting_variable(self, alloc: Global, frame: &Frame, at: usize, v: usize, truth: i64) -> Ways
+        requires { at + 1 < 2 ^ 64 }
+        ensures { IfOk result (λ ways. ways ≡ set_variable_flow frame.now at v truth self) }
+    {
+        match self.set_variable_refusal(frame, at, v, truth) {
+            Some(kind) => Ok(Err(kind)),
+            None => goes_on(alloc, at + 1, self.widened(alloc, v, truth)?),
+        }
+    }
+
+    /// Why a variable can't be set to this truth, if so.
+    fn set_variable_refusal(
+        &self,
+        frame: &Frame,
+        at: usize,
+        v: usize,
+        truth: i64,
+    ) -> Option<RefusalKind>
+        requires { at + 1 < 2 ^ 64 }
+        ensures { set_variable_flow frame.now at v truth self.now ≡ refused_or result (goes_on (at + 1) (widened v truth (slice_get self.now.variables v) self.now)) }
+    {
         let Some(variable) = frame.variables.as_slice().get(v) else {
-            return Ok(Err(RefusalKind::Code));
+            return Some(RefusalKind::Code);
         };
         if let Err(kind) = self.bool_result() {
-            return Ok(Err(kind));
+            return Some(kind);
         }
         if variable.kind != IlType::Bool {
-            return Ok(Err(RefusalKind::WrongType));
+            return Some(RefusalKind::WrongType);
         }
-        if !takes(variable, 0) {
-            return Ok(Err(RefusalKind::StoreRange));
+        if !takes(variable, truth) {
+            return Some(RefusalKind::StoreRange);
         }
-        goes_on(alloc, at + 1, self.widened(alloc, v, 0)?)
+        None
     }
 
     /// SETT: an output is TRUE where the result is.
@@ -105,19 +143,7 @@ impl Fact {
         requires { at + 1 < 2 ^ 64 }
         ensures { IfOk result (λ ways. ways ≡ flow frame.now at (does.SetOutput t) self) }
     {
-        let Some(link) = frame.link(t) else {
-            return Ok(Err(RefusalKind::Code));
-        };
-        if let Err(kind) = self.bool_result() {
-            return Ok(Err(kind));
-        }
-        if link.site.kind != IlType::Bool {
-            return Ok(Err(RefusalKind::WrongType));
-        }
-        if !allows(link, 1) {
-            return Ok(Err(RefusalKind::StoreRange));
-        }
-        goes_on(alloc, at + 1, self)
+        self.setting_output(alloc, frame, at, t, 1)
     }
 
     /// RSTT: an output is FALSE where the result is TRUE.
@@ -125,19 +151,42 @@ impl Fact {
         requires { at + 1 < 2 ^ 64 }
         ensures { IfOk result (λ ways. ways ≡ flow frame.now at (does.ResetOutput t) self) }
     {
+        self.setting_output(alloc, frame, at, t, 0)
+    }
+
+    /// An output may get this truth.
+    fn setting_output(self, alloc: Global, frame: &Frame, at: usize, t: usize, truth: i64) -> Ways
+        requires { at + 1 < 2 ^ 64 }
+        ensures { IfOk result (λ ways. ways ≡ set_output_flow frame.now at t truth self) }
+    {
+        let refusal = self.set_output_refusal(frame, at, t, truth);
+        self.unless(alloc, at, refusal)
+    }
+
+    /// Why an output can't be set to this truth, if so.
+    fn set_output_refusal(
+        &self,
+        frame: &Frame,
+        at: usize,
+        t: usize,
+        truth: i64,
+    ) -> Option<RefusalKind>
+        requires { at + 1 < 2 ^ 64 }
+        ensures { set_output_flow frame.now at t truth self.now ≡ refused_or result (goes_on (at + 1) self.now) }
+    {
         let Some(link) = frame.link(t) else {
-            return Ok(Err(RefusalKind::Code));
+            return Some(RefusalKind::Code);
         };
         if let Err(kind) = self.bool_result() {
-            return Ok(Err(kind));
+            return Some(kind);
         }
         if link.site.kind != IlType::Bool {
-            return Ok(Err(RefusalKind::WrongType));
+            return Some(RefusalKind::WrongType);
         }
-        if !allows(link, 0) {
-            return Ok(Err(RefusalKind::StoreRange));
+        if !allows(link, truth) {
+            return Some(RefusalKind::StoreRange);
         }
-        goes_on(alloc, at + 1, self)
+        None
     }
 }
 

@@ -1,0 +1,194 @@
+//! Programs that are judged for a site.
+use super::{printed, texts};
+use commands::check;
+use std::process::Abort;
+use std::test::Fail;
+
+/// A site of one inverter, as a file.
+const SITE: &str = r#"
+[gateway]
+unit = 1
+models = [1, 103]
+
+[[device]]
+name = "inv1"
+unit = 1
+
+[[tag]]
+name = "inv1_w"
+access = "in"
+device = "inv1"
+model = 103
+point = "W"
+type = "DINT"
+exponent = 0
+low = -100000
+high = 100000
+"#;
+
+const PROGRAM: &str = "PROGRAM p\nVAR a : INT := 7; END_VAR\nLD a\nST a\nEND_PROGRAM\n";
+
+/// A definition of the model 64001 with one point.
+const DEFINITION: &str = r#"{"id": 64001, "group": {"points": [
+  {"name": "ID", "type": "uint16", "size": 1},
+  {"name": "L", "type": "uint16", "size": 1},
+  {"name": "X", "type": "uint16", "size": 1}]}}"#;
+
+/// Sites, programs and definitions, what is printed, and the status. The definitions come before the site, and the site
+/// before the program.
+static VERDICTS: [(&str, &str, &[&str], &str, u8); 17] = [
+    (SITE, PROGRAM, &[], "accepted\nbudget 3\n", 0),
+    (
+        SITE,
+        "PROGRAM p\nVAR a : INT; END_VAR\nLD a\nADD 1\nST a\nEND_PROGRAM\n",
+        &[],
+        "refused: verify Overflow at 3\n",
+        1,
+    ),
+    (
+        SITE,
+        "PROGRAM p\nVAR a : INT (0..100) := 100; END_VAR\nLD a\nADD 1\nST a\nEND_PROGRAM\n",
+        &[],
+        "refused: verify StoreRange at 4\n",
+        1,
+    ),
+    (
+        SITE,
+        "PROGRAM p\nVAR_EXTERNAL inv1_w : DINT; END_VAR\nVAR w : DINT; END_VAR\nLD inv1_w\nST w\nEND_PROGRAM\n",
+        &[],
+        "refused: verify MayBeMissing at 0\n",
+        1,
+    ),
+    (
+        SITE,
+        "PROGRAM p\nVAR_EXTERNAL nope : INT; END_VAR\nVAR w : INT; END_VAR\nLD nope\nST w\nEND_PROGRAM\n",
+        &[],
+        "refused: verify TagUnknown at 0\n",
+        1,
+    ),
+    (
+        SITE,
+        "PROGRAM p\nVAR x : INT (0..10); y : INT; END_VAR\nLD x\nEQ 0\nJMPC skip\nLD 100\nDIV x\nST y\nskip:\nEND_PROGRAM\n",
+        &[],
+        "accepted\nbudget 11\n",
+        0,
+    ),
+    (
+        SITE,
+        "PROGRAM p\nVAR x : INT (0..10); y : INT; END_VAR\nLD 100\nDIV x\nST y\nEND_PROGRAM\n",
+        &[],
+        "refused: verify ZeroDivisor at 3\n",
+        1,
+    ),
+    (
+        SITE,
+        "PROGRAM p\nVAR z : INT (0..100); END_VAR\nLD 0\nST z\nagain: LD z\nADD 7\nMIN 100\nST z\n{LOOP 9} JMP again\nEND_PROGRAM\n",
+        &[],
+        "accepted\nbudget 120\n",
+        0,
+    ),
+    (
+        SITE,
+        "PROGRAM p\nVAR_EXTERNAL inv1_w : DINT; END_VAR\nVAR w : DINT; END_VAR\nx: LD inv1_w_OK\nJMPCN e\nLD inv1_w\nST w\n{LOOP 2} JMP x\ne:\nEND_PROGRAM\n",
+        &[],
+        "accepted\nbudget 18\n",
+        0,
+    ),
+    (SITE, PROGRAM, &["["], "refused: definition NotJson\n", 1),
+    (
+        SITE,
+        PROGRAM,
+        &["{}"],
+        "refused: definition MissingKey\n",
+        1,
+    ),
+    ("x = ", PROGRAM, &[DEFINITION], "refused: site NotToml\n", 1),
+    ("", PROGRAM, &[DEFINITION], "refused: site MissingKey\n", 1),
+    (
+        SITE,
+        "PROGRAM p\nLD\nEND_PROGRAM\n",
+        &[DEFINITION],
+        "refused: read Operand line 2\n",
+        1,
+    ),
+    (
+        SITE,
+        "PROGRAM p\nLD q\nEND_PROGRAM\n",
+        &[DEFINITION],
+        "refused: assemble UnknownName line 2\n",
+        1,
+    ),
+    (
+        "x = ",
+        "LD",
+        &[DEFINITION, "{}", "["],
+        "refused: definition MissingKey\n",
+        1,
+    ),
+    ("x = ", "LD", &[], "refused: site NotToml\n", 1),
+];
+
+/// What is printed, and the status.
+fn told(rt: &(impl AllocGlobal + Abort), site: &str, program: &str, defs: &[&str]) -> (String, u8) {
+    let defs = texts(rt, defs);
+    let mut out = Vec::new(rt.alloc());
+    let status = check(rt.alloc(), site, program, defs.as_slice(), &mut out);
+    (printed(rt, out), status)
+}
+
+#[test]
+fn a_program_is_accepted_where_no_scan_can_go_wrong(rt: HostRuntime) {
+    for (site, program, defs, wanted, ends) in VERDICTS.iter() {
+        let (lines, status) = told(&rt, site, program, defs);
+        assert_eq!(rt; lines.as_str(), *wanted);
+        assert_eq!(rt; status, *ends);
+    }
+}
+
+/// What stands in the site in place of its models, the ID that the definition has in place of 64001, and what is printed
+/// without the definition and with it.
+static DEFINED: [(&str, &str, &str, &str); 2] = [
+    (
+        "models = [1, 103, 64001]",
+        "64001",
+        "refused: site UnknownModel\n",
+        "accepted\nbudget 3\n",
+    ),
+    (
+        "models = [1, 103]",
+        "103",
+        "accepted\nbudget 3\n",
+        "refused: site UnknownPoint\n",
+    ),
+];
+
+#[test]
+fn a_definition_is_added_or_replaces_that_of_its_id(rt: HostRuntime) {
+    for (models, id, before, behind) in DEFINED.iter() {
+        let site = SITE
+            .replace(rt.alloc(), "models = [1, 103]", models)
+            .expect(&rt, "memory");
+        let def = DEFINITION
+            .replace(rt.alloc(), "64001", id)
+            .expect(&rt, "memory");
+        let (lines, _) = told(&rt, site.as_str(), PROGRAM, &[]);
+        assert_eq!(rt; lines.as_str(), *before);
+        let (lines, _) = told(&rt, site.as_str(), PROGRAM, &[def.as_str()]);
+        assert_eq!(rt; lines.as_str(), *behind);
+    }
+}
+
+/// Run with each allocation refused in turn, it shows that the want of memory is told, and nothing else.
+#[test]
+fn the_verdict_is_told_or_that_memory_was_refused(rt: HostRuntime) -> Result<(), Fail> {
+    let mut out = Vec::with_capacity(rt.alloc(), 64)?;
+    let status = check(rt.alloc(), SITE, PROGRAM, &[], &mut out);
+    let lines = String::from_utf8(out)?;
+    let told = if status == 0 {
+        "accepted\nbudget 3\n"
+    } else {
+        "refused: memory\n"
+    };
+    assert_eq!(rt; lines.as_str(), told);
+    Ok(())
+}

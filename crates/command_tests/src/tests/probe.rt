@@ -1,0 +1,165 @@
+//! The points of units that a probe prints.
+use super::links::{FailingLink, PLANT, PlantLink};
+use super::{joined, printed, texts};
+use commands::probe;
+use modbus_frame::Link;
+use std::process::Abort;
+
+/// What is printed of a unit on a link, and the status.
+fn told<L: Link + Drop>(rt: &(impl AllocGlobal + Abort), link: L, unit: u8) -> (String, u8) {
+    let mut out = Vec::new(rt.alloc());
+    let status = probe(rt.alloc(), link, unit, &mut out);
+    (printed(rt, out), status)
+}
+
+/// Where the first of two inverters stands, what the plant does wrong, the unit that is asked, what is printed, and the
+/// status. The mark of a device is looked for at 40000, 50000 and 0.
+static UNITS: [(&str, &str, u8, &str, u8); 13] = [
+    (
+        "unit = 1\n",
+        "",
+        1,
+        "model 1 40002 66\nmodel 103 40070 50\nW 4000\nW_SF 0\nSt 4\nmodel 123 40122 24\nWMaxLimPct_SF -1\nend 40148\n",
+        0,
+    ),
+    (
+        "unit = 1\n",
+        "",
+        2,
+        "model 1 40002 66\nmodel 103 40070 50\nW_SF 0\nmodel 123 40122 24\nend 40148\n",
+        0,
+    ),
+    ("unit = 1\n", "", 9, "refused: map NoMark\n", 1),
+    (
+        "unit = 1\n",
+        "[[fault]]\nrequest = 1\nkind = \"stale\"\ncount = 17\n",
+        1,
+        "refused: map Read\n",
+        1,
+    ),
+    (
+        "unit = 1\n",
+        "[[fault]]\nrequest = 2\nkind = \"exception\"\ncode = 2\n",
+        1,
+        "refused: map Read\n",
+        1,
+    ),
+    (
+        "unit = 1\n",
+        "[[fault]]\nrequest = 2\nkind = \"garbage\"\nword = 103\n",
+        1,
+        "refused: map NotCommon\n",
+        1,
+    ),
+    (
+        "unit = 1\n",
+        "[[fault]]\nrequest = 10\nkind = \"exception\"\ncode = 4\n",
+        1,
+        "model 1 40002 66\nmodel 103 40070 50\nmodel 123 40122 24\nWMaxLimPct_SF -1\nend 40148\n",
+        0,
+    ),
+    (
+        "unit = 1\n",
+        "[[fault]]\nrequest = 10\nkind = \"stale\"\ncount = 17\n",
+        1,
+        "model 1 40002 66\nmodel 103 40070 50\nmodel 123 40122 24\nWMaxLimPct_SF -1\nend 40148\n",
+        0,
+    ),
+    (
+        "unit = 1\n",
+        "[[fault]]\nrequest = 10\nkind = \"length\"\n",
+        1,
+        "link: Frame\n",
+        3,
+    ),
+    (
+        "unit = 1\n",
+        "[[fault]]\nrequest = 3\nkind = \"cut\"\nbytes = 5\n",
+        1,
+        "link: End\n",
+        3,
+    ),
+    (
+        "unit = 1\nbase = 50000\n",
+        "",
+        1,
+        "model 1 50002 66\nmodel 103 50070 50\nW 4000\nW_SF 0\nSt 4\nmodel 123 50122 24\nWMaxLimPct_SF -1\nend 50148\n",
+        0,
+    ),
+    (
+        "unit = 1\nbase = 0\n",
+        "",
+        1,
+        "model 1 2 66\nmodel 103 70 50\nW 4000\nW_SF 0\nSt 4\nmodel 123 122 24\nWMaxLimPct_SF -1\nend 148\n",
+        0,
+    ),
+    (
+        "unit = 1\nbase = 30000\n",
+        "",
+        1,
+        "refused: map NoMark\n",
+        1,
+    ),
+];
+
+#[test]
+fn each_point_that_is_present_is_told(rt: HostRuntime) {
+    for (base, fault, unit, wanted, ends) in UNITS.iter() {
+        let plant = PLANT
+            .replace(rt.alloc(), "unit = 1\n", base)
+            .expect(&rt, "memory");
+        let plant = joined(&rt, plant.as_str(), fault);
+        let link = PlantLink::new(&rt, plant.as_str(), &[]);
+        let (lines, status) = told(&rt, link, *unit);
+        assert_eq!(rt; lines.as_str(), *wanted);
+        assert_eq!(rt; status, *ends);
+    }
+}
+
+/// Definitions that a plant is made by, its device, and what is printed.
+static DEFINED: [(&str, &str, &str); 2] = [
+    (
+        // a model that has no shipped definition
+        r#"{"id": 64001, "group": {"points": [
+  {"name": "ID", "type": "uint16", "size": 1},
+  {"name": "L", "type": "uint16", "size": 1},
+  {"name": "X", "type": "uint16", "size": 1}]}}"#,
+        "[[device]]\nunit = 1\nmodels = [1, 64001]\nwmax = 5000\navailable = [4000]\n[[device.value]]\nmodel = 64001\npoint = \"X\"\nraw = 7\n",
+        "model 1 40002 66\nmodel 64001 40070 1\nend 40073\n",
+    ),
+    (
+        // fewer registers than the shipped definition has
+        r#"{"id": 103, "group": {"points": [
+  {"name": "ID", "type": "uint16", "size": 1},
+  {"name": "L", "type": "uint16", "size": 1},
+  {"name": "X", "type": "uint16", "size": 1},
+  {"name": "Y", "type": "uint16", "size": 1}]}}"#,
+        "[[device]]\nunit = 1\nmodels = [1, 103]\nwmax = 5000\navailable = [4000]\n[[device.value]]\nmodel = 103\npoint = \"Y\"\nraw = 7\n",
+        "model 1 40002 66\nmodel 103 40070 2\nAphA 7\nend 40074\n",
+    ),
+];
+
+#[test]
+fn points_are_those_of_the_shipped_definitions(rt: HostRuntime) {
+    for (def, plant, wanted) in DEFINED.iter() {
+        let defs = texts(&rt, &[*def]);
+        let link = PlantLink::new(&rt, plant, defs.as_slice());
+        let (lines, _) = told(&rt, link, 1);
+        assert_eq!(rt; lines.as_str(), *wanted);
+    }
+}
+
+#[test]
+fn a_link_that_fails_is_told_and_nothing_else(rt: HostRuntime) {
+    for left in 0..100 {
+        let link = FailingLink::new(PlantLink::new(&rt, PLANT, &[]), left);
+        let (lines, status) = told(&rt, link, 1);
+        if status == 0 {
+            assert!(rt; left > 0 && lines.as_str().ends_with("end 40148\n"));
+        } else {
+            assert_eq!(rt; status, 3);
+            assert!(rt; lines.as_str() == "link: Read\n" || lines.as_str() == "link: Write\n");
+            assert!(rt; left < 99);
+        }
+    }
+}

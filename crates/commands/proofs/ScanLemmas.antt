@@ -1,0 +1,255 @@
+-- Scans one after another: what they do to the core, and what is printed of them.
+use Rattle.std.proofs.Common.{◌≡◌, ◌≢◌, inl, inr, ℕ, ◌+◌, ◌<◌, List, [], ◌∷◌, ◌++◌, length, Option, None, refl, sym, ap, subst, ◌∙◌, arith, append_assoc}
+use Rattle.std.specs.Io.KnownBytes.{Appends}
+use Rattle.std.proofs.KnownBytes.{Appends-nil, Appends-trans}
+use Rattle.std.proofs.lemmas.List.{append-nil, length-append}
+use Rattle.modbus_frame.specs.declared.link.LinkFault.{LinkFault}
+use Rattle.gateway.specs.Control.{Advances, IsPlanned, steps_of}
+use Rattle.gateway.specs.Core.{Gateway, IsSame, RunsFrom}
+use Rattle.gateway.specs.Cycle.{RunsTo, Scans, StopsScan}
+use Rattle.gateway.specs.Polling.{Polling}
+use Rattle.gateway.specs.SiteRun.{Standing}
+use Rattle.gateway.specs.declared.cycle.Report.{Report}
+use Rattle.gateway.specs.declared.event.Answer.{Answer}
+use Rattle.gateway.specs.declared.event.Event.{Event}
+use Rattle.gateway.specs.declared.event.Event.TheVariants as event
+use Rattle.gateway.proofs.Parts.{same_then, steps_same}
+use Rattle.commands.specs.Report.{no_memory_line, scan_line, scan_lines}
+use Rattle.commands.specs.Scans.{AreScans, DoesScans, End, IsBroken, IsLast, IsPrinted, IsUnlinked, IsUnlinkedBehind, IsWhole, LeavesOff}
+use Rattle.commands.specs.Told.{IsTold, refused_with}
+
+-- ---- what is told
+
+pub told_well : (old new : Option (List ℕ)) (lines : List ℕ) (status : ℕ) → IsTold old new (record { lines = lines; status = 0 }) status → status ≡ 0 → Appends old new lines
+told_well old new lines status (inl h) e = h.0
+told_well old new lines status (inr h) e = absurd (omega (arith, h, e))
+
+pub told_badly : (old new : Option (List ℕ)) (lines : List ℕ) (status : ℕ) → IsTold old new (record { lines = lines; status = 0 }) status → status ≢ 0 → status ≡ 1
+told_badly old new lines status (inl h) e = absurd (e h.1)
+told_badly old new lines status (inr h) e = h
+
+told_behind : (old middle new : Option (List ℕ)) (front lines : List ℕ) (code status : ℕ) → Appends old middle front → IsTold middle new (record { lines = lines; status = code }) status
+    → IsTold old new (record { lines = front ++ lines; status = code }) status
+told_behind old middle new front lines code status a (inl h) = inl (Appends-trans old middle new front lines a h.0, h.1)
+told_behind old middle new front lines code status a (inr h) = inr h
+
+unlinked_behind : (old middle new : Option (List ℕ)) (front : List ℕ) (fault : LinkFault) (status : ℕ) → Appends old middle front → IsUnlinked fault middle new status → IsUnlinkedBehind front fault old new status
+unlinked_behind old middle new front fault status a (inl h) = inl (told_behind old middle new front _ 3 status a h)
+unlinked_behind old middle new front fault status a (inr h) = inr (told_behind old middle new front _ 1 status a h)
+
+lines_more : (k j : ℕ) (reports : List Report) (report : Report) → j ≡ k + length reports → scan_lines k (reports ++ report ∷ []) ≡ scan_lines k reports ++ scan_line j report
+lines_more k j [] report e = append-nil _ ∙ ap (λ n. scan_line n report) (omega (arith, e))
+lines_more k j (r ∷ rs) report e = ap (λ l. scan_line k r ++ l) (lines_more (k + 1) j rs report (omega (arith, e))) ∙ sym (append_assoc (scan_line k r) (scan_lines (k + 1) rs) (scan_line j report))
+
+-- ---- one scan more
+
+scans_more : (p : Polling) (s : Gateway) (reports : List Report) (events : List Event) (q : Polling) (t : Gateway) (u : Polling) (v : Gateway) (report : Report) (own : List Event)
+    → AreScans p s reports events q t → IsWhole q t u v report own → AreScans p s (reports ++ report ∷ []) (events ++ own) u v
+scans_more p s [] events q t u v report own (none, here, there) w = (
+  u,
+  v,
+  own,
+  [],
+  ap (λ es. es ++ own) none ∙ sym (append-nil own),
+  subst (λ (x : Polling). IsWhole x s u v report own) here (subst (λ (x : Gateway). IsWhole q x u v report own) there w),
+  (refl, refl, refl),
+)
+scans_more p s (r ∷ rs) events q t u v report own (middle, between, first, more, split, one, rest) w =
+    (middle, between, first, more ++ own, ap (λ es. es ++ own) split ∙ append_assoc first more own, one, scans_more middle between rs more q t u v report own rest w)
+
+-- so many scans were done, and their lines are printed
+pub record SoFar (k : ℕ) (p : Polling) (s : Gateway) (q : Polling) (t : Gateway) (old new : Option (List ℕ)) : Type 0 where
+  pub reports : List Report
+  pub events : List Event
+  pub all : length reports ≡ k
+  pub whole : AreScans p s reports events q t
+  pub printed : Appends old new (scan_lines 1 reports)
+  pub unfailed : q.fault ≡ None
+
+pub none_so_far : (p : Polling) (s : Gateway) (old : Option (List ℕ)) → p.fault ≡ None → SoFar 0 p s p s old old
+none_so_far p s old h = record { reports = []; events = []; all = refl; whole = (refl, refl, refl); printed = Appends-nil old; unfailed = h }
+
+pub one_more : (k : ℕ) (p : Polling) (s : Gateway) (q : Polling) (t : Gateway) (u : Polling) (v : Gateway) (old middle new : Option (List ℕ))
+    → SoFar k p s q t old middle → IsPrinted (k + 1) q t u v middle new → SoFar (k + 1) p s u v old new
+one_more k p s q t u v old middle new h (report, own, whole, printed) = record {
+  reports = h.reports ++ report ∷ [];
+  events = h.events ++ own;
+  all = length-append h.reports (report ∷ []) ∙ ap (λ n. n + 1) h.all;
+  whole = scans_more p s h.reports h.events q t u v report own h.whole whole;
+  printed = subst (λ l. Appends old new l) (sym (lines_more 1 (k + 1) h.reports report (omega (arith, h.all)))) (Appends-trans old middle new (scan_lines 1 h.reports) (scan_line (k + 1) report) h.printed printed);
+  unfailed = ((whole.0).written).talks.fault;
+}
+
+-- all were done
+pub done_all : (n k : ℕ) (p : Polling) (s : Gateway) (q : Polling) (t : Gateway) (old new : Option (List ℕ)) → SoFar k p s q t old new → k ≡ n → LeavesOff n p s q t old new 0
+done_all n k p s q t old new h e = (
+  h.events,
+  record {
+    reports = h.reports;
+    before = h.events;
+    behind = [];
+    split = sym (append-nil h.events);
+    middle = q;
+    between = t;
+    whole = h.whole;
+    end = inl (refl, record { all = h.all ∙ e; poller = refl; core = refl; printed = h.printed; well = refl });
+  },
+)
+
+-- one was the last
+pub done_before : (n k : ℕ) (p : Polling) (s : Gateway) (q : Polling) (t : Gateway) (u : Polling) (v : Gateway) (old middle new : Option (List ℕ)) (status : ℕ)
+    → SoFar k p s q t old middle → k < n → IsLast q t u v middle new status → LeavesOff n p s u v old new status
+done_before n k p s q t u v old middle new status h within (inl (report, own, whole, told)) = (
+  h.events ++ own,
+  record {
+    reports = h.reports ++ report ∷ [];
+    before = h.events ++ own;
+    behind = [];
+    split = sym (append-nil (h.events ++ own));
+    middle = u;
+    between = v;
+    whole = scans_more p s h.reports h.events q t u v report own h.whole whole;
+    end = inr (inl (
+      refl,
+      record {
+        before = h.reports;
+        last = report;
+        split = refl;
+        within = let e = length-append h.reports (report ∷ []) in omega (arith, e, within, h.all);
+        poller = refl;
+        core = refl;
+        told = told_behind old middle new (scan_lines 1 h.reports) no_memory_line 1 status h.printed told;
+      },
+    ));
+  },
+)
+done_before n k p s q t u v old middle new status h within (inr (fault, own, broken, told)) = (
+  h.events ++ own,
+  record {
+    reports = h.reports;
+    before = h.events;
+    behind = own;
+    split = refl;
+    middle = q;
+    between = t;
+    whole = h.whole;
+    end = inr (inr (record {
+      within = omega (arith, within, h.all);
+      fault = fault;
+      broken = broken;
+      told = unlinked_behind old middle new (scan_lines 1 h.reports) fault status h.printed told;
+    }));
+  },
+)
+
+-- ---- one scan
+
+broken_by : (p : Polling) (s : Gateway) (fault : LinkFault) (q : Polling) (t : Gateway) → StopsScan Advances IsPlanned s.site s.maps p s fault q t → (events : List Event) × IsBroken p s fault q t events
+broken_by p s fault q t (inl stop) = ((stop.taken).events, inl (stop, refl))
+broken_by p s fault q t (inr stop) = ((stop.taken).events ++ event.Scan ∷ [], inr (stop, refl))
+
+-- a whole scan whose line was to be printed
+pub printed_by : (k : ℕ) (p : Polling) (s : Gateway) (q : Polling) (t : Gateway) (report : Report) (old new : Option (List ℕ)) (lines : List ℕ) (status : ℕ)
+    → Scans Advances IsPlanned steps_of s.site s.maps p s q t report → lines ≡ scan_line k report → IsTold old new (record { lines = lines; status = 0 }) status
+    → status ≡ 0 → IsPrinted k p s q t old new
+printed_by k p s q t report old new lines status scan e told well = (report, (scan.taken).events ++ event.Scan ∷ [], (scan, refl), subst (Appends old new) e (told_well old new lines status told well))
+
+pub unprinted_by : (p : Polling) (s : Gateway) (q : Polling) (t : Gateway) (report : Report) (old new : Option (List ℕ)) (lines : List ℕ) (status : ℕ)
+    → Scans Advances IsPlanned steps_of s.site s.maps p s q t report → IsTold old new (record { lines = lines; status = 0 }) status → status ≢ 0 → IsLast p s q t old new status
+unprinted_by p s q t report old new lines status scan told bad = inl (report, (scan.taken).events ++ event.Scan ∷ [], (scan, refl), inr (told_badly old new lines status told bad))
+
+-- a whole scan for whose line there was no memory
+pub unsaid_by : (p : Polling) (s : Gateway) (q : Polling) (t : Gateway) (report : Report) (old new : Option (List ℕ)) (status : ℕ)
+    → Scans Advances IsPlanned steps_of s.site s.maps p s q t report → IsTold old new (refused_with no_memory_line) status → IsLast p s q t old new status
+unsaid_by p s q t report old new status scan told = inl (report, (scan.taken).events ++ event.Scan ∷ [], (scan, refl), told)
+
+pub refused_never_well : {W : Type 0} (old new : Option (List ℕ)) (lines : List ℕ) (status : ℕ) → IsTold old new (refused_with lines) status → status ≡ 0 → W
+refused_never_well old new lines status (inl h) e = absurd (let one = h.1 in omega (arith, one, e))
+refused_never_well old new lines status (inr h) e = absurd (omega (arith, h, e))
+
+pub unlinked_never_well : {W : Type 0} (fault : LinkFault) (old new : Option (List ℕ)) (status : ℕ) → IsUnlinked fault old new status → status ≡ 0 → W
+unlinked_never_well fault old new status (inl (inl h)) e = absurd (let three = h.1 in omega (arith, three, e))
+unlinked_never_well fault old new status (inl (inr h)) e = absurd (omega (arith, h, e))
+unlinked_never_well fault old new status (inr h) e = refused_never_well old new _ status h e
+
+pub unlinked_by : (p : Polling) (s : Gateway) (fault : LinkFault) (q : Polling) (t : Gateway) (old new : Option (List ℕ)) (status : ℕ)
+    → StopsScan Advances IsPlanned s.site s.maps p s fault q t → IsUnlinked fault old new status → IsLast p s q t old new status
+unlinked_by p s fault q t old new status stops told = let b = broken_by p s fault q t stops in inr (fault, b.0, b.1, told)
+
+-- ---- the site run
+
+-- what is the same but for its standing, and runs over these events
+record Follows (g s : Gateway) (events : List Event) (t : Gateway) : Type 0 where
+  pub answers : List Answer
+  pub runs : RunsFrom g s.standing events answers t.standing
+  pub same : IsSame g t
+
+runs_to : (g s : Gateway) → IsSame g s → (es : List Event) (t : Gateway) → RunsTo Advances s es t → Follows g s es t
+runs_to g s same [] t run = record { answers = []; runs = (refl, ap (λ (x : Gateway). x.standing) (sym run)); same = subst (IsSame g) run same }
+runs_to g s same (e ∷ es) t run =
+    let k = runs_to g run.1 (same_then g s run.1 same run.2.1) es t run.3 in
+    record {
+      answers = run.0 ∷ k.answers;
+      runs = (run.0, k.answers, (run.1).standing, steps_same g s e run.0 (run.1).standing same run.2.0, refl, k.runs);
+      same = k.same;
+    }
+
+runs_append : (g : Gateway) (s : Standing) (es : List Event) (answers : List Answer) (t : Standing) (fs : List Event) (more : List Answer) (u : Standing)
+    → RunsFrom g s es answers t → RunsFrom g t fs more u → RunsFrom g s (es ++ fs) (answers ++ more) u
+runs_append g s [] answers t fs more u (none, here) h =
+    subst (λ (given : List Answer). RunsFrom g s fs given u) (ap (λ given. given ++ more) (sym none)) (subst (λ (x : Standing). RunsFrom g x fs more u) here h)
+runs_append g s (e ∷ es) answers t fs more u (a, rest, next, step, split, run) h =
+    (a, rest ++ more, next, step, ap (λ given. given ++ more) split, runs_append g next es rest t fs more u run h)
+
+follows_then : (g s t u : Gateway) (es fs : List Event) → Follows g s es t → Follows g t fs u → Follows g s (es ++ fs) u
+follows_then g s t u es fs first second = record {
+  answers = first.answers ++ second.answers;
+  runs = runs_append g s.standing es first.answers t.standing fs second.answers u.standing first.runs second.runs;
+  same = second.same;
+}
+
+-- what came of the blocks, and then the scan
+follows_scan : (g s : Gateway) → IsSame g s → (es : List Event) (t u : Gateway) (a : Answer) → RunsTo Advances s es t → Advances t event.Scan a u → Follows g s (es ++ event.Scan ∷ []) u
+follows_scan g s same es t u a run last =
+    let first = runs_to g s same es t run in
+    follows_then g s t u es (event.Scan ∷ []) first (record {
+      answers = a ∷ [];
+      runs = (a, [], u.standing, steps_same g t event.Scan a u.standing first.same last.0, refl, (refl, refl));
+      same = same_then g t u first.same last.1;
+    })
+
+follows_as : (g s t : Gateway) (es fs : List Event) → es ≡ fs → Follows g s fs t → Follows g s es t
+follows_as g s t es fs e h = subst (λ (xs : List Event). Follows g s xs t) (sym e) h
+
+follows_whole : (g s : Gateway) → IsSame g s → (p q : Polling) (t : Gateway) (report : Report) (own : List Event) → IsWhole p s q t report own → Follows g s own t
+follows_whole g s same p q t report own (scan, e) = follows_as g s t own _ e (follows_scan g s same (scan.taken).events scan.before t scan.answer (scan.taken).runs scan.scan)
+
+follows_broken : (g s : Gateway) → IsSame g s → (p q : Polling) (t : Gateway) (fault : LinkFault) (own : List Event) → IsBroken p s fault q t own → Follows g s own t
+follows_broken g s same p q t fault own (inl (stop, e)) = follows_as g s t own _ e (runs_to g s same (stop.taken).events t (stop.taken).runs)
+follows_broken g s same p q t fault own (inr (stop, e)) = follows_as g s t own _ e (follows_scan g s same (stop.taken).events stop.before t stop.answer (stop.taken).runs stop.scan)
+
+follows_still : (g s t : Gateway) → IsSame g s → t ≡ s → (events : List Event) → events ≡ [] → Follows g s events t
+follows_still g s t same e events none = follows_as g s t events [] none (subst (λ (x : Gateway). Follows g s [] x) (sym e) (record { answers = []; runs = (refl, refl); same = same }))
+
+follows_scans : (g s : Gateway) → IsSame g s → (p : Polling) (reports : List Report) (events : List Event) (q : Polling) (t : Gateway) → AreScans p s reports events q t → Follows g s events t
+follows_scans g s same p [] events q t (none, here, there) = follows_still g s t same there events none
+follows_scans g s same p (r ∷ rs) events q t (middle, between, own, more, split, one, rest) =
+    let first = follows_whole g s same p middle between r own one in
+    follows_as g s t events (own ++ more) split (follows_then g s between t own more first (follows_scans g between first.same middle rs more q t rest))
+
+follows_end : (g s : Gateway) → IsSame g s → (n : ℕ) (reports : List Report) (events : List Event) (p q : Polling) (t : Gateway) (old new : Option (List ℕ)) (status : ℕ)
+    → End n reports events p s q t old new status → Follows g s events t
+follows_end g s same n reports events p q t old new status (inl (none, h)) = follows_still g s t same h.core events none
+follows_end g s same n reports events p q t old new status (inr (inl (none, h))) = follows_still g s t same h.core events none
+follows_end g s same n reports events p q t old new status (inr (inr h)) = follows_broken g s same p q t h.fault events h.broken
+
+pub same_self : (g : Gateway) → IsSame g g
+same_self g = record { site = refl; maps = refl; accepted = refl }
+
+pub follows_all : (n : ℕ) (p : Polling) (s : Gateway) (events : List Event) (q : Polling) (t : Gateway) (old new : Option (List ℕ)) (status : ℕ) → DoesScans n p s events q t old new status
+    → ((answers : List Answer) × RunsFrom s s.standing events answers t.standing) × IsSame s t
+follows_all n p s events q t old new status h =
+    let first = follows_scans s s (same_self s) p h.reports h.before h.middle h.between h.whole in
+    let second = follows_end s h.between first.same n h.reports h.behind h.middle q t old new status h.end in
+    let all = follows_as s s t events (h.before ++ h.behind) h.split (follows_then s s h.between t h.before h.behind first second) in
+    ((all.answers, all.runs), all.same)

@@ -1,0 +1,5 @@
+use Rattle.std.proofs.Common.{append_assoc}
+use Rattle.commands.proofs.report.unverified.Goals as goal
+
+pub returns : goal.returns
+returns c = record { ok = simp append_assoc c.in_ok-text.ensures.ok }

@@ -1,0 +1,5 @@
+use Rattle.commands.proofs.OutcomeLemmas.{tree_told_by}
+use Rattle.commands.proofs.trial_scan.outcome_of_program.Goals as goal
+
+pub returns-in-Ok : goal.returns-in-Ok
+returns-in-Ok c = tree_told_by c.args.program.now c.in-Ok.image _ c.outcome_of_image.result c.in-Ok.ensures.assembled c.outcome_of_image.ensures

@@ -1,0 +1,30 @@
+-- What the simulator serves, or what is told of a plant file that is refused.
+-- SunSpec Device Information Model Specification, device modbus maps.
+use Rattle.std.specs.Prelude.{◌≡◌, ◌⊎◌, ℕ, List, Result, Ok, Err}
+use Rattle.inverter_sim.specs.File.{Breaks, StandsFor}
+use Rattle.inverter_sim.specs.Fault.{fault_word}
+use Rattle.inverter_sim.specs.State.{PlantState}
+use Rattle.inverter_sim.specs.declared.fault.PlantFault.{PlantFault}
+use Rattle.model_defs.specs.declared.model.ModelDef.{ModelDef}
+use Rattle.commands.specs.Accepted.{TellsUndefined}
+use Rattle.commands.specs.Defined.{AreRead}
+use Rattle.commands.specs.Report.{bad_plant_line}
+use Rattle.commands.specs.Told.{Told, refused_with}
+
+-- the plant that a file stands for, or the line of the first rule that it breaks
+abbrev pub GivesPlant : List ModelDef → List ℕ → Result PlantState Told → Type 0
+GivesPlant models plant (Ok p) = StandsFor models plant p
+GivesPlant models plant (Err told) = (fault : PlantFault) × Breaks models plant fault × (told ≡ refused_with (bad_plant_line (fault_word fault)))
+
+-- by the definitions that are shipped, and behind them those of the texts
+abbrev pub GivesDefined : List ℕ → List (List ℕ) → Result PlantState Told → Type 0
+GivesDefined plant texts given = (shipped models : List ModelDef) × AreRead texts shipped models × GivesPlant models plant given
+
+-- the line of the first text that is no definition
+abbrev pub GivesUndefined : List (List ℕ) → Result PlantState Told → Type 0
+GivesUndefined texts (Ok p) = ⊥
+GivesUndefined texts (Err told) = TellsUndefined texts told
+
+-- first the definitions are looked at, then the plant file
+abbrev pub TellsPlant : List ℕ → List (List ℕ) → Result PlantState Told → Type 0
+TellsPlant plant texts given = GivesDefined plant texts given ⊎ GivesUndefined texts given

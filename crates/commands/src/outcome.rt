@@ -1,0 +1,97 @@
+ghost use Rattle.std.specs.Prelude.{◌≡◌, string_bytes, IfOk};
+ghost use Rattle.modbus_frame.specs.Fault.{link_fault_word};
+ghost use Rattle.commands.specs.Report.{accepted_lines, link_line, no_memory_line};
+ghost use Rattle.commands.specs.Scans.{IsUnlinked};
+ghost use Rattle.commands.specs.Told.{IsTold, refused_with};
+
+use crate::report::{accepted, link_failed};
+use modbus_frame::LinkFault;
+use std::alloc::{AllocError, Global};
+use std::io::Write;
+use std::marker::Model;
+
+/// The status of a link that failed.
+const FAILED_LINK: u8 = 3;
+
+/// Lines to print, and the status that goes with them.
+#[derive(Drop, Debug)]
+pub struct Outcome {
+    pub lines: Vec<u8>,
+    pub status: u8,
+}
+
+impl Model for Outcome {
+    ghost use Rattle.commands.specs.Told.{Told};
+
+    ghost Value = { Told };
+
+    ghost view = { λ o. record { lines = o.lines.items; status = o.status } };
+}
+
+impl Outcome {
+    /// The line of a refusal, with status 1.
+    pub fn refused(line: String) -> Outcome
+        ensures { result ≡ refused_with (string_bytes line) }
+    {
+        Outcome {
+            lines: line.into_bytes(),
+            status: 1,
+        }
+    }
+
+    /// The lines `accepted` and `budget N`, with status 0.
+    pub fn accepted(alloc: Global, budget: u32) -> Result<Outcome, AllocError>
+        ensures { IfOk result (λ o. o ≡ record { lines = accepted_lines budget; status = 0 }) }
+    {
+        let lines = accepted(alloc, budget)?;
+        Ok(Outcome {
+            lines: lines.into_bytes(),
+            status: 0,
+        })
+    }
+
+    /// The line `link: KIND`, with status 3.
+    pub fn unlinked(alloc: Global, fault: LinkFault) -> Result<Outcome, AllocError>
+        ensures { IfOk result (λ o. o ≡ record { lines = link_line (link_fault_word fault); status = FAILED_LINK }) }
+    {
+        let line = link_failed(alloc, fault.word())?;
+        Ok(Outcome {
+            lines: line.into_bytes(),
+            status: FAILED_LINK,
+        })
+    }
+
+    /// Writes the lines and gives the status; a failed write gives status 1.
+    pub fn tell<W: Write>(&self, out: &mut W) -> u8
+        ensures { IsTold (W.contents out.old) (W.contents out.new) self.now result }
+    {
+        write_lines(out, self.lines.as_slice(), self.status)
+    }
+}
+
+/// Writes lines and gives their status; a failed write gives status 1.
+pub fn write_lines<W: Write>(out: &mut W, lines: &[u8], status: u8) -> u8
+    ensures { IsTold (W.contents out.old) (W.contents out.new) (record { lines = lines.now; status = status }) result }
+{
+    match out.write_all(lines) {
+        Ok(()) => status,
+        Err(_) => 1,
+    }
+}
+
+/// Writes that memory was refused, and gives the status.
+pub fn tell_no_memory<W: Write>(out: &mut W) -> u8
+    ensures { IsTold (W.contents out.old) (W.contents out.new) (refused_with no_memory_line) result }
+{
+    write_lines(out, b"refused: memory\n", 1)
+}
+
+/// Writes that a link failed, and gives the status.
+pub fn tell_unlinked<W: Write>(alloc: Global, fault: LinkFault, out: &mut W) -> u8
+    ensures { IsUnlinked fault (W.contents out.old) (W.contents out.new) result }
+{
+    match Outcome::unlinked(alloc, fault) {
+        Ok(outcome) => outcome.tell(out),
+        Err(AllocError) => tell_no_memory(out),
+    }
+}

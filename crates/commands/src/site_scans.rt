@@ -1,0 +1,124 @@
+//! The scans of a program on a site, whose devices are asked over a poller.
+ghost use Rattle.std.specs.Prelude.{◌≡◌, ◌≢◌, map, None, string_bytes, IfOk};
+ghost use Rattle.commands.specs.Scans.{IsLast, IsPrinted, IsScans, LeavesOff, OpensCore, StartsCore};
+
+pub use crate::accepted::DEPTH;
+use crate::accepted::{Accepted, accept};
+use crate::outcome::{Outcome, tell_no_memory, tell_unlinked, write_lines};
+use crate::report::{no_core, scanned};
+use gateway::{Core, CoreFault, Poller, run_scan};
+use modbus_frame::{Link, LinkFault};
+use scan_vm::Machine;
+use std::alloc::{AllocError, Global};
+use std::io::Write;
+
+/// Finds the devices of a site over a poller, and does n scans of a program on it, by the shipped model definitions and
+/// those of the texts `defs`: prints `scan K steps S writes W refused R lost T` for each, or the first refusal. Gives
+/// the core, where there is one, and the status: 0, 1 for a refusal or a failed write, 3 where the link failed.
+///
+/// The core stands at the site run of all events so far, from the opening of the site and the program that were handed
+/// in: each scan of it does what the program means, on what the devices answered, without a trap and within the budget.
+pub fn scans<L: Link, W: Write>(
+    alloc: Global,
+    site: &str,
+    program: &str,
+    defs: &[String],
+    n: u32,
+    poller: &mut Poller<L>,
+    out: &mut W,
+) -> (Option<Core<DEPTH>>, u8)
+    ensures { IsScans site.now program.now (map string_bytes defs.now) n poller.old poller.new (W.contents out.old) (W.contents out.new) result.0 result.1 }
+{
+    match core_of(alloc, site, program, defs, poller) {
+        Ok(Ok(core)) => {
+            let mut core = core;
+            let status = scan_times(alloc, &mut core, poller, n, out);
+            (Some(core), status)
+        }
+        Ok(Err(outcome)) => (None, outcome.tell(out)),
+        Err(AllocError) => (None, tell_no_memory(out)),
+    }
+}
+
+/// Does n scans, with a line for each; the first that fails ends them.
+fn scan_times<L: Link, W: Write>(
+    alloc: Global,
+    core: &mut Core<DEPTH>,
+    poller: &mut Poller<L>,
+    n: u32,
+    out: &mut W,
+) -> u8
+    requires { poller.old.fault ≡ None }
+    ensures { LeavesOff n poller.old core.old poller.new core.new (W.contents out.old) (W.contents out.new) result }
+{
+    for k in 0..n {
+        let status = scan_once(alloc, core, poller, k + 1, out);
+        if status != 0 {
+            return status;
+        }
+    }
+    0
+}
+
+/// Does the k-th scan, and prints its line.
+fn scan_once<L: Link, W: Write>(
+    alloc: Global,
+    core: &mut Core<DEPTH>,
+    poller: &mut Poller<L>,
+    k: u32,
+    out: &mut W,
+) -> u8
+    requires { poller.old.fault ≡ None }
+    ensures printed { result ≡ 0 → IsPrinted k poller.old core.old poller.new core.new (W.contents out.old) (W.contents out.new) }
+    ensures last { result ≢ 0 → IsLast poller.old core.old poller.new core.new (W.contents out.old) (W.contents out.new) result }
+{
+    match run_scan(core, poller) {
+        Ok(report) => match scanned(alloc, k, &report) {
+            Ok(line) => write_lines(out, line.as_bytes(), 0),
+            Err(_) => tell_no_memory(out),
+        },
+        Err(fault) => tell_unlinked(alloc, fault, out),
+    }
+}
+
+/// The core of a program on a site, at the start; or what is told where there is none.
+fn core_of<L: Link>(
+    alloc: Global,
+    site: &str,
+    program: &str,
+    defs: &[String],
+    poller: &mut Poller<L>,
+) -> Result<Result<Core<DEPTH>, Outcome>, AllocError>
+    ensures { IfOk result (StartsCore site.now program.now (map string_bytes defs.now) poller.old poller.new) }
+{
+    match accept(alloc, site, program, defs) {
+        Ok(Ok(given)) => opened(alloc, given, poller),
+        Ok(Err(outcome)) => Ok(Err(outcome)),
+        Err(AllocError) => Err(AllocError),
+    }
+}
+
+/// The core of an accepted program, once the devices' maps are found.
+fn opened<L: Link>(
+    alloc: Global,
+    given: Accepted,
+    poller: &mut Poller<L>,
+) -> Result<Result<Core<DEPTH>, Outcome>, AllocError>
+    ensures { IfOk result (OpensCore given.site given.verified poller.old poller.new) }
+{
+    let Accepted { site, verified } = given;
+    let maps = match poller.find(alloc, &site) {
+        Ok(maps) => maps,
+        Err(LinkFault::OutOfMemory) => return Err(AllocError),
+        Err(fault) => return Ok(Err(Outcome::unlinked(alloc, fault)?)),
+    };
+    let machine = Machine::new(alloc, verified)?;
+    match Core::new(alloc, site, machine, maps) {
+        Ok(core) => Ok(Ok(core)),
+        Err(CoreFault::OutOfMemory) => Err(AllocError),
+        Err(CoreFault::Foreign) => {
+            let word = CoreFault::Foreign.word();
+            Ok(Err(Outcome::refused(no_core(alloc, word)?)))
+        }
+    }
+}

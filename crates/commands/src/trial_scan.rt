@@ -1,0 +1,63 @@
+ghost use Rattle.std.specs.Prelude.{IfOk};
+ghost use Rattle.commands.specs.Input as input;
+ghost use Rattle.commands.specs.Outcome.{IsTrial, TellsGivenImage, TellsInput, TellsTree};
+
+use crate::given::readings_given;
+use crate::input::program_length;
+use crate::outcome::{Outcome, tell_no_memory};
+use crate::report::{bad_input, unassembled, unread};
+use crate::scan::scan_outcome;
+use il_assemble::{AsmFaultKind, assemble};
+use il_reader::{Program, ReadFaultKind, read};
+use scan_code::Image;
+use std::alloc::{AllocError, Global};
+use std::io::Write;
+
+/// Runs one scan of the program that the input begins with, and prints each variable, each output,
+/// and the number of steps or the trap; or why there is no scan. Gives the status: 0, or 1 for a
+/// trap, a refusal or a failed write.
+pub fn trial<W: Write>(alloc: Global, input: &str, out: &mut W) -> u8
+    ensures { IsTrial input.now (W.contents out.old) (W.contents out.new) result }
+{
+    match outcome_of(alloc, input) {
+        Ok(outcome) => outcome.tell(out),
+        Err(AllocError) => tell_no_memory(out),
+    }
+}
+
+/// What is told of the program that the input begins with.
+fn outcome_of(alloc: Global, input: &str) -> Result<Outcome, AllocError>
+    ensures { IfOk result (TellsInput input.now) }
+{
+    let (text, inputs) = input.split_at(program_length(input.as_bytes()));
+    match read(alloc, text) {
+        Ok(program) => outcome_of_program(alloc, &program, inputs.as_bytes()),
+        Err(fault) if fault.kind == ReadFaultKind::OutOfMemory => Err(AllocError),
+        Err(fault) => Ok(Outcome::refused(unread(alloc, fault.kind.word(), fault.line)?)),
+    }
+}
+
+/// What is told of a program, with the input lines behind its text.
+fn outcome_of_program(
+    alloc: Global,
+    program: &Program,
+    inputs: &[u8],
+) -> Result<Outcome, AllocError>
+    ensures { IfOk result (TellsTree program.now (input.lines_of inputs.now)) }
+{
+    match assemble(alloc, program) {
+        Ok(image) => outcome_of_image(alloc, image, inputs),
+        Err(fault) if fault.kind == AsmFaultKind::OutOfMemory => Err(AllocError),
+        Err(fault) => Ok(Outcome::refused(unassembled(alloc, fault.kind.word(), fault.line)?)),
+    }
+}
+
+/// What is told of an image, with the input lines.
+fn outcome_of_image(alloc: Global, image: Image, inputs: &[u8]) -> Result<Outcome, AllocError>
+    ensures { IfOk result (TellsGivenImage image (input.lines_of inputs.now)) }
+{
+    match readings_given(alloc, image.tags.as_slice(), inputs)? {
+        Ok(readings) => scan_outcome(alloc, image, readings.as_slice()),
+        Err(number) => Ok(Outcome::refused(bad_input(alloc, number)?)),
+    }
+}

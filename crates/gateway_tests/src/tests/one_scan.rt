@@ -1,0 +1,133 @@
+//! One scan over the link on which the maps were found, with models that are shorter than their definitions.
+
+use crate::tests::sites::{core_with, machine, site_of};
+use crate::tests::{poller_on, push_frame, push_frames};
+use gateway::{Core, Poller, Report, run_scan};
+use modbus_frame::{LinkFault, MemLink};
+use std::alloc::Global;
+use std::process::Abort;
+
+const SITE: &str = "
+[gateway]
+unit = 1
+models = [1]
+[[device]]
+name = \"inv1\"
+unit = 1
+[[device]]
+name = \"inv2\"
+unit = 2
+[[tag]]
+name = \"inv1_w\"
+access = \"in\"
+device = \"inv1\"
+model = 103
+point = \"W\"
+type = \"DINT\"
+exponent = 0
+low = -100000
+high = 100000
+[[tag]]
+name = \"inv2_w\"
+access = \"in\"
+device = \"inv2\"
+model = 103
+point = \"W\"
+type = \"DINT\"
+exponent = 0
+low = -100000
+high = 100000
+[[tag]]
+name = \"inv2_on\"
+access = \"in\"
+device = \"inv2\"
+model = 123
+point = \"Conn\"
+type = \"INT\"
+exponent = 0
+low = 0
+high = 1
+[[tag]]
+name = \"ena1\"
+access = \"out\"
+device = \"inv1\"
+model = 123
+point = \"WMaxLim_Ena\"
+type = \"BOOL\"
+exponent = 0
+low = 0
+high = 1
+";
+
+/// The program of that site: LD TRUE, ST ena1.
+static ENABLING: [u8; 24] = [
+    0x49, 0x4C, 0x53, 0x43, 1, 0, 0, 0, 1, 0, 6, 4, 0x65, 0x6E, 0x61, 0x31, 1, 0, 4, 1, 7, 0, 0, 0,
+];
+
+/// The mark, then ID and length of models 1, 103 and 123, the last two cut short, then the end model.
+static MAP: [&[u8]; 8] = [
+    &[3, 4, 0x53, 0x75, 0x6E, 0x53],
+    &[3, 2, 0, 1],
+    &[3, 2, 0, 66],
+    &[3, 2, 0, 103],
+    &[3, 2, 0, 2],
+    &[3, 2, 0, 123],
+    &[3, 2, 0, 9],
+    &[3, 2, 0xFF, 0xFF],
+];
+
+/// ID, length and two registers of model 103.
+const BLOCK: &[u8] = &[3, 8, 0, 103, 0, 2, 0x09, 0xC4, 0, 0];
+
+/// Model 123 as far as WMaxLim_Ena.
+const CONTROLS: &[u8] = &[
+    3, 22, 0, 123, 0, 9, 0, 0, 0, 0, 0, 0, 0, 0, 0, 0, 0, 0, 0, 0, 0, 0, 0, 0,
+];
+
+/// Both maps; the block of unit 1, 17 older frames for unit 2, an exception of it, model 123 of unit 1, an acknowledgement.
+fn replies(rt: &impl Abort, alloc: Global) -> Vec<u8> {
+    let mut bytes = Vec::new(alloc);
+    let next = push_frames(rt, &mut bytes, 0, 1, &MAP);
+    push_frames(rt, &mut bytes, next, 2, &MAP);
+    push_frame(rt, &mut bytes, &(16, 1, BLOCK));
+    for _ in 0..17 {
+        push_frame(rt, &mut bytes, &(16, 2, BLOCK));
+    }
+    push_frame(rt, &mut bytes, &(18, 2, &[0x83, 4]));
+    push_frame(rt, &mut bytes, &(19, 1, CONTROLS));
+    push_frame(rt, &mut bytes, &(20, 1, &[0x10, 0x9C, 0x93, 0, 1]));
+    bytes
+}
+
+/// Each unit is asked for its block of model 103, unit 2 for that of model 123 and unit 1 for its own; 1 is written.
+static ASKED: [u8; 63] = [
+    0, 16, 0, 0, 0, 6, 1, 3, 0x9C, 0x86, 0, 4, 0, 17, 0, 0, 0, 6, 2, 3, 0x9C, 0x86, 0, 4, 0, 18, 0,
+    0, 0, 6, 2, 3, 0x9C, 0x8A, 0, 11, 0, 19, 0, 0, 0, 6, 1, 3, 0x9C, 0x8A, 0, 11, 0, 20, 0, 0, 0,
+    9, 1, 0x10, 0x9C, 0x93, 0, 1, 2, 0, 1,
+];
+
+/// A core whose devices have the maps that are found.
+fn found_core(rt: &impl Abort, alloc: Global, poller: &mut Poller<MemLink>) -> Core<32> {
+    let site = site_of(rt, alloc, SITE);
+    let machine = machine(rt, alloc, &ENABLING, &site);
+    let maps = poller.find(alloc, &site).expect(rt, "maps");
+    core_with(rt, alloc, site, machine, maps).expect(rt, "a core")
+}
+
+const REPORT: Result<Report, LinkFault> = Ok(Report {
+    steps: 3,
+    writes: 1,
+    refused: 0,
+    lost: 2,
+});
+
+#[test]
+fn one_scan(rt: HostRuntime) {
+    let coming = replies(&rt, rt.alloc());
+    let mut poller = poller_on(&rt, rt.alloc(), 0, &coming, 100, None);
+    let mut core = found_core(&rt, rt.alloc(), &mut poller);
+    assert_eq!(rt; run_scan(&mut core, &mut poller), REPORT);
+    let sent = poller.link().sent();
+    assert_eq!(rt; sent.len(), 255);
+    assert!(rt; sent.ends_with(&ASKED));
+}

@@ -1,0 +1,112 @@
+//! Instructions in parentheses.
+
+use crate::tests::seen::{
+    Line, Spelled, Want, action_at, has_lines, inner_of, simple_operands, simple_spelling,
+};
+use crate::tests::{fault_of, joined, program_of};
+use il_reader::{Action, InnerLine, Program, ReadFaultKind, Simple};
+use std::alloc::Global;
+use std::process::Abort;
+
+const NESTED: &str =
+    "PROGRAM p\nLD 1\nx: ADD( 2\n\nGT(\nNOT\n(* *)\n)\nANDN( (* *) TRUE\n)\nMIN 3\n)\n&(\nLD a\n)\nST y\nEND_PROGRAM";
+
+static LINES: [Line; 4] = [
+    (2, "", ("LD", "")),
+    (3, "x", ("ADD", "(")),
+    (13, "", ("AND", "(")),
+    (16, "", ("ST", "")),
+];
+
+/// The instruction of a statement, which works on the result alone.
+fn simple_at<'a>(rt: &impl Abort, program: &'a Program, place: usize) -> &'a Simple {
+    match action_at(rt, program, place) {
+        Action::Compute(computation) => computation.as_simple(),
+        _ => panic!(rt; "no computation"),
+    }
+}
+
+/// The instruction is this one, and what stands right behind its parenthesis is this.
+fn opens(rt: &impl Abort, simple: &Simple, spelled: Spelled, first: Want) {
+    assert!(rt; simple_spelling(simple) == spelled);
+    let (operand, _) = simple_operands(simple);
+    assert!(rt; first.is(&operand));
+}
+
+/// These are the numbers and instructions of the lines inside.
+fn holds(rt: &impl Abort, inner: &[InnerLine], wanted: &[(u32, Spelled)]) {
+    assert_eq!(rt; inner.len(), wanted.len());
+    for (line, (number, spelled)) in inner.iter().zip(wanted) {
+        assert_eq!(rt; line.line, *number);
+        assert!(rt; simple_spelling(&line.simple) == *spelled);
+    }
+}
+
+#[test]
+fn reads_parentheses(rt: HostRuntime) {
+    let program = program_of(&rt, rt.alloc(), NESTED);
+    has_lines(&rt, &program, &LINES);
+    assert_eq!(rt; program.end_line, 17);
+    let sum = simple_at(&rt, &program, 1);
+    opens(&rt, sum, ("ADD", "("), Want::Number(2));
+    holds(
+        &rt,
+        inner_of(sum),
+        &[(5, ("GT", "(")), (9, ("AND", "N(")), (11, ("MIN", ""))],
+    );
+}
+
+#[test]
+fn reads_inner_parentheses(rt: HostRuntime) {
+    let program = program_of(&rt, rt.alloc(), NESTED);
+    let [compared, conjoined, ..] = inner_of(simple_at(&rt, &program, 1)) else {
+        panic!(rt; "fewer lines")
+    };
+    opens(&rt, &compared.simple, ("GT", "("), Want::Nothing);
+    holds(&rt, inner_of(&compared.simple), &[(6, ("NOT", ""))]);
+    opens(&rt, &conjoined.simple, ("AND", "N("), Want::Truth(true));
+    holds(&rt, inner_of(&conjoined.simple), &[]);
+}
+
+/// LD 1 in line 2, and this many parentheses that stand open.
+fn opened(rt: &impl Abort, alloc: Global, depth: u32) -> String {
+    let mut text = joined(rt, alloc, "PROGRAM p\n", "LD 1\n");
+    for _ in 0..depth {
+        text.push_str("ADD( 1\n").expect(rt, "memory");
+    }
+    text
+}
+
+/// The same, closed again, and ST y.
+fn closed(rt: &impl Abort, alloc: Global, depth: u32) -> String {
+    let mut text = opened(rt, alloc, depth);
+    for _ in 0..depth {
+        text.push_str(")\n").expect(rt, "memory");
+    }
+    joined(rt, alloc, text.as_str(), "ST y\nEND_PROGRAM\n")
+}
+
+static CLOSED: [Line; 3] = [
+    (2, "", ("LD", "")),
+    (3, "", ("ADD", "(")),
+    (203, "", ("ST", "")),
+];
+
+#[test]
+fn keeps_to_the_depth_of_parentheses(rt: HostRuntime) {
+    for (depth, kind, line) in [
+        (101, ReadFaultKind::TooLong, 103),
+        (100, ReadFaultKind::Parenthesis, 102),
+    ] {
+        let text = opened(&rt, rt.alloc(), depth);
+        assert_eq!(rt; fault_of(rt.alloc(), text.as_str()), Some((kind, line)));
+    }
+}
+
+#[test]
+fn reads_a_hundred_parentheses(rt: HostRuntime) {
+    let text = closed(&rt, rt.alloc(), 100);
+    let program = program_of(&rt, rt.alloc(), text.as_str());
+    assert_eq!(rt; program.end_line, 204);
+    has_lines(&rt, &program, &CLOSED);
+}

@@ -1,0 +1,321 @@
+//! Whole texts and their programs.
+
+use crate::tests::seen::{Instruction, Line, Want, action_at, has_lines, instructs, turns};
+use crate::tests::{fault_of, joined, program_of, refuses};
+use il_reader::{Program, ReadFault, ReadFaultKind, Variable as Declared};
+use point_types::IlType;
+use std::alloc::Global;
+use std::process::Abort;
+
+/// A variable that is wanted: its line, its name, its range and its start value.
+type Variable = (u32, &'static str, i64, i64, i64);
+
+/// The program declares these variables.
+fn declares(rt: &impl Abort, program: &Program, wanted: &[Variable]) {
+    let variables = program.variables.as_slice();
+    assert_eq!(rt; variables.len(), wanted.len());
+    for (variable, row) in variables.iter().zip(wanted) {
+        let name = row.1;
+        assert!(rt; is_variable(variable, row), "of {name}");
+    }
+}
+
+fn is_variable(variable: &Declared, wanted: &Variable) -> bool {
+    let (line, name, low, high, start) = wanted;
+    let var = &variable.var;
+    variable.line == *line
+        && var.name.as_str() == *name
+        && (var.low, var.high, var.start) == (*low, *high, *start)
+}
+
+/// The program has these externals.
+fn names(rt: &impl Abort, program: &Program, wanted: &[(u32, &str, IlType)]) {
+    let externals = program.externals.as_slice();
+    assert_eq!(rt; externals.len(), wanted.len());
+    for (external, (line, name, kind)) in externals.iter().zip(wanted) {
+        let is_wanted = external.line == *line && external.kind == *kind;
+        assert!(rt; is_wanted && external.name.as_str() == *name, "of {name}");
+    }
+}
+
+const WHOLE: &str =
+    "(* A program\nend *)(*) *)\tPROGRAM P\r\nVAR a : INT := -1_0;\n b, C\n : dint; END_VAR\nvar (**) x_1:INT:=+07;end_var ldn A\r\n\n ADD-7\nSUB (* over\nlines *) c\nSTN X_1\nEND_PROGRAM\n (* end *)\n";
+
+static WHOLE_VARIABLES: [Variable; 4] = [
+    (3, "a", -32768, 32767, -10),
+    (4, "b", -2147483648, 2147483647, 0),
+    (4, "c", -2147483648, 2147483647, 0),
+    (6, "x_1", -32768, 32767, 7),
+];
+
+static WHOLE_LINES: [Line; 4] = [
+    (6, "", ("LD", "N")),
+    (8, "", ("ADD", "")),
+    (9, "", ("SUB", "")),
+    (11, "", ("ST", "N")),
+];
+
+#[test]
+fn reads_a_program(rt: HostRuntime) {
+    let program = program_of(&rt, rt.alloc(), WHOLE);
+    assert_eq!(rt; program.name.as_str(), "p");
+    assert_eq!(rt; program.end_line, 12);
+    declares(&rt, &program, &WHOLE_VARIABLES);
+    has_lines(&rt, &program, &WHOLE_LINES);
+}
+
+const DECLARED: &str =
+    "PROGRAM p VAR_EXTERNAL u, v\n: INT; w : BOOL; END_VAR VAR q, v_o : BOOL := TRUE;\nu_okay : USINT (16#10 .. 8#77)\n:= USINT#2#1_0001; k : LINT := -9223372036854775808; f : BOOL;\nn : SINT (-128..127); END_VAR VAR_EXTERNAL END_VAR END_PROGRAM\n";
+
+static DECLARED_VARIABLES: [Variable; 6] = [
+    (2, "q", 0, 1, 1),
+    (2, "v_o", 0, 1, 1),
+    (3, "u_okay", 16, 63, 17),
+    (
+        4,
+        "k",
+        -9223372036854775808,
+        9223372036854775807,
+        -9223372036854775808,
+    ),
+    (4, "f", 0, 1, 0),
+    (5, "n", -128, 127, -128),
+];
+
+static DECLARED_EXTERNALS: [(u32, &str, IlType); 3] = [
+    (1, "u", IlType::Int),
+    (1, "v", IlType::Int),
+    (2, "w", IlType::Bool),
+];
+
+#[test]
+fn reads_declarations(rt: HostRuntime) {
+    let program = program_of(&rt, rt.alloc(), DECLARED);
+    declares(&rt, &program, &DECLARED_VARIABLES);
+    names(&rt, &program, &DECLARED_EXTERNALS);
+}
+
+/// Declarations without blanks, and the words of the grammar in letters of both cases.
+static PACKED: [(&str, IlType, i64, i64, i64); 4] = [
+    (
+        "PROGRAM p VAR\na:INT:=5;END_VAR END_PROGRAM",
+        IlType::Int,
+        -32768,
+        32767,
+        5,
+    ),
+    (
+        "PROGRAM p VAR\na:INT(0..16#F);END_VAR END_PROGRAM",
+        IlType::Int,
+        0,
+        15,
+        0,
+    ),
+    (
+        "PROGRAM p var\na:BOOL;END_VAR End_Program",
+        IlType::Bool,
+        0,
+        1,
+        0,
+    ),
+    (
+        "PROGRAM p VAR(*)*)\na(***):USINT;END_VAR VAR_EXTERNAL END_VAR END_PROGRAM",
+        IlType::Usint,
+        0,
+        255,
+        0,
+    ),
+];
+
+fn first_kind(rt: &impl Abort, program: &Program) -> IlType {
+    let variable = program.variables.as_slice().first();
+    variable.expect(rt, "a variable").var.kind
+}
+
+#[test]
+fn reads_declarations_without_blanks(rt: HostRuntime) {
+    for (text, kind, low, high, start) in &PACKED {
+        let program = program_of(&rt, rt.alloc(), text);
+        declares(&rt, &program, &[(2, "a", *low, *high, *start)]);
+        assert!(rt; first_kind(&rt, &program) == *kind);
+    }
+}
+
+const INSTRUCTED: &str =
+    "PROGRAM p\na:\nb: LD INT#-5\nc (* x\n*) : (* y\n*) LIMIT TRUE , a\nSEL 1, 2\nNOT\nABS\nINT_TO_DINT\nS x\nR x\nJMP a\n{ Loop 255 } JMPCN d\ne: {LOOP 1}JMP e\nRETC\nANDN x\n&N x\nMIN 3\nEND_PROGRAM";
+
+static INSTRUCTED_LINES: [Line; 16] = [
+    (2, "a", ("", "")),
+    (3, "b", ("LD", "")),
+    (4, "c", ("LIMIT", "")),
+    (7, "", ("SEL", "")),
+    (8, "", ("NOT", "")),
+    (9, "", ("ABS", "")),
+    (10, "", ("INT", "DINT")),
+    (11, "", ("S", "")),
+    (12, "", ("R", "")),
+    (13, "", ("JMP", "")),
+    (14, "", ("JMP", "CN")),
+    (15, "e", ("JMP", "")),
+    (16, "", ("RET", "C")),
+    (17, "", ("AND", "N")),
+    (18, "", ("AND", "N")),
+    (19, "", ("MIN", "")),
+];
+
+#[test]
+fn reads_instructions(rt: HostRuntime) {
+    let program = program_of(&rt, rt.alloc(), INSTRUCTED);
+    has_lines(&rt, &program, &INSTRUCTED_LINES);
+    assert_eq!(rt; program.end_line, 20);
+}
+
+static OPERANDS: [Instruction; 4] = [
+    ("LD -7", ("LD", ""), Want::Number(-7), Want::Nothing),
+    (
+        "ADD INT#-5",
+        ("ADD", ""),
+        Want::Typed(IlType::Int, -5),
+        Want::Nothing,
+    ),
+    (
+        "LIMIT 16#10, TRUE",
+        ("LIMIT", ""),
+        Want::Number(16),
+        Want::Truth(true),
+    ),
+    (
+        "SEL FALSE, 2",
+        ("SEL", ""),
+        Want::Truth(false),
+        Want::Number(2),
+    ),
+];
+
+#[test]
+fn reads_operands(rt: HostRuntime) {
+    instructs(&rt, rt.alloc(), &OPERANDS);
+}
+
+/// How often the first jump is taken at most.
+static TURNS: [(&str, Option<u8>); 5] = [
+    (
+        "PROGRAM p\nx: { Loop 255 (* *) } JMPCN x\nEND_PROGRAM",
+        Some(255),
+    ),
+    ("PROGRAM p\n{LOOP 9}JMP x\nEND_PROGRAM", Some(9)),
+    ("PROGRAM p\n{LOOP 007}JMP x\nEND_PROGRAM", Some(7)),
+    ("PROGRAM p\n{LOOP 16}JMP x\nEND_PROGRAM", Some(16)),
+    ("PROGRAM p JMP x\nx:\nEND_PROGRAM", None),
+];
+
+#[test]
+fn reads_turns(rt: HostRuntime) {
+    for (text, wanted) in &TURNS {
+        let program = program_of(&rt, rt.alloc(), text);
+        assert_eq!(rt; turns(action_at(&rt, &program, 0)), *wanted, "at {text}");
+    }
+}
+
+#[test]
+fn declares_a_presence_of_a_variable(rt: HostRuntime) {
+    let text =
+        "PROGRAM p VAR p, p_ok : INT; END_VAR VAR_EXTERNAL q_oki, q : INT; END_VAR END_PROGRAM\n";
+    let program = program_of(&rt, rt.alloc(), text);
+    assert_eq!(rt; (program.variables.len(), program.externals.len()), (2, 2));
+}
+
+/// A program that holds the power of two inverters.
+const LIMITER: &str =
+    "PROGRAM limiter\nVAR_EXTERNAL\ninv1_w, inv2_w : DINT;\ntarget, lim1 : INT;\nena1 : BOOL;\nEND_VAR\nVAR\ntotal : DINT (0..200000);\nEND_VAR\nLD inv1_w_OK\nAND inv2_w_OK\nJMPCN hold\nLD inv1_w\nADD inv2_w\nMAX 0\nST total\nhold:\nLD target\nST lim1\nLD TRUE\nST ena1\nEND_PROGRAM";
+
+#[test]
+fn refuses_a_program_that_lacks_its_last_letter(rt: HostRuntime) {
+    assert!(rt; fault_of(rt.alloc(), LIMITER).is_none());
+    let (most, _) = LIMITER.split_at(LIMITER.len() - 1);
+    let fault = fault_of(rt.alloc(), most);
+    assert_eq!(rt; fault, Some((ReadFaultKind::Header, 22)));
+}
+
+/// A program, and blanks behind it up to this size.
+fn sized(rt: &impl Abort, alloc: Global, size: usize) -> String {
+    let mut text = joined(rt, alloc, "PROGRAM p END_PROGRAM", "\n");
+    for _ in 22..size {
+        text.push_str(" ").expect(rt, "memory");
+    }
+    text
+}
+
+#[test]
+fn keeps_to_the_size_of_a_text(rt: HostRuntime) {
+    for (size, wanted) in [
+        (1_048_576, None),
+        (1_048_577, Some((ReadFaultKind::TooLong, 1))),
+    ] {
+        let text = sized(&rt, rt.alloc(), size);
+        assert_eq!(rt; fault_of(rt.alloc(), text.as_str()), wanted);
+    }
+}
+
+#[test]
+fn prints_faults(rt: HostRuntime) {
+    let fault = ReadFault {
+        line: 1,
+        kind: ReadFaultKind::TooLong,
+    };
+    let printed = format!(in rt.alloc(); "{fault}").expect(&rt, "memory");
+    assert_eq!(rt; printed.as_str(), "TooLong line 1");
+}
+
+/// The text, and behind it 1,023 names that begin with this word.
+fn named(rt: &impl Abort, alloc: Global, text: &str, word: &str) -> String {
+    let mut text = joined(rt, alloc, text, "");
+    for i in 1..1024 {
+        let name = format!(in alloc; "{word}{i}").expect(rt, "memory");
+        text.push_str(name.as_str()).expect(rt, "memory");
+    }
+    text
+}
+
+/// A program's text with 1,024 variables, that goes on in their declaration.
+fn of_variables(rt: &impl Abort, alloc: Global) -> String {
+    named(rt, alloc, "PROGRAM p VAR v", ",\nv")
+}
+
+/// A program's text with as many externals as well, that goes on in their declaration.
+fn of_externals(rt: &impl Abort, alloc: Global) -> String {
+    let text = of_variables(rt, alloc);
+    let text = joined(rt, alloc, text.as_str(), ": INT; END_VAR VAR_EXTERNAL e");
+    named(rt, alloc, text.as_str(), ",e")
+}
+
+static MANY_VARIABLES: [(&str, &str, u32); 3] = [
+    (",\nb : INT;", "TooLong", 1024),
+    (": INT; b : INT;", "TooLong", 1024),
+    (": INT;\n\nv1 : INT;", "TooLong", 1026),
+];
+
+static MANY_EXTERNALS: [(&str, &str, u32); 1] = [(",\nb : INT;", "TooLong", 1024)];
+
+#[test]
+fn keeps_to_the_number_of_variables(rt: HostRuntime) {
+    let text = of_variables(&rt, rt.alloc());
+    refuses(&rt, rt.alloc(), text.as_str(), &MANY_VARIABLES);
+}
+
+#[test]
+fn keeps_to_the_number_of_externals(rt: HostRuntime) {
+    let text = of_externals(&rt, rt.alloc());
+    refuses(&rt, rt.alloc(), text.as_str(), &MANY_EXTERNALS);
+}
+
+#[test]
+fn reads_as_many_names_as_there_may_be(rt: HostRuntime) {
+    let text = of_externals(&rt, rt.alloc());
+    let text = joined(&rt, rt.alloc(), text.as_str(), ": INT; END_VAR END_PROGRAM");
+    let program = program_of(&rt, rt.alloc(), text.as_str());
+    assert_eq!(rt;
+        (program.variables.len(), program.externals.len()),
+        (1024, 1024)
+    );
+}

@@ -1,0 +1,221 @@
+//! Texts that are refused: the line and the kind of the first fault.
+
+use crate::tests::refuses;
+
+/// Lines 1 and 2 of most texts that are refused.
+const HEAD: &str = "PROGRAM p\nVAR a : INT; END_VAR\n";
+
+static LINES: [(&str, &str, u32); 22] = [
+    ("LD\nEND_PROGRAM\n", "Operand", 3),
+    ("LD a\nLD\nFOO a\nEND_PROGRAM\n", "Operand", 4),
+    ("LD a\nLD a\nFOO a\nEND_PROGRAM\n", "Operator", 5),
+    ("LD a a\n", "Operand", 3),
+    ("ST 1\n", "Operand", 3),
+    ("S TRUE\n", "Operand", 3),
+    ("LIMIT 1\n", "Operand", 3),
+    ("SEL 1,\n", "Operand", 3),
+    ("MIN( 1\n", "Operand", 3),
+    ("FOO a\n", "Operator", 3),
+    ("x (*\n*) LD a\n", "Operator", 4),
+    ("END_VAR\n", "Operator", 3),
+    ("x: END_PROGRAM\n", "Operator", 3),
+    ("x: y: LD a\n", "Operator", 3),
+    ("5\n", "Operator", 3),
+    ("JMP\n", "Label", 3),
+    ("LD a\nJMPCN 5\n", "Label", 4),
+    ("LD a\n)\n", "Parenthesis", 4),
+    ("LD a )\n", "Parenthesis", 3),
+    ("x: )\n", "Parenthesis", 3),
+    ("x:\nLD a\nx: LD a\n", "Duplicate", 5),
+    ("x: LD a\nX LD a\n", "Duplicate", 4),
+];
+
+#[test]
+fn refuses_lines(rt: HostRuntime) {
+    refuses(&rt, rt.alloc(), HEAD, &LINES);
+}
+
+static PRAGMAS: [(&str, &str, u32); 13] = [
+    ("{LOOP 0} JMP x\n", "Literal", 3),
+    ("{LOOP 256} JMP x\n", "Literal", 3),
+    ("{LOOP +9} JMP x\n", "Literal", 3),
+    ("{LOOP 16#9} JMP x\n", "Literal", 3),
+    ("{LOOP} JMP x\n", "Word", 3),
+    ("{LOOP 9} LD a\n", "Operator", 3),
+    ("{LOOP 9}\nJMP x\n", "Operator", 3),
+    ("{LOOPS 9} JMP x\n", "Word", 3),
+    ("{LOOP 9 JMP x\n", "Word", 3),
+    ("LD {LOOP 9}\n", "Word", 3),
+    ("LD a }\n", "Word", 3),
+    ("LD \u{e4}\n", "Word", 3),
+    ("END_PROGRAM }\n", "Word", 3),
+];
+
+#[test]
+fn refuses_pragmas(rt: HostRuntime) {
+    refuses(&rt, rt.alloc(), HEAD, &PRAGMAS);
+}
+
+static WORDS: [(&str, &str, u32); 17] = [
+    ("LD 9999999999999999999\n", "Literal", 3),
+    ("LD 9223372036854775808\n", "Literal", 3),
+    ("LD INT#32768\n", "Literal", 3),
+    ("LD 5x\n", "Literal", 3),
+    ("LD 1__0\n", "Literal", 3),
+    ("LD 1_\n", "Literal", 3),
+    ("LD a$\n", "Word", 3),
+    ("LD - 7\n", "Word", 3),
+    ("LD a\rST a\n", "Word", 3),
+    ("LD a23456789012345678901234567890123\n", "Word", 3),
+    ("LD (*\n\n", "Word", 4),
+    ("END_PROGRAM x\n", "Header", 3),
+    ("LD a\n", "Header", 3),
+    ("LD a\nLD a\n", "Header", 4),
+    ("LD", "Header", 3),
+    ("FOO", "Header", 3),
+    ("LD 5_", "Header", 3),
+];
+
+#[test]
+fn refuses_words(rt: HostRuntime) {
+    refuses(&rt, rt.alloc(), HEAD, &WORDS);
+}
+
+static DECLARATIONS: [(&str, &str, u32); 19] = [
+    ("VAR a : REAL;\n", "Declaration", 2),
+    ("VAR a : SINT := 200;\n", "Declaration", 2),
+    ("VAR a : INT := 32768;\n", "Declaration", 2),
+    ("VAR a : INT := TRUE;\n", "Declaration", 2),
+    ("VAR a : INT := DINT#5;\n", "Declaration", 2),
+    ("VAR a : INT := ;\n", "Declaration", 2),
+    ("VAR a : BOOL := 1;\n", "Declaration", 2),
+    ("VAR a : BOOL\n(FALSE..TRUE);\n", "Declaration", 3),
+    ("VAR a : INT (5..\n4);\n", "Declaration", 3),
+    ("VAR a : INT (-32769\n..4);\n", "Declaration", 2),
+    ("VAR a : INT (0..32768);\n", "Declaration", 2),
+    ("VAR a : INT (0..100) := 101;\n", "Declaration", 2),
+    ("VAR a : INT (0..100) (0..100);\n", "Declaration", 2),
+    ("VAR_EXTERNAL a : INT (0..1);\n", "Declaration", 2),
+    ("VAR_EXTERNAL a : INT := 1;\n", "Declaration", 2),
+    ("VAR a : INT; END_PROGRAM\n", "Declaration", 2),
+    ("VAR a : INT := INT#40000;\n", "Literal", 2),
+    ("VAR\na__b : INT;\n", "Word", 3),
+    ("VAR { a : INT;\n", "Word", 2),
+];
+
+#[test]
+fn refuses_declarations(rt: HostRuntime) {
+    refuses(&rt, rt.alloc(), "PROGRAM p\n", &DECLARATIONS);
+}
+
+static NAMES: [(&str, &str, u32); 6] = [
+    ("VAR a : INT;\nA : INT;\n", "Duplicate", 3),
+    ("VAR a,\na : INT;\n", "Duplicate", 3),
+    (
+        "VAR a : INT; END_VAR VAR_EXTERNAL\nb, a : INT;\n",
+        "Duplicate",
+        3,
+    ),
+    (
+        "VAR_EXTERNAL p : INT; END_VAR\nVAR p_ok : BOOL;\n",
+        "Duplicate",
+        3,
+    ),
+    (
+        "VAR p_ok : BOOL; END_VAR\nVAR_EXTERNAL p : INT;\n",
+        "Duplicate",
+        3,
+    ),
+    ("VAR_EXTERNAL p_ok,\np : INT;\n", "Duplicate", 3),
+];
+
+#[test]
+fn refuses_names(rt: HostRuntime) {
+    refuses(&rt, rt.alloc(), "PROGRAM p\n", &NAMES);
+}
+
+static HEADERS: [(&str, &str, u32); 7] = [
+    ("", "Header", 1),
+    ("PROGRAM", "Header", 1),
+    ("\nPROGRAM VAR\n", "Header", 2),
+    ("LD a\n", "Header", 1),
+    ("(* open", "Word", 1),
+    ("PROGRAM p\nVAR\na : INT;\nEND_VAR\nLD a\n", "Header", 5),
+    (
+        "PROGRAM p\nVAR\na : INT;\nEND_VAR\nLD a\nLD\nFOO a\nEND_PROGRAM",
+        "Operand",
+        6,
+    ),
+];
+
+#[test]
+fn refuses_headers(rt: HostRuntime) {
+    refuses(&rt, rt.alloc(), "", &HEADERS);
+}
+
+static PARENTHESES: [(&str, &str, u32); 19] = [
+    ("ADD(\n)\n", "Operand", 4),
+    ("ADD( )\n", "Operand", 3),
+    ("ADD( 1 )\n", "Operand", 3),
+    ("ADD( 1 2\n", "Operand", 3),
+    ("ADD( LD\n", "Operand", 3),
+    ("ADD( 1\nLD 2 )\n", "Operand", 4),
+    ("ADD( 1\nSUB(\n)\n", "Operand", 5),
+    ("ADD( 1\n) ST a\n", "Operand", 4),
+    ("LD( 1\n", "Operand", 3),
+    ("MIN( 1\n", "Operand", 3),
+    ("MAX(\n", "Operand", 3),
+    ("ADD( 1\n)\n)\n", "Parenthesis", 5),
+    ("ADD( 1\n) )\n", "Parenthesis", 4),
+    ("ADD( 1\nx: LD 1\n", "Parenthesis", 4),
+    ("ADD( 1\nEND_PROGRAM\n", "Parenthesis", 4),
+    ("ADD( 1\n5\n", "Operator", 4),
+    ("ADD( 1\nVAR\n", "Operator", 4),
+    ("ADD( 1\n{LOOP 9} JMP x\n", "Word", 4),
+    ("ADD( 1\nFOO\n", "Parenthesis", 4),
+];
+
+#[test]
+fn refuses_parentheses(rt: HostRuntime) {
+    refuses(&rt, rt.alloc(), HEAD, &PARENTHESES);
+}
+
+/// Inside two parentheses.
+static OF_THE_BODY: [(&str, &str, u32); 11] = [
+    ("ST a\n", "Parenthesis", 5),
+    ("STN a\n", "Parenthesis", 5),
+    ("S a\n", "Parenthesis", 5),
+    ("R a\n", "Parenthesis", 5),
+    ("JMP x\n", "Parenthesis", 5),
+    ("JMPC x\n", "Parenthesis", 5),
+    ("JMPCN x\n", "Parenthesis", 5),
+    ("RET\n", "Parenthesis", 5),
+    ("RETC\n", "Parenthesis", 5),
+    ("RETCN\n", "Parenthesis", 5),
+    ("x:\n", "Parenthesis", 5),
+];
+
+#[test]
+fn refuses_instructions_of_the_body_inside(rt: HostRuntime) {
+    refuses(&rt, rt.alloc(), "PROGRAM p\nADD( 1\n\nMUL(\n", &OF_THE_BODY);
+}
+
+static STAY_OPEN: [(&str, &str, u32); 12] = [
+    ("ADD(", "Parenthesis", 3),
+    ("ADD(\n", "Parenthesis", 3),
+    ("ADD( 1", "Parenthesis", 3),
+    ("ADD( 1\n\n", "Parenthesis", 4),
+    ("ADD( 1\nLD", "Parenthesis", 4),
+    ("ADD( 1\nLD LD", "Parenthesis", 4),
+    ("ADD( 1\nLD INT#", "Parenthesis", 4),
+    ("ADD( 1\nLD 2\n", "Parenthesis", 4),
+    ("ADD( 1\nMUL( 2\n)\n", "Parenthesis", 5),
+    ("ADD( 1\nLD (*", "Word", 4),
+    ("ADD( 1\n)", "Header", 4),
+    ("ADD", "Header", 3),
+];
+
+#[test]
+fn refuses_parentheses_that_stay_open(rt: HostRuntime) {
+    refuses(&rt, rt.alloc(), HEAD, &STAY_OPEN);
+}

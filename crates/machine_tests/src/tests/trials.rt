@@ -1,0 +1,409 @@
+//! Scans of the machine that tests each step: where they end, where they trap, and what they leave.
+
+use crate::tests::programs::{MOST_TURNS, NINE_TURNS, NO_REST, Program};
+use crate::tests::{sixty_two_jumps, trial, tried_output, tried_value, variables, write};
+use point_types::{Cause, IlType, Items, Operator, Reading};
+use scan_code::{Image, Op};
+use scan_vm::{Scan, Trap, TrapKind, Trial};
+use std::alloc::Global;
+use std::process::Abort;
+
+/// `LD seven / DIV 3 / ADD seven / ST a`
+const DIVIDED: Program = Program {
+    version: 1,
+    vars: &[
+        ("seven", IlType::Int, -32768, 32767),
+        ("a", IlType::Int, -32768, 32767),
+    ],
+    tags: &[],
+    code: &[
+        1, 0, 0, 12, 5, 2, 0, 0, 0, 0, 0, 0, 0, 3, 20, 12, 1, 0, 0, 17, 6, 0, 1, 0,
+    ],
+};
+
+/// `LD a / ADD 1 / ST a`, where a has its type's range.
+const ONE_MORE: Program = Program {
+    version: 1,
+    vars: &[("a", IlType::Int, -32768, 32767)],
+    tags: &[],
+    code: &[1, 0, 0, 12, 5, 2, 0, 0, 0, 0, 0, 0, 0, 1, 17, 6, 0, 0, 0],
+};
+
+/// The same, where z is at most 100.
+const ONE_PERCENT_MORE: Program = Program {
+    version: 1,
+    vars: &[("z", IlType::Int, 0, 100)],
+    tags: &[],
+    code: &[1, 0, 0, 12, 5, 2, 0, 0, 0, 0, 0, 0, 0, 1, 17, 6, 0, 0, 0],
+};
+
+/// `LD 1 / DIV 0 / ST a`
+const BY_ZERO: Program = Program {
+    version: 1,
+    vars: &[("a", IlType::Int, -32768, 32767)],
+    tags: &[],
+    code: &[
+        5, 2, 0, 0, 0, 0, 0, 0, 0, 1, 12, 5, 2, 0, 0, 0, 0, 0, 0, 0, 0, 20, 6, 0, 0, 0,
+    ],
+};
+
+/// `LD a / DIV -1 / ST a`
+const BY_MINUS_ONE: Program = Program {
+    version: 1,
+    vars: &[("a", IlType::Lint, i64::MIN, i64::MAX)],
+    tags: &[],
+    code: &[
+        1, 0, 0, 12, 5, 4, 255, 255, 255, 255, 255, 255, 255, 255, 20, 6, 0, 0, 0,
+    ],
+};
+
+/// `LD a / ABS / ST a`
+const WITHOUT_SIGN: Program = Program {
+    version: 1,
+    vars: &[("a", IlType::Lint, i64::MIN, i64::MAX)],
+    tags: &[],
+    code: &[1, 0, 0, 31, 6, 0, 0, 0],
+};
+
+/// A jump to its own address.
+const BACKWARD: Program = Program {
+    version: 1,
+    vars: &[],
+    tags: &[],
+    code: &[33, 0, 0, 0],
+};
+
+/// An operator without a deferred value.
+const UNDEFERRED: Program = Program {
+    version: 1,
+    vars: &[],
+    tags: &[],
+    code: &[17, 0],
+};
+
+/// A store without a result.
+const NO_RESULT: Program = Program {
+    version: 1,
+    vars: &[("a", IlType::Int, -32768, 32767)],
+    tags: &[],
+    code: &[6, 0, 0, 0],
+};
+
+/// `LD in / ST out / LD in_ok / ST c`
+const PASSED_ON: Program = Program {
+    version: 1,
+    vars: &[("c", IlType::Bool, 0, 1)],
+    tags: &[("out", true, IlType::Int), ("in", false, IlType::Int)],
+    code: &[2, 0, 1, 7, 0, 0, 3, 0, 1, 6, 0, 0, 0],
+};
+
+/// Nine counted turns, in the version that has no counted jumps.
+const OLD_TURNS: Program = Program {
+    version: 1,
+    vars: &[("z", IlType::Int, 0, 100)],
+    tags: &[],
+    code: &[
+        5, 2, 0, 0, 0, 0, 0, 0, 0, 0, 6, 0, 0, 1, 0, 0, 12, 5, 2, 0, 0, 0, 0, 0, 0, 0, 7, 17, 12,
+        5, 2, 0, 0, 0, 0, 0, 0, 0, 100, 28, 6, 0, 0, 38, 0, 9, 0, 13, 0,
+    ],
+};
+
+/// A scan: its readings, its steps or its trap, and the variables and outputs behind it.
+struct Tried {
+    readings: &'static [Reading],
+    outcome: Result<Scan, Trap>,
+    variables: &'static [i64],
+    outputs: &'static [Option<i64>],
+}
+
+/// A program, its variables before the first scan, and its scans.
+struct Case {
+    program: Program,
+    starts: &'static [i64],
+    scans: &'static [Tried],
+}
+
+static CASES: [Case; 14] = [
+    Case {
+        program: DIVIDED,
+        starts: &[7, 0],
+        scans: &[Tried {
+            readings: &[],
+            outcome: Ok(Scan { steps: 9 }),
+            variables: &[7, 9],
+            outputs: &[],
+        }],
+    },
+    Case {
+        program: ONE_MORE,
+        starts: &[32767],
+        scans: &[Tried {
+            readings: &[],
+            outcome: Err(Trap {
+                at: 3,
+                kind: TrapKind::Overflow,
+            }),
+            variables: &[32767],
+            outputs: &[],
+        }],
+    },
+    Case {
+        program: ONE_PERCENT_MORE,
+        starts: &[100],
+        scans: &[Tried {
+            readings: &[],
+            outcome: Err(Trap {
+                at: 4,
+                kind: TrapKind::StoreRange,
+            }),
+            variables: &[100],
+            outputs: &[],
+        }],
+    },
+    Case {
+        program: BY_ZERO,
+        starts: &[0],
+        scans: &[Tried {
+            readings: &[],
+            outcome: Err(Trap {
+                at: 3,
+                kind: TrapKind::ZeroDivisor,
+            }),
+            variables: &[0],
+            outputs: &[],
+        }],
+    },
+    Case {
+        program: BY_MINUS_ONE,
+        starts: &[i64::MIN],
+        scans: &[Tried {
+            readings: &[],
+            outcome: Err(Trap {
+                at: 3,
+                kind: TrapKind::Overflow,
+            }),
+            variables: &[i64::MIN],
+            outputs: &[],
+        }],
+    },
+    Case {
+        program: NO_REST,
+        starts: &[i64::MIN],
+        scans: &[Tried {
+            readings: &[],
+            outcome: Ok(Scan { steps: 6 }),
+            variables: &[0],
+            outputs: &[],
+        }],
+    },
+    Case {
+        program: WITHOUT_SIGN,
+        starts: &[i64::MIN],
+        scans: &[Tried {
+            readings: &[],
+            outcome: Err(Trap {
+                at: 1,
+                kind: TrapKind::Overflow,
+            }),
+            variables: &[i64::MIN],
+            outputs: &[],
+        }],
+    },
+    Case {
+        program: BACKWARD,
+        starts: &[],
+        scans: &[Tried {
+            readings: &[],
+            outcome: Err(Trap {
+                at: 0,
+                kind: TrapKind::Code,
+            }),
+            variables: &[],
+            outputs: &[],
+        }],
+    },
+    Case {
+        program: UNDEFERRED,
+        starts: &[],
+        scans: &[Tried {
+            readings: &[],
+            outcome: Err(Trap {
+                at: 0,
+                kind: TrapKind::Stack,
+            }),
+            variables: &[],
+            outputs: &[],
+        }],
+    },
+    Case {
+        program: NO_RESULT,
+        starts: &[0],
+        scans: &[Tried {
+            readings: &[],
+            outcome: Err(Trap {
+                at: 0,
+                kind: TrapKind::WrongType,
+            }),
+            variables: &[0],
+            outputs: &[],
+        }],
+    },
+    Case {
+        program: PASSED_ON,
+        starts: &[1],
+        scans: &[
+            Tried {
+                readings: &[
+                    Reading::Absent(Cause::NoBlock),
+                    Reading::Default(5, Cause::NoBlock),
+                ],
+                outcome: Ok(Scan { steps: 5 }),
+                variables: &[0],
+                outputs: &[Some(5)],
+            },
+            Tried {
+                readings: &[Reading::Absent(Cause::NoBlock), Reading::Value(6)],
+                outcome: Ok(Scan { steps: 5 }),
+                variables: &[1],
+                outputs: &[Some(6)],
+            },
+            Tried {
+                readings: &[
+                    Reading::Absent(Cause::NoBlock),
+                    Reading::Absent(Cause::Inexact),
+                ],
+                outcome: Err(Trap {
+                    at: 0,
+                    kind: TrapKind::MissingPoint,
+                }),
+                variables: &[1],
+                outputs: &[None],
+            },
+        ],
+    },
+    Case {
+        program: NINE_TURNS,
+        starts: &[100],
+        scans: &[
+            Tried {
+                readings: &[],
+                outcome: Ok(Scan { steps: 93 }),
+                variables: &[70],
+                outputs: &[],
+            },
+            Tried {
+                readings: &[],
+                outcome: Ok(Scan { steps: 93 }),
+                variables: &[70],
+                outputs: &[],
+            },
+        ],
+    },
+    Case {
+        program: MOST_TURNS,
+        starts: &[100],
+        scans: &[Tried {
+            readings: &[],
+            outcome: Ok(Scan { steps: 2307 }),
+            variables: &[100],
+            outputs: &[],
+        }],
+    },
+    Case {
+        program: OLD_TURNS,
+        starts: &[100],
+        scans: &[Tried {
+            readings: &[],
+            outcome: Err(Trap {
+                at: 10,
+                kind: TrapKind::Code,
+            }),
+            variables: &[100],
+            outputs: &[],
+        }],
+    },
+];
+
+/// The variables and outputs of a trial, as far as there are two of them.
+fn stands(rt: &impl Abort, trial: &Trial, variables: &[i64], outputs: &[Option<i64>]) {
+    for i in 0..2 {
+        assert_eq!(rt; tried_value(trial, i), variables.get(i).copied());
+        let stored = outputs.get(i).copied().unwrap_or(None);
+        assert_eq!(rt; tried_output(trial, i), stored);
+    }
+}
+
+#[test]
+fn ends_or_traps_where_it_should(rt: HostRuntime) {
+    for case in &CASES {
+        let mut trial = trial(&rt, rt.alloc(), &case.program, case.starts);
+        stands(&rt, &trial, case.starts, &[]);
+        for scan in case.scans {
+            assert!(rt; trial.scan(scan.readings) == scan.outcome);
+            stands(&rt, &trial, scan.variables, scan.outputs);
+        }
+    }
+}
+
+/// One, so many times deferred, and added up again.
+fn added_up(rt: &impl Abort, alloc: Global, count: u32) -> Vec<u8> {
+    let mut code = Vec::new(alloc);
+    write(rt, &mut code, Op::LoadNumber(IlType::Int, 1));
+    for _ in 0..count {
+        write(rt, &mut code, Op::Push);
+        write(rt, &mut code, Op::LoadNumber(IlType::Int, 1));
+    }
+    for _ in 0..count {
+        write(rt, &mut code, Op::Apply(Operator::Add));
+    }
+    write(rt, &mut code, Op::StoreVariable(0));
+    write(rt, &mut code, Op::End);
+    code
+}
+
+/// The trial of the same, with the sum as its variable.
+fn hundred(rt: &impl Abort, alloc: Global) -> Trial {
+    let vars = variables(rt, alloc, &[("a", IlType::Int, -32768, 32767)], &[0]);
+    let code = Items::from_vec(added_up(rt, alloc, 100));
+    let image = Image::new(1, vars, Items::new(alloc), code).expect(rt, "an image");
+    Trial::new(alloc, image).expect(rt, "memory")
+}
+
+#[test]
+fn defers_a_hundred_values(rt: HostRuntime) {
+    let mut trial = hundred(&rt, rt.alloc());
+    assert_eq!(rt; trial.scan(&[]), Ok(Scan { steps: 303 }));
+    assert_eq!(rt; tried_value(&trial, 0), Some(101));
+}
+
+#[test]
+fn takes_each_of_62_counted_jumps(rt: HostRuntime) {
+    let image = sixty_two_jumps(&rt, rt.alloc());
+    let mut trial = Trial::new(rt.alloc(), image).expect(&rt, "memory");
+    assert_eq!(rt; trial.scan(&[]), Ok(Scan { steps: 15873 }));
+}
+
+static KINDS: [(TrapKind, &str); 7] = [
+    (TrapKind::WrongType, "Type"),
+    (TrapKind::Overflow, "Overflow"),
+    (TrapKind::ZeroDivisor, "ZeroDivisor"),
+    (TrapKind::MissingPoint, "MissingPoint"),
+    (TrapKind::Code, "Code"),
+    (TrapKind::Stack, "Stack"),
+    (TrapKind::StoreRange, "StoreRange"),
+];
+
+#[test]
+fn prints_traps(rt: HostRuntime) {
+    let trap = Trap {
+        at: 3,
+        kind: TrapKind::WrongType,
+    };
+    let text = format!(in rt.alloc(); "{trap}").expect(&rt, "memory");
+    assert_eq!(rt; text.as_str(), "Type at 3");
+    for (kind, word) in &KINDS {
+        assert_eq!(rt; kind.word(), *word);
+        let printed = format!(in rt.alloc(); "{kind}").expect(&rt, "memory");
+        assert_eq!(rt; printed.as_str(), *word);
+    }
+}

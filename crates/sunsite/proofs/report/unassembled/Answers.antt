@@ -1,5 +1,0 @@
-use Rattle.std.proofs.Common.{append_assoc}
-use Rattle.sunsite.proofs.report.unassembled.Goals as goal
-
-pub returns : goal.returns
-returns c = record { ok = simp append_assoc c.in_ok-text.ensures.ok }

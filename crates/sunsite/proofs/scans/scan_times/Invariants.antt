@@ -1,5 +1,0 @@
-use Rattle.sunsite.proofs.ScanLemmas.{SoFar}
-use Rattle.sunsite.proofs.scans.scan_times.Given as goal
-
-abbrev pub invariant-loop-k : goal.invariant-loop-k
-invariant-loop-k g l = SoFar l.k l.initial.poller l.initial.core l.poller l.core (g.W.Write.contents l.initial.out) (g.W.Write.contents l.out)

@@ -1,9 +1,0 @@
-use Rattle.std.proofs.Common.{subst}
-use Rattle.sunsite.specs.Scans.{StartsCore}
-use Rattle.sunsite.proofs.WholeLemmas.{runs_scans}
-use Rattle.sunsite.proofs.scans.scans.Goals as goal
-
-pub returns-in-Ok-Ok : goal.returns-in-Ok-Ok
-returns-in-Ok-Ok g c =
-    runs_scans c.args.site.now c.args.program.now _ c.args.n c.args.poller.now c.core_of.new.poller c.scan_times-status.new.poller (g.W.Write.contents c.args.out.now) (g.W.Write.contents c.scan_times-status.new.out)
-    c.in-Ok-Ok.core c.scan_times-status.new.core c.scan_times-status.result (subst (StartsCore c.args.site.now c.args.program.now _ c.args.poller.now c.core_of.new.poller) c.in-Ok-Ok.field-0-is c.in-Ok-Ok.ensures) c.scan_times-status.ensures

@@ -1,5 +1,0 @@
-use Rattle.sunsite.proofs.OutcomeLemmas.{tree_told_by}
-use Rattle.sunsite.proofs.trial.outcome_of_program.Goals as goal
-
-pub returns-in-Ok : goal.returns-in-Ok
-returns-in-Ok c = tree_told_by c.args.program.now c.in-Ok.image _ c.outcome_of_image.result c.in-Ok.ensures.assembled c.outcome_of_image.ensures

@@ -1,8 +1,0 @@
-mod check;
-mod files;
-mod gateways;
-mod plants;
-mod probe;
-mod scans;
-mod simulate;
-mod trial;
