@@ -1,3 +1,4 @@
+//! What the tests of the commands share: texts, words and what was printed.
 mod check;
 mod command_line;
 mod files;
@@ -8,7 +9,18 @@ mod scans;
 mod simulate;
 mod trial;
 
+use std::fmt::Debug;
 use std::process::Abort;
+
+/// `assert_eq!`, which is proved once here and not at each of its calls.
+pub(crate) fn assert_same<T: PartialEq + Debug>(rt: &impl Abort, found: &T, wanted: &T) {
+    assert_eq!(rt; *found, *wanted);
+}
+
+/// `assert!`, in the same way.
+pub(crate) fn assert_true(rt: &impl Abort, found: bool) {
+    assert!(rt; found);
+}
 
 /// Texts as the commands take them.
 fn texts(rt: &(impl AllocGlobal + Abort), parts: &[&str]) -> Vec<String> {
@@ -23,11 +35,26 @@ fn text(rt: &(impl AllocGlobal + Abort), part: &str) -> String {
     part.to_string(rt.alloc()).expect(rt, "memory")
 }
 
-/// A text with another behind it.
-fn joined(rt: &(impl AllocGlobal + Abort), front: &str, behind: &str) -> String {
-    let mut text = text(rt, front);
-    text.push_str(behind).expect(rt, "memory");
+/// These texts, one behind the other.
+fn joined(rt: &(impl AllocGlobal + Abort), parts: &[&str]) -> String {
+    let mut text = String::new(rt.alloc());
+    for part in parts {
+        text.push_str(part).expect(rt, "memory");
+    }
     text
+}
+
+/// A text with each `old` replaced.
+fn edited(rt: &(impl AllocGlobal + Abort), text: &str, old: &str, new: &str) -> String {
+    text.replace(rt.alloc(), old, new).expect(rt, "memory")
+}
+
+/// What was printed, and the status.
+type Told = (String, u8);
+
+fn assert_told(rt: &impl Abort, told: &Told, lines: &str, status: u8) {
+    assert_same(rt, &told.0.as_str(), &lines);
+    assert_same(rt, &told.1, &status);
 }
 
 /// What was printed.

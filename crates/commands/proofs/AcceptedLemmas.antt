@@ -1,18 +1,55 @@
 -- A program that is accepted for a site, and what is made of it.
-use Rattle.std.proofs.Common.{◌≡◌, ℕ, List, inl, inr, refl, ap, ◌∙◌, Result, Ok, Err, IfOk}
+use Rattle.std.proofs.Common.{◌≡◌, ◌≢◌, ◌⊎◌, ℕ, List, inl, inr, refl, ap, sym, subst, ◌∙◌, Result, Ok, Err, IfOk}
 use Rattle.model_defs.specs.declared.model.ModelDef.{ModelDef}
+use Rattle.il_assemble.specs.declared.fault.AsmFault.{AsmFault}
+use Rattle.il_assemble.specs.Assembled.{IsAssembled}
+use Rattle.il_assemble.specs.Correct.{DoesWhatItMeans}
+use Rattle.il_assemble.specs.Meaning.{Program}
 use Rattle.il_reader.specs.declared.fault.ReadFault.{ReadFault}
 use Rattle.il_reader.specs.declared.tree.Program.{Program as Tree}
 use Rattle.il_reader.specs.Reading.{reading}
+use Rattle.scan_code.specs.Image.{Image}
+use Rattle.site_model.specs.declared.site.Site.{Site}
+use Rattle.verifier.specs.Verdict.{judged}
+use Rattle.verifier.specs.Verified.{Acceptance}
+use Rattle.facts.specs.Word as verdict_word
+use Rattle.facts.specs.declared.refusal.Refusal.{Refusal}
+use Rattle.facts.specs.declared.refusal.RefusalKind.{RefusalKind}
+use Rattle.facts.specs.declared.refusal.RefusalKind.TheVariants as refusal
 use Rattle.gateway.specs.Core.{Gateway}
 use Rattle.gateway.specs.Polling.{Polling}
 use Rattle.commands.specs.declared.accepted.Accepted.{Accepted}
-use Rattle.commands.specs.Accepted.{AcceptsProgram, Gives, GivesSite}
+use Rattle.commands.specs.Accepted.{AcceptsProgram, Gives, GivesSite, GivesVerdict, GivesVerified, IsAcceptedOn, RefusesAssembled, RefusesVerdict, most_deferred}
 use Rattle.commands.specs.Check.{TellsInputs}
 use Rattle.commands.specs.Defined.{AreRead}
-use Rattle.commands.specs.Report.{accepted_lines}
+use Rattle.commands.specs.Report.{accepted_lines, unverified_line}
 use Rattle.commands.specs.Scans.{OpensCore, StartsCore}
-use Rattle.commands.specs.Told.{Told}
+use Rattle.commands.specs.Told.{Told, refused_with}
+
+-- what is told of an image that the verdict refuses
+pub verdict_told : {E : Type 0} (site : Site) (image : Image) (at : ℕ) (kind : RefusalKind) (r : Result (Result Acceptance Told) E)
+    → (judged image site.tags most_deferred ≡ Err (record { at = at; kind = kind })) ⊎ ((at ≡ 0) × (kind ≡ refusal.OutOfMemory))
+    → IfOk r (λ none. (kind ≢ refusal.OutOfMemory) × (none ≡ Err (refused_with (unverified_line (verdict_word.word_of kind) at)))) → IfOk r (GivesVerdict site image)
+verdict_told site image at kind (Ok none) (inl is) h =
+    subst (GivesVerdict site image) (sym h.1) (subst (λ (v : Result ℕ Refusal). RefusesVerdict v (refused_with (unverified_line (verdict_word.word_of kind) at))) (sym is) refl)
+verdict_told site image at kind (Ok none) (inr is) h = absurd (h.0 is.1)
+verdict_told site image at kind (Err e) why h = tt
+
+-- the verdict on an assembled image is one on its tree
+pub verified_tree : {E : Type 0} (site : Site) (tree : Tree) (image : Image) (r : Result (Result Acceptance Told) E)
+    → IsAssembled tree image → IfOk r (GivesVerdict site image) → IfOk r (GivesVerified site (Ok tree))
+verified_tree site tree image (Ok (Ok a)) is h = (
+  is.program,
+  record {
+    resolved = is.resolved;
+    right = subst (DoesWhatItMeans is.program) is.coded is.right;
+    accepted = subst (λ (i : Image). IsAcceptedOn site i a) is.coded h;
+  },
+)
+verified_tree site tree image (Ok (Err told)) is h =
+    subst (λ (p : Result Program AsmFault). RefusesAssembled site.tags p told) (sym is.resolved)
+    (subst (λ (i : Image). RefusesVerdict (judged i site.tags most_deferred) told) is.coded h)
+verified_tree site tree image (Err e) is h = tt
 
 -- a program and a site over the definitions of texts
 pub by_models : {E : Type 0} (shipped models : List ModelDef) (texts : List (List ℕ)) (site program : List ℕ) (r : Result (Result Accepted Told) E)

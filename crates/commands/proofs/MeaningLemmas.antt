@@ -13,6 +13,7 @@ use Rattle.modbus_frame.specs.declared.message.Request.TheVariants as request
 use Rattle.modbus_frame.specs.declared.message.Response.{Response}
 use Rattle.modbus_frame.specs.declared.message.Response.TheVariants as response
 use Rattle.scan_code.proofs.Fetch.{within_parts}
+use Rattle.scan_code.specs.Image.{IsProper}
 use Rattle.scan_code.specs.declared.image.Tag.{Tag}
 use Rattle.scan_code.specs.Machine.{Ended, opening, run}
 use Rattle.scan_code.specs.Table.{start_of}
@@ -27,11 +28,11 @@ use Rattle.il_assemble.proofs.Elaborating.{starts_are_in_range}
 use Rattle.il_assemble.specs.Correct.{AreVariables, DoesWhatItMeans, EndsAs, IsOver, IsReading}
 use Rattle.il_assemble.specs.Correct as means
 use Rattle.il_assemble.specs.Meaning.{Program, Outcome, Done, Fails, meaning}
-use Rattle.verifier.proofs.BareRun.{bare_runs_out}
-use Rattle.verifier.proofs.Comparing.{and_left, and_right, both_true, le_true, true_le}
+use Rattle.scan_vm.proofs.BareRun.{bare_runs_out}
+use Rattle.facts.proofs.Comparing.{and_left, and_right, both_true, le_true, true_le}
 use Rattle.verifier.proofs.Images.{AreLinked, IsLinked, links_are}
 use Rattle.verifier.proofs.Scans.{runs_well, yes_is_accepted}
-use Rattle.verifier.specs.Bare.{BareEnding, BareEnded, BareUnfinished, EndsWithinAlike, bare_opening, bare_run}
+use Rattle.scan_vm.specs.Bare.{BareEnding, BareEnded, BareUnfinished, EndsWithinAlike, bare_opening, bare_run}
 use Rattle.verifier.specs.declared.link.Link.{Link}
 use Rattle.verifier.specs.Links.{links_from}
 use Rattle.verifier.specs.Sound.{AreInRanges, AreReadings, InRanges, IsFine, IsReadingOf, IsYes}
@@ -133,14 +134,14 @@ writes_kept tags (Some points) words old (Err e) new h kept = subst (AreSettings
 
 -- ---- the site run
 
-module _ (site : Site) (p : Program) (a : Acceptance) (right : DoesWhatItMeans p a.image) (linked : links_from site.tags 0 a.image.tags ≡ Ok a.links) (verdict : judged a.image site.tags most_deferred ≡ Ok a.budget) (matched : HasLinks site.tags a.links) where
+module _ (site : Site) (p : Program) (a : Acceptance) (right : DoesWhatItMeans p a.image) (linked : links_from site.tags 0 a.image.tags ≡ Ok a.links) (proper : IsProper a.image) (verdict : judged a.image site.tags most_deferred ≡ Ok a.budget) (matched : HasLinks site.tags a.links) where
   -- what clients set and the variables lie in their ranges
   record IsKept (s : Standing) : Type 0 where
     pub sets : AreSettings site.tags s.sets
     pub variables : AreVariables a.image.vars s.variables
 
   yes : IsYes a.image site.tags most_deferred a.budget
-  yes = yes_is_accepted a.image site.tags most_deferred a.budget verdict
+  yes = yes_is_accepted a.image site.tags most_deferred a.budget proper verdict
 
   module _ (s t : Standing) (kept : IsKept s) (h : IsScan site a.image (numbers_of a) a.budget s t) where
     abbrev inputs : List Reading

@@ -1,5 +1,5 @@
 -- The run of an assembled program, told by its meaning.
-use Rattle.std.proofs.Common.{◌≡◌, ℕ, ℤ, List, [], ◌++◌, ap, sym, subst, ◌∙◌, map, refl, Option, Result, Ok, Err, IfOk}
+use Rattle.std.proofs.Common.{◌≡◌, ◌≢◌, ◌⊎◌, inl, inr, ℕ, ℤ, List, [], ◌++◌, ap, sym, subst, ◌∙◌, append_assoc, map, refl, Option, Result, Ok, Err, IfOk, IfErr, OnOk}
 use Rattle.point_types.specs.declared.reading.Reading.{Reading}
 use Rattle.point_types.specs.Value.{Fault}
 use Rattle.scan_code.specs.Image.{Image}
@@ -7,6 +7,8 @@ use Rattle.scan_code.specs.declared.image.Tag.{Tag}
 use Rattle.point_types.specs.declared.variable.Var.{Var}
 use Rattle.scan_code.specs.Machine.{State, Ending, Ended, Trapped, At_fault, opening, run}
 use Rattle.scan_code.specs.Table.{start_of}
+use Rattle.scan_vm.specs.declared.trial.Scan.{Scan}
+use Rattle.scan_vm.specs.declared.trap.Trap.{Trap}
 use Rattle.scan_vm.specs.declared.trap.TrapKind.{TrapKind}
 use Rattle.scan_vm.specs.declared.trap.TrapKind.TheVariants as kind
 use Rattle.scan_vm.specs.Outcome.{kind_of}
@@ -14,14 +16,21 @@ use Rattle.scan_vm.specs.Trap.{trap_of, word_of}
 use Rattle.scan_vm.specs.Trial.{Ends, Standing, Traps, started, unset}
 use Rattle.il_assemble.specs.Meaning.{Program, Outcome, Done, Fails, meaning}
 use Rattle.il_assemble.specs.Correct.{AreVariables, EndsAs, IsOver}
+use Rattle.il_assemble.specs.declared.fault.AsmFault.{AsmFault}
+use Rattle.il_assemble.specs.declared.fault.AsmFaultKind.TheVariants as asm_fault
+use Rattle.il_assemble.specs.Elaboration.{elaborated}
+use Rattle.il_assemble.specs.Word as assembling
+use Rattle.il_reader.specs.declared.fault.ReadFault.{ReadFault}
+use Rattle.il_reader.specs.declared.fault.ReadFaultKind.TheVariants as read_fault
 use Rattle.il_reader.specs.declared.tree.Program.{Program as Tree}
+use Rattle.il_reader.specs.Fault as reading
 use Rattle.il_assemble.specs.Assembled.{IsAssembled}
 use Rattle.il_assemble.proofs.Elaborating.{starts_are_in_range}
-use Rattle.commands.specs.Outcome.{TellsGiven, TellsGivenImage, TellsImage, TellsKnown, TellsResolved, TellsScan, TellsTree, starts}
+use Rattle.commands.specs.Outcome.{TellsGiven, TellsGivenImage, TellsImage, TellsKnown, TellsReading, TellsResolved, TellsScan, TellsTree, ending_line, ending_status, standing_lines, starts}
 use Rattle.commands.specs.Given.{readings_given}
 use Rattle.commands.proofs.GivenLemmas.{readings_are}
 use Rattle.commands.specs.Told.{Told, refused_with}
-use Rattle.commands.specs.Report.{output_lines, steps_line, trap_line, variable_lines}
+use Rattle.commands.specs.Report.{bad_input_line, output_lines, steps_line, trap_line, unassembled_line, unread_line, variable_lines}
 
 -- a run that ended
 pub tells_end : (p : Program) (readings : List Reading) (image : Image) (m : Outcome) (n steps : ℕ) (s : State) (told : Told) → run image readings 0 n (opening image (starts p)) ≡ Ended steps s → EndsAs (Ended steps s) m
@@ -115,9 +124,10 @@ pub tree_told_by : {E : Type 0} (tree : Tree) (image : Image) (inputs : List (Li
 tree_told_by tree image inputs (Ok told) a h = tree_told tree image inputs told a h
 tree_told_by tree image inputs (Err e) a h = tt
 
--- three parts in turn, behind nothing
-pub parts_in_turn : (none a b c v o s : List ℕ) → none ≡ [] → a ≡ none ++ v → b ≡ a ++ o → c ≡ b ++ s → c ≡ v ++ o ++ s
-parts_in_turn none a b c v o s n p q r = r ∙ ap (λ t. t ++ s) (q ∙ ap (λ t. t ++ o) (p ∙ ap (λ t. t ++ v) n))
+-- three parts in turn, the last where it is appended
+pub parts_then : {A E : Type 0} (r : Result A E) (old a b c v o s : List ℕ) → a ≡ old ++ v → b ≡ a ++ o → OnOk r (c ≡ b ++ s) → OnOk r (c ≡ old ++ (v ++ o) ++ s)
+parts_then (Ok x) old a b c v o s p q h = h ∙ ap (λ t. t ++ s) (q ∙ ap (λ t. t ++ o) p ∙ append_assoc old v o)
+parts_then (Err e) old a b c v o s p q h = tt
 
 -- a scan from the start that ended
 pub outcome_ended : (readings : List Reading) (image : Image) (old new : Standing) (steps : ℕ) (lines : List ℕ) → old ≡ started image → Ends old readings steps new
@@ -132,3 +142,43 @@ pub outcome_trapped : (readings : List Reading) (image : Image) (old new : Stand
 outcome_trapped readings image old new at k word lines start traps w l =
     let e : Traps (started image) readings at (trap_of k) new = subst (λ o. Traps o readings at (trap_of k) new) start traps in
     image_trapped readings image e.0 at k new _ e.1 e.2 (ap refused_with (l ∙ ap (λ t. variable_lines new.image.vars new.variables ++ output_lines new.image.tags new.outputs ++ trap_line t at) w))
+
+-- the outcome of a scan from the start, by how it ended
+pub outcome_told : (readings : List Reading) (image : Image) (old new : Standing) (ending : Result Scan Trap) (none lines : List ℕ) (status : ℕ) → old ≡ started image
+    → IfOk ending (λ scan. Ends old readings scan.steps new) → IfErr ending (λ trap. Traps old readings trap.at (trap_of trap.kind) new)
+    → none ≡ [] → lines ≡ none ++ standing_lines new ++ ending_line ending → status ≡ ending_status ending → TellsImage image readings (record { lines = lines; status = status })
+outcome_told readings image old new ending none lines status start ended trapped empty l s =
+    subst (λ (n : ℕ). TellsImage image readings (record { lines = lines; status = n })) (sym s)
+    (told ending ended trapped (l ∙ ap (λ t. t ++ standing_lines new ++ ending_line ending) empty))
+  where
+    told : (e : Result Scan Trap) → IfOk e (λ scan. Ends old readings scan.steps new) → IfErr e (λ trap. Traps old readings trap.at (trap_of trap.kind) new)
+        → lines ≡ variable_lines new.image.vars new.variables ++ output_lines new.image.tags new.outputs ++ ending_line e → TellsImage image readings (record { lines = lines; status = ending_status e })
+    told (Ok scan) ends traps is = outcome_ended readings image old new scan.steps lines start ends is
+    told (Err trap) ends traps is = outcome_trapped readings image old new trap.at trap.kind (word_of trap.kind) lines start traps refl is
+
+-- an image of a trial whose readings are known, or the line that is refused
+pub image_given : {E : Type 0} (image : Image) (trial : Standing) (tags : List Tag) (inputs : List (List ℕ)) (readings : List Reading) (r : Result Told E) → trial ≡ started image → tags ≡ trial.image.tags
+    → Ok readings ≡ readings_given tags inputs → IfOk r (TellsImage image readings) → IfOk r (TellsGivenImage image inputs)
+image_given image trial tags inputs readings (Ok told) start are given h =
+    subst (λ (k : Result (List Reading) ℕ). TellsKnown image k told) (given ∙ ap (λ ts. readings_given ts inputs) (are ∙ ap (λ t. t.image.tags) start)) h
+image_given image trial tags inputs readings (Err e) start are given h = tt
+
+pub image_refused : {E : Type 0} (image : Image) (trial : Standing) (tags : List Tag) (inputs : List (List ℕ)) (number : ℕ) (r : Result Told E) → trial ≡ started image → tags ≡ trial.image.tags
+    → Err number ≡ readings_given tags inputs → IfOk r (λ o. o ≡ refused_with (bad_input_line number)) → IfOk r (TellsGivenImage image inputs)
+image_refused image trial tags inputs number (Ok told) start are given h =
+    subst (λ (k : Result (List Reading) ℕ). TellsKnown image k told) (given ∙ ap (λ ts. readings_given ts inputs) (are ∙ ap (λ t. t.image.tags) start)) h
+image_refused image trial tags inputs number (Err e) start are given h = tt
+
+-- what is told of a text that isn't read
+pub unread_told : {E : Type 0} (answer : Result Tree ReadFault) (inputs : List (List ℕ)) (fault : ReadFault) (r : Result Told E) → (fault ≡ record { line = 0; kind = read_fault.OutOfMemory }) ⊎ (answer ≡ Err fault)
+    → OnOk r (fault.kind ≢ read_fault.OutOfMemory) → IfOk r (λ o. o ≡ refused_with (unread_line (reading.word_of fault.kind) fault.line)) → IfOk r (TellsReading answer inputs)
+unread_told answer inputs fault (Ok told) (inl none) real is = absurd (real (ap (λ f. f.kind) none))
+unread_told answer inputs fault (Ok told) (inr why) real is = subst (λ (a : Result Tree ReadFault). TellsReading a inputs told) (sym why) is
+unread_told answer inputs fault (Err e) why real is = tt
+
+-- what is told of a program without code
+pub unassembled_told : {E : Type 0} (tree : Tree) (inputs : List (List ℕ)) (fault : AsmFault) (r : Result Told E) → (elaborated tree ≡ Err fault) ⊎ (fault ≡ assembling.out_of_memory)
+    → OnOk r (fault.kind ≢ asm_fault.OutOfMemory) → IfOk r (λ o. o ≡ refused_with (unassembled_line (assembling.word_of fault.kind) fault.line)) → IfOk r (TellsTree tree inputs)
+unassembled_told tree inputs fault (Ok told) (inl why) real is = subst (λ (p : Result Program AsmFault). TellsResolved p inputs told) (sym why) is
+unassembled_told tree inputs fault (Ok told) (inr none) real is = absurd (real (ap (λ f. f.kind) none))
+unassembled_told tree inputs fault (Err e) why real is = tt

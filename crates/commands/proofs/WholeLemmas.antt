@@ -1,7 +1,8 @@
 -- From the texts to the core behind all its scans.
 use Rattle.std.proofs.Common.{◌≡◌, ℕ, List, Option, Ok, subst, sym}
-use Rattle.scan_code.specs.Image.{Image}
+use Rattle.scan_code.specs.Image.{Image, IsProper}
 use Rattle.scan_vm.specs.Machine.{opened}
+use Rattle.il_assemble.proofs.Rules.{images_are_proper}
 use Rattle.il_assemble.specs.Correct.{DoesWhatItMeans}
 use Rattle.verifier.specs.Links.{links_from}
 use Rattle.verifier.specs.Verdict.{judged}
@@ -25,6 +26,7 @@ runs_opened site program texts n p middle q old new first core status s tree a a
     let on = (accepts.accepted).accepted in
     let right = subst (DoesWhatItMeans tree) (sym on.kept) (accepts.accepted).right in
     let links = subst (λ (i : Image). links_from s.tags 0 i.tags ≡ Ok a.links) (sym on.kept) on.linked in
+    let proper = subst IsProper (sym on.kept) (images_are_proper accepts.tree tree (accepts.accepted).resolved) in
     let verdict = subst (λ (i : Image). judged i s.tags most_deferred ≡ Ok a.budget) (sym on.kept) on.judged in
     record {
       site = s;
@@ -37,7 +39,7 @@ runs_opened site program texts n p middle q old new first core status s tree a a
       events = events;
       scans = from_start;
       answers = run.0.0;
-      runs = all_meant s tree a right links verdict linked events run.0.0 core.standing run.0.1;
+      runs = all_meant s tree a right links proper verdict linked events run.0.0 core.standing run.0.1;
       same = run.1;
     }
 

@@ -25,8 +25,8 @@ use Rattle.verifier.specs.Links.{links_from}
 use Rattle.verifier.specs.Promise.{KeepsPromise}
 use Rattle.verifier.specs.Verdict.{judged}
 use Rattle.verifier.specs.Verified.{Acceptance}
-use Rattle.verifier.specs.Word as verify
-use Rattle.verifier.specs.declared.refusal.Refusal.{Refusal}
+use Rattle.facts.specs.Word as verify
+use Rattle.facts.specs.declared.refusal.Refusal.{Refusal}
 use Rattle.commands.specs.declared.accepted.Accepted.{Accepted}
 use Rattle.commands.specs.Defined.{AreRead, IsFirstBroken}
 use Rattle.commands.specs.Told.{Told, refused_with}
@@ -94,13 +94,17 @@ Refuses site program texts told = RefusesDefined site program texts told ⊎ Tel
 
 -- ---- what is given: the site with the program that was accepted for it, or what is told
 
-abbrev pub GivesVerdict : Site → Image → Result Accepted Told → Type 0
-GivesVerdict site image (Ok given) = (given.site ≡ site) × IsAcceptedOn site image given.verified
+abbrev pub GivesVerdict : Site → Image → Result Acceptance Told → Type 0
+GivesVerdict site image (Ok a) = IsAcceptedOn site image a
 GivesVerdict site image (Err told) = RefusesVerdict (judged image site.tags most_deferred) told
 
 abbrev pub AcceptsProgram : Site → Result Tree ReadFault → Acceptance → Type 0
 AcceptsProgram site (Ok tree) a = (p : Program) × IsAcceptedFor site tree p a
 AcceptsProgram site (Err fault) a = ⊥
+
+abbrev pub GivesVerified : Site → Result Tree ReadFault → Result Acceptance Told → Type 0
+GivesVerified site tree (Ok a) = AcceptsProgram site tree a
+GivesVerified site tree (Err told) = RefusesProgram site.tags tree told
 
 abbrev pub GivesProgram : Site → Result Tree ReadFault → Result Accepted Told → Type 0
 GivesProgram site tree (Ok given) = (given.site ≡ site) × AcceptsProgram site tree given.verified

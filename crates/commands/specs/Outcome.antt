@@ -7,7 +7,9 @@ use Rattle.scan_code.specs.Machine.{State, Ended, Trapped, At_fault, opening, ru
 use Rattle.scan_code.specs.Table.{start_of}
 use Rattle.scan_vm.specs.Outcome.{kind_of}
 use Rattle.scan_vm.specs.Trap.{word_of}
-use Rattle.scan_vm.specs.Trial.{unset}
+use Rattle.scan_vm.specs.Trial.{Standing, unset}
+use Rattle.scan_vm.specs.declared.trial.Scan.{Scan}
+use Rattle.scan_vm.specs.declared.trap.Trap.{Trap}
 use Rattle.il_reader.specs.declared.tree.Program.{Program as Tree}
 use Rattle.il_assemble.specs.declared.fault.AsmFault.{AsmFault}
 use Rattle.il_assemble.specs.Meaning.{Program, Outcome, Done, Fails, meaning}
@@ -22,6 +24,19 @@ use Rattle.commands.specs.Given.{readings_given}
 use Rattle.commands.specs.Input.{input_lines, lines_of, program_text}
 use Rattle.commands.specs.Told.{IsTold, Told, refused_with}
 use Rattle.commands.specs.Report.{bad_input_line, no_memory_line, output_lines, steps_line, trap_line, unassembled_line, unread_line, variable_lines}
+
+-- the lines of what a trial's variables and outputs are
+abbrev pub standing_lines : Standing → List ℕ
+standing_lines t = variable_lines t.image.vars t.variables ++ output_lines t.image.tags t.outputs
+
+-- the line of how a scan of it ended, and the status
+abbrev pub ending_line : Result Scan Trap → List ℕ
+ending_line (Ok scan) = steps_line scan.steps
+ending_line (Err trap) = trap_line (word_of trap.kind) trap.at
+
+abbrev pub ending_status : Result Scan Trap → ℕ
+ending_status (Ok scan) = 0
+ending_status (Err trap) = 1
 
 -- the values before the first scan
 abbrev pub starts : Program → List ℤ

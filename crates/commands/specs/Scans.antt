@@ -9,7 +9,7 @@ use Rattle.site_model.specs.declared.device.SiteDevice.{SiteDevice}
 use Rattle.site_model.specs.declared.site.Site.{Site}
 use Rattle.il_assemble.specs.Meaning.{Program}
 use Rattle.scan_code.specs.Table.{start_of}
-use Rattle.scan_vm.specs.Machine.{opened}
+use Rattle.scan_vm.specs.Machine.{Running, opened}
 use Rattle.verifier.specs.Verified.{Acceptance, HasLinks}
 use Rattle.gateway.specs.Control.{Advances, IsPlanned, steps_of}
 use Rattle.gateway.specs.Core.{Gateway, IsSame, gateway_of}
@@ -126,6 +126,11 @@ IsLast p s q t old new status =
 abbrev pub IsUnfound : Option LinkFault → List SiteDevice → Polling → LinkFault → Polling → Type 0
 IsUnfound None devices p fault q = StopsUnless devices p fault q
 IsUnfound (Some kept) devices p fault q = (fault ≡ kept) × (q ≡ p)
+
+-- A core is made of a machine over the maps of the site's devices; or the program was accepted for other tags.
+abbrev pub MakesCore : Site → Running → List (Option Layout) → Result Gateway Told → Type 0
+MakesCore site m maps (Ok core) = HasLinks site.tags m.accepted.links × (core ≡ gateway_of site maps m)
+MakesCore site m maps (Err told) = (HasLinks site.tags m.accepted.links → ⊥) × (told ≡ refused_with (bad_core_line (core_fault_word Foreign)))
 
 -- The devices' maps are found, and the core stands at the opening of the site run; or the link failed, or the program
 -- was accepted for other tags.

@@ -1,13 +1,17 @@
 //! A program that is accepted for a site.
-ghost use Rattle.std.specs.Prelude.{map, string_bytes, IfOk};
+ghost use Rattle.std.specs.Prelude.{◌≡◌, ◌≢◌, map, string_bytes, Err, IfOk, Ok};
 ghost use Rattle.il_reader.specs.Reading.{reading};
-ghost use Rattle.commands.specs.Accepted.{Gives, GivesProgram, GivesSite, GivesVerdict};
+ghost use Rattle.facts.specs.Word as verdict_word;
+ghost use Rattle.facts.specs.declared.refusal.RefusalKind.TheVariants as refusal;
+ghost use Rattle.commands.specs.Accepted.{Gives, GivesProgram, GivesSite, GivesVerdict, GivesVerified};
+ghost use Rattle.commands.specs.Report.{unverified_line};
+ghost use Rattle.commands.specs.Told.{refused_with};
 
 use crate::definitions::definitions;
 use crate::outcome::Outcome;
-use crate::report::{no_site, unassembled, undefined, unread, unverified};
-use il_assemble::{AsmFaultKind, assemble};
-use il_reader::{ReadFaultKind, read};
+use crate::report::{no_site, undefined, unverified};
+use il_assemble::assemble;
+use il_reader::{Program, read};
 use model_defs::{DefFault, ModelDef};
 use scan_code::Image;
 use site_model::{Site, SiteFault};
@@ -63,30 +67,66 @@ fn accept_over(
 fn accept_on(alloc: Global, site: Site, text: &str) -> Result<Result<Accepted, Outcome>, AllocError>
     ensures { IfOk result (GivesProgram site (reading text.now)) }
 {
-    let program = match read(alloc, text) {
-        Ok(program) => program,
-        Err(fault) if fault.kind == ReadFaultKind::OutOfMemory => return Err(AllocError),
-        Err(fault) => {
-            return Ok(Err(Outcome::refused(unread(alloc, fault.kind.word(), fault.line)?)));
-        }
-    };
-    match assemble(alloc, &program) {
+    match verified_on(alloc, &site, text) {
+        Ok(Ok(verified)) => Ok(Ok(Accepted { site, verified })),
+        Ok(Err(outcome)) => Ok(Err(outcome)),
+        Err(AllocError) => Err(AllocError),
+    }
+}
+
+/// The program of a text alone that is accepted for a site.
+fn verified_on(
+    alloc: Global,
+    site: &Site,
+    text: &str,
+) -> Result<Result<Verified<DEPTH>, Outcome>, AllocError>
+    ensures { IfOk result (GivesVerified site.now (reading text.now)) }
+{
+    match read(alloc, text) {
+        Ok(program) => verified_program(alloc, site, &program),
+        Err(fault) => Ok(Err(Outcome::unread(alloc, fault)?)),
+    }
+}
+
+/// The same of a program as it was read.
+fn verified_program(
+    alloc: Global,
+    site: &Site,
+    program: &Program,
+) -> Result<Result<Verified<DEPTH>, Outcome>, AllocError>
+    ensures { IfOk result (GivesVerified site.now (Ok program.now)) }
+{
+    match assemble(alloc, program) {
         Ok(image) => judged(alloc, site, image),
-        Err(fault) if fault.kind == AsmFaultKind::OutOfMemory => Err(AllocError),
-        Err(fault) => Ok(Err(Outcome::refused(unassembled(alloc, fault.kind.word(), fault.line)?))),
+        Err(fault) => Ok(Err(Outcome::unassembled(alloc, fault)?)),
     }
 }
 
 /// The verdict on a program's image.
-fn judged(alloc: Global, site: Site, image: Image) -> Result<Result<Accepted, Outcome>, AllocError>
-    ensures { IfOk result (GivesVerdict site image) }
+fn judged(
+    alloc: Global,
+    site: &Site,
+    image: Image,
+) -> Result<Result<Verified<DEPTH>, Outcome>, AllocError>
+    ensures { IfOk result (GivesVerdict site.now image) }
 {
-    match verify::<DEPTH>(alloc, image, &site) {
-        Ok(verified) => Ok(Ok(Accepted { site, verified })),
-        Err(refused) if refused.kind == RefusalKind::OutOfMemory => Err(AllocError),
-        Err(refused) => {
-            let line = unverified(alloc, refused.kind.word(), refused.at)?;
-            Ok(Err(Outcome::refused(line)))
-        }
+    match verify::<DEPTH>(alloc, image, site) {
+        Ok(verified) => Ok(Ok(verified)),
+        Err(refused) => not_accepted(alloc, refused.kind, refused.at),
     }
+}
+
+/// What is told of a program that the verdict refuses.
+fn not_accepted(
+    alloc: Global,
+    kind: RefusalKind,
+    at: usize,
+) -> Result<Result<Verified<DEPTH>, Outcome>, AllocError>
+    ensures { IfOk result (λ none. (kind ≢ refusal.OutOfMemory) × (none ≡ Err (refused_with (unverified_line (verdict_word.word_of kind) at)))) }
+{
+    if let RefusalKind::OutOfMemory = kind {
+        return Err(AllocError);
+    }
+    let line = unverified(alloc, kind.word(), at)?;
+    Ok(Err(Outcome::refused(line)))
 }

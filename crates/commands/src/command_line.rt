@@ -1,15 +1,17 @@
 //! The command line.
-use crate::outcome::{tell_no_memory, tell_unlinked, write_lines};
+use crate::help;
+use crate::outcome::{tell_no_memory, tell_unlinked, tell_unusable, write_lines};
 use crate::plant_run::{PlantRun, run_plant};
 use crate::plant_server::simulate;
-use crate::report::unusable;
 use crate::socket::{SocketLink, loopback};
 use crate::source::{SourceFault, read_file, read_text};
+use crate::standard_input::{STANDARD_INPUT, misuse};
 use crate::trial_scan::trial;
 use crate::unit_points::probe;
 use crate::verdict::check;
 use clap::builder::ValueParser;
-use clap::{Arg, ArgAction, ArgMatches, Command};
+use clap::error::ErrorKind;
+use clap::{Arg, ArgAction, ArgMatches, Command, Error};
 use modbus_frame::LinkFault;
 use std::alloc::{AllocError, AllocFailed, Global};
 use std::io::Write;
@@ -23,106 +25,129 @@ const BAD_COMMAND_LINE: u8 = 2;
 
 /// The words that a command line may have, behind the program's own.
 pub fn command<'a>(alloc: Global) -> Result<Command<'a>, AllocError> {
-    Command::new(alloc, "sunsite")
+    let command = Command::new(alloc, "sunsite")
         .about(
             "A SunSpec Modbus gateway; without words, a trial scan of the program on standard input",
         )
-        .subcommand_required(true)
-        .subcommand(check_command(alloc)?)?
-        .subcommand(simulate_command(alloc)?)?
-        .subcommand(run_command(alloc)?)?
-        .subcommand(probe_command(alloc)?)
+        .version(help::VERSION)
+        .after_help(help::PROGRAM)
+        .subcommand_required(true);
+    let command = with_subcommand(command, check_command(alloc))?;
+    let command = with_subcommand(command, simulate_command(alloc))?;
+    let command = with_subcommand(command, run_command(alloc))?;
+    with_subcommand(command, probe_command(alloc))
+}
+
+/// A command with one more below it.
+fn with_subcommand<'a>(
+    command: Command<'a>,
+    subcommand: Result<Command<'a>, AllocError>,
+) -> Result<Command<'a>, AllocError> {
+    match subcommand {
+        Ok(subcommand) => command.subcommand(subcommand),
+        Err(AllocError) => Err(AllocError),
+    }
 }
 
 fn check_command<'a>(alloc: Global) -> Result<Command<'a>, AllocError> {
-    let site = Arg::new(alloc, "SITE")
-        .required(true)
-        .help("the site file (TOML)");
-    let program = Arg::new(alloc, "PROGRAM")
-        .required(true)
-        .help("the program (Instruction List)");
     Command::new(alloc, "check")
         .about("Judges a program for a site")
-        .arg(site)?
-        .arg(program)?
+        .after_help(help::CHECK)
+        .arg(site_file(alloc))?
+        .arg(program_file(alloc))?
         .arg(definition_files(alloc))
 }
 
 fn simulate_command<'a>(alloc: Global) -> Result<Command<'a>, AllocError> {
-    let plant = Arg::new(alloc, "PLANT")
-        .required(true)
-        .help("the plant file (TOML)");
     Command::new(alloc, "simulate")
         .about("Serves a plant of simulated inverters on a loopback port, for one connection")
-        .arg(plant)?
+        .after_help(help::SIMULATE)
+        .arg(word(alloc, "PLANT", "the plant file (TOML)"))?
         .arg(definition_files(alloc))
 }
 
 fn run_command<'a>(alloc: Global) -> Result<Command<'a>, AllocError> {
-    let site = Arg::new(alloc, "SITE")
-        .required(true)
-        .help("the site file (TOML)");
-    let program = Arg::new(alloc, "PROGRAM")
-        .required(true)
-        .help("the program (Instruction List)");
     Command::new(alloc, "run")
         .about(
             "Runs a program on a site whose devices are a simulated plant, and probes the gateway",
         )
-        .arg(site)?
-        .arg(program)?
+        .after_help(help::RUN)
+        .arg(site_file(alloc))?
+        .arg(program_file(alloc))?
         .arg(plant_option(alloc))?
         .arg(scans_option(alloc))?
         .arg(exe_option(alloc))?
         .arg(definition_files(alloc))
 }
 
+fn probe_command<'a>(alloc: Global) -> Result<Command<'a>, AllocError> {
+    Command::new(alloc, "probe")
+        .about("Prints the points of a device on a loopback port")
+        .after_help(help::PROBE)
+        .arg(port_word(alloc))?
+        .arg(unit_option(alloc))
+}
+
+fn site_file<'a>(alloc: Global) -> Arg<'a> {
+    word(alloc, "SITE", "the site file (TOML)")
+}
+
+fn program_file<'a>(alloc: Global) -> Arg<'a> {
+    word(alloc, "PROGRAM", "the program (Instruction List)")
+}
+
+fn port_word<'a>(alloc: Global) -> Arg<'a> {
+    word(alloc, "PORT", "the loopback port of the device").value_parser(ValueParser::unsigned(
+        1, 65535,
+    ))
+}
+
 fn plant_option<'a>(alloc: Global) -> Arg<'a> {
-    Arg::new(alloc, "plant")
-        .long("plant")
-        .value_name("PLANT")
-        .required(true)
-        .help("the plant file (TOML)")
+    option(alloc, "plant", "PLANT", "the plant file (TOML)").required(true)
 }
 
 fn scans_option<'a>(alloc: Global) -> Arg<'a> {
-    Arg::new(alloc, "scans")
-        .long("scans")
-        .value_name("N")
+    option(alloc, "scans", "N", "how many scans")
         .required(true)
         .value_parser(ValueParser::unsigned(1, 1000))
-        .help("how many scans")
 }
 
 fn exe_option<'a>(alloc: Global) -> Arg<'a> {
-    Arg::new(alloc, "exe").long("exe").value_name("PATH").help(
+    option(
+        alloc,
+        "exe",
+        "PATH",
         "the program that is started for the plant and the probe, instead of this one",
     )
 }
 
-fn probe_command<'a>(alloc: Global) -> Result<Command<'a>, AllocError> {
-    let port = Arg::new(alloc, "PORT")
-        .required(true)
-        .value_parser(ValueParser::unsigned(1, 65535))
-        .help("the loopback port of the device");
-    let unit = Arg::new(alloc, "unit")
-        .long("unit")
-        .value_name("U")
+fn unit_option<'a>(alloc: Global) -> Arg<'a> {
+    option(alloc, "unit", "U", "the unit that is asked")
         .value_parser(ValueParser::unsigned(0, 255))
         .default_value("1")
-        .help("the unit that is asked");
-    Command::new(alloc, "probe")
-        .about("Prints the points of a device on a loopback port")
-        .arg(port)?
-        .arg(unit)
 }
 
 fn definition_files<'a>(alloc: Global) -> Arg<'a> {
-    Arg::new(alloc, "def")
-        .long("def")
-        .value_name("FILE")
-        .action(ArgAction::Append)
-        .help("a model definition (JSON); the last one of an ID counts")
+    option(
+        alloc,
+        "def",
+        "FILE",
+        "a model definition (JSON); the last one of an ID counts",
+    )
+    .action(ArgAction::Append)
+}
+
+/// A word that the command needs.
+fn word<'a>(alloc: Global, name: &'a str, help: &'a str) -> Arg<'a> {
+    Arg::new(alloc, name).required(true).help(help)
+}
+
+/// An option that takes a value.
+fn option<'a>(alloc: Global, name: &'a str, value: &'a str, help: &'a str) -> Arg<'a> {
+    Arg::new(alloc, name)
+        .long(name)
+        .value_name(value)
+        .help(help)
 }
 
 /// Does what the words of the program's own command line ask for, or without words a trial of the program on standard
@@ -132,9 +157,20 @@ pub fn obey_command_line(
 ) -> u8 {
     let mut out = io::writer(rt);
     match words(rt) {
-        Ok(words) if words.len() > 1 => obey(rt, words.as_slice(), &mut out),
-        Ok(_) => trial_of_input(rt, &mut out),
+        Ok(words) => obey_words(rt, words.as_slice(), &mut out),
         Err(_) => tell_no_memory(&mut out),
+    }
+}
+
+fn obey_words<W: Write>(
+    rt: &(impl Input + Print + Eprint + AllocGlobal + Files + Net + Processes),
+    words: &[String],
+    out: &mut W,
+) -> u8 {
+    if words.len() > 1 {
+        obey(rt, words, out)
+    } else {
+        trial_of_input(rt, out)
     }
 }
 
@@ -164,17 +200,61 @@ pub fn obey<W: Write>(
         return tell_no_memory(out);
     };
     match command.try_get_matches_from(words) {
-        Ok(matches) => match matches.subcommand() {
-            Some(("check", matches)) => checked(rt, alloc, matches, out),
-            Some(("simulate", matches)) => simulated(rt, alloc, matches, out),
-            Some(("run", matches)) => ran(rt, alloc, words, matches, out),
-            Some(("probe", matches)) => probed(rt, alloc, matches, out),
-            _ => BAD_COMMAND_LINE,
-        },
-        Err(fault) => {
-            let _ = fault.print(rt);
-            fault.exit_code() as u8
-        }
+        Ok(matches) => obey_matches(rt, alloc, words, &matches, out),
+        Err(fault) => tell_usage(rt, &fault, out),
+    }
+}
+
+/// Has `clap` tell what is wrong with the words, or the help that they ask for, and gives the status.
+fn tell_usage<W: Write>(rt: &(impl Print + Eprint), fault: &Error, out: &mut W) -> u8 {
+    if fault.kind() == ErrorKind::OutOfMemory {
+        return tell_no_memory(out);
+    }
+    let _ = fault.print(rt);
+    fault.exit_code() as u8
+}
+
+/// Has `clap` tell why the words are no command line, and gives the status.
+fn tell_misuse<W: Write>(rt: &(impl Print + Eprint), alloc: Global, why: &str, out: &mut W) -> u8 {
+    match misuse_fault(alloc, why) {
+        Ok(fault) => tell_usage(rt, &fault, out),
+        Err(AllocError) => tell_no_memory(out),
+    }
+}
+
+fn misuse_fault(alloc: Global, why: &str) -> Result<Error, AllocError> {
+    let mut command = command(alloc)?;
+    command.error(ErrorKind::ArgumentConflict, why)
+}
+
+/// Does what the command asks for.
+fn obey_matches<W: Write>(
+    rt: &(impl Input + Print + Eprint + AllocGlobal + Files + Net + Processes),
+    alloc: Global,
+    words: &[String],
+    matches: &ArgMatches<'_>,
+    out: &mut W,
+) -> u8 {
+    let Some((name, matches)) = matches.subcommand() else {
+        return BAD_COMMAND_LINE;
+    };
+    if let Some(why) = misuse(name, matches) {
+        return tell_misuse(rt, alloc, why, out);
+    }
+    match name {
+        "check" => checked(rt, alloc, matches, out),
+        "simulate" => simulated(rt, alloc, matches, out),
+        "run" => ran(rt, alloc, path_of(words), matches, out),
+        "probe" => probed(rt, alloc, matches, out),
+        _ => BAD_COMMAND_LINE,
+    }
+}
+
+/// The program's path, the first word.
+fn path_of(words: &[String]) -> &str {
+    match words.first() {
+        Some(word) => word.as_str(),
+        None => "sunsite",
     }
 }
 
@@ -210,35 +290,43 @@ fn simulated<W: Write>(
     }
 }
 
-/// Runs `run` on the files that are named; word 0 is this program.
+/// Runs `run` on the files that are named; `itself` is this program's path.
 fn ran<W: Write>(
     rt: &(impl Input + AllocGlobal + Files + Net + Processes),
     alloc: Global,
-    words: &[String],
+    itself: &str,
     matches: &ArgMatches<'_>,
     out: &mut W,
 ) -> u8 {
-    let itself = match words.first() {
-        Some(word) => word.as_str(),
-        None => "sunsite",
-    };
     match read_sources(rt, alloc, matches) {
-        Ok(sources) => run_plant(
-            rt,
-            alloc,
-            &PlantRun {
-                site: sources.site.as_str(),
-                program: sources.program.as_str(),
-                defs: sources.defs.as_slice(),
-                plant: matches.get_str("plant").unwrap_or("-"),
-                def_paths: matches.get_strs("def").unwrap_or(&[]),
-                scans: matches.get_one("scans").unwrap_or(1),
-                exe: matches.get_str("exe").unwrap_or(itself),
-            },
-            out,
-        ),
+        Ok(sources) => ran_on(rt, alloc, itself, matches, &sources, out),
         Err(refusal) => refusal.tell(alloc, out),
     }
+}
+
+/// Runs `run` on the texts of the files.
+fn ran_on<W: Write>(
+    rt: &(impl AllocGlobal + Net + Processes),
+    alloc: Global,
+    itself: &str,
+    matches: &ArgMatches<'_>,
+    sources: &Sources,
+    out: &mut W,
+) -> u8 {
+    let plant = matches.get_str("plant").unwrap_or(STANDARD_INPUT);
+    let def_paths = matches.get_strs("def").unwrap_or(&[]);
+    let scans = matches.get_one("scans").unwrap_or(1);
+    let exe = matches.get_str("exe").unwrap_or(itself);
+    let run = PlantRun {
+        site: sources.site.as_str(),
+        program: sources.program.as_str(),
+        defs: sources.defs.as_slice(),
+        plant,
+        def_paths,
+        scans,
+        exe,
+    };
+    run_plant(rt, alloc, &run, out)
 }
 
 /// Runs `probe` on the port that is named.
@@ -276,17 +364,8 @@ impl Refusal<'_> {
     fn tell<W: Write>(self, alloc: Global, out: &mut W) -> u8 {
         match self {
             Refusal::OutOfMemory => tell_no_memory(out),
-            Refusal::File(path) => match unusable(alloc, path) {
-                Ok(line) => write_lines(out, line.as_bytes(), 1),
-                Err(_) => tell_no_memory(out),
-            },
+            Refusal::File(path) => tell_unusable(alloc, path, out),
         }
-    }
-}
-
-impl From<AllocError> for Refusal<'_> {
-    fn from(_refused: AllocError) -> Self {
-        Refusal::OutOfMemory
     }
 }
 
@@ -302,8 +381,12 @@ fn read_sources<'a>(
     alloc: Global,
     matches: &ArgMatches<'a>,
 ) -> Result<Sources, Refusal<'a>> {
-    let site = text(rt, alloc, matches.get_str("SITE").unwrap_or("-"))?;
-    let program = text(rt, alloc, matches.get_str("PROGRAM").unwrap_or("-"))?;
+    let site = text(rt, alloc, matches.get_str("SITE").unwrap_or(STANDARD_INPUT))?;
+    let program = text(
+        rt,
+        alloc,
+        matches.get_str("PROGRAM").unwrap_or(STANDARD_INPUT),
+    )?;
     let defs = read_definitions(rt, alloc, matches)?;
     Ok(Sources {
         site,
@@ -318,7 +401,11 @@ fn read_plant<'a>(
     alloc: Global,
     matches: &ArgMatches<'a>,
 ) -> Result<(String, Vec<String>), Refusal<'a>> {
-    let plant = text(rt, alloc, matches.get_str("PLANT").unwrap_or("-"))?;
+    let plant = text(
+        rt,
+        alloc,
+        matches.get_str("PLANT").unwrap_or(STANDARD_INPUT),
+    )?;
     let defs = read_definitions(rt, alloc, matches)?;
     Ok((plant, defs))
 }
@@ -330,12 +417,23 @@ fn read_definitions<'a>(
     matches: &ArgMatches<'a>,
 ) -> Result<Vec<String>, Refusal<'a>> {
     let mut defs = Vec::new(alloc);
-    if let Some(paths) = matches.get_strs("def") {
-        for path in paths {
-            defs.push(text(rt, alloc, path)?)?;
-        }
-    }
+    let paths = matches.get_strs("def").unwrap_or(&[]);
+    push_texts(rt, alloc, &mut defs, paths)?;
     Ok(defs)
+}
+
+/// Appends the texts of the files, in order.
+fn push_texts<'a>(
+    rt: &(impl Input + AllocGlobal + Files),
+    alloc: Global,
+    texts: &mut Vec<String>,
+    paths: &[&'a str],
+) -> Result<(), Refusal<'a>> {
+    for path in paths {
+        let text = text(rt, alloc, path)?;
+        texts.push(text)?;
+    }
+    Ok(())
 }
 
 /// The text of a file.

@@ -1,3 +1,4 @@
+//! The model definitions of a run: the shipped ones, and those that are handed in.
 ghost use Rattle.std.specs.Prelude.{◌≡◌, ◌≢◌, ◌++◌, ◌∷◌, [], List, map, string_bytes, IfOk, IfErr, OnOk};
 ghost use Rattle.model_defs.specs.declared.fault.DefFault.TheVariants as fault;
 ghost use Rattle.model_defs.specs.declared.model.ModelDef.{ModelDef};
@@ -25,12 +26,20 @@ fn shipped_definitions(alloc: Global) -> Result<Vec<ModelDef>, DefFault>
     ensures { IfErr result (λ e. e ≡ fault.OutOfMemory) }
 {
     let mut models = Vec::new(alloc);
+    push_shipped(alloc, &mut models)?;
+    Ok(models)
+}
+
+/// Appends the definitions that are shipped.
+fn push_shipped(alloc: Global, models: &mut Vec<ModelDef>) -> Result<(), DefFault>
+    ensures { IfErr result (λ e. e ≡ fault.OutOfMemory) }
+{
     for id in SHIPPED {
         if let Some(model) = shipped_definition(alloc, id)? {
             models.push(model)?;
         }
     }
-    Ok(models)
+    Ok(())
 }
 
 /// The shipped definition of a model; each one that is shipped can be read.

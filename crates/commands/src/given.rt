@@ -1,3 +1,4 @@
+//! The values that input lines give to a program's inputs.
 ghost use Rattle.std.specs.Prelude.{◌≡◌, ◌≤◌, ◌<◌, ◌+◌, ◌∷◌, List, ℕ, IfErr, IfOk, IfSome, None, Ok, Err, Some, length, map, slice_get};
 ghost use Rattle.std.specs.Bool.{MatchBool};
 ghost use Rattle.commands.specs.Input.{before_end, lines_of};
@@ -10,7 +11,7 @@ use scan_code::Tag;
 use std::alloc::{AllocError, Global};
 
 /// What an input line gives: the place of its input among the tags, and its reading.
-#[derive(Clone, Copy, PartialEq, Eq, Debug)]
+#[derive(Clone, Copy)]
 pub struct Entry {
     pub place: usize,
     pub reading: Reading,

@@ -1,3 +1,4 @@
+//! The value that an input line spells.
 ghost use Rattle.std.specs.Prelude.{◌≡◌, ◌≤◌, pos, true};
 ghost use Rattle.point_types.specs.Name.{is_digit};
 ghost use Rattle.commands.specs.Given.{digits, grown, held, number_given, truth_given, value_given};

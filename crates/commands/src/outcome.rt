@@ -1,10 +1,17 @@
-ghost use Rattle.std.specs.Prelude.{◌≡◌, string_bytes, IfOk};
+//! Lines to print with their status, and how they are written.
+ghost use Rattle.std.specs.Prelude.{◌≡◌, ◌≢◌, string_bytes, IfOk, OnOk};
+ghost use Rattle.il_assemble.specs.Word as assembling;
+ghost use Rattle.il_assemble.specs.declared.fault.AsmFaultKind.TheVariants as asm_fault;
+ghost use Rattle.il_reader.specs.Fault as reading;
+ghost use Rattle.il_reader.specs.declared.fault.ReadFaultKind.TheVariants as read_fault;
 ghost use Rattle.modbus_frame.specs.Fault.{link_fault_word};
-ghost use Rattle.commands.specs.Report.{accepted_lines, link_line, no_memory_line};
+ghost use Rattle.commands.specs.Report.{accepted_lines, link_line, no_memory_line, unassembled_line, unread_line};
 ghost use Rattle.commands.specs.Scans.{IsUnlinked};
 ghost use Rattle.commands.specs.Told.{IsTold, refused_with};
 
-use crate::report::{accepted, link_failed};
+use crate::report::{accepted, link_failed, unassembled, unread, unusable};
+use il_assemble::{AsmFault, AsmFaultKind};
+use il_reader::{ReadFault, ReadFaultKind};
 use modbus_frame::LinkFault;
 use std::alloc::{AllocError, Global};
 use std::io::Write;
@@ -50,6 +57,30 @@ impl Outcome {
         })
     }
 
+    /// The line of a text that is no program, with status 1; none where memory was refused.
+    pub fn unread(alloc: Global, fault: ReadFault) -> Result<Outcome, AllocError>
+        ensures real { OnOk result (fault.kind ≢ read_fault.OutOfMemory) }
+        ensures told { IfOk result (λ o. o ≡ refused_with (unread_line (reading.word_of fault.kind) fault.line)) }
+    {
+        if let ReadFaultKind::OutOfMemory = fault.kind {
+            return Err(AllocError);
+        }
+        let line = unread(alloc, fault.kind.word(), fault.line)?;
+        Ok(Outcome::refused(line))
+    }
+
+    /// The line of a program without code, with status 1; none where memory was refused.
+    pub fn unassembled(alloc: Global, fault: AsmFault) -> Result<Outcome, AllocError>
+        ensures real { OnOk result (fault.kind ≢ asm_fault.OutOfMemory) }
+        ensures told { IfOk result (λ o. o ≡ refused_with (unassembled_line (assembling.word_of fault.kind) fault.line)) }
+    {
+        if let AsmFaultKind::OutOfMemory = fault.kind {
+            return Err(AllocError);
+        }
+        let line = unassembled(alloc, fault.kind.word(), fault.line)?;
+        Ok(Outcome::refused(line))
+    }
+
     /// The line `link: KIND`, with status 3.
     pub fn unlinked(alloc: Global, fault: LinkFault) -> Result<Outcome, AllocError>
         ensures { IfOk result (λ o. o ≡ record { lines = link_line (link_fault_word fault); status = FAILED_LINK }) }
@@ -84,6 +115,14 @@ pub fn tell_no_memory<W: Write>(out: &mut W) -> u8
     ensures { IsTold (W.contents out.old) (W.contents out.new) (refused_with no_memory_line) result }
 {
     write_lines(out, b"refused: memory\n", 1)
+}
+
+/// Writes that the file at a path can't be used, and gives the status.
+pub fn tell_unusable<W: Write>(alloc: Global, path: &str, out: &mut W) -> u8 {
+    match unusable(alloc, path) {
+        Ok(line) => write_lines(out, line.as_bytes(), 1),
+        Err(_) => tell_no_memory(out),
+    }
 }
 
 /// Writes that a link failed, and gives the status.

@@ -1,14 +1,13 @@
 //! A whole run over loopback: a simulated plant in a second process, the gateway's scans of it, and a probe of the gateway.
-use crate::outcome::{tell_no_memory, tell_unlinked, write_lines};
-use crate::report::unusable;
+use crate::outcome::{tell_no_memory, tell_unlinked, tell_unusable, write_lines};
 use crate::site_scans::{DEPTH, scans};
 use crate::socket::{SocketLink, loopback};
 use gateway::{Core, Poller, serve_client};
 use modbus_frame::LinkFault;
 use std::alloc::Global;
-use std::io::{Read, Write};
+use std::io::{ErrorKind, Read, Write};
 use std::net::{Net, OpenListener, TcpListener, TcpStream};
-use std::process::{Child, Command, Processes, Stdio};
+use std::process::{Child, Command, Output, Processes, Stdio};
 use std::{io, str};
 
 /// The most bytes of the line by which a plant says its port.
@@ -41,19 +40,55 @@ pub fn run_plant<R: Net + Processes, W: Write>(
     run: &PlantRun<'_>,
     out: &mut W,
 ) -> u8 {
-    let Ok(plant) = start_plant(rt, alloc, run) else {
-        return no_start(alloc, run.exe, out);
-    };
+    match start_plant(rt, alloc, run) {
+        Ok(plant) => run_started(rt, alloc, run, plant, out),
+        Err(fault) => no_start(alloc, run.exe, &fault, out),
+    }
+}
+
+/// Scans the plant that was started, and ends it: one that nobody came to would wait for ever.
+fn run_started<R: Net + Processes, W: Write>(
+    rt: &R,
+    alloc: Global,
+    run: &PlantRun<'_>,
+    plant: Child<R::Started>,
+    out: &mut W,
+) -> u8 {
     let mut plant = plant;
-    let status = match plant.stdout.take() {
-        Some(mut lines) => match first_line(alloc, &mut lines) {
-            Ok(line) => run_behind(rt, alloc, run, line.as_slice(), out),
-            Err(_) => tell_unlinked(alloc, LinkFault::Read, out),
-        },
-        None => tell_unlinked(alloc, LinkFault::Read, out),
-    };
+    let lines = plant.stdout.take();
+    let status = run_told(rt, alloc, run, lines, out);
+    let _ = plant.kill();
     let _ = plant.wait();
     status
+}
+
+/// Scans the plant that prints these lines.
+fn run_told<R: Net + Processes, P: Read + Drop, W: Write>(
+    rt: &R,
+    alloc: Global,
+    run: &PlantRun<'_>,
+    lines: Option<P>,
+    out: &mut W,
+) -> u8 {
+    match lines {
+        Some(lines) => run_by(rt, alloc, run, lines, out),
+        None => tell_unlinked(alloc, LinkFault::Read, out),
+    }
+}
+
+/// Scans the plant that says its port in the first of these lines, which stay open to its end.
+fn run_by<R: Net + Processes, P: Read + Drop, W: Write>(
+    rt: &R,
+    alloc: Global,
+    run: &PlantRun<'_>,
+    lines: P,
+    out: &mut W,
+) -> u8 {
+    let mut lines = lines;
+    match first_line(alloc, &mut lines) {
+        Ok(line) => run_behind(rt, alloc, run, line.as_slice(), out),
+        Err(fault) => tell_unreached(alloc, &fault, out),
+    }
 }
 
 /// Scans the plant whose first line this is, and has the gateway probed.
@@ -64,14 +99,47 @@ fn run_behind<R: Net + Processes, W: Write>(
     line: &[u8],
     out: &mut W,
 ) -> u8 {
-    let Some(port) = port_in(line) else {
-        return write_lines(out, line, 1);
-    };
-    let Ok(stream) = TcpStream::connect(rt, loopback(port)) else {
-        return tell_unlinked(alloc, LinkFault::Read, out);
-    };
+    match port_in(line) {
+        Some(port) => run_at(rt, alloc, run, port, out),
+        None => write_lines(out, line, 1),
+    }
+}
+
+/// Scans the plant on a port, and has the gateway probed.
+fn run_at<R: Net + Processes, W: Write>(
+    rt: &R,
+    alloc: Global,
+    run: &PlantRun<'_>,
+    port: u16,
+    out: &mut W,
+) -> u8 {
+    match TcpStream::connect(rt, loopback(port)) {
+        Ok(stream) => run_over(rt, alloc, run, stream, out),
+        Err(fault) => tell_unreached(alloc, &fault, out),
+    }
+}
+
+/// Scans the plant over a connection, and has the gateway probed.
+fn run_over<R: Net + Processes, S: Read + Write + Drop, W: Write>(
+    rt: &R,
+    alloc: Global,
+    run: &PlantRun<'_>,
+    stream: S,
+    out: &mut W,
+) -> u8 {
+    let mut scanned = scans_over(alloc, run, stream, out);
+    probed_behind(rt, alloc, run.exe, &mut scanned, out)
+}
+
+/// Does the scans over a connection, and closes it.
+fn scans_over<S: Read + Write + Drop, W: Write>(
+    alloc: Global,
+    run: &PlantRun<'_>,
+    stream: S,
+    out: &mut W,
+) -> (Option<Core<DEPTH>>, u8) {
     let mut poller = Poller::new(SocketLink::new(stream));
-    let (core, status) = scans(
+    scans(
         alloc,
         run.site,
         run.program,
@@ -79,33 +147,83 @@ fn run_behind<R: Net + Processes, W: Write>(
         run.scans,
         &mut poller,
         out,
-    );
-    drop(poller);
-    match core {
-        Some(core) if status == 0 => probed(rt, alloc, run.exe, core, out),
-        _ => status,
+    )
+}
+
+/// Has the gateway probed behind scans that ended well; else gives their status.
+fn probed_behind<R: Net + Processes, W: Write>(
+    rt: &R,
+    alloc: Global,
+    exe: &str,
+    scanned: &mut (Option<Core<DEPTH>>, u8),
+    out: &mut W,
+) -> u8 {
+    match scanned {
+        (Some(core), 0) => probed(rt, alloc, exe, core, out),
+        (_, status) => *status,
     }
 }
 
-/// Serves a probe of the core, and prints what it prints.
+/// Serves a probe of the core on a free port, and prints what it prints.
 fn probed<R: Net + Processes, W: Write>(
     rt: &R,
     alloc: Global,
     exe: &str,
-    core: Core<DEPTH>,
+    core: &mut Core<DEPTH>,
     out: &mut W,
 ) -> u8 {
-    let Ok(listener) = TcpListener::bind(rt, loopback(0)) else {
-        return tell_unlinked(alloc, LinkFault::Read, out);
-    };
+    match TcpListener::bind(rt, loopback(0)) {
+        Ok(listener) => probed_on(rt, alloc, exe, &listener, core, out),
+        Err(fault) => tell_unreached(alloc, &fault, out),
+    }
+}
+
+/// Serves a probe of the core on the listener's port, and prints what it prints.
+fn probed_on<R: Processes, L: OpenListener, W: Write>(
+    rt: &R,
+    alloc: Global,
+    exe: &str,
+    listener: &L,
+    core: &mut Core<DEPTH>,
+    out: &mut W,
+) -> u8
+where
+    L::Stream: Read + Write,
+{
     let Ok(address) = listener.local_addr() else {
         return tell_unlinked(alloc, LinkFault::Read, out);
     };
-    let Ok(probe) = start_probe(rt, alloc, exe, address.port(), core.site().unit()) else {
-        return no_start(alloc, exe, out);
-    };
-    let served = serve_one(&listener, core);
-    let printed = probe.wait_with_output(alloc);
+    match start_probe(rt, alloc, exe, address.port(), core.site().unit()) {
+        Ok(probe) => {
+            let served = serve_one(listener, core);
+            let printed = probe.wait_with_output(alloc);
+            tell_probed(alloc, served, &printed, out)
+        }
+        Err(fault) => no_start(alloc, exe, &fault, out),
+    }
+}
+
+/// Serves one connection to its end.
+fn serve_one<L: OpenListener>(listener: &L, core: &mut Core<DEPTH>) -> Result<u32, LinkFault>
+where
+    L::Stream: Read + Write,
+{
+    match listener.accept() {
+        Ok((stream, _)) => {
+            let mut link = SocketLink::new(stream);
+            serve_client(core, &mut link)
+        }
+        Err(_) => Err(LinkFault::Read),
+    }
+}
+
+/// Prints what the probe printed, where it was served to its end.
+fn tell_probed<W: Write>(
+    alloc: Global,
+    served: Result<u32, LinkFault>,
+    printed: &io::Result<Output>,
+    out: &mut W,
+) -> u8 {
     if let Err(fault) = served {
         return tell_unlinked(alloc, fault, out);
     }
@@ -115,21 +233,8 @@ fn probed<R: Net + Processes, W: Write>(
             printed.stdout.as_slice(),
             status_of(printed.status.code()),
         ),
-        Err(_) => tell_unlinked(alloc, LinkFault::Read, out),
+        Err(fault) => tell_unreached(alloc, fault, out),
     }
-}
-
-/// Serves one connection to its end.
-fn serve_one<L: OpenListener>(listener: &L, core: Core<DEPTH>) -> Result<u32, LinkFault>
-where
-    L::Stream: Read + Write,
-{
-    let Ok((stream, _)) = listener.accept() else {
-        return Err(LinkFault::Read);
-    };
-    let mut core = core;
-    let mut link = SocketLink::new(stream);
-    serve_client(&mut core, &mut link)
 }
 
 fn status_of(code: Option<i32>) -> u8 {
@@ -145,16 +250,7 @@ fn start_plant<R: Processes>(
     alloc: Global,
     run: &PlantRun<'_>,
 ) -> io::Result<Child<R::Started>> {
-    let mut command = Command::new(alloc, run.exe)?;
-    command.arg("simulate")?;
-    command.arg(run.plant)?;
-    for path in run.def_paths {
-        command.arg("--def")?;
-        command.arg(*path)?;
-    }
-    command.stdin(Stdio::null());
-    command.stdout(Stdio::piped());
-    command.spawn(rt)
+    start(rt, alloc, run.exe, &["simulate", run.plant], run.def_paths)
 }
 
 fn start_probe<R: Processes>(
@@ -166,30 +262,69 @@ fn start_probe<R: Processes>(
 ) -> io::Result<Child<R::Started>> {
     let port = port.to_string(alloc)?;
     let unit = unit.to_string(alloc)?;
+    let words = ["probe", port.as_str(), "--unit", unit.as_str()];
+    start(rt, alloc, exe, &words, &[])
+}
+
+/// Starts the program at a path with these words, and `--def` before each of the paths. What it prints can be read.
+fn start<R: Processes>(
+    rt: &R,
+    alloc: Global,
+    exe: &str,
+    words: &[&str],
+    def_paths: &[&str],
+) -> io::Result<Child<R::Started>> {
     let mut command = Command::new(alloc, exe)?;
-    command.arg("probe")?;
-    command.arg(port.as_str())?;
-    command.arg("--unit")?;
-    command.arg(unit.as_str())?;
+    spawn(rt, &mut command, words, def_paths)
+}
+
+fn spawn<R: Processes>(
+    rt: &R,
+    command: &mut Command,
+    words: &[&str],
+    def_paths: &[&str],
+) -> io::Result<Child<R::Started>> {
+    push_words(command, words)?;
+    push_def_paths(command, def_paths)?;
     command.stdin(Stdio::null());
     command.stdout(Stdio::piped());
     command.spawn(rt)
 }
 
+fn push_words(command: &mut Command, words: &[&str]) -> io::Result<()> {
+    for word in words {
+        command.arg(*word)?;
+    }
+    Ok(())
+}
+
+fn push_def_paths(command: &mut Command, paths: &[&str]) -> io::Result<()> {
+    for path in paths {
+        command.arg("--def")?;
+        command.arg(*path)?;
+    }
+    Ok(())
+}
+
 /// The bytes up to the first line feed, and with it.
 fn first_line<R: Read>(alloc: Global, reader: &mut R) -> io::Result<Vec<u8>> {
     let mut line = Vec::new(alloc);
+    push_line(&mut line, reader)?;
+    Ok(line)
+}
+
+fn push_line<R: Read>(line: &mut Vec<u8>, reader: &mut R) -> io::Result<()> {
     for _ in 0..LONGEST_LINE {
         let mut byte = [0u8];
         if reader.read(&mut byte)? == 0 {
-            return Ok(line);
+            return Ok(());
         }
         line.push(byte[0])?;
         if byte[0] == b'\n' {
-            return Ok(line);
+            return Ok(());
         }
     }
-    Ok(line)
+    Ok(())
 }
 
 /// The port in the line `listening PORT`.
@@ -202,9 +337,17 @@ fn port_in(line: &[u8]) -> Option<u16> {
 }
 
 /// Tells that the program at the path can't be started.
-fn no_start<W: Write>(alloc: Global, path: &str, out: &mut W) -> u8 {
-    match unusable(alloc, path) {
-        Ok(line) => write_lines(out, line.as_bytes(), 1),
-        Err(_) => tell_no_memory(out),
+fn no_start<W: Write>(alloc: Global, path: &str, fault: &io::Error, out: &mut W) -> u8 {
+    match fault.kind() {
+        ErrorKind::OutOfMemory => tell_no_memory(out),
+        _ => tell_unusable(alloc, path, out),
+    }
+}
+
+/// Tells that a process or a connection gives nothing.
+fn tell_unreached<W: Write>(alloc: Global, fault: &io::Error, out: &mut W) -> u8 {
+    match fault.kind() {
+        ErrorKind::OutOfMemory => tell_no_memory(out),
+        _ => tell_unlinked(alloc, LinkFault::Read, out),
     }
 }

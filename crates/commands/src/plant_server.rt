@@ -10,7 +10,7 @@ use inverter_sim::{Plant, PlantFault, serve_link};
 use modbus_frame::LinkFault;
 use model_defs::{DefFault, ModelDef};
 use std::alloc::{AllocError, Global};
-use std::io::Write;
+use std::io::{Read, Write};
 use std::net::{Net, OpenListener, TcpListener};
 
 /// Serves the plant of a plant file on a free loopback port, for one connection to its end: prints `listening PORT`
@@ -23,7 +23,7 @@ pub fn simulate<R: Net, W: Write>(
     out: &mut W,
 ) -> u8 {
     match plant_of(alloc, plant, defs) {
-        Ok(Ok(plant)) => served(rt, alloc, plant, out),
+        Ok(Ok(mut plant)) => served(rt, alloc, &mut plant, out),
         Ok(Err(refused)) => refused.tell(out),
         Err(AllocError) => tell_no_memory(out),
     }
@@ -60,19 +60,37 @@ fn plant_over(
 }
 
 /// Serves the plant on a free loopback port.
-fn served<R: Net, W: Write>(rt: &R, alloc: Global, plant: Plant, out: &mut W) -> u8 {
-    let Ok(listener) = TcpListener::bind(rt, loopback(0)) else {
-        return tell_unlinked(alloc, LinkFault::Read, out);
-    };
+fn served<R: Net, W: Write>(rt: &R, alloc: Global, plant: &mut Plant, out: &mut W) -> u8 {
+    match TcpListener::bind(rt, loopback(0)) {
+        Ok(listener) => served_on(alloc, &listener, plant, out),
+        Err(_) => tell_unlinked(alloc, LinkFault::Read, out),
+    }
+}
+
+/// Prints the listener's port, and serves one connection.
+fn served_on<L: OpenListener, W: Write>(
+    alloc: Global,
+    listener: &L,
+    plant: &mut Plant,
+    out: &mut W,
+) -> u8
+where
+    L::Stream: Read + Write,
+{
     let Ok(address) = listener.local_addr() else {
         return tell_unlinked(alloc, LinkFault::Read, out);
     };
-    let Ok(line) = listening(alloc, address.port()) else {
-        return tell_no_memory(out);
-    };
-    match write_lines(out, line.as_bytes(), 0) {
-        0 => connected(alloc, &listener, plant, out),
+    match tell_port(alloc, address.port(), out) {
+        0 => connected(alloc, listener, plant, out),
         status => status,
+    }
+}
+
+/// Writes the line that names a port, and gives the status.
+fn tell_port<W: Write>(alloc: Global, port: u16, out: &mut W) -> u8 {
+    match listening(alloc, port) {
+        Ok(line) => write_lines(out, line.as_bytes(), 0),
+        Err(_) => tell_no_memory(out),
     }
 }
 
@@ -80,18 +98,27 @@ fn served<R: Net, W: Write>(rt: &R, alloc: Global, plant: Plant, out: &mut W) ->
 fn connected<L: OpenListener, W: Write>(
     alloc: Global,
     listener: &L,
-    plant: Plant,
+    plant: &mut Plant,
     out: &mut W,
 ) -> u8
 where
-    L::Stream: std::io::Read + Write,
+    L::Stream: Read + Write,
 {
-    let Ok((stream, _)) = listener.accept() else {
-        return tell_unlinked(alloc, LinkFault::Read, out);
-    };
-    let mut plant = plant;
+    match listener.accept() {
+        Ok((stream, _)) => served_over(alloc, stream, plant, out),
+        Err(_) => tell_unlinked(alloc, LinkFault::Read, out),
+    }
+}
+
+/// Serves a connection to its end.
+fn served_over<S: Read + Write + Drop, W: Write>(
+    alloc: Global,
+    stream: S,
+    plant: &mut Plant,
+    out: &mut W,
+) -> u8 {
     let mut link = SocketLink::new(stream);
-    match serve_link(&mut link, &mut plant) {
+    match serve_link(&mut link, plant) {
         Ok(_) => 0,
         Err(fault) => tell_unlinked(alloc, fault, out),
     }

@@ -1,3 +1,4 @@
+//! The lines that the commands print.
 ghost use Rattle.std.specs.Prelude.{◌≡◌, ◌++◌, OnOk, IfOk, codes, string_bytes};
 ghost use Rattle.std.specs.Fmt.{decimal};
 ghost use Rattle.commands.specs.Probe as probe;
@@ -73,20 +74,26 @@ pub fn bad_input(alloc: Global, number: usize) -> Result<String, AllocError>
     Ok(text)
 }
 
+/// The line of a word behind these.
+fn with_word(alloc: Global, before: &str, word: &str) -> Result<String, AllocError>
+    ensures ok { IfOk result (λ text. string_bytes text ≡ report.line_of (before.now ++ word.now)) }
+{
+    let text = format!(in alloc; "{before}{word}\n")?;
+    Ok(text)
+}
+
 /// The line `refused: definition KIND`.
 pub fn undefined(alloc: Global, kind: &str) -> Result<String, AllocError>
     ensures ok { IfOk result (λ text. string_bytes text ≡ report.bad_definition_line kind.now) }
 {
-    let text = format!(in alloc; "refused: definition {kind}\n")?;
-    Ok(text)
+    with_word(alloc, "refused: definition ", kind)
 }
 
 /// The line `refused: site KIND`.
 pub fn no_site(alloc: Global, kind: &str) -> Result<String, AllocError>
     ensures ok { IfOk result (λ text. string_bytes text ≡ report.bad_site_line kind.now) }
 {
-    let text = format!(in alloc; "refused: site {kind}\n")?;
-    Ok(text)
+    with_word(alloc, "refused: site ", kind)
 }
 
 /// The lines `accepted` and `budget N`.
@@ -109,8 +116,7 @@ pub fn unverified(alloc: Global, kind: &str, at: usize) -> Result<String, AllocE
 pub fn no_plant(alloc: Global, kind: &str) -> Result<String, AllocError>
     ensures ok { IfOk result (λ text. string_bytes text ≡ report.bad_plant_line kind.now) }
 {
-    let text = format!(in alloc; "refused: plant {kind}\n")?;
-    Ok(text)
+    with_word(alloc, "refused: plant ", kind)
 }
 
 /// The line `listening PORT`.
@@ -125,24 +131,21 @@ pub fn listening(alloc: Global, port: u16) -> Result<String, AllocError>
 pub fn link_failed(alloc: Global, kind: &str) -> Result<String, AllocError>
     ensures ok { IfOk result (λ text. string_bytes text ≡ report.link_line kind.now) }
 {
-    let text = format!(in alloc; "link: {kind}\n")?;
-    Ok(text)
+    with_word(alloc, "link: ", kind)
 }
 
 /// The line `refused: file PATH`.
 pub fn unusable(alloc: Global, path: &str) -> Result<String, AllocError>
     ensures ok { IfOk result (λ text. string_bytes text ≡ report.unusable_line path.now) }
 {
-    let text = format!(in alloc; "refused: file {path}\n")?;
-    Ok(text)
+    with_word(alloc, "refused: file ", path)
 }
 
 /// The line `refused: map KIND`.
 pub fn no_map(alloc: Global, kind: &str) -> Result<String, AllocError>
     ensures ok { IfOk result (λ text. string_bytes text ≡ report.bad_map_line kind.now) }
 {
-    let text = format!(in alloc; "refused: map {kind}\n")?;
-    Ok(text)
+    with_word(alloc, "refused: map ", kind)
 }
 
 /// Appends the line `model ID ADDR LENGTH`.
@@ -183,8 +186,7 @@ pub fn push_end(lines: &mut Vec<u8>, alloc: Global, addr: u16) -> Result<(), All
 pub fn no_core(alloc: Global, kind: &str) -> Result<String, AllocError>
     ensures ok { IfOk result (λ text. string_bytes text ≡ report.bad_core_line kind.now) }
 {
-    let text = format!(in alloc; "refused: core {kind}\n")?;
-    Ok(text)
+    with_word(alloc, "refused: core ", kind)
 }
 
 /// The line `scan K steps S writes W refused R lost T`.

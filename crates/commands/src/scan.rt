@@ -1,35 +1,63 @@
+//! What a trial scan prints.
 ghost use Rattle.std.specs.Prelude.{◌≡◌, ◌++◌, IfOk, OnOk};
-ghost use Rattle.commands.specs.Outcome.{TellsImage};
+ghost use Rattle.scan_code.specs.Image.{Image};
+ghost use Rattle.scan_vm.specs.Trial.{started};
+ghost use Rattle.commands.specs.Outcome.{TellsImage, ending_line, ending_status, standing_lines};
 ghost use Rattle.commands.specs.Report as report;
 
 use crate::outcome::Outcome;
 use crate::report::{push_named, push_steps, push_trap, shown};
 use point_types::Reading;
-use scan_code::{Image, Tag};
-use scan_vm::Trial;
+use scan_code::Tag;
+use scan_vm::{Scan, Trap, Trial};
 use std::alloc::{AllocError, Global};
 
-/// The outcome of one scan of an image, from the start values and on a reading for each tag.
+/// The outcome of the first scan of a trial, on a reading for each tag.
 pub fn scan_outcome(
     alloc: Global,
-    image: Image,
+    trial: &mut Trial,
     readings: &[Reading],
 ) -> Result<Outcome, AllocError>
-    ensures { IfOk result (TellsImage image readings.now) }
+    ensures { (image : Image) → trial.old ≡ started image → IfOk result (TellsImage image readings.now) }
 {
-    let mut trial = Trial::new(alloc, image)?;
     let ending = trial.scan(readings);
     let mut lines = Vec::new(alloc);
-    push_variables(&mut lines, alloc, &trial)?;
-    push_outputs(&mut lines, alloc, &trial)?;
+    let status = push_scan(&mut lines, alloc, trial, ending)?;
+    Ok(Outcome { lines, status })
+}
+
+/// Appends the lines of a scan that ended so, and gives its status.
+fn push_scan(
+    lines: &mut Vec<u8>,
+    alloc: Global,
+    trial: &Trial,
+    ending: Result<Scan, Trap>,
+) -> Result<u8, AllocError>
+    ensures ok { OnOk result (lines.new.items ≡ lines.old.items ++ standing_lines trial.now ++ ending_line ending) }
+    ensures status { IfOk result (λ status. status ≡ ending_status ending) }
+{
+    push_variables(lines, alloc, trial)?;
+    push_outputs(lines, alloc, trial)?;
+    push_ending(lines, alloc, ending)
+}
+
+/// Appends the line of how a scan ended, and gives its status.
+fn push_ending(
+    lines: &mut Vec<u8>,
+    alloc: Global,
+    ending: Result<Scan, Trap>,
+) -> Result<u8, AllocError>
+    ensures ok { OnOk result (lines.new.items ≡ lines.old.items ++ ending_line ending) }
+    ensures status { IfOk result (λ status. status ≡ ending_status ending) }
+{
     match ending {
         Ok(scan) => {
-            push_steps(&mut lines, alloc, scan.steps)?;
-            Ok(Outcome { lines, status: 0 })
+            push_steps(lines, alloc, scan.steps)?;
+            Ok(0)
         }
         Err(trap) => {
-            push_trap(&mut lines, alloc, trap.kind.word(), trap.at)?;
-            Ok(Outcome { lines, status: 1 })
+            push_trap(lines, alloc, trap.kind.word(), trap.at)?;
+            Ok(1)
         }
     }
 }

@@ -1,6 +1,12 @@
 //! The scans of a program on a site, whose devices are asked over a poller.
-ghost use Rattle.std.specs.Prelude.{◌≡◌, ◌≢◌, map, None, string_bytes, IfOk};
-ghost use Rattle.commands.specs.Scans.{IsLast, IsPrinted, IsScans, LeavesOff, OpensCore, StartsCore};
+ghost use Rattle.std.specs.Prelude.{◌≡◌, ◌≢◌, length, map, Err, None, string_bytes, IfOk};
+ghost use Rattle.gateway.specs.Fault.{core_fault_word};
+ghost use Rattle.gateway.specs.declared.fault.CoreFault.TheVariants.{Foreign};
+ghost use Rattle.modbus_frame.specs.Fault.{link_fault_word};
+ghost use Rattle.scan_vm.specs.Machine as vm;
+ghost use Rattle.commands.specs.Report.{bad_core_line, link_line};
+ghost use Rattle.commands.specs.Scans.{IsLast, IsPrinted, IsScans, LeavesOff, MakesCore, OpensCore, StartsCore, unlinked_with};
+ghost use Rattle.commands.specs.Told.{refused_with};
 
 pub use crate::accepted::DEPTH;
 use crate::accepted::{Accepted, accept};
@@ -8,7 +14,9 @@ use crate::outcome::{Outcome, tell_no_memory, tell_unlinked, write_lines};
 use crate::report::{no_core, scanned};
 use gateway::{Core, CoreFault, Poller, run_scan};
 use modbus_frame::{Link, LinkFault};
+use register_map::Map;
 use scan_vm::Machine;
+use site_model::Site;
 use std::alloc::{AllocError, Global};
 use std::io::Write;
 
@@ -106,19 +114,61 @@ fn opened<L: Link>(
 ) -> Result<Result<Core<DEPTH>, Outcome>, AllocError>
     ensures { IfOk result (OpensCore given.site given.verified poller.old poller.new) }
 {
+    match poller.find(alloc, &given.site) {
+        Ok(maps) => core_over(alloc, given, maps),
+        Err(fault) => unfound(alloc, fault),
+    }
+}
+
+/// What is told where the devices' maps aren't found.
+fn unfound(alloc: Global, fault: LinkFault) -> Result<Result<Core<DEPTH>, Outcome>, AllocError>
+    ensures { IfOk result (λ none. none ≡ Err (unlinked_with (link_line (link_fault_word fault)))) }
+{
+    if let LinkFault::OutOfMemory = fault {
+        return Err(AllocError);
+    }
+    Ok(Err(Outcome::unlinked(alloc, fault)?))
+}
+
+/// The core of an accepted program over the maps of its site's devices.
+fn core_over(
+    alloc: Global,
+    given: Accepted,
+    maps: Vec<Option<Map>>,
+) -> Result<Result<Core<DEPTH>, Outcome>, AllocError>
+    requires { length maps.items ≡ length given.site.devices }
+    ensures { IfOk result (MakesCore given.site (vm.opened given.verified) maps.items) }
+{
     let Accepted { site, verified } = given;
-    let maps = match poller.find(alloc, &site) {
-        Ok(maps) => maps,
-        Err(LinkFault::OutOfMemory) => return Err(AllocError),
-        Err(fault) => return Ok(Err(Outcome::unlinked(alloc, fault)?)),
-    };
-    let machine = Machine::new(alloc, verified)?;
+    match Machine::new(alloc, verified) {
+        Ok(machine) => core_with(alloc, site, machine, maps),
+        Err(AllocError) => Err(AllocError),
+    }
+}
+
+/// The core of a machine over the maps of a site's devices.
+fn core_with(
+    alloc: Global,
+    site: Site,
+    machine: Machine<DEPTH>,
+    maps: Vec<Option<Map>>,
+) -> Result<Result<Core<DEPTH>, Outcome>, AllocError>
+    requires { length maps.items ≡ length site.devices }
+    ensures { IfOk result (MakesCore site machine maps.items) }
+{
     match Core::new(alloc, site, machine, maps) {
         Ok(core) => Ok(Ok(core)),
-        Err(CoreFault::OutOfMemory) => Err(AllocError),
-        Err(CoreFault::Foreign) => {
-            let word = CoreFault::Foreign.word();
-            Ok(Err(Outcome::refused(no_core(alloc, word)?)))
-        }
+        Err(fault) => unmade(alloc, fault),
     }
+}
+
+/// What is told where no core is made.
+fn unmade(alloc: Global, fault: CoreFault) -> Result<Result<Core<DEPTH>, Outcome>, AllocError>
+    ensures { IfOk result (λ none. (fault ≡ Foreign) × (none ≡ Err (refused_with (bad_core_line (core_fault_word Foreign))))) }
+{
+    if let CoreFault::OutOfMemory = fault {
+        return Err(AllocError);
+    }
+    let line = no_core(alloc, fault.word())?;
+    Ok(Err(Outcome::refused(line)))
 }

@@ -1,5 +1,7 @@
+//! The text of a file or of standard input.
 ghost use Rattle.std.specs.Prelude.{◌≡◌, ◌≤◌, length, string_bytes, IfOk, IfSome, IsOkUnless};
 
+use crate::standard_input::STANDARD_INPUT;
 use std::alloc::Global;
 use std::fs;
 use std::io::{ErrorKind, Read};
@@ -10,7 +12,7 @@ const LARGEST_FILE: u64 = 16_777_216;
 
 /// Why a file isn't taken: it can't be read to its end, isn't UTF-8, or has too many bytes; or
 /// memory was refused.
-#[derive(Clone, Copy, PartialEq, Eq, Debug)]
+#[derive(Clone, Copy)]
 pub enum SourceFault {
     Unusable,
     OutOfMemory,
@@ -41,7 +43,7 @@ pub fn read_file(
 ) -> Result<String, SourceFault>
     ensures small { IfOk result (λ text. length (string_bytes text) ≤ LARGEST_FILE) }
 {
-    if path == "-" {
+    if path == STANDARD_INPUT {
         return read_text(alloc, rt.reader());
     }
     match fs::open(rt, path) {

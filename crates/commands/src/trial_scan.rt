@@ -1,15 +1,21 @@
-ghost use Rattle.std.specs.Prelude.{IfOk};
+//! The command without words: a trial scan of a program by itself.
+ghost use Rattle.std.specs.Prelude.{◌≡◌, IfOk};
+ghost use Rattle.scan_code.specs.Image.{Image};
+ghost use Rattle.scan_vm.specs.Trial.{started};
 ghost use Rattle.commands.specs.Input as input;
 ghost use Rattle.commands.specs.Outcome.{IsTrial, TellsGivenImage, TellsInput, TellsTree};
+ghost use Rattle.commands.specs.Report.{bad_input_line};
+ghost use Rattle.commands.specs.Told.{refused_with};
 
 use crate::given::readings_given;
 use crate::input::program_length;
 use crate::outcome::{Outcome, tell_no_memory};
-use crate::report::{bad_input, unassembled, unread};
+use crate::report::bad_input;
 use crate::scan::scan_outcome;
-use il_assemble::{AsmFaultKind, assemble};
-use il_reader::{Program, ReadFaultKind, read};
+use il_assemble::assemble;
+use il_reader::{Program, read};
 use scan_code::Image;
+use scan_vm::Trial;
 use std::alloc::{AllocError, Global};
 use std::io::Write;
 
@@ -32,8 +38,7 @@ fn outcome_of(alloc: Global, input: &str) -> Result<Outcome, AllocError>
     let (text, inputs) = input.split_at(program_length(input.as_bytes()));
     match read(alloc, text) {
         Ok(program) => outcome_of_program(alloc, &program, inputs.as_bytes()),
-        Err(fault) if fault.kind == ReadFaultKind::OutOfMemory => Err(AllocError),
-        Err(fault) => Ok(Outcome::refused(unread(alloc, fault.kind.word(), fault.line)?)),
+        Err(fault) => Outcome::unread(alloc, fault),
     }
 }
 
@@ -47,8 +52,7 @@ fn outcome_of_program(
 {
     match assemble(alloc, program) {
         Ok(image) => outcome_of_image(alloc, image, inputs),
-        Err(fault) if fault.kind == AsmFaultKind::OutOfMemory => Err(AllocError),
-        Err(fault) => Ok(Outcome::refused(unassembled(alloc, fault.kind.word(), fault.line)?)),
+        Err(fault) => Outcome::unassembled(alloc, fault),
     }
 }
 
@@ -56,8 +60,25 @@ fn outcome_of_program(
 fn outcome_of_image(alloc: Global, image: Image, inputs: &[u8]) -> Result<Outcome, AllocError>
     ensures { IfOk result (TellsGivenImage image (input.lines_of inputs.now)) }
 {
-    match readings_given(alloc, image.tags.as_slice(), inputs)? {
-        Ok(readings) => scan_outcome(alloc, image, readings.as_slice()),
-        Err(number) => Ok(Outcome::refused(bad_input(alloc, number)?)),
+    let mut trial = Trial::new(alloc, image)?;
+    outcome_of_trial(alloc, &mut trial, inputs)
+}
+
+/// What is told of the first scan of a trial, with the input lines.
+fn outcome_of_trial(alloc: Global, trial: &mut Trial, inputs: &[u8]) -> Result<Outcome, AllocError>
+    ensures { (image : Image) → trial.old ≡ started image → IfOk result (TellsGivenImage image (input.lines_of inputs.now)) }
+{
+    match readings_given(alloc, trial.image().tags.as_slice(), inputs) {
+        Ok(Ok(readings)) => scan_outcome(alloc, trial, readings.as_slice()),
+        Ok(Err(number)) => refused_input(alloc, number),
+        Err(AllocError) => Err(AllocError),
     }
+}
+
+/// What is told of an input line that is refused, by its number.
+fn refused_input(alloc: Global, number: usize) -> Result<Outcome, AllocError>
+    ensures { IfOk result (λ o. o ≡ refused_with (bad_input_line number)) }
+{
+    let line = bad_input(alloc, number)?;
+    Ok(Outcome::refused(line))
 }

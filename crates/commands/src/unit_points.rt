@@ -14,7 +14,7 @@ use model_defs::{ModelDef, Point};
 use point_types::{Kind, value};
 use register_map::{Block, Map, MapFault, ReadFault, Registers, discover};
 use site_model::registers::registers_at;
-use std::alloc::{AllocError, AllocFailed, Global};
+use std::alloc::{AllocError, Global};
 use std::io::Write;
 
 /// Where the mark of a device may stand, in the order of the search.
@@ -62,12 +62,6 @@ impl From<AllocError> for NoModels {
     }
 }
 
-impl<T: Drop> From<AllocFailed<T>> for NoModels {
-    fn from(_refused: AllocFailed<T>) -> Self {
-        NoModels::OutOfMemory
-    }
-}
-
 /// The lines of a unit's models.
 fn models_of<L: Link + Drop>(alloc: Global, link: L, unit: u8) -> Result<Vec<u8>, NoModels>
     ensures { IfOk result (λ lines. (map : Layout) × AreUnitLines map lines.items) }
@@ -77,14 +71,7 @@ fn models_of<L: Link + Drop>(alloc: Global, link: L, unit: u8) -> Result<Vec<u8>
         unit,
         fault: None,
     };
-    let map = device.map()?;
-    let mut lines = Vec::new(alloc);
-    for block in map.blocks() {
-        push_model(&mut lines, alloc, block)?;
-        device.push_points(&mut lines, alloc, block)?;
-    }
-    push_end(&mut lines, alloc, map.end())?;
-    Ok(lines)
+    device.lines(alloc)
 }
 
 /// A unit on a link.
@@ -134,6 +121,21 @@ impl<L: Link> Device<L> {
         self.poller.ask(self.unit, &Request::Read { addr, qty })
     }
 
+    /// The lines of its models.
+    fn lines(&mut self, alloc: Global) -> Result<Vec<u8>, NoModels>
+        ensures { IfOk result (λ lines. (map : Layout) × AreUnitLines map lines.items) }
+    {
+        let map = self.map()?;
+        let mut lines = Vec::new(alloc);
+        for block in map.blocks() {
+            push_model(&mut lines, alloc, block)?;
+            self.push_points(&mut lines, alloc, block)?;
+        }
+        push_end(&mut lines, alloc, map.end())?;
+        Ok(lines)
+    }
+
+    /// The map of its registers.
     fn map(&mut self) -> Result<Map, NoModels> {
         match discover(self, &BASES) {
             Ok(map) => Ok(map),
@@ -153,14 +155,26 @@ impl<L: Link> Device<L> {
     ) -> Result<(), NoModels>
         ensures { OnOk result ((points : List ℕ) × ArePoints points × (lines.new.items ≡ lines.old.items ++ points)) }
     {
-        let model = match shipped_definition(alloc, block.id) {
-            Ok(Some(model)) => model,
-            Ok(None) => return Ok(()),
-            Err(_) => return Err(NoModels::OutOfMemory),
-        };
-        match self.ask(block.addr, registers_of(block, &model)) {
+        match shipped_definition(alloc, block.id) {
+            Ok(Some(model)) => self.push_points_of(lines, alloc, block, &model),
+            Ok(None) => Ok(()),
+            Err(_) => Err(NoModels::OutOfMemory),
+        }
+    }
+
+    /// Appends the lines of a model's points by its definition.
+    fn push_points_of(
+        &mut self,
+        lines: &mut Vec<u8>,
+        alloc: Global,
+        block: &Block,
+        model: &ModelDef,
+    ) -> Result<(), NoModels>
+        ensures { OnOk result ((points : List ℕ) × ArePoints points × (lines.new.items ≡ lines.old.items ++ points)) }
+    {
+        match self.ask(block.addr, registers_of(block, model)) {
             Ok(Answer::Words(words)) => {
-                push_present(lines, alloc, &model, words.as_slice())?;
+                push_present(lines, alloc, model, words.as_slice())?;
                 Ok(())
             }
             Ok(_) => Ok(()),

@@ -1,3 +1,4 @@
+//! The command `check`: the verdict on a program for a site.
 ghost use Rattle.std.specs.Prelude.{map, string_bytes, IfOk};
 ghost use Rattle.commands.specs.Check.{IsCheck, TellsInputs};
 

@@ -9,17 +9,20 @@ use Rattle.site_model.specs.declared.site.Site.{Site}
 use Rattle.site_model.specs.declared.tag.SiteTag.{SiteTag}
 use Rattle.site_model.specs.Readings.{AreSettings}
 use Rattle.verifier.specs.declared.link.Link.{Link}
-use Rattle.verifier.specs.declared.refusal.Refusal.{Refusal}
+use Rattle.facts.specs.declared.refusal.Refusal.{Refusal}
 use Rattle.verifier.specs.Links.{links_from, link_of, refused_at}
 use Rattle.gateway.specs.declared.known.Known.{Known}
 use Rattle.gateway.specs.declared.point.OwnPoint.{OwnPoint}
 use Rattle.gateway.specs.declared.event.Event.{Event}
 use Rattle.gateway.specs.declared.event.Answer.{Answer}
-use Rattle.verifier.specs.Verified.{Acceptance}
-use Rattle.gateway.specs.Core.{Gateway, IsKnown, IsOpening, IsSame, numbers_of}
+use Rattle.register_map.specs.Layout.{Layout}
+use Rattle.scan_vm.specs.Machine.{Running}
+use Rattle.verifier.specs.Verified.{Acceptance, HasLinks}
+use Rattle.gateway.specs.declared.opening.Opening.{Opening}
+use Rattle.gateway.specs.Core.{Gateway, IsCore, IsKnown, IsOpening, IsReady, IsSame, numbers_of, standing_of}
 use Rattle.gateway.specs.Points.{own_points}
 use Rattle.gateway.specs.ServedImage.{AreServed, IsServedImage}
-use Rattle.gateway.specs.SiteRun.{Standing, Steps, none_of, unread}
+use Rattle.gateway.specs.SiteRun.{Standing, Steps, none_of, opened, unread}
 use Rattle.gateway.proofs.Scanning.{none_in}
 
 pub served_again : (site : Site) (outputs : List (Option ℤ)) (readings : List Reading) (sets : List (Option ℤ)) (points given : List OwnPoint) (image kept : List ℕ) → given ≡ points → points ≡ own_points site → kept ≡ image →
@@ -41,6 +44,27 @@ opened_known site k h =
       ranged = subst (λ (ns : List (Option ℤ)). AreSettings site.tags ns) (sym h.sets) (none_in site.tags site.tags);
       stored = subst (λ (ns : List (Option ℤ)). AreSettings site.tags ns) (sym outputs) (none_in site.tags site.tags);
     }
+
+-- a core that begins so, for a program of a machine
+pub ready_core : (site : Site) (maps : List (Option Layout)) (machine : Running) (o : Opening) → HasLinks site.tags machine.accepted.links → length machine.accepted.links ≡ length machine.accepted.image.tags →
+    length maps ≡ length site.devices → IsReady site machine.accepted.links o → IsCore site maps machine o.points o.known o.image.items o.room.items o.inputs.items
+ready_core site maps machine o matched linked mapped h = record {
+  matched = matched;
+  linked = linked;
+  mapped = mapped;
+  own = h.own;
+  known = opened_known site o.known h.known;
+  served = h.served;
+  sized = h.sized;
+  roomy = h.roomy;
+  fed = h.fed;
+}
+
+pub ready_standing : (site : Site) (m : Running) (k : Known) → IsOpening site k → standing_of m k ≡ opened site m.variables
+ready_standing site m k h =
+    let blocks = h.blocks in
+    let sets = h.sets in
+    let last = h.last in cc
 
 -- a link for each tag of an image
 pub links_length : (site : List SiteTag) (n : ℕ) (tags : List Tag) (links : List Link) → links_from site n tags ≡ Ok links → length links ≡ length tags

@@ -10,6 +10,7 @@ use Rattle.site_model.specs.Readings.{AreSettings}
 use Rattle.gateway.specs.declared.event.Event.{Event}
 use Rattle.gateway.specs.declared.event.Answer.{Answer}
 use Rattle.gateway.specs.declared.known.Known.{Known}
+use Rattle.gateway.specs.declared.opening.Opening.{Opening}
 use Rattle.gateway.specs.declared.point.OwnPoint.{OwnPoint}
 use Rattle.gateway.specs.Points.{own_points, all_registers}
 use Rattle.gateway.specs.ServedImage.{IsServedImage}
@@ -72,6 +73,15 @@ pub record IsOpening (site : Site) (k : Known) : Type 0 where
   pub blocks : k.blocks.items ≡ none_of site.wants
   pub sets : k.sets.items ≡ none_of site.tags
   pub last : last_of k ≡ unscanned site
+
+-- what a core makes for a site and a program of such links: nothing is known, and the registers are those of the served image
+pub record IsReady (site : Site) (links : List Link) (o : Opening) : Type 0 where
+  pub own : o.points ≡ own_points site
+  pub known : IsOpening site o.known
+  pub served : IsServedImage site o.known.outputs.items o.known.readings.items o.known.sets.items o.image.items
+  pub sized : length o.image.items ≡ all_registers o.points
+  pub roomy : length o.room.items ≡ length site.tags
+  pub fed : length o.inputs.items ≡ length links
 
 -- the registers are those of the served image, and the program is one for the site
 pub record IsCore (site : Site) (maps : List (Option Layout)) (machine : Running) (points : List OwnPoint) (k : Known) (image : List ℕ) (room : List (Option ℤ)) (inputs : List Reading) : Type 0 where

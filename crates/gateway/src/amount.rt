@@ -9,7 +9,7 @@ use point_types::Reading;
 use site_model::{Access, Site, SiteTag, Source as Given};
 
 /// A value: `number * 10^exponent`, to be served by a scale factor, None where that is absent.
-#[derive(Clone, Copy, PartialEq, Eq, Debug)]
+#[derive(Clone, Copy)]
 pub struct Amount {
     pub number: i64,
     /// In -10..10.

@@ -1,3 +1,4 @@
+//! What happens to a gateway, and what it answers.
 use modbus_frame::Pdu;
 use site_model::Words;
 

@@ -1,3 +1,4 @@
+//! The core of a gateway: one state, one step for each event.
 ghost use Rattle.std.specs.Prelude.{◌≡◌, ◌<◌, length, IfSome};
 ghost use Rattle.std.specs.List.{position};
 ghost use Rattle.site_model.specs.Wants.{same_want};
@@ -6,9 +7,8 @@ ghost use Rattle.gateway.specs.SiteRun.{told, with_block};
 use crate::event::{Answer, Event};
 use crate::fault::CoreFault;
 use crate::known::Known;
-use crate::opening::{blank_image, no_inputs, no_numbers, nothing_known};
+use crate::opening::opening_for;
 use crate::point::OwnPoint;
-use crate::points::own_points;
 use crate::request::read;
 use crate::scan::scan;
 use crate::served::serve;
@@ -73,25 +73,19 @@ impl<const DEPTH: usize> Core<DEPTH> {
         ensures matched { OnOk result (HasLinks site.tags machine.entry.accepted.links) }
         ensures foreign { IfErr result (λ e. e ≡ Foreign → HasLinks site.tags machine.entry.accepted.links → ⊥) }
     {
-        if !machine.verified().matches(&site) {
-            return Err(CoreFault::Foreign);
+        match opening_for(alloc, &site, machine.verified()) {
+            Ok(opening) => Ok(Core {
+                site,
+                maps,
+                machine,
+                points: opening.points,
+                known: opening.known,
+                image: opening.image,
+                room: opening.room,
+                inputs: opening.inputs,
+            }),
+            Err(fault) => Err(fault),
         }
-        let points = own_points(alloc, &site)?;
-        let known = nothing_known(alloc, &site)?;
-        let mut image = blank_image(alloc, points.as_slice())?;
-        let room = no_numbers(alloc, site.tags())?;
-        let inputs = no_inputs(alloc, machine.verified().links())?;
-        serve(points.as_slice(), &site, &known, &mut image);
-        Ok(Core {
-            site,
-            maps,
-            machine,
-            points,
-            known,
-            image,
-            room,
-            inputs,
-        })
     }
 
     /// What happens on one event: the words of a wanted block are kept, or forgotten; the program runs once; a client's

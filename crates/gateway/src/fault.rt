@@ -1,3 +1,4 @@
+//! Why there is no core for a program and a site.
 ghost use Rattle.std.specs.Prelude.{◌≡◌};
 
 use std::alloc::{AllocError, AllocFailed};

@@ -1,3 +1,4 @@
+//! What a core keeps beside its machine.
 use point_types::Reading;
 use site_model::Words;
 

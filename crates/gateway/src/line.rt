@@ -1,3 +1,4 @@
+//! A link to the devices, and what is asked over it.
 ghost use Rattle.std.specs.Prelude.{◌≡◌, ℕ, List, None, IfOk};
 ghost use Rattle.std.specs.Io.KnownBytes.{prepend_known};
 ghost use Rattle.modbus_frame.specs.Exchange.{left};

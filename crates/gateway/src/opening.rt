@@ -1,18 +1,68 @@
 //! What a core begins with. All memory that its events need is taken here.
-ghost use Rattle.std.specs.Prelude.{◌≡◌, ◌+◌, length, map, IfOk, OnOk};
-ghost use Rattle.gateway.specs.Core.{IsOpening};
+ghost use Rattle.std.specs.Prelude.{◌≡◌, ◌+◌, length, map, IfOk, IfErr, OnOk};
+ghost use Rattle.verifier.specs.Verified.{HasLinks};
+ghost use Rattle.gateway.specs.declared.fault.CoreFault.TheVariants.{Foreign};
+ghost use Rattle.gateway.specs.Core.{IsOpening, IsReady};
 ghost use Rattle.gateway.specs.Points.{all_registers};
+ghost use Rattle.gateway.specs.ServedImage.{AreServed};
 ghost use Rattle.gateway.specs.SiteRun.{none_of, unread};
 
+use crate::fault::CoreFault;
 use crate::known::Known;
 use crate::point::OwnPoint;
-use point_types::{Cause, Reading};
+use crate::points::own_points;
+use crate::served::serve;
+use point_types::{Cause, Items, Reading};
 use site_model::{Site, SiteTag, Words};
 use std::alloc::{AllocError, Global};
-use verifier::Link;
+use verifier::{Link, Verified};
+
+/// All that a core makes for itself.
+#[derive(Drop)]
+pub(crate) struct Opening {
+    pub(crate) points: Items<OwnPoint>,
+    pub(crate) known: Known,
+    pub(crate) image: Vec<u16>,
+    pub(crate) room: Vec<Option<i64>>,
+    pub(crate) inputs: Vec<Reading>,
+}
+
+/// What a core for this site and this program begins with. Foreign: the program was accepted for tags that the site
+/// doesn't have so.
+pub(crate) fn opening_for<const DEPTH: usize>(
+    alloc: Global,
+    site: &Site,
+    verified: &Verified<DEPTH>,
+) -> Result<Opening, CoreFault>
+    ensures ready { IfOk result (IsReady site.now verified.now.links) }
+    ensures matched { OnOk result (HasLinks site.now.tags verified.now.links) }
+    ensures foreign { IfErr result (λ e. e ≡ Foreign → HasLinks site.now.tags verified.now.links → ⊥) }
+{
+    if !verified.matches(site) {
+        return Err(CoreFault::Foreign);
+    }
+    Ok(made(alloc, site, verified.links())?)
+}
+
+fn made(alloc: Global, site: &Site, links: &[Link]) -> Result<Opening, AllocError>
+    ensures { IfOk result (IsReady site.now links.now) }
+{
+    let room = no_numbers(alloc, site.tags())?;
+    let inputs = no_inputs(alloc, links)?;
+    let points = own_points(alloc, site)?;
+    let known = nothing_known(alloc, site)?;
+    let image = first_image(alloc, points.as_slice(), site, &known)?;
+    Ok(Opening {
+        points,
+        known,
+        image,
+        room,
+        inputs,
+    })
+}
 
 /// Nothing is known or set, and there was no scan.
-pub(crate) fn nothing_known(alloc: Global, site: &Site) -> Result<Known, AllocError>
+fn nothing_known(alloc: Global, site: &Site) -> Result<Known, AllocError>
     ensures { IfOk result (IsOpening site.now) }
 {
     let blocks = no_blocks(alloc, site.wants())?;
@@ -37,7 +87,7 @@ fn no_blocks(alloc: Global, wants: &[(usize, u16)]) -> Result<Vec<Option<Words>>
 }
 
 /// No number for each tag.
-pub(crate) fn no_numbers(alloc: Global, tags: &[SiteTag]) -> Result<Vec<Option<i64>>, AllocError>
+fn no_numbers(alloc: Global, tags: &[SiteTag]) -> Result<Vec<Option<i64>>, AllocError>
     ensures { IfOk result (λ numbers. numbers.items ≡ none_of tags.now) }
 {
     tags.iter().map(|_| None).collect(alloc)
@@ -52,7 +102,7 @@ fn no_readings(alloc: Global, tags: &[SiteTag]) -> Result<Vec<Reading>, AllocErr
 }
 
 /// A place for the reading of each of a program's tags.
-pub(crate) fn no_inputs(alloc: Global, links: &[Link]) -> Result<Vec<Reading>, AllocError>
+fn no_inputs(alloc: Global, links: &[Link]) -> Result<Vec<Reading>, AllocError>
     ensures { IfOk result (λ inputs. length inputs.items ≡ length links.now) }
 {
     links
@@ -61,8 +111,23 @@ pub(crate) fn no_inputs(alloc: Global, links: &[Link]) -> Result<Vec<Reading>, A
         .collect(alloc)
 }
 
+/// The served image where that is known.
+fn first_image(
+    alloc: Global,
+    points: &[OwnPoint],
+    site: &Site,
+    known: &Known,
+) -> Result<Vec<u16>, AllocError>
+    ensures served { IfOk result (λ image. AreServed site.now known.now.outputs.items known.now.readings.items known.now.sets.items points.now image.items) }
+    ensures sized { IfOk result (λ image. length image.items ≡ all_registers points.now) }
+{
+    let mut image = blank_image(alloc, points)?;
+    serve(points, site, known, &mut image);
+    Ok(image)
+}
+
 /// So many registers as the points have.
-pub(crate) fn blank_image(alloc: Global, points: &[OwnPoint]) -> Result<Vec<u16>, AllocError>
+fn blank_image(alloc: Global, points: &[OwnPoint]) -> Result<Vec<u16>, AllocError>
     ensures { IfOk result (λ image. length image.items ≡ all_registers points.now) }
 {
     let mut image = Vec::new(alloc);

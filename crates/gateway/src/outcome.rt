@@ -1,3 +1,4 @@
+//! What came of a request to a device.
 ghost use Rattle.std.specs.Prelude.{◌≡◌, ◌≤◌, length};
 ghost use Rattle.gateway.specs.LinkRun.{outcome_by, Suits};
 ghost use Rattle.modbus_frame.specs.Message.{response_of};

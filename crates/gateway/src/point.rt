@@ -1,7 +1,8 @@
+//! The points of the gateway's own map, and where their numbers come from.
 use point_types::Kind;
 
 /// Where the number of a point of the gateway's own models comes from.
-#[derive(Clone, Copy, PartialEq, Eq, Debug)]
+#[derive(Clone, Copy)]
 pub enum Source {
     /// From nowhere: it is unimplemented.
     Nothing,
@@ -12,7 +13,7 @@ pub enum Source {
 }
 
 /// A point of the gateway's own map (SunSpec Device Information Model Specification, models and points).
-#[derive(Clone, Copy, PartialEq, Eq, Debug)]
+#[derive(Clone, Copy)]
 pub enum OwnPoint {
     /// One register whose word never changes: of the mark, a model's ID or length, or the end model.
     Word(u16),

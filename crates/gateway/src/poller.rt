@@ -1,3 +1,4 @@
+//! The poller: the gateway's side of the link to the devices.
 ghost use Rattle.std.specs.Prelude.{◌≡◌, ℕ, List, None, Err, IfSome, IfOk, IfErr};
 ghost use Rattle.std.specs.Io.KnownBytes.{prepend_known};
 ghost use Rattle.modbus_frame.specs.Message.{HasQuantity};

@@ -119,7 +119,7 @@ left_of (l ∷ ls) [] = 0
 left_of (l ∷ ls) (t ∷ ts) = (l - t) + left_of ls ts
 
 -- one more is taken
-one_less : (ls ts : List ℕ) (k l n : ℕ) → slice_get ls k ≡ Some l → slice_get ts k ≡ Some n → n < l → left_of ls (slice_set ts k (n + 1)) + 1 ≡ left_of ls ts
+pub one_less : (ls ts : List ℕ) (k l n : ℕ) → slice_get ls k ≡ Some l → slice_get ts k ≡ Some n → n < l → left_of ls (slice_set ts k (n + 1)) + 1 ≡ left_of ls ts
 one_less [] ts k l n e f h = absurd (differ e)
   where
     differ : None ≡ Some l → ⊥

@@ -21,11 +21,12 @@ use Rattle.il_assemble.specs.Meaning.{Program, Line, has_label}
 use Rattle.il_assemble.specs.Meaning as resolved
 use Rattle.il_assemble.specs.Code.{action_code, lines_code, past, label_address, code_of_program, image_of}
 use Rattle.il_assemble.specs.Correct.{Has, IsAction, AreLines, IsDeclared, IsWell, DoesWhatItMeans, stands}
-use Rattle.il_assemble.specs.Limit.{most_names, most_counted, most_code}
+use Rattle.il_reader.specs.Limit.{most_names}
+use Rattle.il_assemble.specs.Limit.{most_counted, most_code}
 use Rattle.il_assemble.specs.Names.{Scope, known_as, tags_of}
 use Rattle.il_assemble.specs.Typing.{loaded_type, type_after_line}
 use Rattle.il_assemble.specs.StaticFault.{unless, store_fault, is_count, is_labelled, is_labelled_so, label_place, jump_fault, checked_line, checked_lines}
-use Rattle.il_assemble.specs.Elaboration.{target, resolved_action, label_of, resolved_line, turns_of, limits_of, resolved_lines, too_long, unless_variable, unless_external, is_action_within, nested, counted, behind, measured, declared_var, names_seen, named_apart, scope_of, program_of, elaborated}
+use Rattle.il_assemble.specs.Elaboration.{target, resolved_action, label_of, resolved_line, turns_of, limits_of, resolved_lines, too_long, unless_variable, unless_external, is_action_within, nested, counted, behind, measured, passing_line, undivided, declared_var, names_seen, named_apart, scope_of, program_of, elaborated}
 use Rattle.il_assemble.specs.Kept.{address_in, addresses_of}
 use Rattle.il_assemble.specs.Assembled.{IsAssembled, StartsAreInRange, WhatElaboratesIsWell}
 use Rattle.il_assemble.proofs.Leads.{past_append}
@@ -205,7 +206,7 @@ module _ (g : Scope) where
       let next = counter + length (turns_of s.action) in
       let after = type_after_line g running ss s.action in
       let b = behind a act in
-      let x = if_ok (nat_le next most_counted && nat_le b most_code) (measured g end_line b next after ss) (too_long s.line) e in
+      let x = if_ok (nat_le next most_counted && nat_le b most_code) (measured g end_line b next after ss) (too_long (passing_line g a running ss s.line s.action)) e in
       let y = both (nat_le next most_counted) (nat_le b most_code) x.0 in
       let r = measured_ok end_line b (place + 1) next after ss address (leb-true next most_counted y.0) x.1 in
       let rest = lines_code address (resolved_lines g (place + 1) next after ss) in
@@ -345,6 +346,7 @@ pub record IsElaborated (t : Tree) : Type 0 where
   pub variables : unless_variable (slice_get t.variables most_names) ≡ Ok tt
   pub externals : unless_external (slice_get t.externals most_names) ≡ Ok tt
   pub shallow : nested t.statements ≡ Ok tt
+  pub whole : undivided t.variables ≡ Ok tt
   pub apart : named_apart t.variables t.externals (names_seen (scope_of t)) ≡ Ok tt
   pub checked : checked_lines (scope_of t) 0 None t.statements ≡ Ok tt
   pub short : measured (scope_of t) t.end_line 0 0 None t.statements ≡ Ok tt
@@ -357,13 +359,14 @@ pub parts : (t : Tree) (p : Program) → elaborated t ≡ Ok p → IsElaborated 
 parts t p e =
     let g = scope_of t in
     let apart = named_apart t.variables t.externals (names_seen g) in
-    let a = bind_ok (counted t.variables t.externals t.statements) (λ _. apart >>= λ _. checked_lines g 0 None t.statements >>= λ _. measured g t.end_line 0 0 None t.statements >>= λ _. Ok (program_of g)) p e in
-    let n = bind_ok apart (λ _. checked_lines g 0 None t.statements >>= λ _. measured g t.end_line 0 0 None t.statements >>= λ _. Ok (program_of g)) p a.2 in
+    let a = bind_ok (counted t.variables t.externals t.statements) (λ _. undivided t.variables >>= λ _. apart >>= λ _. checked_lines g 0 None t.statements >>= λ _. measured g t.end_line 0 0 None t.statements >>= λ _. Ok (program_of g)) p e in
+    let u = bind_ok (undivided t.variables) (λ _. apart >>= λ _. checked_lines g 0 None t.statements >>= λ _. measured g t.end_line 0 0 None t.statements >>= λ _. Ok (program_of g)) p a.2 in
+    let n = bind_ok apart (λ _. checked_lines g 0 None t.statements >>= λ _. measured g t.end_line 0 0 None t.statements >>= λ _. Ok (program_of g)) p u.2 in
     let b = bind_ok (checked_lines g 0 None t.statements) (λ _. measured g t.end_line 0 0 None t.statements >>= λ _. Ok (program_of g)) p n.2 in
     let c = bind_ok (measured g t.end_line 0 0 None t.statements) (λ _. Ok (program_of g)) p b.2 in
     let d = first_ok (unless_variable (slice_get t.variables most_names)) (unless_external (slice_get t.externals most_names) >>= λ _. nested t.statements) a.1 in
     let f = first_ok (unless_external (slice_get t.externals most_names)) (nested t.statements) d.1 in
-    (record { variables = d.0; externals = f.0; shallow = f.1; apart = n.1; checked = b.1; short = c.1 }, cc)
+    (record { variables = d.0; externals = f.0; shallow = f.1; whole = u.1; apart = n.1; checked = b.1; short = c.1 }, cc)
 
 from_start : {A : Type 0} (xs : List A) (k : ℕ) → slice_get xs (0 + k) ≡ slice_get xs k
 from_start xs k = let q : 0 + k ≡ k = omega arith in ap (λ n. slice_get xs n) q
@@ -399,9 +402,10 @@ elaborates : (t : Tree) → IsElaborated t → elaborated t ≡ Ok (program_of (
 elaborates t x =
     let g = scope_of t in
     let apart = named_apart t.variables t.externals (names_seen g) in
-    ap (λ r. (r >>= λ _. unless_external (slice_get t.externals most_names) >>= λ _. nested t.statements) >>= λ _. apart >>= λ _. checked_lines g 0 None t.statements >>= λ _. measured g t.end_line 0 0 None t.statements >>= λ _. Ok (program_of g)) x.variables
-    ∙ ap (λ r. (r >>= λ _. nested t.statements) >>= λ _. apart >>= λ _. checked_lines g 0 None t.statements >>= λ _. measured g t.end_line 0 0 None t.statements >>= λ _. Ok (program_of g)) x.externals
-    ∙ ap (λ r. r >>= λ _. apart >>= λ _. checked_lines g 0 None t.statements >>= λ _. measured g t.end_line 0 0 None t.statements >>= λ _. Ok (program_of g)) x.shallow
+    ap (λ r. (r >>= λ _. unless_external (slice_get t.externals most_names) >>= λ _. nested t.statements) >>= λ _. undivided t.variables >>= λ _. apart >>= λ _. checked_lines g 0 None t.statements >>= λ _. measured g t.end_line 0 0 None t.statements >>= λ _. Ok (program_of g)) x.variables
+    ∙ ap (λ r. (r >>= λ _. nested t.statements) >>= λ _. undivided t.variables >>= λ _. apart >>= λ _. checked_lines g 0 None t.statements >>= λ _. measured g t.end_line 0 0 None t.statements >>= λ _. Ok (program_of g)) x.externals
+    ∙ ap (λ r. r >>= λ _. undivided t.variables >>= λ _. apart >>= λ _. checked_lines g 0 None t.statements >>= λ _. measured g t.end_line 0 0 None t.statements >>= λ _. Ok (program_of g)) x.shallow
+    ∙ ap (λ r. r >>= λ _. apart >>= λ _. checked_lines g 0 None t.statements >>= λ _. measured g t.end_line 0 0 None t.statements >>= λ _. Ok (program_of g)) x.whole
     ∙ ap (λ r. r >>= λ _. checked_lines g 0 None t.statements >>= λ _. measured g t.end_line 0 0 None t.statements >>= λ _. Ok (program_of g)) x.apart
     ∙ ap (λ r. r >>= λ _. measured g t.end_line 0 0 None t.statements >>= λ _. Ok (program_of g)) x.checked
     ∙ ap (λ r. r >>= λ _. Ok (program_of g)) x.short

@@ -1,10 +1,12 @@
 pub mod Forms
 pub mod Writing
+pub mod Parts
 pub mod Leads
 pub mod Fetch
 pub mod Simples
 pub mod Clean
 pub mod Actions
+pub mod Turns
 pub mod Lines
 pub mod Bytes
 pub mod Numbers

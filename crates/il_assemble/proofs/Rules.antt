@@ -5,20 +5,22 @@ use Rattle.std.proofs.lemmas.List.Folds.{list_any-append}
 use Rattle.point_types.specs.Name.{is_name}
 use Rattle.point_types.specs.declared.variable.Var.{Var}
 use Rattle.scan_code.specs.declared.image.Tag.{Tag}
-use Rattle.scan_code.specs.Image.{Image, IsProper, are_new, is_among, is_new, is_version, names_of, tag_name}
+use Rattle.std.specs.List.{list_all}
+use Rattle.scan_code.specs.Image.{Image, IsProper, are_new, is_among, is_new, is_version, is_whole_if_bool, names_of, tag_name}
 use Rattle.scan_code.specs.Spelling.{spelled_all}
 use Rattle.il_reader.specs.declared.tree.Program.{Program as Tree}
 use Rattle.il_reader.specs.declared.tree.Variable.{Variable}
 use Rattle.il_reader.specs.declared.tree.External.{External}
 use Rattle.il_assemble.specs.declared.fault.AsmFault.{AsmFault}
+use Rattle.il_assemble.specs.declared.fault.AsmFaultKind.TheVariants as kind
 use Rattle.il_assemble.specs.Meaning.{Program}
 use Rattle.il_assemble.specs.Assembled.{ImagesAreProper, IsAssembled, NamesStayDifferent, declared_name, external_name}
 use Rattle.il_assemble.specs.Code.{code_of_program, image_of, lines_code, version_of}
 use Rattle.il_assemble.specs.Kept.{address_in, addresses_of}
-use Rattle.il_assemble.specs.Limit.{most_names}
+use Rattle.il_reader.specs.Limit.{most_names}
 use Rattle.il_assemble.specs.Names.{Scope, tags_of, uses_of}
 use Rattle.il_assemble.specs.StaticFault.{checked_lines}
-use Rattle.il_assemble.specs.Elaboration.{declared_var, first_line, limits_of, measured, named_apart, names_seen, nested, program_of, resolved_lines, scope_of, too_long, unless_external, unless_variable}
+use Rattle.il_assemble.specs.Elaboration.{declared_var, first_line, limits_of, measured, named_apart, names_seen, nested, program_of, resolved_lines, scope_of, too_long, undivided, unless_external, unless_variable}
 use Rattle.il_assemble.proofs.Bytes.{code_is_of_bytes}
 use Rattle.il_assemble.proofs.Sound.{both, negated}
 use Rattle.il_assemble.proofs.Elaborating.{IsElaborated, code_same, few_externals, few_variables, fewer_tags, parts, passes_assemble, well}
@@ -33,6 +35,14 @@ apart_ok : (b : Bool) (fault : AsmFault) → ◌≡◌ {A = Result (Unit {0}) As
 apart_ok true fault e = refl
 apart_ok false fault e = cc
 
+undivided_whole : (vs : List Variable) → undivided vs ≡ Ok tt → list_all is_whole_if_bool (map declared_var vs) ≡ true
+undivided_whole [] e = refl
+undivided_whole (v ∷ vs) e = either (is_whole_if_bool v.var) (undivided_whole vs) e
+  where
+    either : (b : Bool) → (undivided vs ≡ Ok tt → list_all is_whole_if_bool (map declared_var vs) ≡ true) → ◌≡◌ {A = Result (Unit {0}) AsmFault} (if b then undivided vs else Err (record { line = v.line; kind = kind.LiteralType })) (Ok tt) → (b && list_all is_whole_if_bool (map declared_var vs)) ≡ true
+    either true h e = h e
+    either false h e = cc
+
 is_proper : (t : Tree) → IsElaborated t → IsProper (image_of (program_of (scope_of t)))
 is_proper t x = record {
   versioned = versions (limits_of t.statements);
@@ -40,6 +50,7 @@ is_proper t x = record {
   few_tags = omega (arith, fewer_tags t.externals (scope_of t).uses, few_externals t.externals x.externals);
   short = (code_is_of_bytes (program_of (scope_of t)) (well t x)).1;
   distinct = apart_ok (are_new [] (names_seen (scope_of t))) (too_long (first_line t.variables t.externals)) x.apart;
+  whole_bools = undivided_whole t.variables x.whole;
 }
 
 pub images_are_proper : ImagesAreProper
@@ -113,13 +124,13 @@ Made t uses =
     → IsMade t (record { version = version; vars = vars; tags = tags; code = code })
 
 pub made : (t : Tree) (uses : List (Option Bool)) → uses ≡ uses_of t.variables t.externals t.statements
-    → unless_variable (slice_get t.variables most_names) ≡ Ok tt → unless_external (slice_get t.externals most_names) ≡ Ok tt → nested t.statements ≡ Ok tt → Made t uses
-made t uses e variables externals shallow =
+    → unless_variable (slice_get t.variables most_names) ≡ Ok tt → unless_external (slice_get t.externals most_names) ≡ Ok tt → nested t.statements ≡ Ok tt → undivided t.variables ≡ Ok tt → Made t uses
+made t uses e variables externals shallow whole =
     subst (Made t) (sym e) (λ checked short addresses found version vars tags code v w x y named.
     let bytes : code ≡ spelled_all (code_of_program (program_of (scope_of t))) = y ∙ ap (λ ns. spelled_all (lines_code (address_in ns) (resolved_lines (scope_of t) 0 0 None t.statements))) found ∙ ap spelled_all (code_same (scope_of t) checked) in
     let apart : named_apart t.variables t.externals (names_seen (scope_of t)) ≡ Ok tt =
     ap (λ (vs : List Var). named_apart t.variables t.externals (names_of vs (tags_of t.externals (scope_of t).uses))) (sym w) ∙ ap (λ (ts : List Tag). named_apart t.variables t.externals (names_of vars ts)) (sym x) ∙ named in
-    let sound : IsElaborated t = record { variables = variables; externals = externals; shallow = shallow; apart = apart; checked = checked; short = short } in
+    let sound : IsElaborated t = record { variables = variables; externals = externals; shallow = shallow; whole = whole; apart = apart; checked = checked; short = short } in
     let image : Image = record { version = version; vars = vars; tags = tags; code = code } in
     let same : image ≡ image_of (program_of (scope_of t)) = λ i. record { version = v i; vars = w i; tags = x i; code = bytes i } in
     record {

@@ -3,7 +3,7 @@ use Rattle.std.proofs.Common.{◌≡◌, ◌≢◌, ◌⊎◌, inl, inr, ⊎_eli
 use Rattle.point_types.specs.declared.il_type.IlType.{IlType}
 use Rattle.point_types.specs.declared.il_type.IlType.TheVariants as il
 use Rattle.point_types.specs.Value.{◌>>=◌}
-use Rattle.scan_code.specs.Image.{are_new}
+use Rattle.scan_code.specs.Image.{are_new, is_whole_if_bool}
 use Rattle.il_reader.specs.declared.tree.Variable.{Variable}
 use Rattle.il_reader.specs.declared.tree.External.{External}
 use Rattle.il_reader.specs.declared.tree.Statement.{Statement}
@@ -17,11 +17,12 @@ use Rattle.il_assemble.specs.declared.fault.AsmFaultKind.TheVariants as kind
 use Rattle.il_assemble.specs.declared.names.Known.{Known}
 use Rattle.il_assemble.specs.declared.names.Known.TheVariants as known
 use Rattle.il_assemble.specs.Assembled.{StaticFaultsWantNoMemory}
-use Rattle.il_assemble.specs.Limit.{most_names, most_counted, most_code}
+use Rattle.il_reader.specs.Limit.{most_names}
+use Rattle.il_assemble.specs.Limit.{most_counted, most_code}
 use Rattle.il_assemble.specs.Names.{Scope, known_as, is_loaded, is_stored}
 use Rattle.il_assemble.specs.Typing.{is_literal_of, or_dint, type_beside, whole_type, loaded_type, loaded_inner_type, type_after, type_inside, type_after_line}
 use Rattle.il_assemble.specs.StaticFault.{number_of, lowest, unless, load_fault, store_fault, operand_fault, first_fault, is_conversion, at_line, checked_simple, checked_inner, is_count, label_place, jump_fault, checked_line, checked_lines}
-use Rattle.il_assemble.specs.Elaboration.{resolved_action, turns_of, too_long, unless_variable, unless_external, is_action_within, nested, counted, behind, measured, first_line, named_apart, names_seen, scope_of, program_of}
+use Rattle.il_assemble.specs.Elaboration.{resolved_action, turns_of, too_long, unless_variable, unless_external, is_action_within, nested, counted, behind, measured, passing_line, undivided, first_line, named_apart, names_seen, scope_of, program_of}
 use Rattle.il_assemble.specs.Written.{Written, Load, Apply, Defer, Limit, Select, Invert, Absolute, Convert, Inner, Close, Then}
 
 bind_err : {A B E : Type 0} (x : Result A E) (f : A → Result B E) (e : E) → (x >>= f) ≡ Err e → (x ≡ Err e) ⊎ ((a : A) × (f a ≡ Err e))
@@ -137,11 +138,21 @@ module _ (g : Scope) where
       let b = behind a (option_map (resolved_action g counter running ss) s.action) in
       let next = counter + length (turns_of s.action) in
       let after = type_after_line g running ss s.action in
-      static_if (nat_le next most_counted && nat_le b most_code) (measured g end_line b next after ss) s.line fault (λ h. static_measure end_line b next after ss fault h) e
+      static_if (nat_le next most_counted && nat_le b most_code) (measured g end_line b next after ss) (passing_line g a running ss s.line s.action) fault (λ h. static_measure end_line b next after ss fault h) e
 
   static_nested : (ss : List Statement) (fault : AsmFault) → nested ss ≡ Err fault → IsStatic fault.kind
   static_nested [] fault e = cc
   static_nested (s ∷ ss) fault e = static_if (is_action_within s.action) (nested ss) s.line fault (λ h. static_nested ss fault h) e
+
+  static_bools : (vs : List Variable) (fault : AsmFault) → undivided vs ≡ Err fault → IsStatic fault.kind
+  static_bools [] fault e = cc
+  static_bools (v ∷ vs) fault e = either (is_whole_if_bool v.var) (static_bools vs fault) e
+    where
+      either : (b : Bool) → (undivided vs ≡ Err fault → IsStatic fault.kind) → (if b then undivided vs else Err (record { line = v.line; kind = kind.LiteralType })) ≡ Err fault → IsStatic fault.kind
+      either true h e = h e
+      either false h e =
+          let same : record { line = v.line; kind = kind.LiteralType } ≡ fault = cc in
+          subst (λ (f : AsmFault). IsStatic f.kind) same (λ h. cc)
 
   static_variable : (o : Option Variable) (fault : AsmFault) → unless_variable o ≡ Err fault → IsStatic fault.kind
   static_variable None fault e = cc
@@ -166,6 +177,8 @@ static_faults_want_no_memory t fault e =
     (bind_err (unless_external (slice_get t.externals most_names)) (λ _. nested t.statements) fault k.1))
     (bind_err (unless_variable (slice_get t.variables most_names)) (λ _. unless_external (slice_get t.externals most_names) >>= λ _. nested t.statements) fault h))
     (λ h. ⊎_elim
+    (λ u. static_bools g t.variables fault u)
+    (λ u. ⊎_elim
     (λ k. static_if g (are_new [] (names_seen g)) (Ok tt) (first_line t.variables t.externals) fault (λ h. cc) k)
     (λ k. ⊎_elim
     (λ m. static_lines g 0 None t.statements fault m)
@@ -174,5 +187,6 @@ static_faults_want_no_memory t fault e =
     (λ n. cc)
     (bind_err (measured g t.end_line 0 0 None t.statements) (λ _. Ok (program_of g)) fault m.1))
     (bind_err (checked_lines g 0 None t.statements) last fault k.1))
-    (bind_err apart lines fault h.1))
-    (bind_err (counted t.variables t.externals t.statements) (λ _. apart >>= lines) fault e)
+    (bind_err apart lines fault u.1))
+    (bind_err (undivided t.variables) (λ _. apart >>= lines) fault h.1))
+    (bind_err (counted t.variables t.externals t.statements) (λ _. undivided t.variables >>= λ _. apart >>= lines) fault e)

@@ -1,7 +1,9 @@
 -- What the assembler answers: the image of a program that elaborates, or the program's first static fault.
-use Rattle.std.specs.Prelude.{◌≡◌, ◌≢◌, ℕ, ◌<◌, ◌⊎◌, true, Ok, Err, map, length, List, [], ◌++◌}
+use Rattle.std.specs.Prelude.{◌≡◌, ◌≢◌, ℕ, ◌<◌, ◌⊎◌, true, Ok, Err, Option, map, length, List, [], ◌∷◌, ◌++◌}
 use Rattle.scan_code.specs.Image.{Image, IsProper, are_new}
 use Rattle.scan_code.specs.Table.{start_of}
+use Rattle.scan_code.specs.declared.op.Op.{Op}
+use Rattle.point_types.specs.declared.il_type.IlType.{IlType}
 use Rattle.point_types.specs.declared.variable.Var.{Var}
 use Rattle.il_reader.specs.declared.tree.Program.{Program as Tree}
 use Rattle.il_reader.specs.declared.tree.Variable.{Variable}
@@ -9,9 +11,11 @@ use Rattle.il_reader.specs.declared.tree.External.{External}
 use Rattle.il_assemble.specs.declared.fault.AsmFault.{AsmFault}
 use Rattle.il_assemble.specs.declared.fault.AsmFaultKind.TheVariants as kind
 use Rattle.il_assemble.specs.Meaning.{Program}
-use Rattle.il_assemble.specs.Code.{image_of}
+use Rattle.il_assemble.specs.Code.{image_of, simple_code}
 use Rattle.il_assemble.specs.Correct.{AreVariables, IsWell, DoesWhatItMeans}
-use Rattle.il_assemble.specs.Elaboration.{elaborated, named_apart, names_seen, scope_of}
+use Rattle.il_assemble.specs.Elaboration.{Part, elaborated, named_apart, names_seen, parts_of, resolved_simple, scope_of}
+use Rattle.il_assemble.specs.Names.{Scope}
+use Rattle.il_assemble.specs.Written.{Written}
 use Rattle.il_assemble.specs.Word.{out_of_memory}
 
 -- no static fault holds: the image is that of the resolved program's code, and the machine on it does what the program means
@@ -21,6 +25,16 @@ pub record IsAssembled (tree : Tree) (image : Image) : Type 0 where
   pub coded : image ≡ image_of program
   pub right : DoesWhatItMeans program image
   pub short : length image.code < 65536
+
+-- the code of parts, one behind the other
+abbrev pub code_of : List Part → List Op
+code_of [] = []
+code_of (p ∷ ps) = p.code ++ code_of ps
+
+-- the parts of an instruction, by which the line is told whose code passes the limit, make up its code
+abbrev pub PartsAreTheCode : Type 0
+PartsAreTheCode =
+    (g : Scope) (line : ℕ) (running : Option IlType) (loaded : IlType) (w : Written) → code_of (parts_of g line running loaded w) ≡ simple_code (resolved_simple g running loaded w)
 
 abbrev pub WhatElaboratesIsWell : Type 0
 WhatElaboratesIsWell = (tree : Tree) (program : Program) → elaborated tree ≡ Ok program → IsWell program

@@ -1,5 +1,5 @@
 -- The main theorem's statement: the machine on the code of a program does what the program means.
-use Rattle.std.specs.Prelude.{◌≡◌, ℕ, suc, ◌<◌, ◌≤◌, max, Bool, true, false, ◌||◌, ℤ, List, [], ◌∷◌, ◌++◌, ◌+◌, length, Option, Some, None, slice_get, nat_eq, All}
+use Rattle.std.specs.Prelude.{◌≡◌, ℕ, zero, suc, sum, ◌<◌, ◌≤◌, max, Bool, true, false, ◌||◌, ℤ, List, [], ◌∷◌, ◌++◌, ◌+◌, length, Option, Some, None, slice_get, nat_eq, All}
 use Rattle.point_types.specs.declared.operator.Condition.{Condition}
 use Rattle.point_types.specs.declared.reading.Reading.{Reading}
 use Rattle.point_types.specs.declared.reading.Reading.TheVariants as reading
@@ -7,7 +7,7 @@ use Rattle.point_types.specs.Value.{low_of, high_of, is_within, is_bool, code_of
 use Rattle.point_types.specs.declared.variable.Var.{Var}
 use Rattle.scan_code.specs.declared.image.Tag.{Tag}
 use Rattle.scan_code.specs.Table.{input_kind, output_kind}
-use Rattle.il_assemble.specs.Meaning.{Program, Line, Source, Variable, Input, Presence, Constant, Simple, Load, Apply, Defer, Limit, Select, Invert, Absolute, Convert, Inner, Close, Then, Place, InVariable, InOutput, Action, Compute, Store, Set, Jump, Repeat, Return, Outcome, Done, Fails, has_label, meaning}
+use Rattle.il_assemble.specs.Meaning.{Program, Line, Source, Variable, Input, Presence, Constant, Simple, Load, Apply, Defer, Limit, Select, Invert, Absolute, Convert, Inner, Close, Then, Place, InVariable, InOutput, Action, Compute, Store, Set, Jump, Repeat, Return, Outcome, Done, Fails, Aim, Seek, State as Before, has_label, walked, turns_from, meaning}
 use Rattle.scan_code.specs.Image.{Image}
 use Rattle.scan_code.specs.Machine.{State, Ending, Ended, Trapped, Unfinished, At_fault, opening, run}
 use Rattle.il_assemble.specs.Code.{action_code, code_of_program, image_of, past}
@@ -165,6 +165,22 @@ pub record DoesWhatItMeans (p : Program) (image : Image) : Type 0 where
       (readings : List Reading) (variables : List ℤ) → AreReadings image.tags readings → AreVariables image.vars variables
       → (n : ℕ) → IsOver (run image readings 0 n (opening image variables))
       → EndsAs (run image readings 0 n (opening image variables)) (meaning p readings variables)
+
+-- Turns of counted jumps.
+
+-- evaluation from a label, with something else in place of its end where no turn is left
+abbrev pub turns_or : (ℕ → Before → Outcome) → Program → List Reading → ℕ → ℕ → Before → Outcome
+turns_or otherwise p readings zero label s = otherwise label s
+turns_or otherwise p readings (suc turns) label s = walked p readings (turns_or otherwise p readings turns) p.body (Seek label) s
+
+-- The turns that evaluation is given never run out: from any lines, with any aim and whatever has been counted, it ends
+-- alike with more turns, and whatever else would be given where none is left. So it ends at the last line, by a return or
+-- by a fault.
+abbrev pub TurnsNeverRunOut : Type 0
+TurnsNeverRunOut =
+    (p : Program) (readings : List Reading) (otherwise : ℕ → Before → Outcome) (more : ℕ) (earlier lines : List Line) (aim : Aim) (s : Before)
+    → AreLines p [] p.body → AreLines p earlier lines
+    → walked p readings (turns_or otherwise p readings (sum p.limits + more)) lines aim s ≡ walked p readings (turns_from p readings (sum p.limits)) lines aim s
 
 -- the code is of bytes, and so few that each address takes two of them
 abbrev pub CodeIsOfBytes : Type 0

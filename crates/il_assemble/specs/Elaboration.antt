@@ -5,8 +5,11 @@ use Rattle.point_types.specs.declared.il_type.IlType.{IlType}
 use Rattle.point_types.specs.declared.il_type.IlType.TheVariants as il
 use Rattle.point_types.specs.declared.variable.Var.{Var}
 use Rattle.point_types.specs.Value.{truth, ◌>>=◌}
-use Rattle.scan_code.specs.Image.{are_new, names_of}
+use Rattle.scan_code.specs.Image.{are_new, is_whole_if_bool, names_of}
+use Rattle.scan_code.specs.declared.op.Op.{Op}
+use Rattle.scan_code.specs.declared.op.Op.TheVariants as does
 use Rattle.scan_code.specs.Spelling.{spelled_all}
+use Rattle.il_reader.specs.Limit.{most_names, most_nested}
 use Rattle.il_reader.specs.declared.tree.Program.{Program as Tree}
 use Rattle.il_reader.specs.declared.tree.Variable.{Variable}
 use Rattle.il_reader.specs.declared.tree.External.{External}
@@ -21,8 +24,8 @@ use Rattle.il_assemble.specs.declared.names.Known.{Known}
 use Rattle.il_assemble.specs.declared.names.Known.TheVariants as known
 use Rattle.il_assemble.specs.Meaning.{Program, Line, Source, Place}
 use Rattle.il_assemble.specs.Meaning as resolved
-use Rattle.il_assemble.specs.Code.{action_code}
-use Rattle.il_assemble.specs.Limit.{most_names, most_nested, most_counted, most_code}
+use Rattle.il_assemble.specs.Code.{action_code, not_code, simple_code, start_code}
+use Rattle.il_assemble.specs.Limit.{most_counted, most_code}
 use Rattle.il_assemble.specs.Names.{Scope, known_as, tag_place, tags_of, uses_of}
 use Rattle.il_assemble.specs.Typing.{or_dint, type_beside, whole_type, loaded_type, loaded_inner_type, type_after, type_inside, type_after_line}
 use Rattle.il_assemble.specs.StaticFault.{label_place, checked_lines}
@@ -172,6 +175,40 @@ counted variables externals statements =
 abbrev pub behind : ℕ → Option resolved.Action → ℕ
 behind a action = a + length (spelled_all (action_code (λ label. 0) action))
 
+-- A part of an instruction's code, and the line that it belongs to.
+pub record Part : Type 0 where
+  pub line : ℕ
+  pub code : List Op
+
+-- An instruction's code in parts, in order: what stands before the lines inside parentheses and the operator behind them
+-- belong to the line of the opening one, and each line inside has its own. Without parentheses there is one part.
+abbrev mutual
+  pub parts_of : Scope → ℕ → Option IlType → IlType → Written → List Part
+  parts_of g line running loaded (Defer o negated first inner) =
+      record { line = line; code = does.Push ∷ start_code (first_source g (or_dint running) first) }
+      ∷ (inner_parts g (type_inside g running first) (whole_type running) inner ++ record { line = line; code = not_code negated ++ does.Apply o ∷ [] } ∷ [])
+  parts_of g line running loaded w = record { line = line; code = simple_code (resolved_simple g running loaded w) } ∷ []
+
+  pub inner_parts : Scope → Option IlType → IlType → Inner → List Part
+  inner_parts g running else_type Close = []
+  inner_parts g running else_type (Then line head tail) =
+      parts_of g line running (loaded_inner_type g else_type tail) head
+      ++ inner_parts g (type_after g running (loaded_inner_type g else_type tail) head) il.Dint tail
+
+-- where the first part begins at an address: the address behind the last one, or the line of the first whose code passes the limit
+abbrev pub reached : ℕ → List Part → Result ℕ ℕ
+reached a [] = Ok a
+reached a (p ∷ ps) = let b = a + length (spelled_all p.code) in if nat_le b most_code then reached b ps else Err p.line
+
+abbrev pub line_or : ℕ → Result ℕ ℕ → ℕ
+line_or line (Ok a) = line
+line_or line (Err passing) = passing
+
+-- the line of a statement where its code passes the limit, from the address where it begins
+abbrev pub passing_line : Scope → ℕ → Option IlType → List Statement → ℕ → Option Action → ℕ
+passing_line g a running rest line (Some (action.Compute simple)) = line_or line (reached a (parts_of g line running (loaded_type g rest) simple))
+passing_line g a running rest line _ = line
+
 -- the line whose code passes the limit, or that has a counted jump more than there may be; the line of the program's end where the last END passes it
 abbrev pub measured : Scope → ℕ → ℕ → ℕ → Option IlType → List Statement → Result (Unit {0}) AsmFault
 measured g end_line a counter running [] = if nat_le (a + 1) most_code then Ok tt else Err (too_long end_line)
@@ -180,7 +217,7 @@ measured g end_line a counter running (s ∷ ss) =
     let next = counter + length (turns_of s.action) in
     if nat_le next most_counted && nat_le b most_code
     then measured g end_line b next (type_after_line g running ss s.action) ss
-    else Err (too_long s.line)
+    else Err (too_long (passing_line g a running ss s.line s.action))
 
 -- Names.
 
@@ -201,6 +238,11 @@ first_line [] [] = 0
 abbrev pub named_apart : List Variable → List External → List (List ℕ) → Result (Unit {0}) AsmFault
 named_apart variables externals names = if are_new [] names then Ok tt else Err (too_long (first_line variables externals))
 
+-- a BOOL with a range of its own, which no text gives
+abbrev pub undivided : List Variable → Result (Unit {0}) AsmFault
+undivided [] = Ok tt
+undivided (v ∷ vs) = if is_whole_if_bool v.var then undivided vs else Err (record { line = v.line; kind = kind.LiteralType })
+
 -- The whole program.
 
 abbrev pub scope_of : Tree → Scope
@@ -218,6 +260,7 @@ program_of g = record {
 abbrev pub elaborated : Tree → Result Program AsmFault
 elaborated t =
     counted t.variables t.externals t.statements
+    >>= λ _. undivided t.variables
     >>= λ _. named_apart t.variables t.externals (names_seen (scope_of t))
     >>= λ _. checked_lines (scope_of t) 0 None t.statements
     >>= λ _. measured (scope_of t) t.end_line 0 0 None t.statements

@@ -1,5 +1,5 @@
 -- How the code keeps what the definitions speak of.
-use Rattle.std.specs.Prelude.{ℕ, ◌+◌, List, [], ◌∷◌, length, Option, option_map, slice_get, unwrap_or}
+use Rattle.std.specs.Prelude.{◌≡◌, ℕ, ◌+◌, List, [], ◌∷◌, length, if◌then◌else◌, Option, Result, Ok, Err, nat_le, option_map, slice_get, unwrap_or}
 use Rattle.point_types.specs.declared.il_type.IlType.{IlType}
 use Rattle.il_reader.specs.declared.tree.Statement.{Statement}
 use Rattle.il_assemble.specs.declared.source.Source.{Source}
@@ -10,7 +10,8 @@ use Rattle.il_assemble.specs.declared.scope.Scope.{Scope as Kept}
 use Rattle.il_assemble.specs.Meaning as resolved
 use Rattle.il_assemble.specs.Names.{Scope}
 use Rattle.il_assemble.specs.Typing.{type_after_line}
-use Rattle.il_assemble.specs.Elaboration.{behind, resolved_action, turns_of}
+use Rattle.il_assemble.specs.Limit.{most_code}
+use Rattle.il_assemble.specs.Elaboration.{Part, behind, reached, resolved_action, turns_of}
 
 abbrev pub meant_source : Source → resolved.Source
 meant_source (source.Variable i) = resolved.Variable i
@@ -24,6 +25,15 @@ meant_place (place.Output i) = resolved.InOutput i
 
 abbrev pub seen : Kept → Scope
 seen s = record { variables = s.variables.now; externals = s.externals.now; uses = s.uses.now; statements = s.statements.now }
+
+-- what is answered where so many bytes of code end in this line: that they pass the limit, or nothing
+abbrev pub within : ℕ → ℕ → Result (Unit {0}) ℕ
+within a line = if nat_le a most_code then Ok tt else Err line
+
+-- parts that are written up to the first that passes the limit, from an address up to one
+abbrev pub Reaches : ℕ → List Part → Result (Unit {0}) ℕ → ℕ → Type 0
+Reaches a parts (Ok u) b = reached a parts ≡ Ok b
+Reaches a parts (Err passing) b = reached a parts ≡ Err passing
 
 -- where each line begins; 0 where that isn't known yet
 abbrev pub address_in : List ℕ → ℕ → ℕ

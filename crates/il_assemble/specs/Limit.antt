@@ -1,12 +1,7 @@
--- How much a program may have: names of each kind, parentheses in one another, counted jumps, bytes of code.
--- IEC 61131-3 (edition 2), 2.1.2 and 3.2 leave these numbers to the implementation.
+-- How much a program may have: counted jumps, bytes of code. How many names of each kind and parentheses in one another
+-- is the reader's limit (il_reader `Limit`).
+-- IEC 61131-3 (edition 2), 3.2 leaves these numbers to the implementation.
 use Rattle.std.specs.Prelude.{ℕ}
-
-abbrev pub most_names : ℕ
-most_names = 1024
-
-abbrev pub most_nested : ℕ
-most_nested = 100
 
 abbrev pub most_counted : ℕ
 most_counted = 256

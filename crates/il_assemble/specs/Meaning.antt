@@ -189,7 +189,9 @@ walked p readings again (line ∷ lines) aim s =
     then walked p readings again lines aim s
     else continued again (walked p readings again lines) (move_from p readings line.action s)
 
--- with so many turns of counted jumps left, evaluation from a label of the whole body
+-- With so many turns of counted jumps left, evaluation from a label of the whole body. At first there are as many as all
+-- limits together allow. Each turn raises one count that is below its limit, so they never run out: what would be given
+-- then is nothing's meaning (`TurnsNeverRunOut` of `Correct`).
 abbrev pub turns_from : Program → List Reading → ℕ → ℕ → State → Outcome
 turns_from p readings zero label s = finished s
 turns_from p readings (suc turns) label s = walked p readings (turns_from p readings turns) p.body (Seek label) s

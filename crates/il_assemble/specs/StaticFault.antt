@@ -5,6 +5,7 @@ use Rattle.std.specs.Str.{bytes_eq}
 use Rattle.point_types.specs.declared.il_type.IlType.{IlType}
 use Rattle.point_types.specs.declared.il_type.IlType.TheVariants as il
 use Rattle.point_types.specs.Value.{is_bool, code_of, ◌>>=◌}
+use Rattle.il_reader.specs.Limit.{most_turns}
 use Rattle.il_reader.specs.declared.tree.Statement.{Statement}
 use Rattle.il_reader.specs.declared.tree.Action.{Action}
 use Rattle.il_reader.specs.declared.tree.Action.TheVariants as action
@@ -113,9 +114,9 @@ abbrev pub label_place : Scope → List ℕ → Option ℕ
 label_place g label = position (is_labelled label) g.statements
 
 abbrev pub is_count : ℕ → Bool
-is_count turns = nat_le 1 turns && nat_le turns 255
+is_count turns = nat_le 1 turns && nat_le turns most_turns
 
--- a jump from a line goes to a later one, a counted jump to its own or an earlier one, at most 1 to 255 times
+-- a jump from a line goes to a later one, a counted jump to its own or an earlier one, and that once at least
 abbrev pub jump_fault : ℕ → Option ℕ → Option ℕ → Option AsmFaultKind
 jump_fault place turns None = Some kind.UnknownLabel
 jump_fault place None (Some target) = unless (nat_le (place + 1) target) kind.BackwardJump

@@ -1,15 +1,16 @@
+//! From a program's tree to its image.
 ghost use Rattle.std.specs.Prelude.{◌≡◌, ◌≤◌, length, IfOk, IfErr, map};
 ghost use Rattle.il_assemble.specs.Assembled.{IsAssembled, IsRefused};
 ghost use Rattle.il_assemble.specs.Code.{version_of};
 ghost use Rattle.il_assemble.specs.Elaboration.{declared_var, first_line, limits_of, named_apart};
-ghost use Rattle.il_assemble.specs.Limit.{most_names};
+ghost use Rattle.il_reader.specs.Limit.{most_names};
 ghost use Rattle.il_assemble.specs.Names.{unused, uses_of};
 ghost use Rattle.scan_code.specs.Image.{names_of};
 
 use crate::check::check_lines;
 use crate::emit::{count_turns, emit_lines};
 use crate::fault::AsmFault;
-use crate::limits::{check_nesting, count_externals, count_variables, too_long};
+use crate::limits::{check_bools, check_nesting, count_externals, count_variables, too_long};
 use crate::measure::measure;
 use crate::scope::Scope;
 use crate::uses::{note_uses, tags};
@@ -22,9 +23,11 @@ use std::alloc::{AllocError, Global};
 ///
 /// The machine's run over the image ends with the variables and outputs that the program means, or traps with
 /// its fault, whatever its variables and inputs are. A fault names the first line at fault and the lowest
-/// kind there; code that is too long and a counted jump too many come after all others; line 0 is want of
-/// memory. A program of more variables, externals or nested parentheses than a reader lets pass is too long
-/// at the first one past the limit, and one in whose image a name would come twice at its first declaration.
+/// kind there; code that is too long and a counted jump too many come after all others, and the line of the
+/// first is that whose code passes the limit, inside parentheses that of the inner instruction; line 0 is want
+/// of memory. A program of more variables, externals or nested parentheses than a reader lets pass is too long
+/// at the first one past the limit, and one in whose image a name would come twice at its first declaration;
+/// a BOOL with another range than 0..1, which no text gives, is LiteralType at its declaration.
 pub fn assemble(alloc: Global, program: &Program) -> Result<Image, AsmFault>
     ensures assembled { IfOk result (IsAssembled program.now) }
     ensures refused { IfErr result (IsRefused program.now) }
@@ -35,6 +38,7 @@ pub fn assemble(alloc: Global, program: &Program) -> Result<Image, AsmFault>
     count_variables(variables)?;
     count_externals(externals)?;
     check_nesting(statements)?;
+    check_bools(variables)?;
     let uses = find_uses(alloc, variables, externals, statements)?;
     let scope = Scope {
         variables,

@@ -1,3 +1,4 @@
+//! The static faults of a statement.
 ghost use Rattle.std.specs.Prelude.{◌≡◌, None};
 ghost use Rattle.il_assemble.specs.Kept.{seen};
 ghost use Rattle.il_assemble.specs.Names.{known_as};

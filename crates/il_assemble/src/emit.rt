@@ -1,3 +1,4 @@
+//! The code of a statement.
 ghost use Rattle.std.specs.Prelude.{◌≡◌, ◌++◌, ◌+◌, ◌≤◌, ℕ, Some, None, OnOk, length, option_map};
 ghost use Rattle.scan_code.specs.Spelling.{spelled, spelled_all};
 ghost use Rattle.il_assemble.specs.Code.{action_code, constant_of, inner_code, lines_code, load_of, not_code, return_of, set_of, simple_code, start_code, store_code, store_of};
@@ -121,7 +122,7 @@ fn address_in(addresses: &[u16], place: usize) -> u16
 }
 
 /// The N behind an operator.
-fn emit_not(code: &mut Vec<u8>, negated: bool) -> Result<(), AllocError>
+pub(crate) fn emit_not(code: &mut Vec<u8>, negated: bool) -> Result<(), AllocError>
     ensures { OnOk result (code.new.items ≡ code.old.items ++ spelled_all (not_code negated)) }
 {
     if negated {
@@ -131,7 +132,7 @@ fn emit_not(code: &mut Vec<u8>, negated: bool) -> Result<(), AllocError>
 }
 
 /// The load of an operand right behind a parenthesis, where there is one.
-fn emit_first(
+pub(crate) fn emit_first(
     code: &mut Vec<u8>,
     scope: Scope<'_>,
     wanted: IlType,
@@ -189,7 +190,7 @@ fn emit_select(code: &mut Vec<u8>, if_false: Source, if_true: Source) -> Result<
 
 /// Appends the code of an instruction, by the type of the result before it and that of a literal that it loads.
 #[cycle(emit_simple)]
-fn emit_simple(
+pub(crate) fn emit_simple(
     code: &mut Vec<u8>,
     scope: Scope<'_>,
     running: Option<IlType>,

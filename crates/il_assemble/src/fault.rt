@@ -1,3 +1,4 @@
+//! Why a program has no image.
 ghost use Rattle.std.specs.Prelude.{◌≡◌, codes};
 
 use std::alloc::{AllocError, AllocFailed};

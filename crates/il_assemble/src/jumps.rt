@@ -1,3 +1,4 @@
+//! The lines of labels, and which jumps go back.
 ghost use Rattle.std.specs.Prelude.{◌≡◌};
 ghost use Rattle.il_assemble.specs.Elaboration.{target};
 ghost use Rattle.il_assemble.specs.Kept.{seen};

@@ -1,6 +1,7 @@
-ghost use Rattle.il_assemble.specs.Assembled.{ImagesAreProper, NamesStayDifferent, StartsAreInRange, StaticFaultsWantNoMemory, WhatElaboratesIsWell};
+//! Laws: code does what its program means.
+ghost use Rattle.il_assemble.specs.Assembled.{ImagesAreProper, NamesStayDifferent, PartsAreTheCode, StartsAreInRange, StaticFaultsWantNoMemory, WhatElaboratesIsWell};
 ghost use Rattle.il_assemble.specs.Examples.{ExamplesHold};
-ghost use Rattle.il_assemble.specs.Correct.{CodeIsOfBytes, CodeDoesWhatTheProgramMeans, EachEndIsTheMeaning, NumberedCountersFindTheirLimits, RunsThatAreOverStayOver, SizesDependOnTheFormAlone};
+ghost use Rattle.il_assemble.specs.Correct.{CodeIsOfBytes, CodeDoesWhatTheProgramMeans, EachEndIsTheMeaning, NumberedCountersFindTheirLimits, RunsThatAreOverStayOver, SizesDependOnTheFormAlone, TurnsNeverRunOut};
 
 /// The machine on the code of a program does what the program means: it ends with the same variables and outputs, or stops with the same fault.
 pub fn code_does_what_the_program_means()
@@ -17,6 +18,12 @@ pub fn each_end_is_the_meaning()
     ensures { EachEndIsTheMeaning }
 {}
 
+/// The turns of counted jumps that evaluation is given never run out: it ends at the last line, by a return
+/// or by a fault.
+pub fn turns_never_run_out()
+    ensures { TurnsNeverRunOut }
+{}
+
 /// The code of a program is of bytes, and so few that each address takes two of them.
 pub fn code_is_of_bytes()
     ensures { CodeIsOfBytes }
@@ -30,6 +37,11 @@ pub fn sizes_depend_on_the_form_alone()
 /// Where counters are numbered in order, and the table is of their limits in order, each finds its own.
 pub fn numbered_counters_find_their_limits()
     ensures { NumberedCountersFindTheirLimits }
+{}
+
+/// The parts of an instruction, by which the line is told whose code passes the limit, make up its code.
+pub fn parts_are_the_code()
+    ensures { PartsAreTheCode }
 {}
 
 /// What elaborates is well formed.

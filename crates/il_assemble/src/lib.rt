@@ -10,6 +10,7 @@ pub mod laws;
 mod limits;
 mod measure;
 mod names;
+mod passing;
 mod scope;
 mod source;
 mod typing;

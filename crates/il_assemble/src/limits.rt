@@ -1,10 +1,12 @@
+//! The most names of a program, and the ranges of its variables.
 ghost use Rattle.std.specs.Prelude.{◌≡◌, length, ◌+◌, ◌≤◌, slice_get};
-ghost use Rattle.il_assemble.specs.Elaboration.{is_action_within, is_inner_within, is_nested_within, nested, too_long, unless_external, unless_variable};
-ghost use Rattle.il_assemble.specs.Limit.{most_names};
+ghost use Rattle.il_assemble.specs.Elaboration.{is_action_within, is_inner_within, is_nested_within, nested, too_long, undivided, unless_external, unless_variable};
+ghost use Rattle.il_reader.specs.Limit.{most_names};
 ghost use Rattle.il_assemble.specs.Written.{written, written_inner};
 
 use crate::fault::{AsmFault, AsmFaultKind};
 use il_reader::{Action, External, InnerLine, Simple, Statement, Variable};
+use scan_code::is_whole_if_bool;
 
 /// The most variables of a program, and the most externals.
 pub(crate) const MOST_NAMES: usize = 1024;
@@ -45,6 +47,21 @@ pub(crate) fn count_externals(externals: &[External]) -> Result<(), AsmFault>
         Some(extra) => Err(too_long(extra.line)),
         None => Ok(()),
     }
+}
+
+/// Whether each BOOL has the range 0..1.
+pub(crate) fn check_bools(variables: &[Variable]) -> Result<(), AsmFault>
+    ensures { result ≡ undivided variables.now }
+{
+    for variable in variables {
+        if !is_whole_if_bool(&variable.var) {
+            return Err(AsmFault {
+                line: variable.line,
+                kind: AsmFaultKind::LiteralType,
+            });
+        }
+    }
+    Ok(())
 }
 
 /// Whether no more parentheses than `room` stand in one another.

@@ -1,3 +1,4 @@
+//! The first pass: where each line's code begins.
 ghost use Rattle.std.specs.Prelude.{◌≡◌, ◌⊎◌, None, Ok, Err, IfOk, IfErr};
 ghost use Rattle.il_assemble.specs.Elaboration.{measured};
 ghost use Rattle.il_assemble.specs.Kept.{addresses_of, seen};
@@ -6,6 +7,7 @@ ghost use Rattle.il_assemble.specs.Word.{out_of_memory};
 use crate::emit::{count_turns, emit_line};
 use crate::fault::AsmFault;
 use crate::limits::{MOST_CODE, MOST_COUNTED, too_long};
+use crate::passing::passing_line;
 use crate::scope::Scope;
 use crate::typing::type_after_line;
 use il_reader::Statement;
@@ -30,14 +32,17 @@ pub(crate) fn measure(
     let mut rest = statements;
     while let [statement, after @ ..] = rest {
         let action = &statement.action;
-        addresses.push(code.len() as u16)?;
+        let begin = code.len();
+        addresses.push(begin as u16)?;
         let counted = counter + count_turns(action);
         if counted > MOST_COUNTED {
             return Err(too_long(statement.line));
         }
         emit_line(&mut code, scope, &[], counter, running, after, action)?;
         if code.len() > MOST_CODE {
-            return Err(too_long(statement.line));
+            code.truncate(begin);
+            let line = passing_line(&mut code, scope, running, after, statement)?;
+            return Err(too_long(line));
         }
         running = type_after_line(scope, running, after, action);
         counter = counted;

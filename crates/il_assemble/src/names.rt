@@ -1,3 +1,4 @@
+//! What a name of a program stands for, presences among them.
 ghost use Rattle.std.specs.Prelude.{◌≡◌, position};
 ghost use Rattle.il_assemble.specs.Kept.{seen};
 ghost use Rattle.il_assemble.specs.Names.{is_called, is_external, is_presence_of, known_as, known_type, named_type};

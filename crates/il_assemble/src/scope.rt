@@ -1,5 +1,6 @@
+//! What a statement is assembled against.
 ghost use Rattle.std.specs.Prelude.{◌≤◌, length};
-ghost use Rattle.il_assemble.specs.Limit.{most_names};
+ghost use Rattle.il_reader.specs.Limit.{most_names};
 
 use il_reader::{External, Statement, Variable};
 

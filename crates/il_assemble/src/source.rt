@@ -1,3 +1,4 @@
+//! Where an operand's value comes from, and where one is stored.
 use point_types::IlType;
 
 /// Where an operand's value comes from: the variable or tag at a place, or a literal with its type.

@@ -1,3 +1,4 @@
+//! The type that the result has along a program.
 ghost use Rattle.std.specs.Prelude.{◌≡◌, drop};
 ghost use Rattle.std.specs.Option.{option_copied};
 ghost use Rattle.il_assemble.specs.Kept.{seen};

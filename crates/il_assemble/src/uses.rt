@@ -1,3 +1,4 @@
+//! Which externals are loaded, and which are stored.
 ghost use Rattle.std.specs.Prelude.{◌≡◌, OnOk, IfOk, ◌≤◌, ◌++◌, length, slice_get};
 ghost use Rattle.il_assemble.specs.Kept.{seen};
 ghost use Rattle.il_assemble.specs.Names.{is_loaded, is_stored, known_as, noted, noted_load, noted_store, tag_place, tags_of, uses_after, uses_of_action, uses_of_first, uses_of_inner, uses_of_operand, uses_of_simple};

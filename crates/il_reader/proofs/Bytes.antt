@@ -8,9 +8,10 @@ use Rattle.il_reader.specs.declared.lexer.Lexed.{Lexed}
 use Rattle.il_reader.specs.declared.state.State.{State}
 use Rattle.il_reader.specs.declared.state.State.TheVariants as state
 use Rattle.il_reader.specs.declared.reader.Reader.{Reader}
+use Rattle.il_reader.specs.Limit.{most_bytes}
 use Rattle.il_reader.specs.Tokens.{lexed, at_end, line_behind}
 use Rattle.il_reader.specs.Drafting.{Move}
-use Rattle.il_reader.specs.Reading.{step, stepped, onward, taken, state_read, byte_read, fed_on, fed, opening, Outcome, Reads, AtFault, TooSoon, early, end_reached, end_read, judged, outcome, answered, text_limit}
+use Rattle.il_reader.specs.Reading.{step, stepped, onward, taken, state_read, byte_read, fed_on, fed, opening, Outcome, Reads, AtFault, TooSoon, early, end_reached, end_read, judged, outcome, answered}
 use Rattle.il_reader.specs.Grammar.{Placed, placed, Scan, Tokens, NoTokens, of_line, last_tokens, joined, scanned_on, scanned, IsProgramText}
 use Rattle.il_reader.specs.Laws.{ReadingIsExact, AtMostOneProgram}
 use Rattle.il_reader.proofs.Back.{run_back}
@@ -58,11 +59,11 @@ took [] r p h = go (at_end r.mode) refl h
     go (Err k) e h = absurd (cc)
 took (b ∷ bs) r p h = go (λ r' h. took bs r' p h) (lexed r.mode b) refl h
   where
-    go : ((r' : Reader) → judged (fed r' bs) ≡ Reads p → Took r' bs p) → (x : Result Lexed ReadFaultKind) → lexed r.mode b ≡ x → judged (fed_on (byte_read r b x) (λ r'. fed r' bs)) ≡ Reads p → Took r (b ∷ bs) p
+    go : ((r' : Reader) → judged (fed r' bs) ≡ Reads p → Took r' bs p) → (x : Result Lexed ReadFaultKind) → lexed r.mode b ≡ x → judged (fed_on (byte_read r b bs x) (λ r'. fed r' bs)) ≡ Reads p → Took r (b ∷ bs) p
     go on (Err k) e h = absurd (cc)
     go on (Ok x) e h = turn (taken r.state x r.line) refl h
       where
-        turn : (move : Move) → taken r.state x r.line ≡ move → judged (fed_on (state_read r b x move) (λ r'. fed r' bs)) ≡ Reads p → Took r (b ∷ bs) p
+        turn : (move : Move) → taken r.state x r.line ≡ move → judged (fed_on (state_read r b bs x move) (λ r'. fed r' bs)) ≡ Reads p → Took r (b ∷ bs) p
         turn (Err k) w h = absurd (cc)
         turn (Ok s) w h = join (on (record { line = line_behind b r.line; last = r.line; mode = x.mode; state = s }) h)
           where
@@ -81,20 +82,20 @@ takes [] r p ts e h = go (at_end r.mode) e
     go (Err k) e = absurd (cc)
 takes (b ∷ bs) r p ts e h = go (λ r' us e h. takes bs r' p us e h) (lexed r.mode b) e
   where
-    go : ((r' : Reader) (us : List Placed) → scanned r'.line r'.mode bs ≡ Tokens us → run r'.state us ≡ Ok (state.Over p) → judged (fed r' bs) ≡ Reads p) → (x : Result Lexed ReadFaultKind) → scanned_on r.line x (λ q'. scanned (line_behind b r.line) q' bs) ≡ Tokens ts → judged (fed_on (byte_read r b x) (λ r'. fed r' bs)) ≡ Reads p
+    go : ((r' : Reader) (us : List Placed) → scanned r'.line r'.mode bs ≡ Tokens us → run r'.state us ≡ Ok (state.Over p) → judged (fed r' bs) ≡ Reads p) → (x : Result Lexed ReadFaultKind) → scanned_on r.line x (λ q'. scanned (line_behind b r.line) q' bs) ≡ Tokens ts → judged (fed_on (byte_read r b bs x) (λ r'. fed r' bs)) ≡ Reads p
     go on (Err k) e = absurd (cc)
     go on (Ok x) e = rest (scanned (line_behind b r.line) x.mode bs) refl e
       where
         here : List Placed
         here = of_line r.line x.ended ++ of_line r.line x.own
 
-        rest : (z : Scan) → scanned (line_behind b r.line) x.mode bs ≡ z → joined here z ≡ Tokens ts → judged (fed_on (state_read r b x (taken r.state x r.line)) (λ r'. fed r' bs)) ≡ Reads p
+        rest : (z : Scan) → scanned (line_behind b r.line) x.mode bs ≡ z → joined here z ≡ Tokens ts → judged (fed_on (state_read r b bs x (taken r.state x r.line)) (λ r'. fed r' bs)) ≡ Reads p
         rest NoTokens g e = absurd (cc)
         rest (Tokens us) g e =
             let same : here ++ us ≡ ts = cc in
             turn (taken r.state x r.line) (ap (λ z. onward z (λ s'. run s' us)) (taken_run r.state x r.line) ∙ sym (run_append r.state here us) ∙ ap (run r.state) same ∙ h)
           where
-            turn : (move : Move) → onward move (λ s'. run s' us) ≡ Ok (state.Over p) → judged (fed_on (state_read r b x move) (λ r'. fed r' bs)) ≡ Reads p
+            turn : (move : Move) → onward move (λ s'. run s' us) ≡ Ok (state.Over p) → judged (fed_on (state_read r b bs x move) (λ r'. fed r' bs)) ≡ Reads p
             turn (Ok s) w = on (record { line = line_behind b r.line; last = r.line; mode = x.mode; state = s }) us g w
             turn (Err k) w = absurd (cc)
 
@@ -113,19 +114,19 @@ answers (AtFault f) p h = absurd (cc)
 answers (TooSoon f) p h = absurd (cc)
 
 pub reading_is_exact : ReadingIsExact
-reading_is_exact text p = (there (nat_lt text_limit (length text)) refl, (λ (h, few). back (nat_lt text_limit (length text)) refl h few))
+reading_is_exact text p = (there (nat_lt most_bytes (length text)) refl, (λ (h, few). back (nat_lt most_bytes (length text)) refl h few))
   where
-    there : (b : Bool) → nat_lt text_limit (length text) ≡ b → (if b then Err (record { line = 1; kind = fault.TooLong }) else answered (outcome text)) ≡ Ok p → IsProgramText text p × (length text ≤ text_limit)
+    there : (b : Bool) → nat_lt most_bytes (length text) ≡ b → (if b then Err (record { line = 1; kind = fault.TooLong }) else answered (outcome text)) ≡ Ok p → IsProgramText text p × (length text ≤ most_bytes)
     there true e h = absurd (cc)
     there false e h = (read_is_program text p (answers (outcome text) p h), small e)
       where
-        small : nat_lt text_limit (length text) ≡ false → length text ≤ text_limit
+        small : nat_lt most_bytes (length text) ≡ false → length text ≤ most_bytes
         small e = grind (arith, Rattle.std.proofs.lemmas.Bool.Decides.nat_tests)
 
-    back : (b : Bool) → nat_lt text_limit (length text) ≡ b → IsProgramText text p → length text ≤ text_limit → (if b then Err (record { line = 1; kind = fault.TooLong }) else answered (outcome text)) ≡ Ok p
+    back : (b : Bool) → nat_lt most_bytes (length text) ≡ b → IsProgramText text p → length text ≤ most_bytes → (if b then Err (record { line = 1; kind = fault.TooLong }) else answered (outcome text)) ≡ Ok p
     back false e h few = ap answered (program_is_read text p h)
     back true e h few =
-        let large : text_limit < length text = ltb-true _ _ e in
+        let large : most_bytes < length text = ltb-true _ _ e in
         absurd (omega arith)
 
 pub at_most_one_program : AtMostOneProgram

@@ -60,8 +60,8 @@ printed_ends text t s s' n l prints e (rest, p, i, j, h) = (text ++ (32 ∷ rest
 
 prints_truth : (b : Bool) → (t : List ℕ) × Prints t (token.Keyword (word.Truth b))
 unfolding keyword is_reserved plain_words conversions
-prints_truth true = (codes "TRUE", λ n l s s' rest e. ap (λ z. fed_on (state_read (record { line = n; last = n; mode = mode.Word (codes "true") false; state = s }) 32 (record { ended = Some (token.Keyword (word.Truth true)); own = None; mode = mode.Clear }) (onward z (λ s''. stepped s'' None n))) (λ r'. fed r' rest)) e)
-prints_truth false = (codes "FALSE", λ n l s s' rest e. ap (λ z. fed_on (state_read (record { line = n; last = n; mode = mode.Word (codes "false") false; state = s }) 32 (record { ended = Some (token.Keyword (word.Truth false)); own = None; mode = mode.Clear }) (onward z (λ s''. stepped s'' None n))) (λ r'. fed r' rest)) e)
+prints_truth true = (codes "TRUE", λ n l s s' rest e. ap (λ z. fed_on (state_read (record { line = n; last = n; mode = mode.Word (codes "true") false; state = s }) 32 rest (record { ended = Some (token.Keyword (word.Truth true)); own = None; mode = mode.Clear }) (onward z (λ s''. stepped s'' None n))) (λ r'. fed r' rest)) e)
+prints_truth false = (codes "FALSE", λ n l s s' rest e. ap (λ z. fed_on (state_read (record { line = n; last = n; mode = mode.Word (codes "false") false; state = s }) 32 rest (record { ended = Some (token.Keyword (word.Truth false)); own = None; mode = mode.Clear }) (onward z (λ s''. stepped s'' None n))) (λ r'. fed r' rest)) e)
 
 abbrev Literal : IlType → ℤ → Type 0
 Literal k v = (text : List ℕ) × (t : Token) × Prints text t × (value_of k t ≡ Some v)
@@ -198,7 +198,7 @@ name_ends false d n l = (codes ":INT;END_VAR END_PROGRAM\n", _, _, _, refl)
 -- a fresh name, where there is room for one
 comma_name : (x : Bool) (d : Draft) (n l : ℕ) (rest : List ℕ) → has_room x d.scope ≡ true → fed (clear n l (in_block (block.BehindComma x) d)) (113 ∷ (letters (fresh_for d.scope) ++ (32 ∷ rest))) ≡ fed (clear n n (in_block (block.BehindName x) (with_entry x d n (113 ∷ letters (fresh_for d.scope))))) rest
 comma_name x d n l rest free =
-    fed_letters (fresh_for d.scope) (113 ∷ []) n s (32 ∷ rest) few ∙ ap (λ z. fed_on (byte_read (in_word n w s) 32 (word_ended z 32)) (λ r'. fed r' rest)) (word_is_name (fresh_for d.scope) (fresh_length d.scope)) ∙ ap (λ z. fed_on (state_read (in_word n w s) 32 named (onward (with_fault (token.Name w) (if z then (if is_taken x w d.scope then Err fault.Duplicate else declares (block.BehindName x) (with_entry x d n w)) else Err fault.TooLong)) (λ s'. stepped s' None n))) (λ r'. fed r' rest)) free ∙ ap (λ z. fed_on (state_read (in_word n w s) 32 named (onward (with_fault (token.Name w) (if z then Err fault.Duplicate else declares (block.BehindName x) (with_entry x d n w))) (λ s'. stepped s' None n))) (λ r'. fed r' rest)) (is_fresh x d.scope free)
+    fed_letters (fresh_for d.scope) (113 ∷ []) n s (32 ∷ rest) few ∙ ap (λ z. fed_on (byte_read (in_word n w s) 32 rest (word_ended z 32)) (λ r'. fed r' rest)) (word_is_name (fresh_for d.scope) (fresh_length d.scope)) ∙ ap (λ z. fed_on (state_read (in_word n w s) 32 rest named (onward (with_fault (token.Name w) (if z then (if is_taken x w d.scope then Err fault.Duplicate else declares (block.BehindName x) (with_entry x d n w)) else Err fault.TooLong)) (λ s'. stepped s' None n))) (λ r'. fed r' rest)) free ∙ ap (λ z. fed_on (state_read (in_word n w s) 32 rest named (onward (with_fault (token.Name w) (if z then Err fault.Duplicate else declares (block.BehindName x) (with_entry x d n w))) (λ s'. stepped s' None n))) (λ r'. fed r' rest)) (is_fresh x d.scope free)
   where
     s : State
     s = in_block (block.BehindComma x) d
@@ -261,7 +261,7 @@ filled_line None (form.Then k z inner) l y = refl
 
 close_line : (f : Frame) (nest : List Frame) (d : Draft) (n l : ℕ) (rest : List ℕ) → is_filled f.operand f.inner ≡ true → fed (clear n l (at_line (f ∷ nest) d)) (41 ∷ rest) ≡ fed (clear n n (computed nest d f.head (deferred f f.inner))) rest
 close_line f nest d n l rest e =
-    ap (λ z. fed_on (state_read (clear n l (at_line (f ∷ nest) d)) 41 (record { ended = None; own = Some token.Close; mode = mode.Clear }) (with_fault token.Close (if z then Ok (computed nest d f.head (deferred f f.inner)) else Err fault.Operand))) (λ r'. fed r' rest)) e
+    ap (λ z. fed_on (state_read (clear n l (at_line (f ∷ nest) d)) 41 rest (record { ended = None; own = Some token.Close; mode = mode.Clear }) (with_fault token.Close (if z then Ok (computed nest d f.head (deferred f f.inner)) else Err fault.Operand))) (λ r'. fed r' rest)) e
 
 abbrev behind_close : Frame → List Frame → Draft → ℕ → State
 behind_close f nest d n = computed nest d f.head (deferred f (with_line f n form.Invert).inner)

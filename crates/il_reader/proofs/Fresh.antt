@@ -238,8 +238,8 @@ is_fresh x s h =
 abbrev pub in_word : ℕ → List ℕ → State → Reader
 in_word n w s = record { line = n; last = n; mode = mode.Word w false; state = s }
 
-one_letter : (b n : ℕ) (r : List ℕ) (s : State) (rest : List ℕ) → length r < 32 → fed_on (byte_read (in_word n r s) b (if nat_lt (length r) 32 then stands (mode.Word (r ++ b ∷ []) false) else Err fault.Word)) (λ r'. fed r' rest) ≡ fed_on (byte_read (in_word n r s) b (stands (mode.Word (r ++ b ∷ []) false))) (λ r'. fed r' rest)
-one_letter b n r s rest h = ap (λ z. fed_on (byte_read (in_word n r s) b (if z then stands (mode.Word (r ++ b ∷ []) false) else Err fault.Word)) (λ r'. fed r' rest)) few
+one_letter : (b n : ℕ) (r : List ℕ) (s : State) (rest : List ℕ) → length r < 32 → fed_on (byte_read (in_word n r s) b rest (if nat_lt (length r) 32 then stands (mode.Word (r ++ b ∷ []) false) else Err fault.Word)) (λ r'. fed r' rest) ≡ fed_on (byte_read (in_word n r s) b rest (stands (mode.Word (r ++ b ∷ []) false))) (λ r'. fed r' rest)
+one_letter b n r s rest h = ap (λ z. fed_on (byte_read (in_word n r s) b rest (if z then stands (mode.Word (r ++ b ∷ []) false) else Err fault.Word)) (λ r'. fed r' rest)) few
   where
     few : nat_lt (length r) 32 ≡ true
     few = grind (arith, nat_tests)

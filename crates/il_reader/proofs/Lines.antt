@@ -25,52 +25,53 @@ use Rattle.il_reader.proofs.Completion.{Ends_at, IsCalm, calm_ends}
 abbrev FailsIn : ℕ → Result Reader ReadFault → Type 0
 FailsIn n x = (k : ReadFaultKind) × (x ≡ Err (record { line = n; kind = k }))
 
-fails_state : (r : Reader) (b : ℕ) (x : Lexed) (m : Move) (f : ReadFault) → state_read r b x m ≡ Err f → f.line ≡ r.line
-fails_state r b x (Ok s) f e = absurd (no e)
-  where
-    no : state_read r b x (Ok s) ≡ Err f → ⊥
-    no e = cc
-fails_state r b x (Err k) f e = sym (ap line_in e)
-  where
-    line_in : Result Reader ReadFault → ℕ
-    line_in (Ok z) = 0
-    line_in (Err g) = g.line
+-- What stands behind a byte tells the kind of its fault alone: it is read in front of any bytes to the same, or refused in
+-- its line in front of any.
+abbrev InFrontOf : Reader → Result Reader ReadFault → Result Reader ReadFault → Type 0
+InFrontOf r (Ok q) y = y ≡ Ok q
+InFrontOf r (Err f) y = (f.line ≡ r.line) × FailsIn r.line y
 
-fails_read : (r : Reader) (b : ℕ) (x : Result Lexed ReadFaultKind) (f : ReadFault) → byte_read r b x ≡ Err f → f.line ≡ r.line
-fails_read r b (Ok x) f e = fails_state r b x (taken r.state x r.line) f e
-fails_read r b (Err k) f e = sym (ap line_in e)
-  where
-    line_in : Result Reader ReadFault → ℕ
-    line_in (Ok z) = 0
-    line_in (Err g) = g.line
+in_front_state : (r : Reader) (b : ℕ) (bs cs : List ℕ) (x : Lexed) (m : Move) → InFrontOf r (state_read r b bs x m) (state_read r b cs x m)
+in_front_state r b bs cs x (Ok s) = refl
+in_front_state r b bs cs x (Err k) = (refl, (_, refl))
 
--- a byte that is refused is so in its line
-fails_byte : (r : Reader) (b : ℕ) (f : ReadFault) → byte_fed r b ≡ Err f → f.line ≡ r.line
-fails_byte r b f e = fails_read r b (lexed r.mode b) f e
+in_front_read : (r : Reader) (b : ℕ) (bs cs : List ℕ) (x : Result Lexed ReadFaultKind) → InFrontOf r (byte_read r b bs x) (byte_read r b cs x)
+in_front_read r b bs cs (Ok x) = in_front_state r b bs cs x (taken r.state x r.line)
+in_front_read r b bs cs (Err k) = (refl, (k, refl))
+
+in_front : (r : Reader) (b : ℕ) (bs cs : List ℕ) (x : Result Reader ReadFault) → byte_fed r b bs ≡ x → InFrontOf r x (byte_fed r b cs)
+in_front r b bs cs x e = subst (λ z. InFrontOf r z (byte_fed r b cs)) e (in_front_read r b bs cs (lexed r.mode b))
 
 -- Bytes behind bytes.
 
 fed_append : (a b : List ℕ) (r q : Reader) → fed r a ≡ Ok q → fed r (a ++ b) ≡ fed q b
 fed_append [] b r q e = let same : r ≡ q = cc in ap (λ z. fed z b) same
-fed_append (c ∷ a) b r q e = go (λ r' e. fed_append a b r' q e) (byte_fed r c) e
+fed_append (c ∷ a) b r q e = go (λ r' e. fed_append a b r' q e) (byte_fed r c a) (in_front r c a (a ++ b) _ refl) e
   where
-    go : ((r' : Reader) → fed r' a ≡ Ok q → fed r' (a ++ b) ≡ fed q b) → (x : Result Reader ReadFault) → fed_on x (λ r'. fed r' a) ≡ Ok q → fed_on x (λ r'. fed r' (a ++ b)) ≡ fed q b
-    go on (Ok r') e = on r' e
-    go on (Err f) e = absurd (no e)
+    go : ((r' : Reader) → fed r' a ≡ Ok q → fed r' (a ++ b) ≡ fed q b) → (x : Result Reader ReadFault) → InFrontOf r x (byte_fed r c (a ++ b)) → fed_on x (λ r'. fed r' a) ≡ Ok q → fed r (c ∷ (a ++ b)) ≡ fed q b
+    go on (Ok r') f e = ap (λ z. fed_on z (λ r'. fed r' (a ++ b))) f ∙ on r' e
+    go on (Err g) f e = absurd (no e)
       where
-        no : Err f ≡ Ok q → ⊥
+        no : Err g ≡ Ok q → ⊥
         no e = cc
 
-fails_append : (a b : List ℕ) (r : Reader) (f : ReadFault) → fed r a ≡ Err f → fed r (a ++ b) ≡ Err f
+-- a byte that is refused in front of some bytes ends the reading in its line
+fails_on : (n : ℕ) (y : Result Reader ReadFault) (on : Reader → Result Reader ReadFault) → FailsIn n y → FailsIn n (fed_on y on)
+fails_on n y on (k, e) = (k, ap (λ z. fed_on z on) e)
+
+fails_append : (a b : List ℕ) (r : Reader) (f : ReadFault) → fed r a ≡ Err f → FailsIn f.line (fed r (a ++ b))
 fails_append [] b r f e = absurd (no e)
   where
     no : Ok r ≡ Err f → ⊥
     no e = cc
-fails_append (c ∷ a) b r f e = go (λ r' e. fails_append a b r' f e) (byte_fed r c) e
+fails_append (c ∷ a) b r f e = go (λ r' e. fails_append a b r' f e) (byte_fed r c a) (in_front r c a (a ++ b) _ refl) e
   where
-    go : ((r' : Reader) → fed r' a ≡ Err f → fed r' (a ++ b) ≡ Err f) → (x : Result Reader ReadFault) → fed_on x (λ r'. fed r' a) ≡ Err f → fed_on x (λ r'. fed r' (a ++ b)) ≡ Err f
-    go on (Ok r') e = on r' e
-    go on (Err g) e = e
+    go : ((r' : Reader) → fed r' a ≡ Err f → FailsIn f.line (fed r' (a ++ b))) → (x : Result Reader ReadFault) → InFrontOf r x (byte_fed r c (a ++ b)) → fed_on x (λ r'. fed r' a) ≡ Err f → FailsIn f.line (fed r (c ∷ (a ++ b)))
+    go on (Ok r') h e = subst (FailsIn f.line) (sym (ap (λ z. fed_on z (λ r'. fed r' (a ++ b))) h)) (on r' e)
+    go on (Err g) (l, h) e =
+        let same : g ≡ f = cc in
+        let line : r.line ≡ f.line = sym l ∙ ap (λ z. z.line) same in
+        subst (λ n. FailsIn n (fed r (c ∷ (a ++ b)))) line (fails_on r.line (byte_fed r c (a ++ b)) (λ r'. fed r' (a ++ b)) h)
 
 -- What a line end leaves open.
 
@@ -105,26 +106,26 @@ abbrev CalmReader : Result Reader ReadFault → Type 0
 CalmReader (Ok r) = IsCalm r.mode
 CalmReader (Err f) = Unit {0}
 
-calm_state : (r : Reader) (b : ℕ) (x : Lexed) (m : Move) → IsCalm x.mode → CalmReader (state_read r b x m)
-calm_state r b x (Ok s) h = h
-calm_state r b x (Err k) h = tt
+calm_state : (r : Reader) (b : ℕ) (bs : List ℕ) (x : Lexed) (m : Move) → IsCalm x.mode → CalmReader (state_read r b bs x m)
+calm_state r b bs x (Ok s) h = h
+calm_state r b bs x (Err k) h = tt
 
-calm_read : (r : Reader) (b : ℕ) (x : Result Lexed ReadFaultKind) → CalmLexed x → CalmReader (byte_read r b x)
-calm_read r b (Ok x) h = calm_state r b x (taken r.state x r.line) h
-calm_read r b (Err k) h = tt
+calm_read : (r : Reader) (b : ℕ) (bs : List ℕ) (x : Result Lexed ReadFaultKind) → CalmLexed x → CalmReader (byte_read r b bs x)
+calm_read r b bs (Ok x) h = calm_state r b bs x (taken r.state x r.line) h
+calm_read r b bs (Err k) h = tt
 
-calm_byte : (r : Reader) → CalmReader (byte_fed r 10)
-calm_byte r = calm_read r 10 (lexed r.mode 10) (calm_lexed r.mode)
+calm_byte : (r : Reader) (bs : List ℕ) → CalmReader (byte_fed r 10 bs)
+calm_byte r bs = calm_read r 10 bs (lexed r.mode 10) (calm_lexed r.mode)
 
-calm_after : (r q : Reader) (b : ℕ) → nat_eq b 10 ≡ true → byte_fed r b ≡ Ok q → IsCalm q.mode
-calm_after r q b c e =
+calm_after : (r q : Reader) (b : ℕ) (bs : List ℕ) → nat_eq b 10 ≡ true → byte_fed r b bs ≡ Ok q → IsCalm q.mode
+calm_after r q b bs c e =
     let same : 10 ≡ b = sym (eqb-true b 10 c) in
-    let h : CalmReader (byte_fed r b) = subst (λ z. CalmReader (byte_fed r z)) same (calm_byte r) in
+    let h : CalmReader (byte_fed r b bs) = subst (λ z. CalmReader (byte_fed r z bs)) same (calm_byte r bs) in
     subst CalmReader e h
 
 -- the line behind a byte that is read, and the line of the byte
-line_state : (r q : Reader) (b : ℕ) (x : Lexed) (m : Move) → state_read r b x m ≡ Ok q → (q.line ≡ line_behind b r.line) × (q.last ≡ r.line)
-line_state r q b x (Ok s) e = (sym (ap line_in e), sym (ap last_in e))
+line_state : (r q : Reader) (b : ℕ) (bs : List ℕ) (x : Lexed) (m : Move) → state_read r b bs x m ≡ Ok q → (q.line ≡ line_behind b r.line) × (q.last ≡ r.line)
+line_state r q b bs x (Ok s) e = (sym (ap line_in e), sym (ap last_in e))
   where
     line_in : Result Reader ReadFault → ℕ
     line_in (Ok z) = z.line
@@ -133,14 +134,14 @@ line_state r q b x (Ok s) e = (sym (ap line_in e), sym (ap last_in e))
     last_in : Result Reader ReadFault → ℕ
     last_in (Ok z) = z.last
     last_in (Err f) = 0
-line_state r q b x (Err k) e = absurd (cc)
+line_state r q b bs x (Err k) e = absurd (cc)
 
-line_read : (r q : Reader) (b : ℕ) (x : Result Lexed ReadFaultKind) → byte_read r b x ≡ Ok q → (q.line ≡ line_behind b r.line) × (q.last ≡ r.line)
-line_read r q b (Ok x) e = line_state r q b x (taken r.state x r.line) e
-line_read r q b (Err k) e = absurd (cc)
+line_read : (r q : Reader) (b : ℕ) (bs : List ℕ) (x : Result Lexed ReadFaultKind) → byte_read r b bs x ≡ Ok q → (q.line ≡ line_behind b r.line) × (q.last ≡ r.line)
+line_read r q b bs (Ok x) e = line_state r q b bs x (taken r.state x r.line) e
+line_read r q b bs (Err k) e = absurd (cc)
 
-line_byte : (r q : Reader) (b : ℕ) → byte_fed r b ≡ Ok q → (q.line ≡ line_behind b r.line) × (q.last ≡ r.line)
-line_byte r q b e = line_read r q b (lexed r.mode b) e
+line_byte : (r q : Reader) (b : ℕ) (bs : List ℕ) → byte_fed r b bs ≡ Ok q → (q.line ≡ line_behind b r.line) × (q.last ≡ r.line)
+line_byte r q b bs e = line_read r q b bs (lexed r.mode b) e
 
 -- behind k lines: nothing has happened, or nothing but a comment is open
 abbrev Calmed : ℕ → Mode → Mode → Type 0
@@ -151,8 +152,8 @@ calmed : (k : ℕ) (q q' : Mode) → IsCalm q → Calmed k q q' → IsCalm q'
 calmed zero q q' h e = subst IsCalm e h
 calmed (suc k) q q' h e = e
 
-fed_cons : (r q : Reader) (b : ℕ) (cs : List ℕ) → byte_fed r b ≡ Ok q → fed r (b ∷ cs) ≡ fed q cs
-fed_cons r q b cs e = ap (λ z. fed_on z (λ r'. fed r' cs)) e
+fed_cons : (r q : Reader) (b : ℕ) (bs cs : List ℕ) → byte_fed r b bs ≡ Ok q → fed r (b ∷ cs) ≡ fed q cs
+fed_cons r q b bs cs e = ap (λ z. fed_on z (λ r'. fed r' cs)) (in_front r b bs cs (Ok q) e)
 
 lines_end : (k b : ℕ) (bs : List ℕ) → nat_eq b 10 ≡ true → lines_up_to (suc k) (b ∷ bs) ≡ b ∷ lines_up_to k bs
 lines_end k b bs c = ap (λ z. b ∷ (if z then lines_up_to k bs else lines_up_to (suc k) bs)) c
@@ -170,25 +171,27 @@ located [] r f h = absurd (no h)
   where
     no : Ok r ≡ Err f → ⊥
     no h = cc
-located (b ∷ bs) r f h = go (λ r' h. located bs r' f h) (byte_fed r b) refl h
+located (b ∷ bs) r f h = go (λ r' h. located bs r' f h) (byte_fed r b bs) refl h
   where
-    go : ((r' : Reader) → fed r' bs ≡ Err f → Located r' bs f.line) → (x : Result Reader ReadFault) → byte_fed r b ≡ x → fed_on x (λ r'. fed r' bs) ≡ Err f → Located r (b ∷ bs) f.line
+    go : ((r' : Reader) → fed r' bs ≡ Err f → Located r' bs f.line) → (x : Result Reader ReadFault) → byte_fed r b bs ≡ x → fed_on x (λ r'. fed r' bs) ≡ Err f → Located r (b ∷ bs) f.line
     go on (Err g) e h =
         let same : g ≡ f = cc in
-        let line : r.line ≡ f.line = sym (fails_byte r b g e) ∙ ap (λ z. z.line) same in
-        (0, r, omega arith, refl, refl, (g.kind, ap (λ z. fed_on z (λ r'. fed r' (if nat_eq b 10 then lines_up_to 0 bs else lines_up_to 1 bs))) e ∙ ap (λ z. Err (record { line = z; kind = g.kind })) (ap (λ z. z.line) same)))
+        let first : List ℕ = if nat_eq b 10 then lines_up_to 0 bs else lines_up_to 1 bs in
+        let h : (g.line ≡ r.line) × FailsIn r.line (byte_fed r b first) = in_front r b bs first (Err g) e in
+        let line : r.line ≡ f.line = sym h.0 ∙ ap (λ z. z.line) same in
+        (0, r, omega arith, refl, refl, subst (λ n. FailsIn n (fed r (b ∷ first))) line (fails_on r.line (byte_fed r b first) (λ r'. fed r' first) h.1))
     go on (Ok r') e h = place (nat_eq b 10) refl (on r' h)
       where
         by_byte : (cs : List ℕ) → fed r (b ∷ cs) ≡ fed r' cs
-        by_byte cs = fed_cons r r' b cs e
+        by_byte cs = fed_cons r r' b bs cs e
 
         next : r'.line ≡ line_behind b r.line
-        next = (line_byte r r' b e).0
+        next = (line_byte r r' b bs e).0
 
         place : (c : Bool) → nat_eq b 10 ≡ c → Located r' bs f.line → Located r (b ∷ bs) f.line
         place true c (k, q, l, calm, x, y) =
             let here : r'.line ≡ suc r.line = next ∙ ap (λ z. if z then suc r.line else r.line) c in
-            (suc k, q, (l ∙ ap (λ z. k + z) here) ∙ omega arith, calmed k r'.mode q.mode (calm_after r r' b c e) calm, ap (fed r) (lines_end k b bs c) ∙ by_byte (lines_up_to k bs) ∙ x, subst (FailsIn f.line) (sym (ap (fed r) (lines_end (suc k) b bs c) ∙ by_byte (lines_up_to (suc k) bs))) y)
+            (suc k, q, (l ∙ ap (λ z. k + z) here) ∙ omega arith, calmed k r'.mode q.mode (calm_after r r' b bs c e) calm, ap (fed r) (lines_end k b bs c) ∙ by_byte (lines_up_to k bs) ∙ x, subst (FailsIn f.line) (sym (ap (fed r) (lines_end (suc k) b bs c) ∙ by_byte (lines_up_to (suc k) bs))) y)
         place false c (zero, q, l, calm, x, y) =
             let here : r'.line ≡ r.line = next ∙ ap (λ z. if z then suc r.line else r.line) c in
             (0, r, l ∙ ap (λ z. 0 + z) here, refl, refl, subst (FailsIn f.line) (sym (ap (fed r) (lines_on 0 b bs c) ∙ by_byte (lines_up_to 1 bs))) y)
@@ -202,9 +205,9 @@ Kept k r text = (q : Reader) × Calmed k r.mode q.mode × (fed r (lines_up_to k 
 
 kept : (text : List ℕ) (r q : Reader) → fed r text ≡ Ok q → Kept (line_ends text) r text
 kept [] r q h = (r, refl, refl)
-kept (b ∷ bs) r q h = go (λ r' h. kept bs r' q h) (byte_fed r b) refl h
+kept (b ∷ bs) r q h = go (λ r' h. kept bs r' q h) (byte_fed r b bs) refl h
   where
-    go : ((r' : Reader) → fed r' bs ≡ Ok q → Kept (line_ends bs) r' bs) → (x : Result Reader ReadFault) → byte_fed r b ≡ x → fed_on x (λ r'. fed r' bs) ≡ Ok q → Kept (line_ends (b ∷ bs)) r (b ∷ bs)
+    go : ((r' : Reader) → fed r' bs ≡ Ok q → Kept (line_ends bs) r' bs) → (x : Result Reader ReadFault) → byte_fed r b bs ≡ x → fed_on x (λ r'. fed r' bs) ≡ Ok q → Kept (line_ends (b ∷ bs)) r (b ∷ bs)
     go on (Err f) e h = absurd (no h)
       where
         no : Err f ≡ Ok q → ⊥
@@ -212,12 +215,12 @@ kept (b ∷ bs) r q h = go (λ r' h. kept bs r' q h) (byte_fed r b) refl h
     go on (Ok r') e h = place (nat_eq b 10) refl (line_ends bs) refl (on r' h)
       where
         by_byte : (cs : List ℕ) → fed r (b ∷ cs) ≡ fed r' cs
-        by_byte cs = fed_cons r r' b cs e
+        by_byte cs = fed_cons r r' b bs cs e
 
         place : (c : Bool) → nat_eq b 10 ≡ c → (k : ℕ) → line_ends bs ≡ k → Kept k r' bs → Kept (line_ends (b ∷ bs)) r (b ∷ bs)
         place true c k g (x, calm, y) =
             let next : suc k ≡ line_ends (b ∷ bs) = ap suc (sym g) ∙ ap (λ z. if z then suc (line_ends bs) else line_ends bs) (sym c) in
-            subst (λ z. Kept z r (b ∷ bs)) next (x, calmed k r'.mode x.mode (calm_after r r' b c e) calm, ap (fed r) (lines_end k b bs c) ∙ by_byte (lines_up_to k bs) ∙ y)
+            subst (λ z. Kept z r (b ∷ bs)) next (x, calmed k r'.mode x.mode (calm_after r r' b bs c e) calm, ap (fed r) (lines_end k b bs c) ∙ by_byte (lines_up_to k bs) ∙ y)
         place false c zero g (x, calm, y) =
             let next : zero ≡ line_ends (b ∷ bs) = sym g ∙ ap (λ z. if z then suc (line_ends bs) else line_ends bs) (sym c) in
             subst (λ z. Kept z r (b ∷ bs)) next (r, refl, refl)
@@ -227,18 +230,18 @@ kept (b ∷ bs) r q h = go (λ r' h. kept bs r' q h) (byte_fed r b) refl h
 
 -- the line of the last byte
 last_is : (bs : List ℕ) (b : ℕ) (r q : Reader) → fed r (b ∷ bs) ≡ Ok q → q.last ≡ last_line r.line (b ∷ bs)
-last_is [] b r q h = go (byte_fed r b) refl h
+last_is [] b r q h = go (byte_fed r b []) refl h
   where
-    go : (x : Result Reader ReadFault) → byte_fed r b ≡ x → fed_on x (λ r'. fed r' []) ≡ Ok q → q.last ≡ r.line
-    go (Ok r') e h = (line_byte r q b (e ∙ h)).1
+    go : (x : Result Reader ReadFault) → byte_fed r b [] ≡ x → fed_on x (λ r'. fed r' []) ≡ Ok q → q.last ≡ r.line
+    go (Ok r') e h = (line_byte r q b [] (e ∙ h)).1
     go (Err f) e h = absurd (no h)
       where
         no : Err f ≡ Ok q → ⊥
         no h = cc
-last_is (c ∷ bs) b r q h = go (λ r' h. last_is bs c r' q h) (byte_fed r b) refl h
+last_is (c ∷ bs) b r q h = go (λ r' h. last_is bs c r' q h) (byte_fed r b (c ∷ bs)) refl h
   where
-    go : ((r' : Reader) → fed r' (c ∷ bs) ≡ Ok q → q.last ≡ last_line r'.line (c ∷ bs)) → (x : Result Reader ReadFault) → byte_fed r b ≡ x → fed_on x (λ r'. fed r' (c ∷ bs)) ≡ Ok q → q.last ≡ last_line (if nat_eq b 10 then suc r.line else r.line) (c ∷ bs)
-    go on (Ok r') e h = on r' h ∙ ap (λ z. last_line z (c ∷ bs)) (line_byte r r' b e).0
+    go : ((r' : Reader) → fed r' (c ∷ bs) ≡ Ok q → q.last ≡ last_line r'.line (c ∷ bs)) → (x : Result Reader ReadFault) → byte_fed r b (c ∷ bs) ≡ x → fed_on x (λ r'. fed r' (c ∷ bs)) ≡ Ok q → q.last ≡ last_line (if nat_eq b 10 then suc r.line else r.line) (c ∷ bs)
+    go on (Ok r') e h = on r' h ∙ ap (λ z. last_line z (c ∷ bs)) (line_byte r r' b (c ∷ bs) e).0
     go on (Err f) e h = absurd (no h)
       where
         no : Err f ≡ Ok q → ⊥
@@ -258,7 +261,8 @@ begins a q e h = finish (calm_ends q.line q.last q.mode q.state (live_fed a open
 
 begins_none : (a : List ℕ) (n : ℕ) → FailsIn n (fed opening a) → (rest : List ℕ) (p : Program) → IsProgramText (a ++ rest) p → ⊥
 begins_none a n (k, e) rest p h =
-    let refused : outcome (a ++ rest) ≡ AtFault (record { line = n; kind = k }) = ap judged (fails_append a rest opening (record { line = n; kind = k }) e) in
+    let fails = fails_append a rest opening (record { line = n; kind = k }) e in
+    let refused : outcome (a ++ rest) ≡ AtFault (record { line = n; kind = fails.0 }) = ap judged fails.1 in
     let read : outcome (a ++ rest) ≡ Reads p = program_is_read (a ++ rest) p h in
     cc
 

@@ -311,7 +311,6 @@ live_at_line [] d t m = live_line d t m
 live_at_line (f ∷ nest) d token.LineEnd m = tt
 live_at_line (f ∷ nest) d token.Close m = live_close f nest d
 live_at_line (f ∷ nest) d (token.Keyword w) m = live_inner f nest d w m
-live_at_line (f ∷ nest) d (token.Name n) m = tt
 live_at_line (f ∷ nest) d _ m = tt
 
 live_between : (d : Draft) (t : Token) (m : ℕ) → LiveMove (between_step d t m)
@@ -370,17 +369,17 @@ abbrev LiveReader : Result Reader ReadFault → Type 0
 LiveReader (Ok r) = IsLive r.state
 LiveReader (Err f) = Unit {0}
 
-live_moved : (r : Reader) (b : ℕ) (x : Lexed) (m : Move) → LiveMove m → LiveReader (state_read r b x m)
-live_moved r b x (Ok s) h = h
-live_moved r b x (Err k) h = tt
+live_moved : (r : Reader) (b : ℕ) (bs : List ℕ) (x : Lexed) (m : Move) → LiveMove m → LiveReader (state_read r b bs x m)
+live_moved r b bs x (Ok s) h = h
+live_moved r b bs x (Err k) h = tt
 
-live_read : (r : Reader) (b : ℕ) (x : Result Lexed ReadFaultKind) → IsLive r.state → LiveReader (byte_read r b x)
-live_read r b (Ok x) h = live_moved r b x (taken r.state x r.line) (live_taken r.state x r.line h)
-live_read r b (Err k) h = tt
+live_read : (r : Reader) (b : ℕ) (bs : List ℕ) (x : Result Lexed ReadFaultKind) → IsLive r.state → LiveReader (byte_read r b bs x)
+live_read r b bs (Ok x) h = live_moved r b bs x (taken r.state x r.line) (live_taken r.state x r.line h)
+live_read r b bs (Err k) h = tt
 
 pub live_fed : (text : List ℕ) (r q : Reader) → fed r text ≡ Ok q → IsLive r.state → IsLive q.state
 live_fed [] r q e h = let same : r ≡ q = cc in subst (λ z. IsLive z.state) same h
-live_fed (b ∷ bs) r q e h = go (λ r' e h. live_fed bs r' q e h) (byte_fed r b) e (live_read r b (lexed r.mode b) h)
+live_fed (b ∷ bs) r q e h = go (λ r' e h. live_fed bs r' q e h) (byte_fed r b bs) e (live_read r b bs (lexed r.mode b) h)
   where
     go : ((r' : Reader) → fed r' bs ≡ Ok q → IsLive r'.state → IsLive q.state) → (x : Result Reader ReadFault) → fed_on x (λ r'. fed r' bs) ≡ Ok q → LiveReader x → IsLive q.state
     go on (Ok r') e h = on r' e h

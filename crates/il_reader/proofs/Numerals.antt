@@ -179,7 +179,7 @@ in_mode n q s = record { line = n; last = n; mode = q; state = s }
 
 one_byte : (n : ℕ) (q r : Mode) (s : State) (x : Digit) (rest : List ℕ) → lexed q (byte x) ≡ stands r → fed (in_mode n q s) (byte x ∷ rest) ≡ fed (in_mode n r s) rest
 one_byte n q r s x rest e =
-    ap (λ z. fed_on (byte_read (in_mode n q s) (byte x) z) (λ r'. fed r' rest)) e ∙ ap (λ z. fed (record { line = z; last = n; mode = r; state = s }) rest) (same_line x n)
+    ap (λ z. fed_on (byte_read (in_mode n q s) (byte x) rest z) (λ r'. fed r' rest)) e ∙ ap (λ z. fed (record { line = z; last = n; mode = r; state = s }) rest) (same_line x n)
 
 abbrev at : Bool → ℕ → Mode
 at negative m = mode.Number None (spelling.Signed negative) (signed negative m) false
@@ -205,7 +205,7 @@ sign_fed false n l s rest = refl
 
 prints_signed : (negative : Bool) (ds : Digits) → number ds ≤ greatest negative → Prints (sign negative ∷ text ds) (token.Number (signed negative (number ds)))
 prints_signed negative ds h n l s s' rest e =
-    sign_fed negative n l s (text ds ++ (32 ∷ rest)) ∙ fed_digits ds negative n s (32 ∷ rest) h ∙ ap (λ z. fed_on (state_read (in_mode n (at negative (number ds)) s) 32 (record { ended = Some (token.Number (signed negative (number ds))); own = None; mode = mode.Clear }) (onward z (λ s''. stepped s'' None n))) (λ r'. fed r' rest)) e
+    sign_fed negative n l s (text ds ++ (32 ∷ rest)) ∙ fed_digits ds negative n s (32 ∷ rest) h ∙ ap (λ z. fed_on (state_read (in_mode n (at negative (number ds)) s) 32 rest (record { ended = Some (token.Number (signed negative (number ds))); own = None; mode = mode.Clear }) (onward z (λ s''. stepped s'' None n))) (λ r'. fed r' rest)) e
 
 -- each number of LINT is printed by some text
 pub prints_number : (v : ℤ) → is_within (low_of il.Lint) (high_of il.Lint) v ≡ true → (t : List ℕ) × Prints t (token.Number v)

@@ -12,6 +12,7 @@ use Rattle.il_reader.specs.declared.tree.Variable.{Variable}
 use Rattle.il_reader.specs.declared.scope.Scope.{Scope}
 use Rattle.il_reader.specs.declared.typing.Entry.{Entry}
 use Rattle.il_reader.specs.declared.typing.Typing.{Typing}
+use Rattle.il_reader.specs.Limit.{most_names}
 
 -- Names.
 
@@ -37,10 +38,10 @@ abbrev pub is_taken : Bool → List ℕ → Scope → Bool
 is_taken external n s =
     among n s.variables || among n s.externals || is_among_presences n s.externals || (external && (has_presence_among n s.variables || has_presence_among n s.externals))
 
--- there is room for one more variable or external: at most 1,024 of each are declared
+-- there is room for one more variable or external, of each of which so many are declared at most
 abbrev pub has_room : Bool → Scope → Bool
-has_room false s = nat_lt (length s.variables) 1024 && nat_le (length s.externals) 1024
-has_room true s = nat_le (length s.variables) 1024 && nat_lt (length s.externals) 1024
+has_room false s = nat_lt (length s.variables) most_names && nat_le (length s.externals) most_names
+has_room true s = nat_le (length s.variables) most_names && nat_lt (length s.externals) most_names
 
 abbrev pub with_name : Bool → Scope → List ℕ → Scope
 with_name false s n = record { variables = s.variables ++ n ∷ []; externals = s.externals }

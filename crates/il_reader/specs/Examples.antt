@@ -45,6 +45,18 @@ pub store_inside : outcome (codes "PROGRAM p\nADD( 1\nST a") ≡ AtFault (record
 unfolding keyword is_reserved plain_words conversions
 store_inside = refl
 
+pub no_operator_inside : outcome (codes "PROGRAM p\nADD( 1\nFOO 2\n)") ≡ AtFault (record { line = 3; kind = fault.Operator })
+unfolding keyword is_reserved plain_words conversions
+no_operator_inside = refl
+
+pub label_inside : outcome (codes "PROGRAM p\nADD( 1\nfoo (* a *) :\n)") ≡ AtFault (record { line = 3; kind = fault.Parenthesis })
+unfolding keyword is_reserved plain_words conversions
+label_inside = refl
+
+pub no_label_inside : outcome (codes "PROGRAM p\nADD( 1\nfoo := 2\n)") ≡ AtFault (record { line = 3; kind = fault.Operator })
+unfolding keyword is_reserved plain_words conversions
+no_label_inside = refl
+
 pub open_parentheses : outcome (codes "PROGRAM p\nADD( 1\nLD") ≡ TooSoon (record { line = 3; kind = fault.Parenthesis })
 unfolding keyword is_reserved plain_words conversions
 open_parentheses = refl

@@ -26,6 +26,7 @@ use Rattle.il_reader.specs.declared.state.State.{State}
 use Rattle.il_reader.specs.declared.state.State.TheVariants as state
 use Rattle.il_reader.specs.Written.{Written}
 use Rattle.il_reader.specs.Written as form
+use Rattle.il_reader.specs.Limit.{most_turns}
 use Rattle.il_reader.specs.Nesting.{takes_parentheses, has_depth, is_filled, frame_of, with_line, deferred, is_outer, close_fault}
 use Rattle.il_reader.specs.Declaration.{among}
 use Rattle.il_reader.specs.Drafting.{Move, continues, declares, goes, program_of, with_label, with_statement}
@@ -174,12 +175,11 @@ close_step f nest d = if is_filled f.operand f.inner then Ok (computed nest d f.
 abbrev pub inner_step : Frame → List Frame → Draft → Keyword → ℕ → Move
 inner_step f nest d w m = if is_outer w then Err fault.Parenthesis else begun_step (f ∷ nest) d (record { line = m; label = None }) w (part_begun w)
 
--- at the beginning of a line inside parentheses; a name begins a label
+-- at the beginning of a line inside parentheses
 abbrev pub inside_step : Frame → List Frame → Draft → Token → ℕ → Move
 inside_step f nest d token.LineEnd m = goes (stage.AtLine (f ∷ nest)) d
 inside_step f nest d token.Close m = close_step f nest d
 inside_step f nest d (token.Keyword w) m = inner_step f nest d w m
-inside_step f nest d (token.Name n) m = Err fault.Parenthesis
 inside_step f nest d _ m = Err fault.Operator
 
 abbrev pub at_line_step : List Frame → Draft → Token → ℕ → Move
@@ -191,9 +191,9 @@ at_line_step (f ∷ nest) d t m = inside_step f nest d t m
 abbrev pub is_loop : List ℕ → Bool
 is_loop w = bytes_eq w (codes "loop")
 
--- how often a counted jump is taken: 1 to 255 times
+-- how often a counted jump is taken: once at least
 abbrev pub turns_of : ℤ → Option ℕ
-turns_of (pos n) = if nat_le 1 n && nat_le n 255 then Some n else None
+turns_of (pos n) = if nat_le 1 n && nat_le n most_turns then Some n else None
 turns_of _ = None
 
 abbrev pub behind_brace_step : List Frame → Head → Draft → Token → Move

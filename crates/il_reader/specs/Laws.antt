@@ -4,11 +4,12 @@ use Rattle.std.specs.Prelude.{◌≡◌, ◌↔◌, ◌≤◌, ℕ, zero, suc, L
 use Rattle.il_reader.specs.declared.fault.ReadFault.{ReadFault}
 use Rattle.il_reader.specs.declared.tree.Program.{Program}
 use Rattle.il_reader.specs.Grammar.{IsProgramText}
-use Rattle.il_reader.specs.Reading.{AtFault, TooSoon, outcome, reading, text_limit}
+use Rattle.il_reader.specs.Limit.{most_bytes}
+use Rattle.il_reader.specs.Reading.{AtFault, TooSoon, outcome, reading}
 
 -- A text is read exactly where it spells a program and keeps to the limit on its size, and to that program.
 abbrev pub ReadingIsExact : Type 0
-ReadingIsExact = (text : List ℕ) (p : Program) → (reading text ≡ Ok p) ↔ (IsProgramText text p × (length text ≤ text_limit))
+ReadingIsExact = (text : List ℕ) (p : Program) → (reading text ≡ Ok p) ↔ (IsProgramText text p × (length text ≤ most_bytes))
 
 abbrev pub AtMostOneProgram : Type 0
 AtMostOneProgram = (text : List ℕ) (p q : Program) → IsProgramText text p → IsProgramText text q → p ≡ q

@@ -1,4 +1,5 @@
 pub mod Fault
+pub mod Limit
 pub mod Declaration
 pub mod Tokens
 pub mod Spellings

@@ -10,6 +10,7 @@ use Rattle.il_reader.specs.declared.token.Keyword.TheVariants as word
 use Rattle.il_reader.specs.declared.tree.Operand.{Operand}
 use Rattle.il_reader.specs.declared.draft.Head.{Head}
 use Rattle.il_reader.specs.declared.nest.Frame.{Frame}
+use Rattle.il_reader.specs.Limit.{most_nested}
 use Rattle.il_reader.specs.Written.{Written, Defer, Inner, Close, Then, followed_by}
 
 -- all operators but MIN and MAX take parentheses
@@ -18,9 +19,14 @@ takes_parentheses op.Min = false
 takes_parentheses op.Max = false
 takes_parentheses _ = true
 
--- at most 100 parentheses stand in one another: one more may be opened
+-- one more parenthesis may be opened inside so many
 abbrev pub has_depth : ℕ → Bool
-has_depth depth = nat_lt depth 100
+has_depth depth = nat_lt depth most_nested
+
+-- parentheses stand open
+abbrev pub is_open : List Frame → Bool
+is_open [] = false
+is_open (f ∷ nest) = true
 
 -- inside stands an operand behind the opening parenthesis, or a line
 abbrev pub is_filled : Option Operand → Inner → Bool

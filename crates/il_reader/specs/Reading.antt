@@ -1,6 +1,6 @@
 -- Reading a text: an acceptor that is fed byte by byte, and token by token.
 -- IEC 61131-3 edition 2, 2.4.3 declarations, 2.5.3 programs, 3.2 instruction list.
-use Rattle.std.specs.Prelude.{◌≡◌, ℕ, Bool, true, false, List, [], ◌∷◌, length, if◌then◌else◌, Option, Some, None, Result, Ok, Err, ◌⊎◌, nat_lt}
+use Rattle.std.specs.Prelude.{◌≡◌, ℕ, Bool, true, false, ◌&&◌, List, [], ◌∷◌, length, if◌then◌else◌, Option, Some, None, Result, Ok, Err, ◌⊎◌, nat_lt}
 use Rattle.point_types.specs.declared.il_type.IlType.{IlType}
 use Rattle.point_types.specs.Value.{is_bool}
 use Rattle.il_reader.specs.declared.fault.ReadFault.{ReadFault}
@@ -24,9 +24,10 @@ use Rattle.il_reader.specs.declared.stage.Stage.TheVariants as stage
 use Rattle.il_reader.specs.declared.state.State.{State}
 use Rattle.il_reader.specs.declared.state.State.TheVariants as state
 use Rattle.il_reader.specs.declared.reader.Reader.{Reader}
-use Rattle.il_reader.specs.Nesting.{end_fault}
+use Rattle.il_reader.specs.Nesting.{end_fault, is_open}
 use Rattle.il_reader.specs.Declaration.{is_taken, has_room, value_of, whole, begun, bounded, started, made}
-use Rattle.il_reader.specs.Tokens.{lexed, at_end, line_behind}
+use Rattle.il_reader.specs.Limit.{most_bytes}
+use Rattle.il_reader.specs.Tokens.{lexed, at_end, is_none, colon_comes, line_behind}
 use Rattle.il_reader.specs.Drafting.{Move, declares, goes, titled_draft, with_entry, with_externals, with_variables}
 use Rattle.il_reader.specs.Instructions.{at_instruction_step, at_line_step, behind_label_step, between_step, part_step, whole_step}
 
@@ -197,18 +198,42 @@ onward (Err k) on = Err k
 abbrev pub taken : State → Lexed → ℕ → Move
 taken s x m = onward (stepped s x.ended m) (λ s'. stepped s' x.own m)
 
--- One byte.
+-- A name at the beginning of a line inside parentheses is no operator; where its colon comes next it is a label, which
+-- isn't allowed there. So the kind of this fault hangs on the bytes behind it.
 
-abbrev pub state_read : Reader → ℕ → Lexed → Move → Result Reader ReadFault
-state_read r b x (Ok s) = Ok (record { line = line_behind b r.line; last = r.line; mode = x.mode; state = s })
-state_read r b x (Err k) = Err (record { line = r.line; kind = k })
+abbrev pub is_inner_line : Stage → Bool
+is_inner_line (stage.AtLine nest) = is_open nest
+is_inner_line _ = false
 
-abbrev pub byte_read : Reader → ℕ → Result Lexed ReadFaultKind → Result Reader ReadFault
-byte_read r b (Ok x) = state_read r b x (taken r.state x r.line)
-byte_read r b (Err k) = Err (record { line = r.line; kind = k })
+abbrev pub is_at_inner_line : State → Bool
+is_at_inner_line (state.Within s d) = is_inner_line s
+is_at_inner_line _ = false
 
-abbrev pub byte_fed : Reader → ℕ → Result Reader ReadFault
-byte_fed r b = byte_read r b (lexed r.mode b)
+abbrev pub is_name_token : Option Token → Bool
+is_name_token (Some (token.Name n)) = true
+is_name_token _ = false
+
+-- the byte has ended a name whose colon comes next
+abbrev pub is_label : Lexed → List ℕ → Bool
+is_label x behind = is_name_token x.ended && is_none x.own && colon_comes x.mode behind
+
+-- the kind of a fault; the first tells whether it is such a label
+abbrev pub told : Bool → ReadFaultKind → ReadFaultKind
+told true k = fault.Parenthesis
+told false k = k
+
+-- One byte, with the bytes behind it.
+
+abbrev pub state_read : Reader → ℕ → List ℕ → Lexed → Move → Result Reader ReadFault
+state_read r b behind x (Ok s) = Ok (record { line = line_behind b r.line; last = r.line; mode = x.mode; state = s })
+state_read r b behind x (Err k) = Err (record { line = r.line; kind = told (is_at_inner_line r.state && is_label x behind) k })
+
+abbrev pub byte_read : Reader → ℕ → List ℕ → Result Lexed ReadFaultKind → Result Reader ReadFault
+byte_read r b behind (Ok x) = state_read r b behind x (taken r.state x r.line)
+byte_read r b behind (Err k) = Err (record { line = r.line; kind = k })
+
+abbrev pub byte_fed : Reader → ℕ → List ℕ → Result Reader ReadFault
+byte_fed r b behind = byte_read r b behind (lexed r.mode b)
 
 abbrev pub fed_on : Result Reader ReadFault → (Reader → Result Reader ReadFault) → Result Reader ReadFault
 fed_on (Ok r) on = on r
@@ -217,7 +242,7 @@ fed_on (Err f) on = Err f
 -- bytes in turn: how the reader stands behind them, or the first line at fault
 abbrev pub fed : Reader → List ℕ → Result Reader ReadFault
 fed r [] = Ok r
-fed r (b ∷ bs) = fed_on (byte_fed r b) (λ r'. fed r' bs)
+fed r (b ∷ bs) = fed_on (byte_fed r b bs) (λ r'. fed r' bs)
 
 abbrev pub opening : Reader
 opening = record { line = 1; last = 1; mode = mode.Clear; state = state.Start }
@@ -272,13 +297,9 @@ answered (Reads p) = Ok p
 answered (AtFault f) = Err f
 answered (TooSoon f) = Err f
 
--- the most bytes of a text
-abbrev pub text_limit : ℕ
-text_limit = 1048576
-
 -- the answer to a text: the limit on its size comes first
 abbrev pub reading : List ℕ → Result Program ReadFault
-reading text = if nat_lt text_limit (length text) then Err (record { line = 1; kind = fault.TooLong }) else answered (outcome text)
+reading text = if nat_lt most_bytes (length text) then Err (record { line = 1; kind = fault.TooLong }) else answered (outcome text)
 
 -- an answer is that of the definition, want of memory aside
 abbrev pub IsAnswer : List ℕ → Result Program ReadFault → Type 0

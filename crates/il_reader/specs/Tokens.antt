@@ -6,7 +6,7 @@ use Rattle.point_types.specs.declared.il_type.IlType.{IlType}
 use Rattle.point_types.specs.declared.il_type.IlType.TheVariants as il
 use Rattle.point_types.specs.declared.operator.Operator.TheVariants as op
 use Rattle.point_types.specs.declared.operator.Condition.TheVariants as when
-use Rattle.point_types.specs.Name.{is_between, is_digit, is_letter, is_name_byte, is_underscore, folded, name_of}
+use Rattle.point_types.specs.Name.{is_between, is_digit, is_letter, is_name_byte, is_underscore, folded, most_characters, name_of}
 use Rattle.point_types.specs.Value.{low_of, high_of, int_eq, is_within}
 use Rattle.il_reader.specs.declared.fault.ReadFaultKind.{ReadFaultKind}
 use Rattle.il_reader.specs.declared.fault.ReadFaultKind.TheVariants as fault
@@ -187,11 +187,11 @@ abbrev pub word_ended : Option Token → ℕ → Result Lexed ReadFaultKind
 word_ended (Some t) b = ended_by t (first_byte b)
 word_ended None b = Err fault.Word
 
--- a word with one more character: 32 at most, and no two underscores in a row; gap: an underscore is the last of it
+-- a word with one more character, no more than a name has and no two underscores in a row; gap: an underscore is the last of it
 abbrev pub word_grown : List ℕ → Bool → ℕ → Result Lexed ReadFaultKind
 word_grown w gap b =
     if gap && is_underscore b then Err fault.Word
-    else if nat_lt (length w) 32 then stands (mode.Word (w ++ b ∷ []) (is_underscore b))
+    else if nat_lt (length w) most_characters then stands (mode.Word (w ++ b ∷ []) (is_underscore b))
     else Err fault.Word
 
 abbrev pub literal_begun : Option IlType → Result Lexed ReadFaultKind
@@ -280,6 +280,30 @@ at_end mode.Star = Err fault.Word
 at_end mode.Carriage = Err fault.Header
 at_end mode.Colon = Ok (Some token.Colon)
 at_end mode.Dot = Err fault.Header
+
+-- Whether a colon comes next, as behind a label.
+
+abbrev pub is_colon : Mode → Bool
+is_colon mode.Colon = true
+is_colon _ = false
+
+abbrev pub is_none : Option Token → Bool
+is_none None = true
+is_none (Some t) = false
+
+-- what stands open behind a byte that ends no token and is none
+abbrev pub behind_blank : Result Lexed ReadFaultKind → Option Mode
+behind_blank (Ok x) = if is_none x.ended && is_none x.own then Some x.mode else None
+behind_blank (Err k) = None
+
+abbrev pub colon_behind : Option Mode → (Mode → Bool) → Bool
+colon_behind (Some q) on = on q
+colon_behind None on = false
+
+-- behind blanks; := is no colon
+abbrev pub colon_comes : Mode → List ℕ → Bool
+colon_comes q [] = is_colon q
+colon_comes q (b ∷ bs) = if is_colon q then not (nat_eq b 61) else colon_behind (behind_blank (lexed q b)) (λ q'. colon_comes q' bs)
 
 -- the line behind a byte
 abbrev pub line_behind : ℕ → ℕ → ℕ

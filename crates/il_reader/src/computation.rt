@@ -1,3 +1,4 @@
+//! What is read of a line that computes.
 ghost use Rattle.std.specs.Prelude.{◌≡◌, IfOk, None};
 ghost use Rattle.il_reader.specs.Writing.{written, written_inner};
 ghost use Rattle.il_reader.specs.Nesting.{is_filled};

@@ -1,3 +1,4 @@
+//! Reading declarations.
 ghost use Rattle.std.specs.Prelude.{◌≡◌, IfOk, false};
 ghost use Rattle.il_reader.specs.Declaration.{begun, bounded, made, started, truth_value, value_of, whole_value};
 ghost use Rattle.il_reader.specs.Drafting.{declares, with_variables};

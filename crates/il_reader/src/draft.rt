@@ -1,3 +1,4 @@
+//! A program as far as it is read.
 ghost use Rattle.std.specs.Prelude.{◌≡◌, IfOk, map};
 
 use crate::scope::{Scope, is_listed};

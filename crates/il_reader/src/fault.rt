@@ -1,3 +1,4 @@
+//! Why a text is no program.
 ghost use Rattle.std.specs.Prelude.{◌≡◌};
 ghost use Rattle.il_reader.specs.Fault.{word_of};
 

@@ -1,3 +1,4 @@
+//! Reading an instruction.
 ghost use Rattle.std.specs.Prelude.{◌≡◌, IfOk, Ok, option_map};
 ghost use Rattle.il_reader.specs.Drafting.{continues};
 ghost use Rattle.il_reader.specs.Instructions.{GoesOn, acted, begin_step, begun_step, behind_brace_step, behind_first_step, behind_jump_step, behind_loop_step, behind_operator_step, behind_pair_step, behind_pragma_step, behind_set_step, behind_store_step, behind_turns_step, computed, continues_if, is_loop, operand_of, paired, part_begun, part_step, simple_step, single_step, turns_of, turns_step};

@@ -1,3 +1,4 @@
+//! The reserved words and what they stand for.
 ghost use Rattle.std.specs.Prelude.{◌≡◌, map};
 ghost use Rattle.il_reader.specs.Tokens.{keyword, look_up, word_token};
 

@@ -1,3 +1,4 @@
+//! Laws: the reader takes exactly the texts of the grammar.
 ghost use Rattle.il_reader.specs.Laws.{AtMostOneProgram, EarlyEndIsInTheLastLine, FaultIsInTheFirstLine, ReadingIsExact};
 
 /// A text is read exactly where it spells a program and keeps to the limit on its size, and to that

@@ -1,4 +1,6 @@
+//! A word as far as it is read.
 ghost use Rattle.std.specs.Prelude.{◌≡◌, ◌++◌, ◌∷◌, [], length, nat_lt, if◌then◌else◌};
+ghost use Rattle.point_types.specs.Name.{most_characters};
 
 use std::marker::Model;
 
@@ -34,7 +36,7 @@ impl Lexeme {
 
     /// The word with one more character; none where it has 32.
     pub fn with(mut self, byte: u8) -> Option<Lexeme>
-        ensures { result ≡ (if nat_lt (length self) 32 then Some (self ++ byte ∷ []) else None) }
+        ensures { result ≡ (if nat_lt (length self) most_characters then Some (self ++ byte ∷ []) else None) }
     {
         if self.length < WORD_CAPACITY {
             self.bytes[self.length] = byte;

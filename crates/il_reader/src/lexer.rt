@@ -1,7 +1,9 @@
+//! From bytes to tokens, a byte at a time.
 ghost use Rattle.std.specs.Prelude.{◌≡◌, ◌≤◌, ◌<◌, Some};
 ghost use Rattle.point_types.specs.Name.{folded, is_digit, is_letter, is_name_byte};
 ghost use Rattle.point_types.specs.Value.{high_of, is_within, low_of};
-ghost use Rattle.il_reader.specs.Tokens.{and_byte, and_n_byte, and_token, at_end, based, ended_by, first_byte, first_digit, gives, grown, grows, keyword, lexed, limits_of, literal_type, mark_of, number_byte, number_ended, number_stands, number_token, opening_of, sign_byte, stands, typed_byte, word_byte, word_ended, word_grown, word_token};
+ghost use Rattle.il_reader.specs.Reading.{is_label};
+ghost use Rattle.il_reader.specs.Tokens.{and_byte, and_n_byte, and_token, at_end, based, behind_blank, colon_comes, ended_by, first_byte, first_digit, gives, grown, grows, is_colon, keyword, lexed, limits_of, literal_type, mark_of, number_byte, number_ended, number_stands, number_token, opening_of, sign_byte, stands, typed_byte, word_byte, word_ended, word_grown, word_token};
 
 use crate::fault::ReadFaultKind;
 use crate::keyword::{find_keyword, token_of_word};
@@ -79,6 +81,34 @@ impl Mode {
         }
     }
 
+    /// Whether a colon comes next in these bytes, behind blanks; `:=` is no colon.
+    pub fn is_before_colon(self, bytes: &[u8]) -> bool
+        ensures { result ≡ colon_comes self bytes.now }
+    {
+        let mut mode = self;
+        let mut rest = bytes;
+        while let [byte, after @ ..] = rest {
+            if mode.is_colon() {
+                return *byte != b'=';
+            }
+            match behind_blank(mode.feed(*byte)) {
+                Some(next) => mode = next,
+                None => return false,
+            }
+            rest = after;
+        }
+        mode.is_colon()
+    }
+
+    fn is_colon(&self) -> bool
+        ensures { result ≡ is_colon self.now }
+    {
+        match self {
+            Mode::Colon => true,
+            _ => false,
+        }
+    }
+
     /// The token that stands open at the end of the text, or none. What could still grow to a token
     /// is Header, an open comment Word.
     pub fn finish(self) -> Result<Option<Token>, ReadFaultKind>
@@ -104,6 +134,34 @@ impl Mode {
             | Mode::Carriage
             | Mode::Dot => Err(ReadFaultKind::Header),
         }
+    }
+}
+
+impl Lexed {
+    /// Whether the byte has ended a name whose colon comes next in the bytes behind it.
+    pub fn is_label(self, behind: &[u8]) -> bool
+        ensures { result ≡ is_label self behind.now }
+    {
+        match (self.ended, self.own) {
+            (Some(Token::Name(_)), None) => self.mode.is_before_colon(behind),
+            _ => false,
+        }
+    }
+}
+
+// What stands open behind a byte that ends no token and is none.
+fn behind_blank(read: Result<Lexed, ReadFaultKind>) -> Option<Mode>
+    ensures { result ≡ behind_blank read }
+{
+    match read {
+        Ok(
+            Lexed {
+                ended: None,
+                own: None,
+                mode,
+            },
+        ) => Some(mode),
+        _ => None,
     }
 }
 

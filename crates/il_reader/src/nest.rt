@@ -1,3 +1,4 @@
+//! Lines inside parentheses as far as they are read.
 use crate::computation::{Computation, InnerLines};
 use crate::draft::Head;
 use crate::fault::ReadFaultKind;
@@ -89,7 +90,14 @@ impl Nest {
 
 impl Nest {
     ghost use Rattle.std.specs.Prelude.{◌≡◌};
-    ghost use Rattle.il_reader.specs.Nesting.{close_fault, end_fault};
+    ghost use Rattle.il_reader.specs.Nesting.{close_fault, end_fault, is_open};
+
+    /// Whether parentheses stand open.
+    pub fn is_open(&self) -> bool
+        ensures { result ≡ is_open self.now }
+    {
+        self.depth() != 0
+    }
 
     /// The fault of a closing parenthesis behind a whole instruction.
     pub fn close_fault(&self) -> ReadFaultKind

@@ -1,3 +1,4 @@
+//! Reading inside parentheses.
 ghost use Rattle.std.specs.Prelude.{◌≡◌, IfOk};
 ghost use Rattle.il_reader.specs.Nesting.{is_outer, takes_parentheses};
 ghost use Rattle.il_reader.specs.Instructions.{GoesOnInside, GoesOn, acted, behind_entry_step, behind_parenthesis_step, close_step, computed, enter_step, entered_step, inner_step, inside_step, opened, operand_of};
@@ -15,7 +16,7 @@ use point_types::Operator;
 use std::alloc::{AllocError, Global};
 
 /// The most parentheses that stand in one another.
-const MOST_OPEN: usize = 100;
+const MOST_NESTED: usize = 100;
 
 /// A whole instruction of the body.
 pub fn act(nest: Nest, draft: Draft, head: Head, action: Action) -> Result<State, AllocError>
@@ -47,7 +48,7 @@ pub fn enter(nest: &Nest, operator: Operator, negated: bool) -> Result<PartStage
 {
     if !may_open(operator) {
         Err(ReadFaultKind::Operand)
-    } else if nest.depth() < MOST_OPEN {
+    } else if nest.depth() < MOST_NESTED {
         Ok(PartStage::BehindParenthesis(operator, negated))
     } else {
         Err(ReadFaultKind::TooLong)
@@ -156,7 +157,6 @@ pub fn begin_inside(
         }
         Token::Close => close(frame, outer, draft),
         Token::Keyword(word) => begin_inner(frame, outer, draft, word, line),
-        Token::Name(_) => Ok(Err(ReadFaultKind::Parenthesis)),
         _ => Ok(Err(ReadFaultKind::Operator)),
     }
 }

@@ -1,3 +1,4 @@
+//! Numbers as they are spelled.
 ghost use Rattle.std.specs.Prelude.{◌≡◌, pos};
 ghost use Rattle.point_types.specs.Name.{folded, is_digit};
 ghost use Rattle.il_reader.specs.Tokens.{base_named, below, digit_in, digit_of, grown, radix, spelled_on};

@@ -1,3 +1,4 @@
+//! From a text to a program's tree.
 use crate::fault::{ReadFault, ReadFaultKind};
 use crate::lexer::{Lexed, Mode};
 use crate::state::{Move, State};
@@ -5,7 +6,7 @@ use crate::tree::Program;
 use std::alloc::{AllocError, Global};
 
 /// The most bytes of a text.
-const TEXT_LIMIT: usize = 1_048_576;
+const MOST_BYTES: usize = 1_048_576;
 
 /// How a text stands between two of its bytes.
 #[derive(Drop)]
@@ -22,10 +23,15 @@ impl Reader {
     ghost use Rattle.std.specs.Prelude.{◌≡◌, ◌<◌, ◌^◌, IfOk};
     ghost use Rattle.il_reader.specs.Reading.{answered, byte_fed, judged};
 
-    /// Reads one byte.
-    fn feed(self, alloc: Global, byte: u8) -> Result<Result<Reader, ReadFault>, AllocError>
+    /// Reads one byte; the bytes behind it tell what a name at fault is.
+    fn feed(
+        self,
+        alloc: Global,
+        byte: u8,
+        behind: &[u8],
+    ) -> Result<Result<Reader, ReadFault>, AllocError>
         requires { self.line < 2 ^ 31 }
-        ensures { IfOk result (λ fed. fed ≡ byte_fed self byte) }
+        ensures { IfOk result (λ fed. fed ≡ byte_fed self byte behind.now) }
     {
         let Reader {
             line,
@@ -37,6 +43,7 @@ impl Reader {
             Ok(lexed) => lexed,
             Err(kind) => return Ok(Err(ReadFault { line, kind })),
         };
+        let inside = state.is_at_inner_line();
         match state.take(alloc, &lexed, line)? {
             Ok(state) => Ok(Ok(Reader {
                 line: line_after(byte, line),
@@ -44,7 +51,10 @@ impl Reader {
                 mode: lexed.mode,
                 state,
             })),
-            Err(kind) => Ok(Err(ReadFault { line, kind })),
+            Err(kind) => Ok(Err(ReadFault {
+                line,
+                kind: fault_told(inside && lexed.is_label(behind), kind),
+            })),
         }
     }
 
@@ -82,7 +92,7 @@ impl Reader {
 pub fn read(alloc: Global, text: &str) -> Result<Program, ReadFault>
     ensures { IsAnswer text.now result }
 {
-    if text.len() > TEXT_LIMIT {
+    if text.len() > MOST_BYTES {
         return Err(ReadFault {
             line: 1,
             kind: ReadFaultKind::TooLong,
@@ -98,11 +108,12 @@ pub fn read(alloc: Global, text: &str) -> Result<Program, ReadFault>
 }
 
 ghost use Rattle.std.specs.Prelude.{◌≡◌, ◌≤◌, ◌<◌, ◌^◌, IfOk, length};
-ghost use Rattle.il_reader.specs.Reading.{IsAnswer, answered, end_reached, half_fault, outcome};
+ghost use Rattle.il_reader.specs.Limit.{most_bytes};
+ghost use Rattle.il_reader.specs.Reading.{IsAnswer, answered, end_reached, half_fault, outcome, told};
 ghost use Rattle.il_reader.specs.Tokens.{line_behind};
 
 fn read_bytes(alloc: Global, text: &[u8]) -> Result<Result<Program, ReadFault>, AllocError>
-    requires { length text.now ≤ 1048576 }
+    requires { length text.now ≤ most_bytes }
     ensures { IfOk result (λ answer. answer ≡ answered (outcome text.now)) }
 {
     let mut reader = Reader {
@@ -113,7 +124,7 @@ fn read_bytes(alloc: Global, text: &[u8]) -> Result<Result<Program, ReadFault>, 
     };
     let mut rest = text;
     while let [byte, after @ ..] = rest {
-        match reader.feed(alloc, *byte)? {
+        match reader.feed(alloc, *byte, after)? {
             Ok(next) => reader = next,
             Err(fault) => return Ok(Err(fault)),
         }
@@ -143,6 +154,17 @@ fn half_token_fault(half: ReadFaultKind, early: ReadFaultKind) -> ReadFaultKind
     match half {
         ReadFaultKind::Word => ReadFaultKind::Word,
         _ => early,
+    }
+}
+
+// The kind of a fault: a label isn't allowed inside parentheses.
+fn fault_told(inner_label: bool, kind: ReadFaultKind) -> ReadFaultKind
+    ensures { result ≡ told inner_label kind }
+{
+    if inner_label {
+        ReadFaultKind::Parenthesis
+    } else {
+        kind
     }
 }
 

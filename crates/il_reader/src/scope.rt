@@ -1,3 +1,4 @@
+//! The names that a program has declared so far.
 ghost use Rattle.std.specs.Prelude.{◌≡◌, OnOk};
 ghost use Rattle.std.specs.List.{list_any};
 ghost use Rattle.il_reader.specs.Declaration.{among, empty_scope, has_presence_among, has_room, is_among_presences, is_presence, is_taken, with_name};
@@ -5,10 +6,8 @@ ghost use Rattle.il_reader.specs.Declaration.{among, empty_scope, has_presence_a
 use point_types::{Items, Name};
 use std::alloc::{AllocError, Global};
 
-/// The most variables of a program.
-const VARIABLE_LIMIT: usize = 1024;
-/// The most externals of a program.
-const EXTERNAL_LIMIT: usize = 1024;
+/// The most variables of a program, and the most externals.
+const MOST_NAMES: usize = 1024;
 
 /// The names that are declared.
 #[derive(Drop)]
@@ -33,9 +32,9 @@ impl Scope {
         ensures { result ≡ has_room external self.now }
     {
         if external {
-            self.variables.len() <= VARIABLE_LIMIT && self.externals.len() < EXTERNAL_LIMIT
+            self.variables.len() <= MOST_NAMES && self.externals.len() < MOST_NAMES
         } else {
-            self.variables.len() < VARIABLE_LIMIT && self.externals.len() <= EXTERNAL_LIMIT
+            self.variables.len() < MOST_NAMES && self.externals.len() <= MOST_NAMES
         }
     }
 

@@ -1,5 +1,6 @@
+//! How far a program is read.
 ghost use Rattle.std.specs.Prelude.{◌≡◌};
-ghost use Rattle.il_reader.specs.Reading.{part_early, stage_early};
+ghost use Rattle.il_reader.specs.Reading.{is_inner_line, part_early, stage_early};
 
 use crate::draft::Head;
 use crate::fault::ReadFaultKind;
@@ -91,6 +92,16 @@ pub enum Pair {
 }
 
 impl Stage {
+    /// Whether this is the beginning of a line inside parentheses.
+    pub fn is_inner_line(&self) -> bool
+        ensures { result ≡ is_inner_line self.now }
+    {
+        match self {
+            Stage::AtLine(nest) => nest.is_open(),
+            _ => false,
+        }
+    }
+
     /// Why a text that ends here has ended too soon.
     pub fn end_fault(&self) -> ReadFaultKind
         ensures { result ≡ stage_early self.now }

@@ -1,7 +1,8 @@
+//! What the reader expects next.
 ghost use Rattle.std.specs.Prelude.{◌≡◌, IfOk, Ok, None};
 ghost use Rattle.il_reader.specs.Drafting.{declares};
 ghost use Rattle.il_reader.specs.Instructions.{StopsOn, at_instruction_step, at_line_step, behind_label_step, between_step, line_step, whole_step};
-ghost use Rattle.il_reader.specs.Reading.{braced, early, is_brace, over_step, start_step, state_step, step, stepped, taken, titled_step, with_fault, within_step};
+ghost use Rattle.il_reader.specs.Reading.{braced, early, is_at_inner_line, is_brace, over_step, start_step, state_step, step, stepped, taken, titled_step, with_fault, within_step};
 
 use crate::draft::{Draft, Head};
 use crate::fault::ReadFaultKind;
@@ -48,6 +49,16 @@ impl State {
         match token {
             Some(token) => self.step(alloc, token, line),
             None => Ok(Ok(self)),
+        }
+    }
+
+    /// Whether this is the beginning of a line inside parentheses.
+    pub fn is_at_inner_line(&self) -> bool
+        ensures { result ≡ is_at_inner_line self.now }
+    {
+        match self {
+            State::Within(stage, _) => stage.is_inner_line(),
+            _ => false,
         }
     }
 

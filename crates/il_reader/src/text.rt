@@ -1,3 +1,4 @@
+//! Bytes of a text.
 ghost use Rattle.std.specs.Prelude.{◌≡◌, ◌≤◌};
 ghost use Rattle.point_types.specs.Name.{folded, is_digit, is_letter};
 

@@ -1,3 +1,4 @@
+//! Tokens, and what keywords stand for.
 use point_types::{Condition, IlType, Name, Operator};
 
 /// A word with a meaning of its own (IEC 61131-3 edition 2, 2.1.3 and 3.2).

@@ -1,3 +1,4 @@
+//! A program as a tree.
 use crate::computation::Computation;
 use point_types::{Condition, IlType, Items, Name, Operator, Var};
 

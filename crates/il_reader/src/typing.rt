@@ -1,3 +1,4 @@
+//! Names and types as a declaration gives them.
 ghost use Rattle.std.specs.Prelude.{◌≡◌, IsTrue};
 ghost use Rattle.point_types.specs.Value.{is_ranged};
 

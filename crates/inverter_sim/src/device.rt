@@ -1,3 +1,4 @@
+//! A simulated inverter: its registers, its power and how it misbehaves.
 ghost use Rattle.std.specs.Prelude.{◌≡◌, ◌≤◌, ◌+◌, ◌-◌, ◌<◌, take, drop, length, Some, None, IfSome, MatchOption, true, false};
 ghost use Rattle.std.specs.Option.{SomeIff};
 ghost use Rattle.modbus_frame.specs.Message.{IsRequest};

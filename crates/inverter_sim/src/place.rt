@@ -1,3 +1,5 @@
+//! What a register of a device belongs to.
+
 /// What a register of a device belongs to: how many registers of its point stand before it and behind it, and whether
 /// clients may write that point.
 #[derive(Clone, Copy, PartialEq, Eq, Debug)]

@@ -1,3 +1,4 @@
+//! A plant: simulated inverters at their units.
 ghost use Rattle.std.specs.Prelude.{◌≡◌, ◌≢◌, map, Ok, Err, IfOk, IfErr, OnOk, MatchResult};
 ghost use Rattle.toml.specs.View.{view};
 ghost use Rattle.inverter_sim.specs.File.{plant_of, StandsFor, Breaks};

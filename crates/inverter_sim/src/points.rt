@@ -1,3 +1,5 @@
+//! The registers that a tick looks at and sets.
+
 /// What scales a point of a device: a power of ten, or the register that holds one, counted from the device's base.
 #[derive(Clone, Copy, PartialEq, Eq, Debug)]
 pub enum Scale {

@@ -1,3 +1,4 @@
+//! Reading frames from a link and sending frames over it.
 ghost use Rattle.std.specs.Prelude.{◌≡◌, ◌-◌, ◌<◌, ◌≤◌, [], length, None, Err, IfSome, OnOk};
 ghost use Rattle.std.specs.Io.KnownBytes.{Keeps};
 ghost use Rattle.modbus_frame.specs.declared.link.LinkFault.TheVariants.{Frame as FrameFaulty};

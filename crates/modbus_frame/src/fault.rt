@@ -1,3 +1,4 @@
+//! Why bytes are no frame.
 ghost use Rattle.std.specs.Prelude.{◌≡◌};
 ghost use Rattle.modbus_frame.specs.Fault.{frame_fault_word};
 

@@ -1,3 +1,4 @@
+//! A Modbus TCP frame.
 ghost use Rattle.std.specs.Prelude.{◌≡◌, ◌++◌, drop, length};
 ghost use Rattle.modbus_frame.specs.Frame.{frame_bytes};
 

@@ -1,3 +1,4 @@
+//! From pieces of a stream to frames.
 ghost use Rattle.std.specs.Prelude.{◌≡◌, ◌+◌, ◌-◌, ◌≤◌, ◌<◌, ◌++◌, ◌↔◌, [], length, min, take, IsTrue, None, Some};
 ghost use Rattle.arrayvec.specs.ArrayVec.{array_vec_len};
 ghost use Rattle.modbus_frame.specs.Frame.{frame_bytes, protocol_of, length_of, IsFrame, IsLength, IsFaulty};

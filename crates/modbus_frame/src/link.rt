@@ -1,3 +1,4 @@
+//! What bytes come from and go to, and how it fails.
 ghost use Rattle.std.specs.Prelude.{◌≡◌};
 ghost use Rattle.modbus_frame.specs.Fault.{link_fault_word};
 ghost use Rattle.modbus_frame.specs.declared.link.LinkFault.TheVariants.{Frame};

@@ -1,3 +1,4 @@
+//! A link in memory, for tests.
 ghost use Rattle.std.specs.Prelude.{◌≡◌, ◌<◌, ◌≤◌, ◌++◌, ◌↔◌, [], length, take, drop, None, Some, IfOk, OnOk, OnErr, IsErr, IsTrue};
 ghost use Rattle.std.specs.Io.KnownBytes.{Keeps, ReadConsumes, WriteAppends};
 ghost use Rattle.modbus_frame.specs.Link.{CountsBy, CountsDown};

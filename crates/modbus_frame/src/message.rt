@@ -1,3 +1,4 @@
+//! Requests and responses.
 ghost use Rattle.std.specs.Prelude.{◌≡◌};
 ghost use Rattle.modbus_frame.specs.Fault.{reply_fault_word};
 

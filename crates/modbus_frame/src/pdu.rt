@@ -1,3 +1,4 @@
+//! A protocol data unit: the bytes of a message.
 ghost use Rattle.std.specs.Prelude.{◌≡◌, ◌≤◌, length};
 ghost use Rattle.std.specs.Option.{SomeIff};
 ghost use Rattle.modbus_frame.specs.Bytes.{AreBytes};

@@ -1,3 +1,4 @@
+//! Requests as bytes.
 ghost use Rattle.std.specs.Prelude.{◌≡◌, ◌+◌, ◌*◌, ◌≤◌, ◌∷◌, ◌++◌, length, IfOk, Ok};
 ghost use Rattle.modbus_frame.specs.Bytes.{number_bytes, word_bytes, words_of};
 ghost use Rattle.modbus_frame.specs.Message.{IsRequest, IsRequestOf, HasQuantity, HasAddresses, request_of, read_of, write_one_of, write_many_of, addressed, request_bytes};

@@ -1,3 +1,4 @@
+//! Responses as bytes.
 ghost use Rattle.std.specs.Prelude.{◌≡◌, ◌≤◌, length, Result};
 ghost use Rattle.modbus_frame.specs.Message.{function_of, response_of, words_reply_of, wrote_reply_of, answer_bytes, wrote_reply, words_reply, refusal_bytes, IsAnswerTo, IsResponseTo, IsResponseOf, outcome_of};
 ghost use Rattle.modbus_frame.specs.declared.message.Response.{Response as ResponseValue};

@@ -1,3 +1,4 @@
+//! Up to 125 register words.
 ghost use Rattle.std.specs.Prelude.{◌≡◌, ◌≤◌, ◌<◌, ◌++◌, ◌∷◌, [], length};
 ghost use Rattle.std.specs.Option.{SomeIff};
 

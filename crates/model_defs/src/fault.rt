@@ -1,3 +1,4 @@
+//! Why a text defines no model.
 ghost use Rattle.std.specs.Prelude.{◌≡◌};
 
 use std::alloc::{AllocError, AllocFailed};

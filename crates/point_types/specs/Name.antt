@@ -38,12 +38,16 @@ begins_with_letter (b ∷ bs) = is_letter b
 abbrev pub is_name_byte : ℕ → Bool
 is_name_byte b = is_letter b || is_digit b
 
+-- the most characters of a name
+abbrev pub most_characters : ℕ
+most_characters = 32
+
 -- letters, digits and underscores, and no reserved word
 abbrev pub is_name_word : List ℕ → Bool
 is_name_word bs = begins_with_letter bs && list_all is_name_byte bs && is_parted bs && not (is_reserved bs)
 
 abbrev pub is_name : List ℕ → Bool
-is_name bs = nat_le (length bs) 32 && is_name_word bs
+is_name bs = nat_le (length bs) most_characters && is_name_word bs
 
 -- the name that a text spells, letters in any case
 abbrev pub name_of : List ℕ → Option (List ℕ)

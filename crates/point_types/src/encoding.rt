@@ -1,3 +1,4 @@
+//! From a value to the words of a register.
 ghost use Rattle.std.specs.Prelude.{◌≡◌, ◌≢◌, MatchOption};
 ghost use Rattle.point_types.specs.Encoding.{IsEncoding, IsOutOfType};
 ghost use Rattle.point_types.specs.Point.{size_of, StandsFor};

@@ -1,3 +1,4 @@
+//! How many words the types of points have, and how these spell a number.
 ghost use Rattle.std.specs.Prelude.{◌≡◌, ◌<◌, ◌≤◌, ◌^◌, ◌<ℤ◌, ◌≤ℤ◌, pos, length, All, MatchOption};
 ghost use Rattle.std.specs.Int.{int_rem_euclid};
 ghost use Rattle.point_types.specs.Point.{meaning_of, number_of, row, HasNoSpelling, IsSpelling};

@@ -1,3 +1,4 @@
+//! The elementary types of programs.
 ghost use Rattle.std.specs.Prelude.{◌≡◌};
 ghost use Rattle.point_types.specs.Value.{high_of, low_of};
 

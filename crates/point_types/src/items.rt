@@ -1,3 +1,4 @@
+//! A list that contracts see as its items.
 ghost use Rattle.std.specs.Prelude.{◌≡◌, ◌∷◌, [], ◌++◌, length, OnOk, OnErr};
 
 use std::alloc::{AllocError, Global};

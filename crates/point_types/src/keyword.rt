@@ -1,3 +1,4 @@
+//! The reserved words.
 ghost use Rattle.std.specs.Prelude.{◌≡◌, bytes_eq};
 ghost use Rattle.std.specs.List.{list_any};
 ghost use Rattle.point_types.specs.Keyword.{conversions, is_reserved, plain_words};

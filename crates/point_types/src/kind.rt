@@ -1,3 +1,4 @@
+//! The types of points.
 ghost use Rattle.std.specs.Prelude.{◌≡◌, ◌≢◌};
 ghost use Rattle.point_types.specs.Point.{size_of};
 

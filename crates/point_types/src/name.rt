@@ -1,3 +1,4 @@
+//! Names of variables, tags and devices.
 ghost use Rattle.std.specs.Prelude.{◌≡◌, ◌≤◌, length, map};
 ghost use Rattle.std.specs.List.{list_all};
 ghost use Rattle.point_types.specs.Name.{begins_with_letter, folded, is_cut_off, is_letter, is_name_byte, is_name_word, is_parted, name_of, padded};

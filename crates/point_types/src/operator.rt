@@ -1,3 +1,5 @@
+//! The operators of the language.
+
 /// An Instruction List operator of two operands, the result and one more (IEC 61131-3 edition 2, 3.2.2).
 #[derive(Clone, Copy, PartialEq, Eq, Debug)]
 pub enum Operator {

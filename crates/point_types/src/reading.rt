@@ -1,3 +1,5 @@
+//! What is known of an input at a scan.
+
 /// Why a tag has no value of its own, by the first cause that holds:
 /// no block of its model is known; the point's or its factor's registers lie past the block;
 /// the words are the unimplemented ones; the scale factor isn't one; no whole number is the value;

@@ -1,3 +1,4 @@
+//! A number by a power of ten.
 ghost use Rattle.std.specs.Prelude.{◌≡◌, ◌≤◌, ◌<ℤ◌, ◌^◌, pos};
 ghost use Rattle.point_types.specs.Reading.{factor_of, IsExponent, IsReading, IsReadingDown};
 ghost use Rattle.point_types.specs.Rescaling.{IsInRange, IsProduct, IsQuotient, IsRescaled};

@@ -1,3 +1,4 @@
+//! A declared variable.
 ghost use Rattle.std.specs.Prelude.{IsTrue};
 ghost use Rattle.point_types.specs.Value.{is_ranged};
 

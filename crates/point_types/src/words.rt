@@ -1,3 +1,4 @@
+//! From the words of a register to a number.
 ghost use Rattle.std.specs.Prelude.{◌≡◌, ◌≢◌, ◌≤◌, ◌<◌, ◌^◌, length};
 ghost use Rattle.point_types.specs.Point.{number_of, size_of, value_of};
 

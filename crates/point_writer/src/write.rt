@@ -1,3 +1,4 @@
+//! What is written for a set point, or why nothing is.
 ghost use Rattle.std.specs.Prelude.{◌≡◌};
 ghost use Rattle.point_writer.specs.Fault.{no_write_of, no_write_word};
 

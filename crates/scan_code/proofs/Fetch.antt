@@ -59,7 +59,7 @@ unsigned_small (negsuc n) h = omega arith
 pub number_read : (n : ℤ) → IsLong n → signed_from (bytes_of 8 (unsigned n) []) ≡ n
 number_read n h = ap signed (eight_read (unsigned n) (unsigned_small n h)) ∙ signed_read n h
 
-both_true : (a b : Bool) → (a && b) ≡ true → (a ≡ true) × (b ≡ true)
+pub both_true : (a b : Bool) → (a && b) ≡ true → (a ≡ true) × (b ≡ true)
 both_true true b h = (refl, h)
 both_true false b h = absurd (true≢false (sym h))
 

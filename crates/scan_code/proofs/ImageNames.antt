@@ -28,11 +28,11 @@ first_taken vars tags n r e h = h ∙ ap (λ z. z || list_any (λ t. bytes_eq n 
 pub second_taken : (vars : List Var) (tags : List Tag) (n : List ℕ) (r s : Bool) → r ≡ list_any (λ v. bytes_eq n (var_name v)) vars → r ≡ false → s ≡ list_any (λ t. bytes_eq n (tag_name t)) tags → s ≡ is_among (names_of vars tags) n
 second_taken vars tags n r s e h g = g ∙ ap (λ z. z || list_any (λ t. bytes_eq n (tag_name t)) tags) (sym h ∙ e) ∙ among_names vars tags n
 
-first_of : (a b : Bool) → (a && b) ≡ true → a ≡ true
+pub first_of : (a b : Bool) → (a && b) ≡ true → a ≡ true
 first_of true b h = refl
 first_of false b h = h
 
-second_of : (a b : Bool) → (a && b) ≡ true → b ≡ true
+pub second_of : (a b : Bool) → (a && b) ≡ true → b ≡ true
 second_of true b h = h
 second_of false b h = absurd (true≢false (sym h))
 

@@ -1,14 +1,17 @@
 -- The parts of an image as they are read.
-use Rattle.std.proofs.Common.{◌≡◌, ℕ, zero, suc, ◌-◌, ◌<◌, Bool, true, false, List, [], ◌∷◌, ◌++◌, ℤ, Some, None, if◌then◌else◌, Result, Ok, Err, refl, sym, ap, subst, inl, ◌∙◌, arith}
+use Rattle.std.proofs.Common.{◌≡◌, ℕ, zero, suc, ◌-◌, ◌<◌, Bool, true, false, not, ◌&&◌, ◌||◌, List, [], ◌∷◌, ◌++◌, ℤ, pos, Some, None, if◌then◌else◌, Result, Ok, Err, slice_get, refl, sym, ap, subst, inl, ◌∙◌, arith}
 use Rattle.std.proofs.Math.Bool.{Bool-set}
+use Rattle.std.proofs.lemmas.Int.{ints}
+use Rattle.std.specs.List.{list_all}
 use Rattle.point_types.specs.declared.il_type.IlType.{IlType}
 use Rattle.point_types.specs.declared.variable.Var.{Var}
-use Rattle.point_types.specs.Value.{is_ranged}
+use Rattle.point_types.specs.Value.{int_eq, is_bool, is_ranged}
 use Rattle.scan_code.specs.declared.image.Tag.{Tag}
 use Rattle.scan_code.specs.declared.image_fault.ImageFault.{ImageFault}
 use Rattle.scan_code.specs.declared.image_fault.ImageFault.TheVariants as fault
-use Rattle.scan_code.specs.Image.{is_new, names_of}
+use Rattle.scan_code.specs.Image.{Image, IsProper, is_new, is_whole_if_bool, names_of}
 use Rattle.scan_code.specs.ImageReading.{TakesOrWantsMemory, then_take, kept_if, number_at, piece_at, name_length_at, name_at, low_at, high_at, ranged, var_behind, var_at, vars_at, tag_at, tags_at}
+use Rattle.scan_code.proofs.Fetch.{both_true}
 
 pub ranged_told : (name : List ℕ) (kind : IlType) (low high start : ℤ) (b : Bool) (e : is_ranged kind low high start ≡ b) (h : is_ranged kind low high start ≡ true) (rest : List ℕ)
     → ranged name kind low high start b e rest ≡ Ok (record { name = name; kind = kind; low = low; high = high; start = start; ranged = h }, rest)
@@ -78,3 +81,20 @@ name_refused before n bytes behind_length piece rest e f h =
     go : (b : Bool) → None ≡ (if b then Some piece else None) → kept_if b fault.Field piece rest ≡ Err fault.Field
     go true h = cc
     go false h = refl
+
+-- a BOOL of an image has the range 0..1
+whole_at : (vs : List Var) (i : ℕ) (v : Var) → list_all is_whole_if_bool vs ≡ true → slice_get vs i ≡ Some v → is_whole_if_bool v ≡ true
+whole_at [] i v w e = absurd (cc)
+whole_at (x ∷ vs) zero v w e =
+    let same : x ≡ v = cc in
+    ap is_whole_if_bool (sym same) ∙ (both_true (is_whole_if_bool x) (list_all is_whole_if_bool vs) w).0
+whole_at (x ∷ vs) (suc i) v w e = whole_at vs i v (both_true (is_whole_if_bool x) (list_all is_whole_if_bool vs) w).1 e
+
+same_number : (a b : ℤ) → int_eq a b ≡ true → a ≡ b
+same_number a b h = grind (arith, ints)
+
+pub bool_is_whole : (image : Image) → IsProper image → (i : ℕ) (v : Var) → slice_get image.vars i ≡ Some v → is_bool v.kind ≡ true → (v.low ≡ pos 0) × (v.high ≡ pos 1)
+bool_is_whole image proper i v e h =
+    let w : (int_eq v.low (pos 0) && int_eq v.high (pos 1)) ≡ true = ap (λ b. not b || (int_eq v.low (pos 0) && int_eq v.high (pos 1))) (sym h) ∙ whole_at image.vars i v proper.whole_bools e in
+    let ends = both_true (int_eq v.low (pos 0)) (int_eq v.high (pos 1)) w in
+    (same_number v.low (pos 0) ends.0, same_number v.high (pos 1) ends.1)

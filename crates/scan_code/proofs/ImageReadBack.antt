@@ -1,5 +1,5 @@
 -- What was spelled is read.
-use Rattle.std.proofs.Common.{◌≡◌, ℕ, suc, ◌≤◌, Bool, true, false, ◌&&◌, not, le-leb, List, [], ◌∷◌, ◌++◌, map, length, take, drop, ℤ, Ok, Err, if◌then◌else◌, nat_le, nat_eq, refl, sym, ap, ◌∙◌, arith, true≢false, int_le}
+use Rattle.std.proofs.Common.{◌≡◌, ℕ, suc, ◌≤◌, Bool, true, false, ◌&&◌, not, le-leb, List, [], ◌∷◌, ◌++◌, map, length, take, drop, ℤ, pos, Ok, Err, if◌then◌else◌, nat_le, nat_eq, refl, sym, ap, ◌∙◌, arith, true≢false, int_le}
 use Rattle.std.proofs.lemmas.List.{append_assoc, append-nil, length-append}
 use Rattle.std.specs.List.{list_all}
 use Rattle.std.proofs.Math.Seq.{drop-append_seam, take-append_seam}
@@ -8,30 +8,20 @@ use Rattle.point_types.specs.declared.il_type.IlType.TheVariants as il
 use Rattle.point_types.specs.declared.variable.Var.{Var}
 use Rattle.point_types.specs.Name.{begins_with_letter, is_name, is_name_word, is_name_byte, is_parted}
 use Rattle.point_types.specs.Keyword.{is_reserved}
-use Rattle.point_types.specs.Value.{code_of, high_of, is_ranged, is_within, low_of}
+use Rattle.point_types.specs.Value.{code_of, high_of, int_eq, is_ranged, is_within, low_of}
 use Rattle.scan_code.specs.declared.image.Tag.{Tag}
 use Rattle.scan_code.specs.declared.image_fault.ImageFault.{ImageFault}
 use Rattle.scan_code.specs.declared.image_fault.ImageFault.TheVariants as fault
 use Rattle.scan_code.specs.Spelling.{byte_of, place_bytes}
-use Rattle.scan_code.specs.Image.{Image, IsProper, are_new, is_among, is_new, is_version, most_entries, names_of, tag_name, var_name}
+use Rattle.scan_code.specs.Image.{Image, IsProper, are_new, is_among, is_new, is_version, is_whole_if_bool, most_entries, names_of, tag_name, var_name}
 use Rattle.scan_code.specs.ImageSpelling.{mark, spelled_image, spelled_name, spelled_number, spelled_tag, spelled_tags, spelled_var, spelled_vars}
-use Rattle.scan_code.specs.ImageReading.{Taken, then_take, kept_if, place_at, number_at, piece_at, name_at, type_at, var_behind, var_at, vars_at, direction_at, tag_at, tags_at, tables_at, image_at, image_in, count_at, whole}
+use Rattle.scan_code.specs.ImageReading.{Taken, then_take, kept_if, place_at, number_at, is_low, is_high, piece_at, name_at, type_at, var_behind, var_at, vars_at, direction_at, tag_at, tags_at, tables_at, image_at, image_in, count_at, whole}
 use Rattle.std.proofs.lemmas.Int.{ints}
 use Rattle.scan_code.specs.ImageLaws.{ImagesReadBack, MoreIsRest}
 use Rattle.scan_code.proofs.Fetch.{number_read, is_long, place_read}
-use Rattle.scan_code.proofs.ImageTaken.{after_direction, after_high, after_length, after_low, after_tag_name, after_var_name, all_new, made, names_more_tags, names_more_vars, tag_made}
+use Rattle.scan_code.proofs.ImageTaken.{after_direction, after_high, after_length, after_low, after_tag_name, after_var_name, all_new, both, made, names_more_tags, names_more_vars, tag_made, whole_range}
+use Rattle.scan_code.proofs.ImageNames.{first_of, second_of}
 use Rattle.scan_code.proofs.ImageParts.{ranged_told}
-
-first_of : (a b : Bool) → (a && b) ≡ true → a ≡ true
-first_of true b h = refl
-first_of false b h = h
-
-second_of : (a b : Bool) → (a && b) ≡ true → b ≡ true
-second_of true b h = h
-second_of false b h = absurd (true≢false (sym h))
-
-both : (a b : Bool) → a ≡ true → b ≡ true → (a && b) ≡ true
-both a b e f = ap (λ x. x && b) e ∙ f
 
 kept_true : {A : Type 0} (b : Bool) (e : ImageFault) (a : A) (rest : List ℕ) → b ≡ true → kept_if b e a rest ≡ Ok (a, rest)
 kept_true b e a rest h = ap (λ t. kept_if t e a rest) h
@@ -112,26 +102,35 @@ in_type v =
       order = order;
     }
 
-range_reads : (v : Var) (rest : List ℕ) → var_behind v.name v.kind (spelled_number v.low ++ (spelled_number v.high ++ (spelled_number v.start ++ rest))) ≡ Ok (v, rest)
-range_reads v rest =
+-- the ends of a variable's range are read
+low_told : (kind : IlType) (low high : ℤ) → whole_range kind low high ≡ true → is_within (low_of kind) (high_of kind) low ≡ true → is_low kind low ≡ true
+low_told il.Bool low high w h = first_of (int_eq low (pos 0)) (int_eq high (pos 1)) w
+low_told _ low high w h = h
+
+high_told : (kind : IlType) (low high : ℤ) → whole_range kind low high ≡ true → is_within (low_of kind) (high_of kind) high ≡ true → int_le low high ≡ true → is_high kind low high ≡ true
+high_told il.Bool low high w h e = second_of (int_eq low (pos 0)) (int_eq high (pos 1)) w
+high_told kind low high w h e = both (is_within (low_of kind) (high_of kind) high) (int_le low high) h e
+
+range_reads : (v : Var) (rest : List ℕ) → is_whole_if_bool v ≡ true → var_behind v.name v.kind (spelled_number v.low ++ (spelled_number v.high ++ (spelled_number v.start ++ rest))) ≡ Ok (v, rest)
+range_reads v rest w =
     let h = in_type v in
     let behind_high = spelled_number v.start ++ rest in
     let behind_low = spelled_number v.high ++ behind_high in
-    ap (λ t. then_take (then_take t (λ n rest. kept_if (is_within (low_of v.kind) (high_of v.kind) n) fault.Field n rest)) (after_low v.name v.kind)) (number_reads v.kind v.low behind_low h.low)
-    ∙ ap (λ t. then_take t (after_low v.name v.kind)) (kept_true (is_within (low_of v.kind) (high_of v.kind) v.low) fault.Field v.low behind_low h.low)
-    ∙ ap (λ t. then_take (then_take t (λ n rest. kept_if (is_within (low_of v.kind) (high_of v.kind) n && int_le v.low n) fault.Field n rest)) (after_high v.name v.kind v.low)) (number_reads v.kind v.high behind_high h.high)
-    ∙ ap (λ t. then_take t (after_high v.name v.kind v.low)) (kept_true (is_within (low_of v.kind) (high_of v.kind) v.high && int_le v.low v.high) fault.Field v.high behind_high (both (is_within (low_of v.kind) (high_of v.kind) v.high) (int_le v.low v.high) h.high h.order))
+    ap (λ t. then_take (then_take t (λ n rest. kept_if (is_low v.kind n) fault.Field n rest)) (after_low v.name v.kind)) (number_reads v.kind v.low behind_low h.low)
+    ∙ ap (λ t. then_take t (after_low v.name v.kind)) (kept_true (is_low v.kind v.low) fault.Field v.low behind_low (low_told v.kind v.low v.high w h.low))
+    ∙ ap (λ t. then_take (then_take t (λ n rest. kept_if (is_high v.kind v.low n) fault.Field n rest)) (after_high v.name v.kind v.low)) (number_reads v.kind v.high behind_high h.high)
+    ∙ ap (λ t. then_take t (after_high v.name v.kind v.low)) (kept_true (is_high v.kind v.low v.high) fault.Field v.high behind_high (high_told v.kind v.low v.high w h.high h.order))
     ∙ ap (λ t. then_take t (made v.name v.kind v.low v.high)) (number_reads v.kind v.start rest h.start)
     ∙ ranged_told v.name v.kind v.low v.high v.start (is_ranged v.kind v.low v.high v.start) refl v.ranged rest
 
-var_reads : (before : List (List ℕ)) (v : Var) (rest : List ℕ) → is_new before v.name ≡ true → var_at before (spelled_var v ++ rest) ≡ Ok (v, rest)
-var_reads before v rest h =
+var_reads : (before : List (List ℕ)) (v : Var) (rest : List ℕ) → is_new before v.name ≡ true → is_whole_if_bool v ≡ true → var_at before (spelled_var v ++ rest) ≡ Ok (v, rest)
+var_reads before v rest h w =
     let behind = spelled_number v.low ++ (spelled_number v.high ++ (spelled_number v.start ++ rest)) in
     let joined : spelled_var v ++ rest ≡ spelled_name v.name ++ (code_of v.kind ∷ behind) = simp append_assoc refl in
     ap (var_at before) joined
     ∙ ap (λ t. then_take t after_var_name) (name_reads before v.name (code_of v.kind ∷ behind) h)
     ∙ ap (λ t. then_take t (λ kind rest. var_behind v.name kind rest)) (type_reads v.kind behind)
-    ∙ range_reads v rest
+    ∙ range_reads v rest w
 
 direction_reads : (b : Bool) (rest : List ℕ) → direction_at (byte_of b ∷ rest) ≡ Ok (byte_of b, rest)
 direction_reads true rest = refl
@@ -150,16 +149,16 @@ tag_reads before t rest h =
     ∙ ap (λ x. then_take x (tag_made t.name (byte_of t.output))) (type_reads t.kind rest)
     ∙ ap (λ b. Ok (record { name = t.name; output = b; kind = t.kind }, rest)) (direction_back t.output)
 
-vars_read : (vs before : List Var) (rest : List ℕ) → are_new (names_of before []) (map var_name vs) ≡ true → vars_at (length vs) before (spelled_vars vs ++ rest) ≡ Ok (before ++ vs, rest)
-vars_read [] before rest h = ap (λ l. Ok (l, rest)) (sym (append-nil before))
-vars_read (v ∷ vs) before rest h =
+vars_read : (vs before : List Var) (rest : List ℕ) → are_new (names_of before []) (map var_name vs) ≡ true → list_all is_whole_if_bool vs ≡ true → vars_at (length vs) before (spelled_vars vs ++ rest) ≡ Ok (before ++ vs, rest)
+vars_read [] before rest h w = ap (λ l. Ok (l, rest)) (sym (append-nil before))
+vars_read (v ∷ vs) before rest h w =
     let new = first_of (is_new (names_of before []) v.name) (are_new (names_of before [] ++ v.name ∷ []) (map var_name vs)) h in
     let more = second_of (is_new (names_of before []) v.name) (are_new (names_of before [] ++ v.name ∷ []) (map var_name vs)) h in
     let count : length (v ∷ vs) ≡ suc (length vs) = omega arith in
     ap (λ n. vars_at n before (spelled_vars (v ∷ vs) ++ rest)) count
     ∙ ap (vars_at (suc (length vs)) before) (append_assoc (spelled_var v) (spelled_vars vs) rest)
-    ∙ ap (λ t. then_take t (λ v rest. vars_at (length vs) (before ++ v ∷ []) rest)) (var_reads (names_of before []) v (spelled_vars vs ++ rest) new)
-    ∙ vars_read vs (before ++ v ∷ []) rest (ap (λ l. are_new l (map var_name vs)) (names_more_vars before v) ∙ more)
+    ∙ ap (λ t. then_take t (λ v rest. vars_at (length vs) (before ++ v ∷ []) rest)) (var_reads (names_of before []) v (spelled_vars vs ++ rest) new (first_of (is_whole_if_bool v) (list_all is_whole_if_bool vs) w))
+    ∙ vars_read vs (before ++ v ∷ []) rest (ap (λ l. are_new l (map var_name vs)) (names_more_vars before v) ∙ more) (second_of (is_whole_if_bool v) (list_all is_whole_if_bool vs) w)
     ∙ ap (λ l. Ok (l, rest)) (append_assoc before (v ∷ []) vs)
 
 tags_read : (vars : List Var) (ts before : List Tag) (rest : List ℕ) → are_new (names_of vars before) (map tag_name ts) ≡ true → tags_at (length ts) vars before (spelled_tags ts ++ rest) ≡ Ok (before ++ ts, rest)
@@ -183,13 +182,13 @@ after_tags version size vars tags rest = then_take (piece_at size rest) (after_c
 abbrev pub after_vars : ℕ → ℕ → ℕ → List Var → List ℕ → Taken Image
 after_vars version tags size vars rest = then_take (tags_at tags vars [] rest) (after_tags version size vars)
 
-tables_read : (image : Image) (rest : List ℕ) → are_new [] (names_of image.vars image.tags) ≡ true
+tables_read : (image : Image) (rest : List ℕ) → are_new [] (names_of image.vars image.tags) ≡ true → list_all is_whole_if_bool image.vars ≡ true
     → tables_at image.version (length image.vars) (length image.tags) (length image.code) (spelled_vars image.vars ++ (spelled_tags image.tags ++ (image.code ++ rest))) ≡ Ok (image, rest)
-tables_read image rest h =
+tables_read image rest h w =
     let parts = sym (all_new image.vars image.tags) ∙ h in
     let first = first_of (are_new [] (names_of image.vars [])) (are_new (names_of image.vars []) (names_of [] image.tags)) parts in
     let second = second_of (are_new [] (names_of image.vars [])) (are_new (names_of image.vars []) (names_of [] image.tags)) parts in
-    ap (λ t. then_take t (after_vars image.version (length image.tags) (length image.code))) (vars_read image.vars [] (spelled_tags image.tags ++ (image.code ++ rest)) (ap (are_new []) (sym (append-nil (map var_name image.vars))) ∙ first))
+    ap (λ t. then_take t (after_vars image.version (length image.tags) (length image.code))) (vars_read image.vars [] (spelled_tags image.tags ++ (image.code ++ rest)) (ap (are_new []) (sym (append-nil (map var_name image.vars))) ∙ first) w)
     ∙ ap (λ t. then_take t (after_tags image.version (length image.code) image.vars)) (tags_read image.vars image.tags [] (image.code ++ rest) second)
     ∙ ap (λ t. then_take t (after_code image.version image.vars image.tags)) (piece_reads image.code rest)
 
@@ -220,7 +219,7 @@ image_reads image rest proper =
     ∙ ap (λ t. then_take t (after_first image.version)) (count_reads (length image.vars) behind_first (few (length image.vars) proper.few_variables))
     ∙ ap (λ t. then_take t (after_second image.version (length image.vars))) (count_reads (length image.tags) behind_second (few (length image.tags) proper.few_tags))
     ∙ ap (λ t. then_take t (after_size image.version (length image.vars) (length image.tags))) (place_reads (length image.code) body)
-    ∙ tables_read image rest proper.distinct
+    ∙ tables_read image rest proper.distinct proper.whole_bools
 
 pub images_read_back : ImagesReadBack
 images_read_back image proper =

@@ -1,11 +1,11 @@
 -- What is read was spelled so.
-use Rattle.std.proofs.Common.{◌≡◌, ℕ, zero, suc, ◌+◌, ◌-◌, ◌*◌, ◌/◌, ◌%◌, ◌^◌, ◌≤◌, ◌<◌, Bool, true, false, ◌&&◌, List, [], ◌∷◌, ◌++◌, length, take, drop, ℤ, pos, negsuc, ◌-ℤ◌, Ok, Err, if◌then◌else◌, slice_get, nat_le, nat_lt, nat_eq, int_le, refl, sym, ap, subst, ◌∙◌, arith, leb-true, ltb-false, eqb-true, length-take-le}
+use Rattle.std.proofs.Common.{◌≡◌, ℕ, zero, suc, ◌+◌, ◌-◌, ◌*◌, ◌/◌, ◌%◌, ◌^◌, ◌≤◌, ◌<◌, Bool, true, false, ◌&&◌, List, [], ◌∷◌, ◌++◌, length, take, drop, ℤ, pos, negsuc, ◌-ℤ◌, Ok, Err, if◌then◌else◌, slice_get, nat_le, nat_lt, nat_eq, refl, sym, ap, subst, ◌∙◌, arith, leb-true, ltb-false, eqb-true, length-take-le}
 use Rattle.std.proofs.lemmas.List.{append_assoc, append-nil, take-append-drop}
 use Rattle.std.proofs.lemmas.Int.{ints}
 use Rattle.point_types.specs.declared.il_type.IlType.{IlType}
 use Rattle.point_types.specs.declared.il_type.IlType.TheVariants as il
 use Rattle.point_types.specs.declared.variable.Var.{Var}
-use Rattle.point_types.specs.Value.{code_of, high_of, is_ranged, is_within, low_of}
+use Rattle.point_types.specs.Value.{code_of, is_ranged}
 use Rattle.scan_code.specs.declared.image.Tag.{Tag}
 use Rattle.scan_code.specs.declared.image_fault.ImageFault.{ImageFault}
 use Rattle.scan_code.specs.declared.image_fault.ImageFault.TheVariants as fault
@@ -13,7 +13,7 @@ use Rattle.scan_code.specs.Instruction.{number_from, signed_from, types}
 use Rattle.scan_code.specs.Spelling.{byte_of, bytes_of, place_bytes, unsigned}
 use Rattle.scan_code.specs.Image.{Image, is_new, is_version, most_entries, names_of}
 use Rattle.scan_code.specs.ImageSpelling.{mark, spelled_image, spelled_name, spelled_number, spelled_tag, spelled_tags, spelled_var, spelled_vars}
-use Rattle.scan_code.specs.ImageReading.{Taken, then_take, kept_if, byte_at, place_at, number_at, piece_at, name_length_at, name_at, type_or_fault, type_at, low_at, high_at, var_behind, var_at, vars_at, direction_at, tag_at, tags_at, tables_at, image_at, version_at, count_at, behind_mark, ended, whole}
+use Rattle.scan_code.specs.ImageReading.{Taken, then_take, kept_if, byte_at, place_at, number_at, piece_at, name_length_at, name_at, type_or_fault, type_at, is_low, is_high, low_at, high_at, var_behind, var_at, vars_at, direction_at, tag_at, tags_at, tables_at, image_at, version_at, count_at, behind_mark, ended, whole}
 use Rattle.scan_code.specs.ImageLaws.{AreBytes, ImagesHaveOneSpelling}
 use Rattle.scan_code.proofs.ImageTaken.{after_direction, after_high, after_length, after_low, after_tag_name, after_var_name, found_first, kept, made, never_ok, ok_inner, ranged_is, tag_made}
 use Rattle.scan_code.proofs.ImageReadBack.{after_code, after_first, after_second, after_size, after_tags, after_vars, after_version}
@@ -154,9 +154,9 @@ var_spelled before bytes x s t =
     let s1 = behind (spelled_name n.0) n.1 (subst AreBytes e1 s) in
     let e2 = type_spelled n.1 (k.0, k.1) k.2 in
     let s2 = behind (code_of k.0 ∷ []) k.1 (subst AreBytes e2 s1) in
-    let e3 = checked_number (is_within (low_of k.0) (high_of k.0)) k.1 (low.0, low.1) s2 low.2 in
+    let e3 = checked_number (is_low k.0) k.1 (low.0, low.1) s2 low.2 in
     let s3 = behind (spelled_number low.0) low.1 (subst AreBytes e3 s2) in
-    let e4 = checked_number (λ m. is_within (low_of k.0) (high_of k.0) m && int_le low.0 m) low.1 (high.0, high.1) s3 high.2 in
+    let e4 = checked_number (is_high k.0 low.0) low.1 (high.0, high.1) s3 high.2 in
     let s4 = behind (spelled_number high.0) high.1 (subst AreBytes e4 s3) in
     let e5 = number_spelled high.1 (start.0, start.1) s4 start.2 in
     let parts : List ℕ → IlType → ℤ → ℤ → ℤ → List ℕ → List ℕ = λ n k l h s r. spelled_name n ++ (code_of k ∷ (spelled_number l ++ (spelled_number h ++ (spelled_number s ++ r)))) in

@@ -1,14 +1,17 @@
 -- Taking a reading of parts apart.
-use Rattle.std.proofs.Common.{◌≡◌, ℕ, zero, suc, ◌+◌, Bool, true, false, ◌&&◌, List, [], ◌∷◌, ◌++◌, map, length, ℤ, Result, Ok, Err, refl, sym, ap, ◌∙◌, arith, nat_eq}
+use Rattle.std.proofs.Common.{◌≡◌, ℕ, zero, suc, ◌+◌, Bool, true, false, not, ◌&&◌, ◌||◌, List, [], ◌∷◌, ◌++◌, map, length, ℤ, pos, Result, Ok, Err, refl, sym, ap, ◌∙◌, arith, nat_eq}
 use Rattle.std.proofs.lemmas.List.{append_assoc, append-nil, length-append}
+use Rattle.std.proofs.lemmas.List.Folds.{list_all-append}
+use Rattle.std.specs.List.{list_all}
 use Rattle.point_types.specs.declared.il_type.IlType.{IlType}
+use Rattle.point_types.specs.declared.il_type.IlType.TheVariants as il
 use Rattle.point_types.specs.declared.variable.Var.{Var}
 use Rattle.scan_code.specs.declared.image.Tag.{Tag}
 use Rattle.scan_code.specs.declared.image_fault.ImageFault.{ImageFault}
 use Rattle.scan_code.specs.declared.image_fault.ImageFault.TheVariants as fault
-use Rattle.scan_code.specs.Image.{are_new, is_new, names_of, tag_name, var_name}
-use Rattle.scan_code.specs.ImageReading.{Taken, then_take, kept_if, piece_at, name_length_at, name_at, type_at, direction_at, number_at, low_at, high_at, ranged, var_behind, var_at, vars_at, tag_at, tags_at}
-use Rattle.point_types.specs.Value.{is_ranged}
+use Rattle.scan_code.specs.Image.{are_new, is_new, is_whole_if_bool, names_of, tag_name, var_name}
+use Rattle.scan_code.specs.ImageReading.{Taken, then_take, kept_if, piece_at, name_length_at, name_at, type_at, direction_at, number_at, is_low, is_high, low_at, high_at, ranged, var_behind, var_at, vars_at, tag_at, tags_at}
+use Rattle.point_types.specs.Value.{int_eq, is_bool, is_ranged}
 
 abbrev from : {A : Type 0} → A → Result A ImageFault → A
 from d (Ok a) = a
@@ -69,6 +72,35 @@ var_is_new before bytes x h =
     let r = ranged_is n.0 k.0 low.0 high.0 start.0 (is_ranged k.0 low.0 high.0 start.0) refl start.1 x start.3 in
     ap (is_new before) (sym r.0) ∙ name_is_new before bytes (n.0, n.1) n.2
 
+-- what was read is whole, if it is a BOOL
+
+abbrev pub whole_range : IlType → ℤ → ℤ → Bool
+whole_range kind low high = not (is_bool kind) || (int_eq low (pos 0) && int_eq high (pos 1))
+
+pub both : (a b : Bool) → a ≡ true → b ≡ true → (a && b) ≡ true
+both a b e f = ap (λ x. x && b) e ∙ f
+
+whole_told : (kind : IlType) (low high : ℤ) → is_low kind low ≡ true → is_high kind low high ≡ true → whole_range kind low high ≡ true
+whole_told il.Bool low high e f = both (int_eq low (pos 0)) (int_eq high (pos 1)) e f
+whole_told _ low high e f = refl
+
+pub kept_number : (test : ℤ → Bool) (bytes : List ℕ) (x : ℤ × List ℕ) → then_take (number_at bytes) (λ n rest. kept_if (test n) fault.Field n rest) ≡ Ok x → test x.0 ≡ true
+kept_number test bytes x h =
+    let n = found_first (number_at bytes) (λ n rest. kept_if (test n) fault.Field n rest) x h in
+    let k = kept (test n.0) fault.Field n.0 n.1 x n.3 in
+    ap test (sym k.1) ∙ k.0
+
+pub var_is_whole : (before : List (List ℕ)) (bytes : List ℕ) (x : Var × List ℕ) → var_at before bytes ≡ Ok x → is_whole_if_bool x.0 ≡ true
+var_is_whole before bytes x h =
+    let n = found_first (name_at before bytes) after_var_name x h in
+    let k = found_first (type_at n.1) (λ kind rest. var_behind n.0 kind rest) x n.3 in
+    let low = found_first (low_at k.0 k.1) (after_low n.0 k.0) x k.3 in
+    let high = found_first (high_at k.0 low.0 low.1) (after_high n.0 k.0 low.0) x low.3 in
+    let start = found_first (number_at high.1) (made n.0 k.0 low.0 high.0) x high.3 in
+    let r = ranged_is n.0 k.0 low.0 high.0 start.0 (is_ranged k.0 low.0 high.0 start.0) refl start.1 x start.3 in
+    ap (λ a. whole_range a x.0.low x.0.high) (sym r.1) ∙ ap (λ a. whole_range k.0 a x.0.high) (sym r.2) ∙ ap (whole_range k.0 low.0) (sym r.3)
+    ∙ whole_told k.0 low.0 high.0 (kept_number (is_low k.0) k.1 (low.0, low.1) low.2) (kept_number (is_high k.0 low.0) low.1 (high.0, high.1) high.2)
+
 abbrev pub tag_made : List ℕ → ℕ → IlType → List ℕ → Taken Tag
 tag_made name n kind rest = Ok (record { name = name; output = nat_eq n 1; kind = kind }, rest)
 
@@ -109,24 +141,25 @@ names_more_vars vars v = append-nil (map var_name (vars ++ v ∷ [])) ∙ map_ap
 pub names_more_tags : (vars : List Var) (tags : List Tag) (t : Tag) → names_of vars (tags ++ t ∷ []) ≡ names_of vars tags ++ t.name ∷ []
 names_more_tags vars tags t = ap (λ l. map var_name vars ++ l) (map_append tag_name tags (t ∷ [])) ∙ sym (append_assoc (map var_name vars) (map tag_name tags) (t.name ∷ []))
 
-both : (a b : Bool) → a ≡ true → b ≡ true → (a && b) ≡ true
-both a b e f = ap (λ x. x && b) e ∙ f
-
 more_is_new : (names : List (List ℕ)) (name : List ℕ) → are_new [] names ≡ true → is_new names name ≡ true → are_new [] (names ++ name ∷ []) ≡ true
 more_is_new names name e f = are_new_append [] names (name ∷ []) ∙ both (are_new [] names) (is_new names name && true) e (both (is_new names name) true f refl)
 
-pub vars_counted : (n : ℕ) (before : List Var) (bytes : List ℕ) (x : List Var × List ℕ) → vars_at n before bytes ≡ Ok x → are_new [] (names_of before []) ≡ true
-    → (length x.0 ≡ length before + n) × (are_new [] (names_of x.0 []) ≡ true)
-vars_counted zero before bytes x h e =
+more_whole : (vs : List Var) (v : Var) → list_all is_whole_if_bool vs ≡ true → is_whole_if_bool v ≡ true → list_all is_whole_if_bool (vs ++ v ∷ []) ≡ true
+more_whole vs v e f = list_all-append is_whole_if_bool vs (v ∷ []) ∙ both (list_all is_whole_if_bool vs) (is_whole_if_bool v && true) e (both (is_whole_if_bool v) true f refl)
+
+pub vars_counted : (n : ℕ) (before : List Var) (bytes : List ℕ) (x : List Var × List ℕ) → vars_at n before bytes ≡ Ok x → are_new [] (names_of before []) ≡ true → list_all is_whole_if_bool before ≡ true
+    → (length x.0 ≡ length before + n) × (are_new [] (names_of x.0 []) ≡ true) × (list_all is_whole_if_bool x.0 ≡ true)
+vars_counted zero before bytes x h e w =
     let i = ok_inner (before, bytes) x h in
-    (ap (λ p. length p.0) (sym i) ∙ omega arith, ap (λ p. are_new [] (names_of p.0 [])) (sym i) ∙ e)
-vars_counted (suc n) before bytes x h e =
+    (ap (λ p. length p.0) (sym i) ∙ omega arith, ap (λ p. are_new [] (names_of p.0 [])) (sym i) ∙ e, ap (λ p. list_all is_whole_if_bool p.0) (sym i) ∙ w)
+vars_counted (suc n) before bytes x h e w =
     let v = found_first (var_at (names_of before []) bytes) (λ v rest. vars_at n (before ++ v ∷ []) rest) x h in
     let new = var_is_new (names_of before []) bytes (v.0, v.1) v.2 in
     let more = ap (are_new []) (names_more_vars before v.0) ∙ more_is_new (names_of before []) v.0.name e new in
-    let rest = vars_counted n (before ++ v.0 ∷ []) v.1 x v.3 more in
+    let whole = var_is_whole (names_of before []) bytes (v.0, v.1) v.2 in
+    let rest = vars_counted n (before ++ v.0 ∷ []) v.1 x v.3 more (more_whole before v.0 w whole) in
     let l = length-append before (v.0 ∷ []) in
-    (omega (arith, rest.0, l), rest.1)
+    (omega (arith, rest.0, l), rest.1, rest.2)
 
 pub tags_counted : (n : ℕ) (vars : List Var) (before : List Tag) (bytes : List ℕ) (x : List Tag × List ℕ) → tags_at n vars before bytes ≡ Ok x → are_new [] (names_of vars before) ≡ true
     → (length x.0 ≡ length before + n) × (are_new [] (names_of vars x.0) ≡ true)

@@ -1,6 +1,7 @@
 -- Reading an image from bytes: each part is judged from left to right as soon as it is whole, and the first fault is given.
 use Rattle.std.specs.Prelude.{◌≡◌, ℕ, zero, suc, Bool, true, false, ◌&&◌, ℤ, List, [], ◌∷◌, ◌++◌, length, take, drop, if◌then◌else◌, Option, Some, None, Result, Ok, Err, MatchResult, ◌⊎◌, slice_get, nat_le, nat_eq, int_le, refl}
-use Rattle.point_types.specs.Value.{low_of, high_of, is_within, is_ranged}
+use Rattle.point_types.specs.Name.{most_characters}
+use Rattle.point_types.specs.Value.{low_of, high_of, is_bool, int_eq, is_within, is_ranged}
 use Rattle.point_types.specs.declared.il_type.IlType.{IlType}
 use Rattle.point_types.specs.declared.variable.Var.{Var}
 use Rattle.scan_code.specs.declared.image.Tag.{Tag}
@@ -50,7 +51,7 @@ abbrev pub count_at : List ℕ → Taken ℕ
 count_at bytes = then_take (place_at bytes) (λ n rest. kept_if (nat_le n most_entries) fault.Field n rest)
 
 abbrev pub name_length_at : List ℕ → Taken ℕ
-name_length_at bytes = then_take (byte_at bytes) (λ n rest. kept_if (nat_le 1 n && nat_le n 32) fault.Field n rest)
+name_length_at bytes = then_take (byte_at bytes) (λ n rest. kept_if (nat_le 1 n && nat_le n most_characters) fault.Field n rest)
 
 abbrev pub name_at : List (List ℕ) → List ℕ → Taken (List ℕ)
 name_at before bytes =
@@ -63,11 +64,18 @@ type_or_fault None rest = Err fault.Field
 abbrev pub type_at : List ℕ → Taken IlType
 type_at bytes = then_take (byte_at bytes) (λ n rest. type_or_fault (slice_get types n) rest)
 
+-- an end of a range lies in the type; a BOOL has the ends of its type
+abbrev pub is_low : IlType → ℤ → Bool
+is_low kind n = if is_bool kind then int_eq n (low_of kind) else is_within (low_of kind) (high_of kind) n
+
+abbrev pub is_high : IlType → ℤ → ℤ → Bool
+is_high kind low n = if is_bool kind then int_eq n (high_of kind) else is_within (low_of kind) (high_of kind) n && int_le low n
+
 abbrev pub low_at : IlType → List ℕ → Taken ℤ
-low_at kind bytes = then_take (number_at bytes) (λ n rest. kept_if (is_within (low_of kind) (high_of kind) n) fault.Field n rest)
+low_at kind bytes = then_take (number_at bytes) (λ n rest. kept_if (is_low kind n) fault.Field n rest)
 
 abbrev pub high_at : IlType → ℤ → List ℕ → Taken ℤ
-high_at kind low bytes = then_take (number_at bytes) (λ n rest. kept_if (is_within (low_of kind) (high_of kind) n && int_le low n) fault.Field n rest)
+high_at kind low bytes = then_take (number_at bytes) (λ n rest. kept_if (is_high kind low n) fault.Field n rest)
 
 -- a variable, if its start lies in its range too
 abbrev pub ranged : List ℕ → (kind : IlType) (low high start : ℤ) → (b : Bool) → is_ranged kind low high start ≡ b → List ℕ → Taken Var

@@ -1,3 +1,4 @@
+//! From bytes to instructions.
 ghost use Rattle.std.specs.Prelude.{◌≡◌, ◌+◌, ◌*◌, ◌≤◌, length, IfSome};
 ghost use Rattle.scan_code.specs.declared.op.Op.TheVariants as does;
 ghost use Rattle.scan_code.specs.Instruction.{WithNumber, WithTypes, completed, decoded, decoded_at, signed_from, whole_type};

@@ -1,7 +1,8 @@
+//! A program's image: its code with the tables of its variables and tags.
 use crate::image_fault::ImageFault;
 use crate::image_names::have_names_of_their_own;
 use crate::image_reader::Unread;
-use crate::image_rules::{MOST_CODE, MOST_ENTRIES, is_version};
+use crate::image_rules::{MOST_CODE, MOST_ENTRIES, have_whole_bools, is_version};
 use crate::image_writer::{append_size, append_tags, append_vars};
 use point_types::{IlType, Items, Name, Var};
 use std::alloc::{AllocError, Global};
@@ -17,7 +18,7 @@ pub struct Tag {
 
 /// A program as bytecode (IEC 61131-3 edition 2, 3.2), with the tables of its variables and tags. Each image
 /// has version 1, or 2 where there are counted jumps, at most 1,024 variables and 1,024 tags, no name twice
-/// among both, and at most 65,535 bytes of code.
+/// among both, the range 0..1 for each BOOL variable, and at most 65,535 bytes of code.
 #[derive(Drop, Debug)]
 pub struct Image {
     pub version: u8,
@@ -53,6 +54,7 @@ impl Image {
             && vars.len() <= MOST_ENTRIES
             && tags.len() <= MOST_ENTRIES
             && code.len() <= MOST_CODE
+            && have_whole_bools(vars.as_slice())
             && have_names_of_their_own(vars.as_slice(), tags.as_slice())
         {
             Some(Image {

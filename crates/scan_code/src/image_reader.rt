@@ -1,8 +1,9 @@
+//! From bytes to an image.
 use crate::decoding::{number_from, place_from};
 use crate::image::{Image, Tag};
 use crate::image_fault::ImageFault;
 use crate::image_names::new_name;
-use crate::image_rules::{MOST_ENTRIES, is_ranged, is_version, is_within};
+use crate::image_rules::{MOST_ENTRIES, is_high, is_low, is_ranged, is_version};
 use point_types::{IlType, Items, Name, Var};
 use std::alloc::Global;
 use std::marker::Model;
@@ -180,7 +181,7 @@ impl<'a> Unread<'a> {
         ensures { Takes (low_at kind self.old) result self.new }
     {
         let low = self.number()?;
-        if is_within(kind, low) {
+        if is_low(kind, low) {
             Ok(low)
         } else {
             Err(ImageFault::Field)
@@ -191,7 +192,7 @@ impl<'a> Unread<'a> {
         ensures { Takes (high_at kind low self.old) result self.new }
     {
         let high = self.number()?;
-        if is_within(kind, high) && low <= high {
+        if is_high(kind, low, high) {
             Ok(high)
         } else {
             Err(ImageFault::Field)

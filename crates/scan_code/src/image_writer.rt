@@ -1,3 +1,4 @@
+//! From an image to bytes.
 ghost use Rattle.std.specs.Prelude.{◌≡◌, ◌++◌, ◌<◌, OnOk};
 ghost use Rattle.scan_code.specs.Spelling.{place_bytes};
 ghost use Rattle.scan_code.specs.ImageSpelling.{spelled_name, spelled_number, spelled_range, spelled_tag, spelled_tags, spelled_var, spelled_vars};

@@ -1,3 +1,4 @@
+//! Laws: what is spelled is read back.
 ghost use Rattle.scan_code.specs.ImageExamples.{ImagesWork};
 ghost use Rattle.scan_code.specs.ImageLaws.{ImagesHaveOneSpelling, ImagesReadBack, MoreIsRest, PrefixesAreCut};
 ghost use Rattle.scan_code.specs.Spelling.{SpelledInstructionsDecode};

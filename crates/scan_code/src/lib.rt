@@ -17,5 +17,6 @@ pub use decoding::decode;
 pub use image::{Image, Tag};
 pub use image_fault::ImageFault;
 pub use image_names::have_names_of_their_own;
+pub use image_rules::is_whole_if_bool;
 pub use op::Op;
 pub use point_types::Var;

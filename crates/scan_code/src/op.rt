@@ -1,3 +1,4 @@
+//! An instruction.
 use point_types::{Condition, IlType, Operator};
 
 /// One instruction of the bytecode; numbers of variables, of tags and addresses have two bytes.

@@ -1,3 +1,4 @@
+//! From instructions to bytes.
 ghost use Rattle.std.specs.Prelude.{◌≡◌, ℕ, [], ◌∷◌, ◌++◌, OnOk, OnErr};
 ghost use Rattle.point_types.specs.Value.{code_of};
 ghost use Rattle.scan_code.specs.Spelling.{place_bytes, bytes_of, unsigned};

@@ -1,3 +1,5 @@
+//! The one table of the instructions, from which all else is made.
+
 /// The table of instructions: code byte, shape of the instruction, its name in `Op` (or that of its
 /// operator or condition), and the step that does it. `$then` is a macro that gets `$context` and the table.
 #[macro_export]

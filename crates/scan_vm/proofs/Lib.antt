@@ -1,3 +1,7 @@
+pub mod BareValues
+pub mod BareSteps
+pub mod BareRun
+pub mod BareWords
 pub mod Accepted
 pub mod Possible
 pub mod Progress

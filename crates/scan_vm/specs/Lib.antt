@@ -1,3 +1,4 @@
+pub mod Bare
 pub mod Machine
 pub mod Outcome
 pub mod Progress

@@ -1,3 +1,4 @@
+//! The deferred values of a trial.
 ghost use Rattle.std.specs.Prelude.{◌≡◌, ◌<◌, [], ◌∷◌, length, MatchOption, false, nat_lt, not};
 
 use crate::value::Value;

@@ -5,6 +5,7 @@ mod arithmetic;
 mod deferred;
 mod deferred_words;
 mod execution;
+pub mod laws;
 pub mod machine;
 mod operators;
 pub mod trap;

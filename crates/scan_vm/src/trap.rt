@@ -1,3 +1,4 @@
+//! Why a trial scan stopped.
 use thiserror::Error;
 
 /// Why a scan stopped, by the first of these that holds of an instruction: Code, Stack, Type,

@@ -1,3 +1,4 @@
+//! A trial of a program by itself, which tests each instruction.
 use crate::execution::Execution;
 use crate::trap::Trap;
 use point_types::Reading;

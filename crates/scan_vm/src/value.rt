@@ -1,3 +1,4 @@
+//! A value with its type.
 ghost use Rattle.std.specs.Prelude.{◌≡◌};
 
 use point_types::IlType;

@@ -1,3 +1,5 @@
+//! How a program and clients may use a tag.
+
 /// What is done with a tag.
 #[derive(Clone, Copy, PartialEq, Eq, Debug)]
 pub enum Access {

@@ -1,3 +1,4 @@
+//! A device of a site.
 use crate::text::Text;
 
 /// How registers of a device are written (MODBUS Application Protocol V1.1b3, 6.6 and 6.12).

@@ -1,3 +1,4 @@
+//! What the gateway's own points are served with.
 use crate::text::Text;
 use point_types::Items;
 

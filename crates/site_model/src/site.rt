@@ -1,3 +1,4 @@
+//! A site: its gateway, devices, tags and what it serves.
 ghost use Rattle.std.specs.Prelude.{◌≡◌};
 ghost use Rattle.site_model.specs.Wants.{outs_of, wants_of};
 

@@ -1,3 +1,4 @@
+//! A tag: a point of a device by the name that programs use.
 ghost use Rattle.std.specs.Prelude.{◌≢◌, IsTrue};
 ghost use Rattle.point_types.specs.Reading.{IsExponent};
 ghost use Rattle.point_types.specs.Value.{is_ranged};

@@ -1,3 +1,4 @@
+//! A text of a site file.
 ghost use Rattle.std.specs.Prelude.{◌≡◌, IfOk};
 
 use std::alloc::{AllocError, Global};

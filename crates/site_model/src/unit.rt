@@ -1,3 +1,4 @@
+//! The gateway's own unit and models.
 ghost use Rattle.point_types.specs.Reading.{IsExponent};
 
 /// What the value of a tag is counted in: the power of ten, and the bit where it is one.

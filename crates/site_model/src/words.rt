@@ -1,3 +1,4 @@
+//! What is known of a model's registers.
 ghost use Rattle.std.specs.Prelude.{◌≡◌, ◌≤◌, ◌<◌, ◌++◌, ◌∷◌, [], length};
 ghost use Rattle.std.specs.Option.{SomeIff};
 

@@ -3,19 +3,19 @@ use Rattle.std.proofs.Common.{◌≡◌, ℕ, zero, suc, ◌+◌, ◌<◌, inl, 
 use Rattle.point_types.specs.declared.reading.Reading.{Reading}
 use Rattle.point_types.specs.declared.reading.Reading.TheVariants as reading
 use Rattle.point_types.specs.declared.variable.Var.{Var}
-use Rattle.verifier.specs.Span.{Between}
-use Rattle.verifier.specs.Fact.{Fact}
-use Rattle.verifier.specs.declared.refusal.RefusalKind.TheVariants.{Stack}
-use Rattle.verifier.specs.Flow.{Frame, TagRange, Way, Flow}
+use Rattle.facts.specs.Span.{Between}
+use Rattle.facts.specs.declared.fact.Fact.{Fact}
+use Rattle.facts.specs.declared.refusal.RefusalKind.TheVariants.{Stack}
+use Rattle.facts.specs.Flow.{Frame, Way, Flow, TagRange}
 use Rattle.scan_code.specs.Machine.{State}
-use Rattle.verifier.specs.Fit.{FitsDeferred, LiesIn, Fits, IfListed, HasOwnValue, reading_number}
-use Rattle.verifier.specs.Slots.{Slot, Unreached, Holds, Clash, meets, arriving, flow_of, ways_of, gathered, entry_fact, is_loop_head, address_of, head_slot, slots}
-use Rattle.verifier.specs.declared.refusal.Refusal.{Refusal}
+use Rattle.facts.specs.Fit.{FitsDeferred, LiesIn, Fits, IfListed, HasOwnValue, reading_number}
+use Rattle.facts.specs.Slots.{Slot, Unreached, Holds, Clash, meets, arriving, flow_of, ways_of, gathered, entry_fact, is_loop_head, address_of, head_slot, slots}
+use Rattle.facts.specs.declared.refusal.Refusal.{Refusal}
 use Rattle.verifier.specs.Verdict.{first_refusal, refusal_of}
 use Rattle.verifier.specs.Sound.{HasRange}
 use Rattle.verifier.proofs.Made.{AreLoaded, IsLoaded, Within}
-use Rattle.verifier.proofs.Lists.{mapped_at, by_same}
-use Rattle.verifier.proofs.Covering.{Covers, met_covers_left, met_covers_right}
+use Rattle.facts.proofs.Lists.{mapped_at, by_same}
+use Rattle.facts.proofs.Covering.{Covers, met_covers_left, met_covers_right}
 use Rattle.verifier.proofs.Steps.{AnyWay, none_wait}
 use Rattle.point_types.specs.Value.{Value}
 

@@ -4,9 +4,9 @@ use Rattle.point_types.specs.Value.{◌>>=◌}
 use Rattle.scan_code.specs.Image.{Image}
 use Rattle.scan_code.specs.declared.op.Op.{Op}
 use Rattle.scan_code.specs.Instruction.{decoded_at}
-use Rattle.verifier.specs.declared.refusal.Refusal.{Refusal}
+use Rattle.facts.specs.declared.refusal.Refusal.{Refusal}
 use Rattle.verifier.specs.Listing.{Entry, is_end, is_placed, jumps_after, listed_from, listed_with, listing_of, wrong_at}
-use Rattle.verifier.specs.Word.{AnswersOrWantsMemory}
+use Rattle.facts.specs.Word.{AnswersOrWantsMemory}
 use Rattle.verifier.proofs.Images.{by_both, ok_is}
 
 -- an instruction has one byte at least

@@ -2,7 +2,7 @@
 use Rattle.std.proofs.Common.{◌≡◌, ℕ, List, [], ◌∷◌, ◌||◌, nat_eq, refl, ap}
 use Rattle.scan_code.specs.declared.op.Op.{Op}
 use Rattle.scan_code.specs.declared.op.Op.TheVariants as does
-use Rattle.verifier.specs.Slots.{is_loop_head}
+use Rattle.facts.specs.Slots.{is_loop_head}
 use Rattle.verifier.specs.Heads.{heads_of, is_among}
 
 -- each head is among them, and nothing else

@@ -2,27 +2,28 @@
 use Rattle.std.proofs.Common.{◌≡◌, ℕ, zero, suc, ◌+◌, ◌<◌, List, [], ◌∷◌, length, map, drop, Result, Ok, Err, Option, Some, None, option_map, option_and_then, slice_get, Bool, true, false, not, ◌&&◌, IsTrue, ℤ, ◌≤ℤ◌, int_le, nat_eq, nat_le, nat_lt, refl, sym, ap, subst, ◌∙◌, arith, if◌then◌else◌}
 use Rattle.point_types.specs.declared.il_type.IlType.{IlType}
 use Rattle.point_types.specs.Value.{low_of, high_of, is_within, is_ranged, code_of, ◌>>=◌}
-use Rattle.scan_code.specs.Image.{Image}
+use Rattle.scan_code.specs.Image.{Image, IsProper}
 use Rattle.scan_code.specs.declared.image.Tag.{Tag}
 use Rattle.scan_code.specs.declared.op.Op.{Op}
 use Rattle.scan_code.specs.declared.op.Op.TheVariants as does
 use Rattle.scan_code.specs.Instruction.{Form, Bare, WithPlace, WithTruth, WithNumber, WithTypes, WithCount, forms, completed, decoded, decoded_at, typed_number, whole_type, signed_from, sized, number_from, truth_of, two_types}
 use Rattle.site_model.specs.declared.tag.SiteTag.{SiteTag}
-use Rattle.verifier.specs.declared.refusal.RefusalKind.{RefusalKind}
-use Rattle.verifier.specs.declared.refusal.RefusalKind.TheVariants.{TagType, TagAccess}
-use Rattle.verifier.specs.Span.{Between}
-use Rattle.verifier.specs.Fact.{same_bool}
-use Rattle.verifier.specs.Fit.{IsIn}
-use Rattle.verifier.specs.Flow.{Frame, TagRange}
-use Rattle.verifier.specs.declared.refusal.Refusal.{Refusal}
+use Rattle.facts.specs.declared.refusal.RefusalKind.{RefusalKind}
+use Rattle.facts.specs.declared.refusal.RefusalKind.TheVariants.{TagType, TagAccess}
+use Rattle.facts.specs.Span.{Between}
+use Rattle.facts.specs.Fact.{same_bool}
+use Rattle.facts.specs.Fit.{IsIn}
+use Rattle.facts.specs.Flow.{Frame, TagRange}
+use Rattle.facts.specs.declared.refusal.Refusal.{Refusal}
 use Rattle.verifier.specs.declared.link.Link.{Link}
 use Rattle.verifier.specs.Links.{is_stored, allowed, found, number_of, there, link_of, refused_at, links_from}
 use Rattle.verifier.specs.Listing.{Entry, is_tag, is_placed, jumps_after, is_end, listed_with, listed_from, listing_of, wrong_at}
 use Rattle.verifier.specs.Verdict.{range_of, frame_of}
-use Rattle.verifier.proofs.Comparing.{and_left, and_right, true_le}
+use Rattle.facts.proofs.Comparing.{and_left, and_right, true_le}
+use Rattle.scan_code.proofs.ImageParts.{bool_is_whole}
 use Rattle.verifier.proofs.Made.{IsMadeFrom, IsPlaced, IsTag, IsWhole, SameTag}
 use Rattle.verifier.proofs.Listings.{head_is, whole_stands}
-use Rattle.verifier.proofs.Covering.{same_code}
+use Rattle.facts.proofs.Covering.{same_code}
 
 -- no number is decoded that is not one of its type
 abbrev pub IsNumber : Op → Type 0
@@ -276,8 +277,8 @@ link_ranged [] t r e = absurd (cc)
 link_ranged (l ∷ ls) zero r e = subst (λ (x : TagRange). (low_of x.kind ≤ℤ x.low) × (x.high ≤ℤ high_of x.kind)) (head_is (range_of l) r e) (ranged_is l.site.kind l.site.low l.site.high _ l.site.ranged)
 link_ranged (l ∷ ls) (suc t) r e = link_ranged ls t r e
 
-pub made_from : (image : Image) (site : List SiteTag) (depth : ℕ) (c : Frame) → frame_of image site depth ≡ Ok c → IsMadeFrom image 256 c
-made_from image site depth c e = by_both (links_from site 0 image.tags) (λ links. listing_of image >>= λ listing. Ok (record { variables = image.vars; tags = map range_of links; depth = depth; listing = listing })) c e
+pub made_from : (image : Image) (site : List SiteTag) (depth : ℕ) (c : Frame) → IsProper image → frame_of image site depth ≡ Ok c → IsMadeFrom image 256 c
+made_from image site depth c proper e = by_both (links_from site 0 image.tags) (λ links. listing_of image >>= λ listing. Ok (record { variables = image.vars; tags = map range_of links; depth = depth; listing = listing })) c e
     (λ links p f. by_both (listing_of image) (λ listing. Ok (record { variables = image.vars; tags = map range_of links; depth = depth; listing = listing })) c f
     (λ listing q g. subst (λ (x : Frame). IsMadeFrom image 256 x) (ok_is (record { variables = image.vars; tags = map range_of links; depth = depth; listing = listing }) c g)
     (framed links listing (links_are site 0 image.tags links p) (listed_is image (length image.code) 0 0 0 false listing q))))
@@ -290,6 +291,7 @@ made_from image site depth c e = by_both (links_from site 0 image.tags) (λ link
       placed = λ n e p. let x = placed_at image listing n e l.placed p in placed_is image (record { variables = image.vars; tags = map range_of links; depth = depth; listing = listing }) x.0 e.1 tags (number n e p) x.1;
       of_variables = λ i d e. ranged_is d.kind d.low d.high d.start d.ranged;
       of_tags = λ t r e. link_ranged links t r e;
+      of_bools = bool_is_whole image proper;
     }
       where
         tags : (t : ℕ) → SameTag (slice_get image.tags t) (slice_get (map range_of links) t)

@@ -3,7 +3,7 @@ use Rattle.std.proofs.Common.{◌≡◌, ℕ, zero, suc, ◌+◌, ◌-◌, max, 
 use Rattle.point_types.specs.declared.operator.Condition.TheVariants as when
 use Rattle.scan_code.specs.declared.op.Op.{Op}
 use Rattle.scan_code.specs.declared.op.Op.TheVariants as does
-use Rattle.verifier.specs.Flow.{number_at}
+use Rattle.facts.specs.Flow.{number_at}
 use Rattle.verifier.specs.Budget.{Length, longer, one_more, length_at, length_of, length_from, lengths_from, count_of, is_start, greatest_from, total_count, IsUpTo, AreUpTo, turns_of}
 
 pub more_allowed : (m k : ℕ) (l : Length) → m ≤ k → IsUpTo m l → IsUpTo k l

@@ -1,6 +1,6 @@
 -- Links are found one after the other.
 use Rattle.std.proofs.Common.{List, ◌++◌, Result, Ok, Err}
-use Rattle.verifier.specs.declared.refusal.Refusal.{Refusal}
+use Rattle.facts.specs.declared.refusal.Refusal.{Refusal}
 
 -- what was found, before what is still to be found
 abbrev pub behind : {A : Type 0} → List A → Result (List A) Refusal → Result (List A) Refusal

@@ -6,7 +6,7 @@ use Rattle.scan_code.specs.Image.{Image}
 use Rattle.scan_code.specs.declared.op.Op.{Op}
 use Rattle.scan_code.specs.declared.op.Op.TheVariants as does
 use Rattle.scan_code.specs.Instruction.{decoded_at}
-use Rattle.verifier.specs.declared.refusal.Refusal.{Refusal}
+use Rattle.facts.specs.declared.refusal.Refusal.{Refusal}
 use Rattle.verifier.specs.Listing.{Entry, is_placed, jumps_after, is_end, listed_with, listed_from, listing_of, wrong_at}
 use Rattle.verifier.proofs.Linking.{behind}
 

@@ -3,7 +3,7 @@ use Rattle.std.proofs.Common.{◌≡◌, ℕ, zero, suc, ◌+◌, ◌<◌, ◌�
 use Rattle.scan_code.specs.declared.op.Op.{Op}
 use Rattle.scan_code.specs.declared.op.Op.TheVariants as does
 use Rattle.scan_code.specs.Instruction.{decoded, decoded_at}
-use Rattle.verifier.specs.Flow.{number_at}
+use Rattle.facts.specs.Flow.{number_at}
 use Rattle.verifier.proofs.Made.{IsWhole}
 
 nat_same : (m n : ℕ) → nat_eq m n ≡ true → m ≡ n

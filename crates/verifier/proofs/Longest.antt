@@ -3,9 +3,9 @@ use Rattle.std.proofs.Common.{◌≡◌, ℕ, zero, suc, ◌+◌, ◌-◌, max, 
 use Rattle.point_types.specs.declared.operator.Condition.TheVariants as when
 use Rattle.scan_code.specs.declared.op.Op.{Op}
 use Rattle.scan_code.specs.declared.op.Op.TheVariants as does
-use Rattle.verifier.specs.Flow.{number_at}
+use Rattle.facts.specs.Flow.{number_at}
 use Rattle.verifier.specs.Budget.{Length, longer, one_more, length_at, length_of, length_from, lengths_from, count_of, is_start, greatest_from, longest_of, IsLast, Follows, IsPath, LongestIsAPath}
-use Rattle.verifier.proofs.Lists.{get_within}
+use Rattle.facts.proofs.Lists.{get_within}
 use Rattle.verifier.proofs.Listings.{head_is}
 use Rattle.verifier.proofs.Paths.{path_in, length_as}
 

@@ -1,16 +1,16 @@
 -- What the proofs know of a frame that is made from an image and the tags of a site.
-use Rattle.std.specs.Prelude.{◌≡◌, ℕ, ◌<◌, ◌≤◌, Bool, true, false, ◌≤ℤ◌, List, [], ◌∷◌, length, Option, Some, None, slice_get}
+use Rattle.std.specs.Prelude.{◌≡◌, ℕ, ◌<◌, ◌≤◌, Bool, true, false, pos, ◌≤ℤ◌, List, [], ◌∷◌, length, Option, Some, None, slice_get}
 use Rattle.scan_code.specs.declared.op.Op.{Op}
 use Rattle.scan_code.specs.declared.op.Op.TheVariants as does
-use Rattle.point_types.specs.Value.{low_of, high_of}
+use Rattle.point_types.specs.Value.{is_bool, low_of, high_of}
 use Rattle.point_types.specs.declared.variable.Var.{Var}
 use Rattle.point_types.specs.declared.reading.Reading.{Reading}
 use Rattle.point_types.specs.declared.reading.Reading.TheVariants as reading
 use Rattle.scan_code.specs.Instruction.{decoded_at}
 use Rattle.scan_code.specs.Machine.{State}
-use Rattle.verifier.specs.Span.{Between}
-use Rattle.verifier.specs.Flow.{Frame, TagRange}
-use Rattle.verifier.specs.Fit.{IsIn}
+use Rattle.facts.specs.Span.{Between}
+use Rattle.facts.specs.Flow.{Frame, TagRange}
+use Rattle.facts.specs.Fit.{IsIn}
 use Rattle.verifier.specs.Sound.{AreInRanges, OutputInRange}
 use Rattle.scan_code.specs.Image.{Image}
 use Rattle.scan_code.specs.declared.image.Tag.{Tag}
@@ -52,6 +52,8 @@ pub record IsMadeFrom (image : Image) (counters : ℕ) (c : Frame) : Type 0 wher
   -- ranges lie in their types
   pub of_variables : (i : ℕ) (d : Var) → slice_get c.variables i ≡ Some d → (low_of d.kind ≤ℤ d.low) × (d.high ≤ℤ high_of d.kind)
   pub of_tags : (t : ℕ) (r : TagRange) → slice_get c.tags t ≡ Some r → (low_of r.kind ≤ℤ r.low) × (r.high ≤ℤ high_of r.kind)
+  -- a BOOL has no subrange
+  pub of_bools : (i : ℕ) (d : Var) → slice_get c.variables i ≡ Some d → is_bool d.kind ≡ true → (d.low ≡ pos 0) × (d.high ≡ pos 1)
 
 -- a state in its ranges, with so many counters
 pub record Within (c : Frame) (counters : ℕ) (s : State) : Type 0 where

@@ -1,15 +1,15 @@
 -- One pass finds the one family: what it leaves at the later instructions is what flows there.
 use Rattle.std.proofs.Common.{◌≡◌, ℕ, zero, suc, ◌+◌, ◌-◌, ◌<◌, ◌≤◌, List, [], ◌∷◌, ◌++◌, length, map, Result, Ok, Err, Option, Some, None, slice_get, slice_set, option_map, Bool, false, nat_eq, refl, sym, ap, subst, ◌∙◌, arith, if◌then◌else◌, length-append}
-use Rattle.verifier.specs.declared.refusal.Refusal.{Refusal}
-use Rattle.verifier.specs.declared.refusal.RefusalKind.{RefusalKind}
-use Rattle.verifier.specs.Fact.{Fact}
-use Rattle.verifier.specs.Flow.{Frame, Way, Flow}
-use Rattle.verifier.specs.Slots.{Slot, Unreached, meets, arriving, flow_of, ways_of, gathered, slots, is_reached}
+use Rattle.facts.specs.declared.refusal.Refusal.{Refusal}
+use Rattle.facts.specs.declared.refusal.RefusalKind.{RefusalKind}
+use Rattle.facts.specs.declared.fact.Fact.{Fact}
+use Rattle.facts.specs.Flow.{Frame, Way, Flow}
+use Rattle.facts.specs.Slots.{Slot, Unreached, meets, arriving, flow_of, ways_of, gathered, slots, is_reached}
 use Rattle.verifier.specs.Budget.{reached}
 use Rattle.verifier.specs.Verdict.{first_refusal, refusal_of}
 use Rattle.verifier.specs.declared.arrived.Arrived.{Arrived}
 use Rattle.verifier.specs.Passing.{opening, closed, delivered, all_delivered, passed, passed_by, stood, all_stood}
-use Rattle.verifier.proofs.Lists.{get_set_other}
+use Rattle.facts.proofs.Lists.{get_set_other}
 use Rattle.verifier.proofs.Listings.{head_is}
 use Rattle.std.proofs.lemmas.List.{length-map}
 use Rattle.verifier.proofs.Images.{ok_is}

@@ -10,18 +10,18 @@ use Rattle.scan_code.specs.Image.{Image}
 use Rattle.scan_code.specs.declared.op.Op.{Op}
 use Rattle.scan_code.specs.declared.op.Op.TheVariants as does
 use Rattle.scan_code.specs.Machine.{State, Step, Goes, Ends, Traps, step, after_step, run}
-use Rattle.verifier.specs.Flow.{Frame, Way, number_at}
-use Rattle.verifier.specs.Slots.{Slot, slots, is_reached, is_loop_head}
+use Rattle.facts.specs.Flow.{Frame, Way, number_at}
+use Rattle.facts.specs.Slots.{Slot, slots, is_reached, is_loop_head}
 use Rattle.verifier.specs.Verdict.{refusal_of}
 use Rattle.verifier.specs.Budget.{Length, longer, one_more, length_at, length_of, length_from, lengths_from, count_of, is_start, greatest_from, total_count, reached, path_lengths, longest_path, budget, IsLast, Follows, IsReachedAs, IsPath, NoPathIsLonger, longest_of}
 use Rattle.verifier.specs.Sound.{EndsWithin}
 use Rattle.verifier.proofs.Made.{IsMadeFrom, AreLoaded}
-use Rattle.verifier.proofs.Lists.{get_within, by_same, get_set_same, get_set_other}
+use Rattle.facts.proofs.Lists.{get_within, by_same, get_set_same, get_set_other}
 use Rattle.verifier.proofs.Listings.{head_is, lt_yes, whole_stands}
 use Rattle.verifier.proofs.Endings.{NeverEnds, goes_on}
 use Rattle.verifier.proofs.Steps.{AnyWay, IsHead}
 use Rattle.verifier.proofs.Arriving.{slots_have}
-use Rattle.verifier.proofs.Leads.{Leads, AllWays, flow_leads}
+use Rattle.facts.proofs.Leads.{Leads, AllWays, flow_leads}
 use Rattle.verifier.proofs.Run.{At, Advances, step_advances, flows_on, head_found}
 
 abbrev value_or_zero : Option ℕ → ℕ

@@ -8,17 +8,17 @@ use Rattle.scan_code.specs.Machine.{run, opening}
 use Rattle.site_model.specs.declared.tag.SiteTag.{SiteTag}
 use Rattle.verifier.specs.Budget.{budget}
 use Rattle.verifier.specs.declared.link.Link.{Link}
-use Rattle.verifier.specs.Fit.{IsIn}
-use Rattle.verifier.specs.Flow.{Frame}
+use Rattle.facts.specs.Fit.{IsIn}
+use Rattle.facts.specs.Flow.{Frame}
 use Rattle.verifier.specs.Links.{links_from}
 use Rattle.verifier.specs.Listing.{listing_of}
 use Rattle.verifier.specs.Promise.{IsFrameOf, AcceptedKeepPromises}
 use Rattle.scan_code.specs.Table.{start_of}
 use Rattle.verifier.specs.Ranges.{range_of}
 use Rattle.verifier.specs.Sound.{AreInRanges, HasRange, EndsWithin}
-use Rattle.verifier.specs.Span.{Between}
+use Rattle.facts.specs.Span.{Between}
 use Rattle.verifier.specs.Verdict.{frame_of}
-use Rattle.verifier.proofs.Comparing.{true_le, and_left, and_right}
+use Rattle.facts.proofs.Comparing.{true_le, and_left, and_right}
 use Rattle.verifier.proofs.Images.{by_both, ok_is}
 use Rattle.verifier.proofs.Scans as scans
 
@@ -48,7 +48,7 @@ starts_there (d ∷ vars) (suc i) = starts_there vars i
 
 pub keeps_promises : AcceptedKeepPromises
 keeps_promises depth a h =
-    let yes = scans.yes_is_accepted a.image h.site depth a.budget h.judged in
+    let yes = scans.yes_is_accepted a.image h.site depth a.budget h.proper h.judged in
     let same : a.budget ≡ budget yes.frame = yes.budgeted in
     record {
       frame = yes.frame;

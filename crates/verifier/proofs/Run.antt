@@ -5,19 +5,19 @@ use Rattle.scan_code.specs.declared.op.Op.{Op}
 use Rattle.scan_code.specs.declared.op.Op.TheVariants as does
 use Rattle.point_types.specs.declared.reading.Reading.{Reading}
 use Rattle.point_types.specs.declared.operator.Condition.{Condition}
-use Rattle.verifier.specs.Flow.{Frame, Way, flow}
+use Rattle.facts.specs.Flow.{Frame, Way, flow}
 use Rattle.scan_code.specs.Image.{Image}
 use Rattle.scan_code.specs.Machine.{State, Step, Goes, Ends, Traps, Ending, Ended, Trapped, Unfinished, step, after_step, run}
 use Rattle.scan_code.specs.Table.{no_turns}
-use Rattle.verifier.specs.Fit.{Fits}
-use Rattle.verifier.specs.Slots.{Slot, Holds, flow_of, is_loop_head, head_slot, address_of, slots}
+use Rattle.facts.specs.Fit.{Fits}
+use Rattle.facts.specs.Slots.{Slot, Holds, flow_of, is_loop_head, head_slot, address_of, slots}
 use Rattle.verifier.specs.Verdict.{refusal_of}
 use Rattle.verifier.specs.Sound.{AreInRanges, OutputInRange}
 use Rattle.scan_code.specs.Machine.{opening}
 use Rattle.verifier.proofs.Made.{IsMadeFrom, AreLoaded, Within}
-use Rattle.verifier.proofs.Lists.{mapped_at, get_within}
+use Rattle.facts.proofs.Lists.{mapped_at, get_within}
 use Rattle.verifier.proofs.Listings.{head_is, whole_starts, whole_stands}
-use Rattle.verifier.proofs.Covering.{Covers}
+use Rattle.facts.proofs.Covering.{Covers}
 use Rattle.verifier.proofs.Steps.{AnyWay, IsAt, IsHead, Lands, instruction_lands}
 use Rattle.verifier.proofs.Arriving.{slot_at, SlotHolds, covered_holds, slot_covers, head_any, gathered_covers, slots_have, entry_fits, plain_slot, same_yes}
 

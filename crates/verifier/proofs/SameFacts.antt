@@ -1,7 +1,7 @@
 -- A fact stands for itself.
 use Rattle.std.proofs.Common.{◌≡◌, List, [], ◌∷◌, Result, Ok, Err, Option, Some, None, option_map, IfOk, refl, ap}
-use Rattle.verifier.specs.Fact.{Fact}
-use Rattle.verifier.specs.Flow.{Way, Flow}
+use Rattle.facts.specs.declared.fact.Fact.{Fact}
+use Rattle.facts.specs.Flow.{Way, Flow}
 use Rattle.verifier.specs.Passing.{flow_stood, ways_stood}
 
 ways_same : (ways : List Way) → ways_stood (λ f. f) ways ≡ ways

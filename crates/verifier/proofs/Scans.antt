@@ -8,17 +8,17 @@ use Rattle.scan_code.specs.declared.image.Tag.{Tag}
 use Rattle.scan_code.specs.Machine.{State, Ending, Ended, Trapped, Unfinished, run, opening}
 use Rattle.scan_code.specs.Table.{no_turns}
 use Rattle.site_model.specs.declared.tag.SiteTag.{SiteTag}
-use Rattle.verifier.specs.Fact.{zipped}
-use Rattle.verifier.specs.Flow.{Frame, TagRange}
+use Rattle.facts.specs.Fact.{zipped}
+use Rattle.facts.specs.Flow.{Frame, TagRange}
 use Rattle.verifier.specs.Budget.{budget}
 use Rattle.verifier.specs.Sound.{IsAccepted, AreReadings, IsReadingOf, loaded_of, inputs_of, AreInRanges, InRanges, IsCovered, IsFine, EndsWithin, EndsAndThen, ScansEnd, RunsWell, RunsOut, EveryScanEnds, IsYes, YesIsAccepted}
-use Rattle.verifier.proofs.Lists.{get_within}
+use Rattle.facts.proofs.Lists.{get_within}
 use Rattle.verifier.proofs.Made.{IsMadeFrom, Within, AreLoaded, IsLoaded, SameTag}
 use Rattle.verifier.proofs.Arriving.{slots_have}
 use Rattle.verifier.proofs.Images.{made_from, by_both, ok_is}
 use Rattle.verifier.specs.Verdict.{frame_of, refusal_of, budgeted, most_steps}
-use Rattle.verifier.specs.declared.refusal.Refusal.{Refusal}
-use Rattle.verifier.specs.declared.refusal.RefusalKind.TheVariants.{OverBudget}
+use Rattle.facts.specs.declared.refusal.Refusal.{Refusal}
+use Rattle.facts.specs.declared.refusal.RefusalKind.TheVariants.{OverBudget}
 use Rattle.verifier.proofs.Run.{At, IsKept, run_kept, starting_at, opening_within}
 use Rattle.verifier.proofs.Paths.{starts_out}
 use Rattle.verifier.proofs.Unread.{AgreeAt, same_run}
@@ -60,7 +60,7 @@ turned = refl
 
 module _ (image : Image) (site : List SiteTag) (depth : ℕ) (c : Frame) (accepted : IsAccepted image site depth c) (rs : List Reading) (readings : AreReadings c rs) where
   made : IsMadeFrom image 256 c
-  made = made_from image site depth c accepted.framed
+  made = made_from image site depth c accepted.proper accepted.framed
 
   loaded : AreLoaded c (inputs_of c rs)
   loaded t = zipped_loaded c.tags rs t (readings t)
@@ -135,11 +135,11 @@ every_scan_ends image site depth c accepted (rs ∷ rows) all variables h =
     (λ left k. every_scan_ends image site depth c accepted rows all.1 left (subst (λ (ds : List Var). AreInRanges ds left) (sym (vars_are image site depth c accepted rs all.0)) k))
 
 pub yes_is_accepted : YesIsAccepted
-yes_is_accepted image site depth steps e = by_both (frame_of image site depth) (λ c. budgeted c (refusal_of c)) steps e (λ c p f. unrefused c p (refusal_of c) refl f)
+yes_is_accepted image site depth steps proper e = by_both (frame_of image site depth) (λ c. budgeted c (refusal_of c)) steps e (λ c p f. unrefused c p (refusal_of c) refl f)
   where
     bounded : (c : Frame) → frame_of image site depth ≡ Ok c → refusal_of c ≡ None → (t : Bool) → nat_le (budget c) most_steps ≡ t → ◌≡◌ {A = Result ℕ Refusal} (if t then Ok (budget c) else Err (record { at = 0; kind = OverBudget })) (Ok steps) → IsYes image site depth steps
     bounded c p q false t f = absurd (cc)
-    bounded c p q true t f = let s = ok_is (budget c) steps f in record { frame = c; accepted = record { framed = p; unrefused = q }; budgeted = sym s; bounded = subst (λ (k : ℕ). k ≤ most_steps) s (at_most (budget c) most_steps t) }
+    bounded c p q true t f = let s = ok_is (budget c) steps f in record { frame = c; accepted = record { proper = proper; framed = p; unrefused = q }; budgeted = sym s; bounded = subst (λ (k : ℕ). k ≤ most_steps) s (at_most (budget c) most_steps t) }
 
     unrefused : (c : Frame) → frame_of image site depth ≡ Ok c → (o : Option Refusal) → refusal_of c ≡ o → budgeted c o ≡ Ok steps → IsYes image site depth steps
     unrefused c p (Some refusal) q f = absurd (cc)

@@ -12,11 +12,15 @@ use Rattle.point_types.specs.declared.reading.Reading.TheVariants as reading
 use Rattle.point_types.specs.Value.{Value, Fault, truth, number_of, applied, inverted, int_eq, code_of, low_of, high_of, is_bool, is_within, ◌>>=◌}
 use Rattle.point_types.specs.declared.variable.Var.{Var}
 use Rattle.scan_code.specs.Table.{read_value, is_present, or_wrong, acts, absolute_of, converted, selected}
-use Rattle.verifier.specs.Span.{Span, Between, joined, only, has_member, lies_in}
-use Rattle.verifier.specs.Fact.{Fact, Known, Consequences, OfVariable, OfInput, under, any_empty}
-use Rattle.verifier.specs.Flow.{on_result as flow_result, way_to, way_where, later, earlier, tested, number_at, inverted_known, absolute_known, converted_known, applied_known, selected_known, Frame, TagRange, bool_result, stored_fact, widened, Way, flow, need, check, goes_on, with_value, source_value, presence_value}
-use Rattle.verifier.specs.declared.refusal.RefusalKind.TheVariants.{Jump, NoResult, WrongType, StoreRange}
-use Rattle.verifier.specs.declared.refusal.RefusalKind.{RefusalKind}
+use Rattle.facts.specs.Span.{Span, Between, joined, only, has_member, lies_in}
+use Rattle.facts.specs.declared.fact.Fact.{Fact}
+use Rattle.facts.specs.declared.known.Known.{Known}
+use Rattle.facts.specs.declared.known.Consequences.{Consequences}
+use Rattle.facts.specs.declared.known.Origin.TheVariants.{OfVariable, OfInput}
+use Rattle.facts.specs.Fact.{under, any_empty}
+use Rattle.facts.specs.Flow.{on_result as flow_result, way_to, way_where, later, earlier, tested, number_at, inverted_known, absolute_known, converted_known, applied_known, selected_known, Frame, bool_result, stored_fact, widened, Way, flow, need, check, goes_on, with_value, source_value, presence_value, TagRange}
+use Rattle.facts.specs.declared.refusal.RefusalKind.TheVariants.{Jump, NoResult, WrongType, StoreRange}
+use Rattle.facts.specs.declared.refusal.RefusalKind.{RefusalKind}
 use Rattle.scan_code.specs.Image.{Image}
 use Rattle.scan_code.specs.declared.image.Tag.{Tag}
 use Rattle.scan_code.specs.Table.{input_kind, output_kind}
@@ -26,15 +30,15 @@ use Rattle.std.proofs.lemmas.List.{length-set}
 use Rattle.std.proofs.Common.{get_or}
 use Rattle.std.proofs.lemmas.Int.{ints}
 use Rattle.std.specs.Int.Signed.{≤ℤ_refl}
-use Rattle.verifier.specs.Fit.{IsIn, LiesIn, Hold, Fits, FitsValue, FitsResult, FitsDeferred, IfListed, HasOwnValue, reading_number}
+use Rattle.facts.specs.Fit.{IsIn, LiesIn, Hold, Fits, FitsValue, FitsResult, FitsDeferred, IfListed, HasOwnValue, reading_number}
 use Rattle.verifier.specs.Sound.{HasRange, OutputInRange}
 use Rattle.verifier.proofs.Made.{SameTag, IsMadeFrom, IsPlaced, IsTag, AreLoaded, IsLoaded, Within}
-use Rattle.verifier.proofs.Comparing.{and_left, and_right, both_true, le_true}
-use Rattle.verifier.proofs.Lists.{by_same, get_set_same, get_set_other, set_at, get_within}
-use Rattle.verifier.proofs.Spans.{lies_low, lies_high, in_joined_right, in_member, member_in}
+use Rattle.facts.proofs.Comparing.{and_left, and_right, both_true, le_true}
+use Rattle.facts.proofs.Lists.{by_same, get_set_same, get_set_other, set_at, get_within}
+use Rattle.facts.proofs.Spans.{lies_low, lies_high, in_joined_right, in_member, member_in}
 use Rattle.verifier.proofs.Listings.{rising, number_found, lt_yes, le_yes, first_is}
-use Rattle.verifier.proofs.Values.{bit_test, bit_zero, bool_kind, presence_fits, number_in, applied_good, inverted_good, selected_good, absolute_good, converted_good, Yields, by_ok, by_need, by_check, by_then, by_first, Good, plain_fits, source_fits, bit_value}
-use Rattle.verifier.proofs.Covering.{joined_lies_left, stored_fits, widened_fits, under_fits, none_empty, lies_of, in_of, code_same}
+use Rattle.facts.proofs.Values.{bit_test, bit_zero, bool_kind, presence_fits, number_in, applied_good, inverted_good, selected_good, absolute_good, converted_good, Yields, by_ok, by_need, by_check, by_then, by_first, Good, plain_fits, source_fits, bit_value}
+use Rattle.facts.proofs.Covering.{joined_lies_left, stored_fits, widened_fits, under_fits, none_empty, lies_of, in_of, code_same}
 
 abbrev pub IsAt : Frame → ℕ → ℕ → Type 0
 IsAt c n address = (i : Op) × (slice_get c.listing n ≡ Some (address, i))
@@ -258,8 +262,16 @@ module _ (image : Image) (c : Frame) (rs : List Reading) (counters : ℕ) where
         let t : is_bool w.kind ≡ true = rw h g in
         rw (is, t, e) refl
 
-    set_lands : (at next v : ℕ) (b x : Bool) (f : Fact) (s : State) (d : Var) → IsAt c (at + 1) next → slice_get c.variables v ≡ Some d → is_bool d.kind ≡ true → has_member (number_of b) (Between d.low d.high) ≡ true → Within c counters s → Fits rs f s → Lands at s.taken ((at + 1, widened v (number_of b) (slice_get f.variables v) f) ∷ []) (if x then put_variable image next v (truth b) s else Goes (record s { address = next }))
-    set_lands at next v b false f s d follows e k m ranges fits = (
+    -- a BOOL's range has both truths
+    takes_truths : (v : ℕ) (d : Var) (b : Bool) → slice_get c.variables v ≡ Some d → is_bool d.kind ≡ true → is_within d.low d.high (number_of b) ≡ true
+    takes_truths v d b e k = let ends = made.of_bools v d e k in rw (ends.0, ends.1) (go b)
+      where
+        go : (b : Bool) → is_within (pos 0) (pos 1) (number_of b) ≡ true
+        go true = refl
+        go false = refl
+
+    set_lands : (at next v : ℕ) (b x : Bool) (f : Fact) (s : State) (d : Var) → IsAt c (at + 1) next → slice_get c.variables v ≡ Some d → is_bool d.kind ≡ true → Within c counters s → Fits rs f s → Lands at s.taken ((at + 1, widened v (number_of b) (slice_get f.variables v) f) ∷ []) (if x then put_variable image next v (truth b) s else Goes (record s { address = next }))
+    set_lands at next v b false f s d follows e k ranges fits = (
       record { variables = ranges.variables; outputs = ranges.outputs; deferred = ranges.deferred; counted = ranges.counted },
       inl (inl (record {
         forward = omega arith;
@@ -269,11 +281,11 @@ module _ (image : Image) (c : Frame) (rs : List Reading) (counters : ℕ) where
             (λ p g. joined_lies_left p (only (number_of b)) (slice_get s.variables v) (subst (λ (o : Option Span). LiesIn o (slice_get s.variables v)) g (fits.variables v)));
       })),
     )
-    set_lands at next v b true f s d follows e k m ranges fits =
+    set_lands at next v b true f s d follows e k ranges fits =
         let here = image_variable v d e in
         let kinds : nat_eq (code_of d.kind) (code_of il.Bool) ≡ true = code_same d.kind il.Bool (bool_kind d.kind k) in
-        let i = in_member (Between d.low d.high) (number_of b) m in
-        let within : is_within d.low d.high (number_of b) ≡ true = m in
+        let within = takes_truths v d b e k in
+        let i = in_member (Between d.low d.high) (number_of b) within in
         let there = variable_number v d s e ranges in
         let written = get_set_same s.variables v (number_of b) (get_within s.variables v there.0 there.1) in
         rw (here, kinds, within) (
@@ -288,20 +300,20 @@ module _ (image : Image) (c : Frame) (rs : List Reading) (counters : ℕ) where
         )
 
     set_variable : (at next v : ℕ) (f : Fact) (s : State) → IsAt c (at + 1) next → Within c counters s → Fits rs f s → Yields (flow c at (does.SetVariable v) f) (λ ways. Lands at s.taken ways (done image rs s.address next (does.SetVariable v) s))
-    set_variable at next v f s follows ranges fits = by_need _ (slice_get c.variables v) _ _ (λ d e. by_bool f (λ r. check WrongType (is_bool d.kind) >>= λ x. check StoreRange (has_member (pos 1) (Between d.low d.high)) >>= λ y. goes_on (at + 1) (widened v (pos 1) (slice_get f.variables v) f)) _ (λ r g q. by_check _ _ (λ x. check StoreRange (has_member (pos 1) (Between d.low d.high)) >>= λ y. goes_on (at + 1) (widened v (pos 1) (slice_get f.variables v) f)) _ (λ k. by_check _ _ (λ y. goes_on (at + 1) (widened v (pos 1) (slice_get f.variables v) f)) _ (λ m. by_ok _ _ (
+    set_variable at next v f s follows ranges fits = by_need _ (slice_get c.variables v) _ _ (λ d e. by_bool f (λ r. check WrongType (is_bool d.kind) >>= λ y. goes_on (at + 1) (widened v (pos 1) (slice_get f.variables v) f)) _ (λ r g q. by_check _ _ (λ y. goes_on (at + 1) (widened v (pos 1) (slice_get f.variables v) f)) _ (λ k. by_ok _ _ (
         let here = image_variable v d e in
         let w = result_value s.variables f.result s.result r g fits.result in
         let test = bool_tested d.kind s.result r w.0 k q w.1 w.2.kind in
         on_some (slice_get image.vars v) d (λ d. if_true d.kind next s (put_variable image next v (truth true) s)) (Lands at s.taken ((at + 1, widened v (pos 1) (slice_get f.variables v) f) ∷ [])) here
-        (rw test (set_lands at next v true (int_eq w.0.number (pos 1)) f s d follows e k m ranges fits)))))))
+        (rw test (set_lands at next v true (int_eq w.0.number (pos 1)) f s d follows e k ranges fits))))))
 
     reset_variable : (at next v : ℕ) (f : Fact) (s : State) → IsAt c (at + 1) next → Within c counters s → Fits rs f s → Yields (flow c at (does.ResetVariable v) f) (λ ways. Lands at s.taken ways (done image rs s.address next (does.ResetVariable v) s))
-    reset_variable at next v f s follows ranges fits = by_need _ (slice_get c.variables v) _ _ (λ d e. by_bool f (λ r. check WrongType (is_bool d.kind) >>= λ x. check StoreRange (has_member (pos 0) (Between d.low d.high)) >>= λ y. goes_on (at + 1) (widened v (pos 0) (slice_get f.variables v) f)) _ (λ r g q. by_check _ _ (λ x. check StoreRange (has_member (pos 0) (Between d.low d.high)) >>= λ y. goes_on (at + 1) (widened v (pos 0) (slice_get f.variables v) f)) _ (λ k. by_check _ _ (λ y. goes_on (at + 1) (widened v (pos 0) (slice_get f.variables v) f)) _ (λ m. by_ok _ _ (
+    reset_variable at next v f s follows ranges fits = by_need _ (slice_get c.variables v) _ _ (λ d e. by_bool f (λ r. check WrongType (is_bool d.kind) >>= λ y. goes_on (at + 1) (widened v (pos 0) (slice_get f.variables v) f)) _ (λ r g q. by_check _ _ (λ y. goes_on (at + 1) (widened v (pos 0) (slice_get f.variables v) f)) _ (λ k. by_ok _ _ (
         let here = image_variable v d e in
         let w = result_value s.variables f.result s.result r g fits.result in
         let test = bool_tested d.kind s.result r w.0 k q w.1 w.2.kind in
         on_some (slice_get image.vars v) d (λ d. if_true d.kind next s (put_variable image next v (truth false) s)) (Lands at s.taken ((at + 1, widened v (pos 0) (slice_get f.variables v) f) ∷ [])) here
-        (rw test (set_lands at next v false (int_eq w.0.number (pos 1)) f s d follows e k m ranges fits)))))))
+        (rw test (set_lands at next v false (int_eq w.0.number (pos 1)) f s d follows e k ranges fits))))))
 
     output_lands : (at next t : ℕ) (b x : Bool) (f : Fact) (s : State) (d : TagRange) → IsAt c (at + 1) next → slice_get c.tags t ≡ Some d → d.output ≡ true → is_bool d.kind ≡ true → has_member (number_of b) (Between d.low d.high) ≡ true → Within c counters s → Fits rs f s → Lands at s.taken ((at + 1, f) ∷ []) (if x then put_output next t d.kind (truth b) s else Goes (record s { address = next }))
     output_lands at next t b false f s d follows e o k m ranges fits = (

@@ -4,8 +4,8 @@ use Rattle.std.specs.Prelude.{ℕ, zero, suc, ◌+◌, ◌*◌, ◌-◌, max, Bo
 use Rattle.point_types.specs.declared.operator.Condition.TheVariants as when
 use Rattle.scan_code.specs.declared.op.Op.{Op}
 use Rattle.scan_code.specs.declared.op.Op.TheVariants as does
-use Rattle.verifier.specs.Flow.{Frame, number_at}
-use Rattle.verifier.specs.Slots.{slots, is_reached, is_loop_head}
+use Rattle.facts.specs.Flow.{Frame, number_at}
+use Rattle.facts.specs.Slots.{slots, is_reached, is_loop_head}
 
 -- the number of instructions on the longest path from an instruction to an end, END, RETC or RETCN,
 -- on which no counted jump is taken; none where no path leads to an end

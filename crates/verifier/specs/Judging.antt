@@ -6,16 +6,16 @@ use Rattle.scan_code.specs.Image.{Image}
 use Rattle.scan_code.specs.declared.op.Op.{Op}
 use Rattle.site_model.specs.declared.tag.SiteTag.{SiteTag}
 use Rattle.verifier.specs.declared.link.Link.{Link}
-use Rattle.verifier.specs.declared.refusal.Refusal.{Refusal}
+use Rattle.facts.specs.declared.refusal.Refusal.{Refusal}
 use Rattle.verifier.specs.declared.refused.Refused.{Refused}
-use Rattle.verifier.specs.declared.refusal.RefusalKind.TheVariants.{OverBudget}
-use Rattle.verifier.specs.Flow.{Frame}
+use Rattle.facts.specs.declared.refusal.RefusalKind.TheVariants.{OverBudget}
+use Rattle.facts.specs.Flow.{Frame}
 use Rattle.verifier.specs.Links.{links_from}
 use Rattle.verifier.specs.Listing.{listing_of}
 use Rattle.verifier.specs.Ranges.{range_of}
 use Rattle.verifier.specs.Verdict.{budgeted, judged, most_steps, refusal_of}
 use Rattle.verifier.specs.Verified.{Acceptance}
-use Rattle.verifier.specs.Word.{out_of_memory}
+use Rattle.facts.specs.Word.{out_of_memory}
 
 -- with the image that was handed in
 abbrev pub refused : Image → Refusal → Refused

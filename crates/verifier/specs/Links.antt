@@ -8,11 +8,11 @@ use Rattle.scan_code.specs.declared.image.Tag.{Tag}
 use Rattle.site_model.specs.declared.access.Access.{Access}
 use Rattle.site_model.specs.declared.access.Access.TheVariants as access
 use Rattle.site_model.specs.declared.tag.SiteTag.{SiteTag}
-use Rattle.verifier.specs.Fact.{same_bool}
+use Rattle.facts.specs.Fact.{same_bool}
 use Rattle.verifier.specs.declared.link.Link.{Link}
-use Rattle.verifier.specs.declared.refusal.Refusal.{Refusal}
-use Rattle.verifier.specs.declared.refusal.RefusalKind.{RefusalKind}
-use Rattle.verifier.specs.declared.refusal.RefusalKind.TheVariants.{TagUnknown, TagType, TagAccess}
+use Rattle.facts.specs.declared.refusal.Refusal.{Refusal}
+use Rattle.facts.specs.declared.refusal.RefusalKind.{RefusalKind}
+use Rattle.facts.specs.declared.refusal.RefusalKind.TheVariants.{TagUnknown, TagType, TagAccess}
 
 -- a program stores these, and loads the others
 abbrev pub is_stored : Access → Bool

@@ -7,9 +7,9 @@ use Rattle.scan_code.specs.declared.image.Tag.{Tag}
 use Rattle.scan_code.specs.declared.op.Op.{Op}
 use Rattle.scan_code.specs.declared.op.Op.TheVariants as does
 use Rattle.scan_code.specs.Instruction.{decoded_at}
-use Rattle.verifier.specs.Fact.{same_bool}
-use Rattle.verifier.specs.declared.refusal.RefusalKind.TheVariants.{Code}
-use Rattle.verifier.specs.declared.refusal.Refusal.{Refusal}
+use Rattle.facts.specs.Fact.{same_bool}
+use Rattle.facts.specs.declared.refusal.RefusalKind.TheVariants.{Code}
+use Rattle.facts.specs.declared.refusal.Refusal.{Refusal}
 
 -- an address and the instruction there
 abbrev pub Entry : Type 0

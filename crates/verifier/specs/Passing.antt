@@ -1,13 +1,13 @@
 -- One pass over the instructions, and what it leaves at the later ones.
 -- IEC 61131-3 edition 2, 3.2.1 (instructions are done in order, or go on at a label).
 use Rattle.std.specs.Prelude.{ℕ, zero, suc, Bool, List, [], ◌∷◌, map, if◌then◌else◌, Result, Ok, Err, Option, Some, None, slice_get, nat_eq}
-use Rattle.verifier.specs.declared.refusal.Refusal.{Refusal}
-use Rattle.verifier.specs.declared.refusal.RefusalKind.{RefusalKind}
+use Rattle.facts.specs.declared.refusal.Refusal.{Refusal}
+use Rattle.facts.specs.declared.refusal.RefusalKind.{RefusalKind}
 use Rattle.verifier.specs.declared.arrived.Arrived.{Arrived}
 use Rattle.verifier.specs.declared.arrived.Arrived.TheVariants as arrived
-use Rattle.verifier.specs.Fact.{Fact}
-use Rattle.verifier.specs.Flow.{Frame, Way, Flow}
-use Rattle.verifier.specs.Slots.{Slot, Unreached, Holds, Clash, meets, entry_fact, is_loop_head, address_of, head_slot}
+use Rattle.facts.specs.declared.fact.Fact.{Fact}
+use Rattle.facts.specs.Flow.{Frame, Way, Flow}
+use Rattle.facts.specs.Slots.{Slot, Unreached, Holds, Clash, meets, entry_fact, is_loop_head, address_of, head_slot}
 use Rattle.verifier.specs.Budget.{reached}
 use Rattle.verifier.specs.Verdict.{refusal_of}
 

@@ -5,7 +5,7 @@ use Rattle.point_types.specs.declared.reading.Reading.{Reading}
 use Rattle.scan_code.specs.Machine.{run, opening}
 use Rattle.scan_code.specs.Table.{start_of}
 use Rattle.verifier.specs.Budget.{budget}
-use Rattle.verifier.specs.Flow.{Frame}
+use Rattle.facts.specs.Flow.{Frame}
 use Rattle.verifier.specs.Listing.{listing_of}
 use Rattle.verifier.specs.Ranges.{range_of}
 use Rattle.verifier.specs.Sound.{AreInRanges, AreReadings, AreRows, EndsWithin, IsFine, ScansEnd}

@@ -5,24 +5,26 @@ use Rattle.point_types.specs.declared.reading.Cause.TheVariants as cause
 use Rattle.point_types.specs.declared.reading.Reading.{Reading}
 use Rattle.point_types.specs.declared.reading.Reading.TheVariants as reading
 use Rattle.point_types.specs.declared.variable.Var.{Var}
-use Rattle.scan_code.specs.Image.{Image}
+use Rattle.scan_code.specs.Image.{Image, IsProper}
 use Rattle.scan_code.specs.declared.op.Op.{Op}
 use Rattle.scan_code.specs.Machine.{State, Ending, Ended, Trapped, Unfinished, run, opening}
 use Rattle.site_model.specs.declared.tag.SiteTag.{SiteTag}
-use Rattle.verifier.specs.Span.{Between}
-use Rattle.verifier.specs.Fact.{Fact, zipped}
-use Rattle.verifier.specs.Flow.{Frame, TagRange}
-use Rattle.verifier.specs.Fit.{IsIn, Fits}
-use Rattle.verifier.specs.Slots.{Holds, slots}
+use Rattle.facts.specs.Span.{Between}
+use Rattle.facts.specs.declared.fact.Fact.{Fact}
+use Rattle.facts.specs.Fact.{zipped}
+use Rattle.facts.specs.Flow.{Frame, TagRange}
+use Rattle.facts.specs.Fit.{IsIn, Fits}
+use Rattle.facts.specs.Slots.{Holds, slots}
 use Rattle.verifier.specs.Budget.{budget}
 use Rattle.verifier.specs.Verdict.{frame_of, refusal_of, judged, most_steps}
 
--- c is what a program is judged by, and no instruction that a fact reaches refuses
+-- c is what an image is judged by, and no instruction that a fact reaches refuses
 pub record IsAccepted (image : Image) (site : List SiteTag) (depth : ℕ) (c : Frame) : Type 0 where
+  pub proper : IsProper image
   pub framed : frame_of image site depth ≡ Ok c
   pub unrefused : refusal_of c ≡ None
 
--- what it means that a verdict is yes, with this budget
+-- what it means that the verdict on an image is yes, with this budget
 pub record IsYes (image : Image) (site : List SiteTag) (depth steps : ℕ) : Type 0 where
   pub frame : Frame
   pub accepted : IsAccepted image site depth frame
@@ -30,7 +32,7 @@ pub record IsYes (image : Image) (site : List SiteTag) (depth steps : ℕ) : Typ
   pub bounded : steps ≤ most_steps
 
 abbrev pub YesIsAccepted : Type 0
-YesIsAccepted = (image : Image) (site : List SiteTag) (depth steps : ℕ) → judged image site depth ≡ Ok steps → IsYes image site depth steps
+YesIsAccepted = (image : Image) (site : List SiteTag) (depth steps : ℕ) → IsProper image → judged image site depth ≡ Ok steps → IsYes image site depth steps
 
 -- a number in the tag's range, or none where there is no default
 abbrev pub IsInputOf : TagRange → Reading → Type 0

@@ -4,13 +4,13 @@ use Rattle.std.specs.Prelude.{ℕ, ◌+◌, List, [], ◌∷◌, length, map, if
 use Rattle.point_types.specs.Value.{◌>>=◌}
 use Rattle.scan_code.specs.Image.{Image}
 use Rattle.site_model.specs.declared.tag.SiteTag.{SiteTag}
-use Rattle.verifier.specs.declared.refusal.RefusalKind.TheVariants.{OverBudget}
-use Rattle.verifier.specs.Flow.{Frame}
-use Rattle.verifier.specs.declared.refusal.Refusal.{Refusal}
+use Rattle.facts.specs.declared.refusal.RefusalKind.TheVariants.{OverBudget}
+use Rattle.facts.specs.Flow.{Frame}
+use Rattle.facts.specs.declared.refusal.Refusal.{Refusal}
 use Rattle.verifier.specs.Links.{links_from}
 use Rattle.verifier.specs.Listing.{listing_of}
 pub use Rattle.verifier.specs.Ranges.{range_of}
-use Rattle.verifier.specs.Slots.{Slot, flow_of, slots}
+use Rattle.facts.specs.Slots.{Slot, flow_of, slots}
 use Rattle.verifier.specs.Budget.{budget}
 
 -- first the tags are looked at, then the code

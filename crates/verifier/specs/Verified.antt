@@ -1,7 +1,7 @@
 -- A program that was accepted, and whether another site has what it was accepted for.
 -- IEC 61131-3 edition 2, 2.4.3 (external variables are declared with one type everywhere).
 use Rattle.std.specs.Prelude.{◌≡◌, ℕ, List, [], ◌∷◌, Option, Some, None, Ok, slice_get}
-use Rattle.scan_code.specs.Image.{Image}
+use Rattle.scan_code.specs.Image.{Image, IsProper}
 use Rattle.site_model.specs.declared.tag.SiteTag.{SiteTag}
 use Rattle.verifier.specs.declared.link.Link.{Link}
 use Rattle.verifier.specs.Links.{links_from}
@@ -13,8 +13,9 @@ pub record Acceptance : Type 0 where
   pub links : List Link
   pub budget : ℕ
 
--- for some site these are the links, and the verdict with so many deferred values is this budget
+-- it is an image, and for some site these are the links, and the verdict with so many deferred values is this budget
 pub record IsVerified (depth : ℕ) (a : Acceptance) : Type 0 where
+  pub proper : IsProper a.image
   pub site : List SiteTag
   pub linked : links_from site 0 a.image.tags ≡ Ok a.links
   pub judged : judged a.image site depth ≡ Ok a.budget

@@ -8,10 +8,10 @@ use Rattle.point_types.specs.declared.variable.Var.{Var}
 use Rattle.scan_code.specs.Image.{Image}
 use Rattle.scan_code.specs.declared.op.Op.{Op}
 use Rattle.scan_code.specs.declared.op.Op.TheVariants as does
-use Rattle.verifier.specs.declared.refusal.RefusalKind.{RefusalKind}
-use Rattle.verifier.specs.declared.refusal.RefusalKind.TheVariants as refused
-use Rattle.verifier.specs.Flow.{Frame, TagRange}
-use Rattle.verifier.specs.declared.refusal.Refusal.{Refusal}
+use Rattle.facts.specs.declared.refusal.RefusalKind.{RefusalKind}
+use Rattle.facts.specs.declared.refusal.RefusalKind.TheVariants as refused
+use Rattle.facts.specs.Flow.{Frame, TagRange}
+use Rattle.facts.specs.declared.refusal.Refusal.{Refusal}
 use Rattle.verifier.specs.Verdict.{refusal_of, budgeted, judged}
 
 abbrev pub accepted : ℕ → Result ℕ Refusal

@@ -1,8 +1,9 @@
+//! What the pass wants of facts.
 ghost use Rattle.std.specs.Prelude.{◌≡◌};
 
-use crate::fact::Fact;
-use crate::frame::Frame;
-use crate::refusal::RefusalKind;
+use facts::fact::Fact;
+use facts::frame::Frame;
+use facts::refusal::RefusalKind;
 use point_types::Items;
 use scan_code::Op;
 use std::alloc::{AllocError, Global};
@@ -15,9 +16,10 @@ pub type Ways<F> = Result<Result<Items<(usize, F)>, RefusalKind>, AllocError>;
 /// that is stood for.
 pub trait AsFact: Drop {
     ghost use Rattle.std.specs.Prelude.{◌≡◌, ◌<◌, ◌+◌, ◌^◌, length, option_map, IfOk};
-    ghost use Rattle.verifier.specs.Fact.{Fact, met};
-    ghost use Rattle.verifier.specs.Flow.{flow};
-    ghost use Rattle.verifier.specs.Slots.{entry_fact};
+    ghost use Rattle.facts.specs.declared.fact.Fact.{Fact};
+    ghost use Rattle.facts.specs.Fact.{met};
+    ghost use Rattle.facts.specs.Flow.{flow};
+    ghost use Rattle.facts.specs.Slots.{entry_fact};
     ghost use Rattle.verifier.specs.Passing.{flow_stood};
 
     /// The fact that it stands for.

@@ -1,6 +1,7 @@
+//! The most instructions of a scan.
 ghost use Rattle.std.specs.Prelude.{◌≡◌, ◌<◌, ◌≤◌, ◌*◌, ◌||◌, nat_eq, None, length, if◌then◌else◌, IfOk};
 ghost use Rattle.verifier.specs.Budget.{AreUpTo, IsUpTo, budget_of, count_of, greatest_from, length_at, length_from, length_of, lengths_from, longer, one_more, total_count, turns_of};
-ghost use Rattle.verifier.specs.Flow.{number_at};
+ghost use Rattle.facts.specs.Flow.{number_at};
 ghost use Rattle.verifier.specs.Heads.{heads_of, is_among};
 
 use crate::heads::{is_head, loop_heads};

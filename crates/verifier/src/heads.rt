@@ -1,3 +1,4 @@
+//! The instructions to which counted jumps go back.
 ghost use Rattle.std.specs.Prelude.{◌≡◌, IfOk};
 ghost use Rattle.verifier.specs.Heads.{heads_of, is_among};
 

@@ -1,4 +1,4 @@
-ghost use Rattle.verifier.specs.Bare.{BareAgrees, BareRunsOut, BareStaysInWords, NeverWraps, WrappedKeepsWords};
+//! Laws of the verdict: accepted programs run well, and every scan ends.
 ghost use Rattle.verifier.specs.Budget.{LongestIsAPath, NoPathIsLonger};
 ghost use Rattle.verifier.specs.Promise.{AcceptedKeepPromises};
 ghost use Rattle.verifier.specs.Sound.{EveryScanEnds, RunsOut, RunsWell, YesIsAccepted};
@@ -28,29 +28,6 @@ pub fn every_scan_ends()
 /// The worked verdicts, computed.
 pub fn worked_verdicts()
     ensures { WorkedVerdicts }
-{}
-
-/// The machine on bare numbers goes as the machine that tests does, where that one doesn't trap.
-pub fn bare_agrees()
-    ensures { BareAgrees }
-{}
-
-/// On an accepted program it ends within the budget, with the steps, the variables and the outputs of
-/// the machine that tests, in their ranges.
-pub fn bare_runs_out()
-    ensures { BareRunsOut }
-{}
-
-/// On an accepted program each number that it holds is one of LINT, after any number of steps.
-pub fn bare_stays_in_words()
-    ensures { BareStaysInWords }
-{}
-
-/// On an accepted program words never wrap: what a word makes of other numbers is never seen. Two's
-/// complement in 64 bits is such a word.
-pub fn never_wraps()
-    ensures run { NeverWraps }
-    ensures wrapped { WrappedKeepsWords }
 {}
 
 /// The number of instructions that a budget is a multiple of is that of the longest path: no path from

@@ -9,29 +9,19 @@
 pub mod arrived;
 pub mod as_fact;
 pub mod budget;
-pub mod changes;
-pub mod consequences;
-mod deferred;
-pub mod fact;
-pub mod flow;
-pub mod frame;
 pub mod heads;
-pub mod known;
 pub mod laws;
 pub mod link;
 pub mod listing;
-pub mod operand;
-mod parts;
 pub mod pass;
-pub mod presence;
-pub mod refusal;
 pub mod refused;
-pub mod span;
-pub mod sparse;
 pub mod verified;
 pub mod verify;
 
+pub use facts::{
+    Refusal, RefusalKind, changes, consequences, fact, flow, frame, known, operand, presence,
+    refusal, span, sparse, tag_range,
+};
 pub use link::{Link, links};
-pub use refusal::{Refusal, RefusalKind};
 pub use refused::Refused;
 pub use verified::Verified;

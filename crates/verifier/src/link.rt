@@ -1,12 +1,15 @@
-ghost use Rattle.std.specs.Prelude.{◌≡◌};
+//! The tags of a program, linked to those of a site.
+ghost use Rattle.std.specs.Prelude.{◌≡◌, IfOk, map};
 ghost use Rattle.verifier.specs.Links.{allowed, is_stored, link_of, links_from, number_of};
-ghost use Rattle.verifier.specs.Word.{AnswersOrWantsMemory};
+ghost use Rattle.verifier.specs.Ranges.{range_of};
+ghost use Rattle.facts.specs.Word.{AnswersOrWantsMemory};
 
-use crate::refusal::{Refusal, RefusalKind};
+use facts::refusal::{Refusal, RefusalKind};
+use facts::tag_range::TagRange;
 use point_types::{Items, Name};
 use scan_code::Tag;
 use site_model::{Access, SiteTag};
-use std::alloc::Global;
+use std::alloc::{AllocError, Global};
 
 /// A tag of a site, and its number there.
 #[derive(Clone, Copy, PartialEq, Eq, Debug)]
@@ -83,5 +86,28 @@ fn is_stored(access: Access) -> bool
     match access {
         Access::Output | Access::Shown => true,
         Access::Input | Access::Setting => false,
+    }
+}
+
+/// What the site says of each of these tags.
+pub fn ranges(alloc: Global, links: &[Link]) -> Result<Items<TagRange>, AllocError>
+    ensures { IfOk result (λ tags. tags ≡ map range_of links.now) }
+{
+    let mut tags = Vec::with_capacity(alloc, links.len())?;
+    for link in links {
+        tags.push(range_of(link))?;
+    }
+    Ok(Items::from_vec(tags))
+}
+
+fn range_of(link: &Link) -> TagRange
+    ensures { result ≡ range_of link.now }
+{
+    TagRange {
+        output: is_stored(link.site.access),
+        kind: link.site.kind,
+        low: link.site.low,
+        high: link.site.high,
+        has_default: link.site.default.is_some(),
     }
 }

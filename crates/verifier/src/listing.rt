@@ -1,9 +1,10 @@
+//! The instructions of a code with their addresses.
 ghost use Rattle.std.specs.Prelude.{◌≡◌, ◌<◌, ◌+◌, ◌^◌, slice_get};
-ghost use Rattle.verifier.specs.Flow.{number_at};
 ghost use Rattle.verifier.specs.Listing.{is_end, is_placed, is_tag, is_there, jumps_after, listing_of};
-ghost use Rattle.verifier.specs.Word.{AnswersOrWantsMemory};
+ghost use Rattle.facts.specs.Word.{AnswersOrWantsMemory};
 
-use crate::refusal::{Refusal, RefusalKind};
+pub use facts::address::number_at;
+use facts::refusal::{Refusal, RefusalKind};
 use point_types::Items;
 use scan_code::{Image, Op, decode};
 use std::alloc::Global;
@@ -96,20 +97,4 @@ fn is_end(op: Op) -> bool
     ensures { result ≡ is_end op }
 {
     matches!(op, Op::End)
-}
-
-/// The number of the first instruction at an address.
-pub fn number_at(listing: &[(usize, Op)], address: usize) -> Option<usize>
-    ensures { result ≡ number_at listing.now 0 address }
-{
-    let mut at = 0;
-    let mut rest = listing;
-    while let [(start, _), after @ ..] = rest {
-        if *start == address {
-            return Some(at);
-        }
-        at += 1;
-        rest = after;
-    }
-    None
 }

@@ -1,14 +1,15 @@
+//! The pass over a program: from each fact to the facts that follow.
 ghost use Rattle.std.specs.Prelude.{◌≡◌, ℕ, ◌<◌, ◌+◌, ◌^◌, length, Some, IfOk, OnOk, slice_get, slice_set};
 ghost use Rattle.verifier.specs.Heads.{heads_of};
 ghost use Rattle.verifier.specs.Passing.{all_delivered, all_stood, closed, delivered, flow_stood, opening, passed, stood, ways_stood};
-ghost use Rattle.verifier.specs.Slots.{Holds, Slot, Unreached, address_of, flow_of, head_slot, is_loop_head, is_reached, meets};
-ghost use Rattle.verifier.specs.Word.{AnswersOrWantsMemory};
+ghost use Rattle.facts.specs.Slots.{Holds, Slot, Unreached, address_of, flow_of, head_slot, is_loop_head, is_reached, meets};
+ghost use Rattle.facts.specs.Word.{AnswersOrWantsMemory};
 
 use crate::arrived::Arrived;
 use crate::as_fact::{AsFact, Ways};
-use crate::frame::Frame;
 use crate::heads::{is_head, loop_heads};
-use crate::refusal::{Refusal, RefusalKind};
+use facts::frame::Frame;
+use facts::refusal::{Refusal, RefusalKind};
 use point_types::Items;
 use std::alloc::{AllocError, Global};
 use std::mem;

@@ -1,4 +1,5 @@
-use crate::refusal::{Refusal, RefusalKind};
+//! A refusal, and the instruction that it speaks of.
+use facts::refusal::{Refusal, RefusalKind};
 use scan_code::Image;
 
 /// An image that is refused: why, and at which instruction, counted from 0; for the kinds of tags the

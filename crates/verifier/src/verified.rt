@@ -1,3 +1,4 @@
+//! An accepted program.
 ghost use Rattle.std.specs.Prelude.{◌≡◌, ◌↔◌, true, slice_get};
 ghost use Rattle.verifier.specs.Verified.{HasAlike, HasLinks, IsAlike};
 

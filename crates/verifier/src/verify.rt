@@ -1,18 +1,19 @@
+//! The verdict on a program for a site.
 ghost use Rattle.std.specs.Prelude.{◌≡◌, ◌<◌, length, IfOk};
 ghost use Rattle.verifier.specs.Judging.{IsVerdict, judged_of, judged_with, linked_frame, within_budget};
 ghost use Rattle.verifier.specs.Listing.{listing_of};
 ghost use Rattle.verifier.specs.Promise.{KeepsPromise};
-ghost use Rattle.verifier.specs.Word.{AnswersOrWantsMemory};
+ghost use Rattle.facts.specs.Word.{AnswersOrWantsMemory};
 
 use crate::budget::most_steps;
-use crate::fact::Fact;
-use crate::frame::Frame;
-use crate::link::{Link, links};
+use crate::link::{Link, links, ranges};
 use crate::listing::listing;
 use crate::pass::pass;
-use crate::refusal::{Refusal, RefusalKind};
 use crate::refused::Refused;
 use crate::verified::Verified;
+use facts::fact::Fact;
+use facts::frame::Frame;
+use facts::refusal::{Refusal, RefusalKind};
 use point_types::Items;
 use scan_code::{Image, Op};
 use site_model::Site;
@@ -83,7 +84,7 @@ fn frame_of(
 {
     Ok(Frame {
         variables: Items::from_vec(Vec::from_slice(alloc, image.vars.as_slice())?),
-        links: Items::from_vec(Vec::from_slice(alloc, links)?),
+        tags: ranges(alloc, links)?,
         depth,
         listing,
     })

@@ -1,5 +1,5 @@
 //! Programs that are judged for a site.
-use super::{printed, texts};
+use crate::tests::{Told, assert_same, assert_told, edited, printed, texts};
 use commands::check;
 use std::process::Abort;
 use std::test::Fail;
@@ -129,7 +129,7 @@ static VERDICTS: [(&str, &str, &[&str], &str, u8); 17] = [
 ];
 
 /// What is printed, and the status.
-fn told(rt: &(impl AllocGlobal + Abort), site: &str, program: &str, defs: &[&str]) -> (String, u8) {
+fn told(rt: &(impl AllocGlobal + Abort), site: &str, program: &str, defs: &[&str]) -> Told {
     let defs = texts(rt, defs);
     let mut out = Vec::new(rt.alloc());
     let status = check(rt.alloc(), site, program, defs.as_slice(), &mut out);
@@ -139,9 +139,7 @@ fn told(rt: &(impl AllocGlobal + Abort), site: &str, program: &str, defs: &[&str
 #[test]
 fn a_program_is_accepted_where_no_scan_can_go_wrong(rt: HostRuntime) {
     for (site, program, defs, wanted, ends) in VERDICTS.iter() {
-        let (lines, status) = told(&rt, site, program, defs);
-        assert_eq!(rt; lines.as_str(), *wanted);
-        assert_eq!(rt; status, *ends);
+        assert_told(&rt, &told(&rt, site, program, defs), wanted, *ends);
     }
 }
 
@@ -162,19 +160,19 @@ static DEFINED: [(&str, &str, &str, &str); 2] = [
     ),
 ];
 
+/// These lines are printed of the program for a site by these definitions.
+fn assert_lines(rt: &(impl AllocGlobal + Abort), site: &str, defs: &[&str], lines: &str) {
+    let (printed, _) = told(rt, site, PROGRAM, defs);
+    assert_same(rt, &printed.as_str(), &lines);
+}
+
 #[test]
 fn a_definition_is_added_or_replaces_that_of_its_id(rt: HostRuntime) {
     for (models, id, before, behind) in DEFINED.iter() {
-        let site = SITE
-            .replace(rt.alloc(), "models = [1, 103]", models)
-            .expect(&rt, "memory");
-        let def = DEFINITION
-            .replace(rt.alloc(), "64001", id)
-            .expect(&rt, "memory");
-        let (lines, _) = told(&rt, site.as_str(), PROGRAM, &[]);
-        assert_eq!(rt; lines.as_str(), *before);
-        let (lines, _) = told(&rt, site.as_str(), PROGRAM, &[def.as_str()]);
-        assert_eq!(rt; lines.as_str(), *behind);
+        let site = edited(&rt, SITE, "models = [1, 103]", models);
+        let def = edited(&rt, DEFINITION, "64001", id);
+        assert_lines(&rt, site.as_str(), &[], before);
+        assert_lines(&rt, site.as_str(), &[def.as_str()], behind);
     }
 }
 
@@ -189,6 +187,6 @@ fn the_verdict_is_told_or_that_memory_was_refused(rt: HostRuntime) -> Result<(),
     } else {
         "refused: memory\n"
     };
-    assert_eq!(rt; lines.as_str(), told);
+    assert_same(&rt, &lines.as_str(), &told);
     Ok(())
 }

@@ -1,5 +1,5 @@
 //! Command lines, and files that are not there.
-use super::{printed, texts};
+use crate::tests::{assert_same, printed, texts};
 use commands::{command, obey};
 
 /// The words of command lines, and the status where they are none; that of help is 0.
@@ -59,9 +59,9 @@ fn a_probe_asks_unit_1_unless_told(rt: HostRuntime) {
         .ok()
         .expect(&rt, "a command line");
     let (name, matches) = matches.subcommand().expect(&rt, "a command");
-    assert_eq!(rt; name, "probe");
-    assert_eq!(rt; matches.get_one("PORT").unwrap_or(0), 502);
-    assert_eq!(rt; matches.get_one("unit").unwrap_or(0), 1);
+    assert_same(&rt, &name, &"probe");
+    assert_same(&rt, &matches.get_one("PORT").unwrap_or(0), &502);
+    assert_same(&rt, &matches.get_one("unit").unwrap_or(0), &1);
 }
 
 #[test]
@@ -70,6 +70,28 @@ fn a_file_that_is_not_there_is_refused_by_its_path(rt: HostRuntime) {
     let mut out = Vec::new(rt.alloc());
     let status = obey(&rt, words.as_slice(), &mut out);
     let lines = printed(&rt, out);
-    assert_eq!(rt; lines.as_str(), "refused: file no/such/site.toml\n");
-    assert_eq!(rt; status, 1);
+    assert_same(&rt, &lines.as_str(), &"refused: file no/such/site.toml\n");
+    assert_same(&rt, &status, &1);
+}
+
+/// Words that name standard input twice, or hand it on to a second process.
+static MISUSES: [&[&str]; 5] = [
+    &["sunsite", "check", "-", "-"],
+    &["sunsite", "check", "s", "-", "--def", "-"],
+    &["sunsite", "simulate", "-", "--def", "-"],
+    &["sunsite", "run", "s", "p", "--plant", "-", "--scans", "1"],
+    &[
+        "sunsite", "run", "s", "p", "--plant", "q", "--scans", "1", "--def", "-",
+    ],
+];
+
+#[test]
+fn standard_input_is_one_file_and_not_handed_on(rt: HostRuntime) {
+    for words in MISUSES.iter() {
+        let words = texts(&rt, words);
+        let mut out = Vec::new(rt.alloc());
+        let status = obey(&rt, words.as_slice(), &mut out);
+        assert_eq!(rt; status, 2);
+        assert_eq!(rt; out.len(), 0);
+    }
 }

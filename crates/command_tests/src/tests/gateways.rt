@@ -1,7 +1,7 @@
 //! What clients are told by the gateway behind two scans of a plant.
-use super::files::{PROGRAM, SITE};
-use super::links::{AnsweredLink, Answers, PLANT, PlantLink};
-use super::{joined, printed};
+use crate::tests::files::{PROGRAM, SITE};
+use crate::tests::links::{AnsweredLink, Answers, PLANT, PlantLink};
+use crate::tests::{Told, assert_same, assert_told, joined, printed};
 use commands::{DEPTH, probe, scans};
 use gateway::{Core, Poller, serve_client};
 use modbus_frame::{LinkFault, MemLink};
@@ -42,30 +42,34 @@ static TOTALS: [(&str, &str); 7] = [
     ),
 ];
 
-/// What a probe of the gateway prints behind two scans of a plant.
-fn told_of_gateway(rt: &(impl AllocGlobal + Abort), plant: &str) -> (String, u8) {
-    let mut poller = Poller::new(PlantLink::new(rt, plant, &[]));
+/// The core behind two scans over a link.
+fn scanned(rt: &(impl AllocGlobal + Abort), poller: &mut Poller<PlantLink>) -> Core<DEPTH> {
     let mut out = Vec::new(rt.alloc());
-    let (core, status) = scans(rt.alloc(), SITE, PROGRAM, &[], 2, &mut poller, &mut out);
-    assert_eq!(rt; status, 0);
-    let link = AnsweredLink::to(rt.alloc(), core.expect(rt, "a core"));
+    let (core, status) = scans(rt.alloc(), SITE, PROGRAM, &[], 2, poller, &mut out);
+    assert_same(rt, &status, &0);
+    core.expect(rt, "a core")
+}
+
+/// What a probe of the gateway prints behind two scans of a plant.
+fn told_of_gateway(rt: &(impl AllocGlobal + Abort), plant: &str) -> Told {
+    let mut poller = Poller::new(PlantLink::new(rt, plant, &[]));
+    let link = AnsweredLink::to(rt.alloc(), scanned(rt, &mut poller));
     let mut out = Vec::new(rt.alloc());
     let status = probe(rt.alloc(), link, 1, &mut out);
     (printed(rt, out), status)
 }
 
+/// What a probe prints in front of the total power, and behind it.
+const FRONT: &str = "model 1 40002 66\nmodel 103 40070 50\n";
+
+const BEHIND: &str = "W_SF 0\nmodel 123 40122 24\nWMaxLimPct_SF 0\nend 40148\n";
+
 #[test]
 fn the_gateway_serves_what_the_last_scan_gave(rt: HostRuntime) {
     for (fault, total) in TOTALS.iter() {
-        let plant = joined(&rt, PLANT, fault);
-        let (lines, status) = told_of_gateway(&rt, plant.as_str());
-        let wanted = joined(&rt, "model 1 40002 66\nmodel 103 40070 50\n", total);
-        let wanted = joined(
-            &rt,
-            wanted.as_str(),
-            "W_SF 0\nmodel 123 40122 24\nWMaxLimPct_SF 0\nend 40148\n",
-        );
-        assert_eq!(rt; lines.as_str(), wanted.as_str());
-        assert_eq!(rt; status, 0);
+        let plant = joined(&rt, &[PLANT, fault]);
+        let wanted = joined(&rt, &[FRONT, total, BEHIND]);
+        let told = told_of_gateway(&rt, plant.as_str());
+        assert_told(&rt, &told, wanted.as_str(), 0);
     }
 }

@@ -1,12 +1,12 @@
 //! The points of units that a probe prints.
-use super::links::{FailingLink, PLANT, PlantLink};
-use super::{joined, printed, texts};
+use crate::tests::links::{FailingLink, PLANT, PlantLink};
+use crate::tests::{Told, assert_same, assert_told, assert_true, edited, printed, texts};
 use commands::probe;
 use modbus_frame::Link;
 use std::process::Abort;
 
 /// What is printed of a unit on a link, and the status.
-fn told<L: Link + Drop>(rt: &(impl AllocGlobal + Abort), link: L, unit: u8) -> (String, u8) {
+fn told<L: Link + Drop>(rt: &(impl AllocGlobal + Abort), link: L, unit: u8) -> Told {
     let mut out = Vec::new(rt.alloc());
     let status = probe(rt.alloc(), link, unit, &mut out);
     (printed(rt, out), status)
@@ -102,17 +102,18 @@ static UNITS: [(&str, &str, u8, &str, u8); 13] = [
     ),
 ];
 
+/// The same of the plant of a file, which is made by these definitions.
+fn told_of(rt: &(impl AllocGlobal + Abort), plant: &str, defs: &[String], unit: u8) -> Told {
+    told(rt, PlantLink::new(rt, plant, defs), unit)
+}
+
 #[test]
 fn each_point_that_is_present_is_told(rt: HostRuntime) {
     for (base, fault, unit, wanted, ends) in UNITS.iter() {
-        let plant = PLANT
-            .replace(rt.alloc(), "unit = 1\n", base)
-            .expect(&rt, "memory");
-        let plant = joined(&rt, plant.as_str(), fault);
-        let link = PlantLink::new(&rt, plant.as_str(), &[]);
-        let (lines, status) = told(&rt, link, *unit);
-        assert_eq!(rt; lines.as_str(), *wanted);
-        assert_eq!(rt; status, *ends);
+        let mut plant = edited(&rt, PLANT, "unit = 1\n", base);
+        plant.push_str(fault).expect(&rt, "memory");
+        let told = told_of(&rt, plant.as_str(), &[], *unit);
+        assert_told(&rt, &told, wanted, *ends);
     }
 }
 
@@ -143,9 +144,25 @@ static DEFINED: [(&str, &str, &str); 2] = [
 fn points_are_those_of_the_shipped_definitions(rt: HostRuntime) {
     for (def, plant, wanted) in DEFINED.iter() {
         let defs = texts(&rt, &[*def]);
-        let link = PlantLink::new(&rt, plant, defs.as_slice());
-        let (lines, _) = told(&rt, link, 1);
-        assert_eq!(rt; lines.as_str(), *wanted);
+        let (lines, _) = told_of(&rt, plant, defs.as_slice(), 1);
+        assert_same(&rt, &lines.as_str(), wanted);
+    }
+}
+
+/// Only that a link failed was printed.
+fn assert_failed(rt: &impl Abort, told: &Told) {
+    let lines = told.0.as_str();
+    assert_same(rt, &told.1, &3);
+    assert_true(rt, lines == "link: Read\n" || lines == "link: Write\n");
+}
+
+/// What a link printed that failed behind so many calls.
+fn assert_failed_or_whole(rt: &impl Abort, told: &Told, left: u32) {
+    if told.1 == 0 {
+        assert_true(rt, left > 0 && told.0.as_str().ends_with("end 40148\n"));
+    } else {
+        assert_true(rt, left < 99);
+        assert_failed(rt, told);
     }
 }
 
@@ -153,13 +170,6 @@ fn points_are_those_of_the_shipped_definitions(rt: HostRuntime) {
 fn a_link_that_fails_is_told_and_nothing_else(rt: HostRuntime) {
     for left in 0..100 {
         let link = FailingLink::new(PlantLink::new(&rt, PLANT, &[]), left);
-        let (lines, status) = told(&rt, link, 1);
-        if status == 0 {
-            assert!(rt; left > 0 && lines.as_str().ends_with("end 40148\n"));
-        } else {
-            assert_eq!(rt; status, 3);
-            assert!(rt; lines.as_str() == "link: Read\n" || lines.as_str() == "link: Write\n");
-            assert!(rt; left < 99);
-        }
+        assert_failed_or_whole(&rt, &told(&rt, link, 1), left);
     }
 }

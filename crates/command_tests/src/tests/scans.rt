@@ -1,9 +1,10 @@
 //! Scans of a program on a site whose devices are a plant.
-use super::files::{PROGRAM, SITE};
-use super::links::{PLANT, PlantLink};
-use super::{joined, printed};
+use crate::tests::files::{PROGRAM, SITE};
+use crate::tests::links::{PLANT, PlantLink};
+use crate::tests::{Told, assert_told, assert_true, joined, printed};
 use commands::scans;
 use gateway::Poller;
+use std::process::Abort;
 
 /// What the plant does wrong, what two scans print, and the status.
 static FAULTS: [(&str, &str, u8); 9] = [
@@ -54,16 +55,19 @@ static FAULTS: [(&str, &str, u8); 9] = [
     ),
 ];
 
+/// What two scans over a link print, which leave a core.
+fn told(rt: &(impl AllocGlobal + Abort), poller: &mut Poller<PlantLink>) -> Told {
+    let mut out = Vec::new(rt.alloc());
+    let (core, status) = scans(rt.alloc(), SITE, PROGRAM, &[], 2, poller, &mut out);
+    assert_true(rt, core.is_some());
+    (printed(rt, out), status)
+}
+
 #[test]
 fn each_scan_has_its_line(rt: HostRuntime) {
     for (fault, wanted, ends) in FAULTS.iter() {
-        let plant = joined(&rt, PLANT, fault);
+        let plant = joined(&rt, &[PLANT, fault]);
         let mut poller = Poller::new(PlantLink::new(&rt, plant.as_str(), &[]));
-        let mut out = Vec::new(rt.alloc());
-        let (core, status) = scans(rt.alloc(), SITE, PROGRAM, &[], 2, &mut poller, &mut out);
-        let lines = printed(&rt, out);
-        assert_eq!(rt; lines.as_str(), *wanted);
-        assert_eq!(rt; status, *ends);
-        assert!(rt; core.is_some());
+        assert_told(&rt, &told(&rt, &mut poller), wanted, *ends);
     }
 }

@@ -1,6 +1,6 @@
 //! Plants that are served or refused.
-use super::links::PLANT;
-use super::{printed, texts};
+use crate::tests::links::PLANT;
+use crate::tests::{assert_same, edited, printed, texts};
 use commands::plant_of;
 use std::process::Abort;
 
@@ -33,17 +33,18 @@ static FILES: [(&str, &str); 2] = [
     ("[[device]]\nunit = 1\n", "refused: plant MissingKey\n"),
 ];
 
+fn assert_lines(rt: &(impl AllocGlobal + Abort), plant: &str, defs: &[&str], lines: &str) {
+    let printed = told(rt, plant, defs);
+    assert_same(rt, &printed.as_str(), &lines);
+}
+
 #[test]
 fn each_plant_is_served_or_refused(rt: HostRuntime) {
     for (models, defs, wanted) in MODELS.iter() {
-        let plant = PLANT
-            .replace(rt.alloc(), "[1, 103, 123]", models)
-            .expect(&rt, "memory");
-        let lines = told(&rt, plant.as_str(), defs);
-        assert_eq!(rt; lines.as_str(), *wanted);
+        let plant = edited(&rt, PLANT, "[1, 103, 123]", models);
+        assert_lines(&rt, plant.as_str(), defs, wanted);
     }
     for (plant, wanted) in FILES.iter() {
-        let lines = told(&rt, plant, &[DEFINITION]);
-        assert_eq!(rt; lines.as_str(), *wanted);
+        assert_lines(&rt, plant, &[DEFINITION], wanted);
     }
 }

@@ -1,10 +1,10 @@
 //! Trial scans of programs by themselves.
-use super::{joined, printed};
+use crate::tests::{Told, assert_same, assert_told, assert_true, joined, printed};
 use commands::trial;
 use std::process::Abort;
 
 /// What is printed, and the status.
-fn told(rt: &(impl AllocGlobal + Abort), input: &str) -> (String, u8) {
+fn told(rt: &(impl AllocGlobal + Abort), input: &str) -> Told {
     let mut out = Vec::new(rt.alloc());
     let status = trial(rt.alloc(), input, &mut out);
     (printed(rt, out), status)
@@ -90,13 +90,15 @@ static PROGRAMS: [(&str, &str, &str, u8); 13] = [
 #[test]
 fn prints_variables_and_steps(rt: HostRuntime) {
     for (declared, body, wanted, ends) in PROGRAMS.iter() {
-        let text = joined(&rt, "PROGRAM p\nVAR\n", declared);
-        let text = joined(&rt, text.as_str(), "\nEND_VAR\n");
-        let text = joined(&rt, text.as_str(), body);
-        let text = joined(&rt, text.as_str(), "\nEND_PROGRAM\n");
-        let (lines, status) = told(&rt, text.as_str());
-        assert_eq!(rt; lines.as_str(), *wanted);
-        assert_eq!(rt; status, *ends);
+        let parts = [
+            "PROGRAM p\nVAR\n",
+            declared,
+            "\nEND_VAR\n",
+            body,
+            "\nEND_PROGRAM\n",
+        ];
+        let text = joined(&rt, &parts);
+        assert_told(&rt, &told(&rt, text.as_str()), wanted, *ends);
     }
 }
 
@@ -104,16 +106,14 @@ fn prints_variables_and_steps(rt: HostRuntime) {
 fn a_hundred_parentheses_are_evaluated_from_within(rt: HostRuntime) {
     let opened = "ADD( 1\n".repeat(rt.alloc(), 100).expect(&rt, "memory");
     let closed = ")\n".repeat(rt.alloc(), 100).expect(&rt, "memory");
-    let text = joined(
-        &rt,
+    let parts = [
         "PROGRAM p\nVAR y : DINT; END_VAR\nLD 1\n",
         opened.as_str(),
-    );
-    let text = joined(&rt, text.as_str(), closed.as_str());
-    let text = joined(&rt, text.as_str(), "ST y\nEND_PROGRAM\n");
-    let (lines, status) = told(&rt, text.as_str());
-    assert_eq!(rt; lines.as_str(), "y=101\nsteps 303\n");
-    assert_eq!(rt; status, 0);
+        closed.as_str(),
+        "ST y\nEND_PROGRAM\n",
+    ];
+    let text = joined(&rt, &parts);
+    assert_told(&rt, &told(&rt, text.as_str()), "y=101\nsteps 303\n", 0);
 }
 
 /// Texts with input lines, what is printed, and the status. Blank lines are no input.
@@ -191,9 +191,7 @@ static RUNS: [(&str, &str, u8); 16] = [
 #[test]
 fn a_text_has_its_scan_or_its_refusal(rt: HostRuntime) {
     for (text, wanted, ends) in RUNS.iter() {
-        let (lines, status) = told(&rt, text);
-        assert_eq!(rt; lines.as_str(), *wanted);
-        assert_eq!(rt; status, *ends);
+        assert_told(&rt, &told(&rt, text), wanted, *ends);
     }
 }
 
@@ -289,9 +287,9 @@ static INPUTS: [(&str, &str, u8); 34] = [
 #[test]
 fn reads_input_lines(rt: HostRuntime) {
     for (given, wanted, ends) in INPUTS.iter() {
-        let text = joined(&rt, SHOWS_INPUTS, given);
+        let text = joined(&rt, &[SHOWS_INPUTS, given]);
         let (lines, status) = told(&rt, text.as_str());
-        assert!(rt; lines.as_str().starts_with(*wanted), "at {given}: {lines}");
-        assert_eq!(rt; status, *ends);
+        assert_true(&rt, lines.as_str().starts_with(*wanted));
+        assert_same(&rt, &status, ends);
     }
 }

@@ -1,5 +1,6 @@
 //! Faults are printed by their words.
 
+use crate::tests::assert_same;
 use modbus_frame::{Exception, FrameFault, LinkFault, ReplyFault};
 use model_defs::DefFault;
 use register_map::{MapFault, ReadFault};
@@ -9,7 +10,7 @@ use std::process::Abort;
 
 fn assert_prints(rt: &impl Abort, alloc: Global, fault: &impl Display, word: &str) {
     let printed = format!(in alloc; "{fault}").expect(rt, "memory");
-    assert_eq!(rt; printed.as_str(), word);
+    assert_same(rt, &printed.as_str(), &word);
 }
 
 static FRAME_FAULTS: [FrameFault; 2] = [FrameFault::BadProtocol, FrameFault::BadLength];

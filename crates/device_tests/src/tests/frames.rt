@@ -1,18 +1,18 @@
 //! Frames, in whatever pieces they come.
 
-use crate::tests::{ANSWERED, ASKED, REPLY, REQUEST, frame};
+use crate::tests::{ANSWERED, ASKED, REPLY, REQUEST, assert_same, assert_true, frame};
 use modbus_frame::{Fed, Frame, FrameFault, Framer, Pdu, write_frame};
 use std::process::Abort;
 
 /// So many bytes of a piece were used; the request is whole now, or not yet.
 fn assert_fed(rt: &impl Abort, fed: Fed, used: usize, whole: bool) {
-    assert_eq!(rt; fed.used, used);
+    assert_same(rt, &fed.used, &used);
     match fed.frame {
         Some(found) => {
-            assert!(rt; whole);
-            assert_eq!(rt; found, frame(rt, &ASKED));
+            assert_true(rt, whole);
+            assert_same(rt, &found, &frame(rt, &ASKED));
         }
-        None => assert!(rt; !whole),
+        None => assert_true(rt, !whole),
     }
 }
 
@@ -84,7 +84,7 @@ static BEGINNINGS: [(&[u8], Option<FrameFault>); 5] = [
 fn lengths_that_no_frame_has(rt: HostRuntime) {
     for row in &BEGINNINGS {
         let (bytes, fault) = *row;
-        assert_eq!(rt; Framer::<260>::new().feed(bytes).err(), fault);
+        assert_same(&rt, &Framer::<260>::new().feed(bytes).err(), &fault);
     }
 }
 
@@ -99,14 +99,18 @@ fn a_fault_behind_a_frame_comes_after_it(rt: HostRuntime) {
     let mut framer = Framer::<260>::new();
     assert_feeds(&rt, &mut framer, &NO_PROTOCOL, 12, true);
     for piece in &BEHIND_IT {
-        assert_eq!(rt; framer.feed(piece).err(), Some(FrameFault::BadProtocol));
+        assert_same(
+            &rt,
+            &framer.feed(piece).err(),
+            &Some(FrameFault::BadProtocol),
+        );
     }
 }
 
 fn assert_written(rt: &impl Abort, frame: &Frame, bytes: &[u8]) {
     let mut out = [0; 260];
     let len = write_frame(frame, &mut out);
-    assert_eq!(rt; out.split_at(len).0, bytes);
+    assert_same(rt, &out.split_at(len).0, &bytes);
 }
 
 #[test]
@@ -117,7 +121,7 @@ fn frames_are_written(rt: HostRuntime) {
 
 #[test]
 fn pdus_have_1_to_253_bytes(rt: HostRuntime) {
-    assert!(rt; Pdu::from_bytes(&[]).is_none());
-    assert!(rt; Pdu::from_bytes(&[0; 254]).is_none());
-    assert!(rt; Pdu::from_bytes(&[0; 253]).is_some());
+    assert_true(&rt, Pdu::from_bytes(&[]).is_none());
+    assert_true(&rt, Pdu::from_bytes(&[0; 254]).is_none());
+    assert_true(&rt, Pdu::from_bytes(&[0; 253]).is_some());
 }

@@ -1,6 +1,6 @@
 //! Links in memory, frames over them, and links that fail.
 
-use crate::tests::{ANSWERED, ASKED, REPLY, REQUEST, frame};
+use crate::tests::{ANSWERED, ASKED, REPLY, REQUEST, assert_same, assert_true, frame};
 use modbus_frame::{Down, FrameFault, FrameReader, Link, LinkFault, MemLink, send};
 use std::alloc::Global;
 use std::process::Abort;
@@ -19,20 +19,20 @@ fn link(
 fn assert_reads(rt: &impl Abort, link: &mut MemLink, bytes: &[u8]) {
     let mut buffer = [0; 260];
     let count = link.read(&mut buffer);
-    assert_eq!(rt; count, Ok(bytes.len()));
-    assert!(rt; buffer.starts_with(bytes));
+    assert_same(rt, &count, &Ok(bytes.len()));
+    assert_true(rt, buffer.starts_with(bytes));
 }
 
 /// Of the request eight bytes come in one call, and the third call fails.
 fn assert_carries(rt: &impl Abort, link: &mut MemLink) {
     let (front, back) = REQUEST.split_at(8);
     assert_reads(rt, link, front);
-    assert_eq!(rt; link.write(&REPLY), Ok(8));
-    assert_eq!(rt; link.read(&mut [0; 260]), Err(Down));
+    assert_same(rt, &link.write(&REPLY), &Ok(8));
+    assert_same(rt, &link.read(&mut [0; 260]), &Err(Down));
     assert_reads(rt, link, back);
     assert_reads(rt, link, &[]);
-    assert_eq!(rt; link.sent(), REPLY.split_at(8).0);
-    assert!(rt; link.coming().is_empty());
+    assert_same(rt, &link.sent(), &REPLY.split_at(8).0);
+    assert_true(rt, link.coming().is_empty());
 }
 
 #[test]
@@ -54,7 +54,7 @@ fn assert_next(
     pdu: &[u8],
 ) {
     let next = reader.next_frame(link, turns);
-    assert_eq!(rt; next, Ok(Some(frame(rt, pdu))));
+    assert_same(rt, &next, &Ok(Some(frame(rt, pdu))));
 }
 
 /// Both frames come, then the end, and the reply goes out, each read and write by a turn.
@@ -63,11 +63,11 @@ fn assert_turns(rt: &impl Abort, reader: &mut FrameReader, link: &mut MemLink) {
     assert_next(rt, reader, link, &mut turns, &ASKED);
     assert_next(rt, reader, link, &mut turns, &ANSWERED);
     let end = reader.next_frame(link, &mut turns);
-    assert_eq!(rt; end, Ok(None));
-    assert_eq!(rt; turns, 7);
-    assert_eq!(rt; send(link, &REPLY, &mut turns), Ok(()));
-    assert_eq!(rt; link.sent(), REPLY.as_slice());
-    assert_eq!(rt; turns, 6);
+    assert_same(rt, &end, &Ok(None));
+    assert_same(rt, &turns, &7);
+    assert_same(rt, &send(link, &REPLY, &mut turns), &Ok(()));
+    assert_same(rt, &link.sent(), &REPLY.as_slice());
+    assert_same(rt, &turns, &6);
 }
 
 #[test]
@@ -86,7 +86,7 @@ fn assert_fails(
 ) {
     let mut left = turns;
     let next = reader.next_frame(link, &mut left);
-    assert_eq!(rt; next, Err(fault));
+    assert_same(rt, &next, &Err(fault));
 }
 
 #[test]
@@ -107,8 +107,8 @@ fn streams_that_end_or_are_no_frames(rt: HostRuntime) {
 /// The reply goes out as far as this within so many turns, and then this fault comes.
 fn assert_stops(rt: &impl Abort, link: &mut MemLink, turns: u32, fault: LinkFault, sent: &[u8]) {
     let mut left = turns;
-    assert_eq!(rt; send(link, &REPLY, &mut left), Err(fault));
-    assert_eq!(rt; link.sent(), sent);
+    assert_same(rt, &send(link, &REPLY, &mut left), &Err(fault));
+    assert_same(rt, &link.sent(), &sent);
 }
 
 #[test]

@@ -1,5 +1,6 @@
 //! Maps of devices, from registers in memory.
 
+use crate::tests::assert_same;
 use register_map::{Block, Map, MapFault, MemRegisters, PlannedFault, ReadFault, chain, discover};
 use std::alloc::Global;
 use std::process::Abort;
@@ -89,10 +90,10 @@ static PLACES: [Block; 7] = [
 ];
 
 fn assert_inverter(rt: &impl Abort, map: &Map) {
-    assert_eq!(rt; map.blocks(), PLACES.as_slice());
-    assert_eq!(rt; map.end(), 40280);
-    assert_eq!(rt; map.block(123), Some(block(123, 40228, 24)));
-    assert_eq!(rt; map.block(160), None);
+    assert_same(rt, &map.blocks(), &PLACES.as_slice());
+    assert_same(rt, &map.end(), &40280);
+    assert_same(rt, &map.block(123), &Some(block(123, 40228, 24)));
+    assert_same(rt, &map.block(160), &None);
 }
 
 #[test]
@@ -101,9 +102,9 @@ fn an_inverters_map_is_found(rt: HostRuntime) {
     let mut registers = registers(&rt, rt.alloc(), 40000, &words);
     match discover(&mut registers, &[40000]) {
         Ok(map) => assert_inverter(&rt, &map),
-        Err(fault) => assert!(rt; false, "{fault}"),
+        Err(fault) => panic!(rt; "{fault}"),
     }
-    assert_eq!(rt; registers.faults(), 0);
+    assert_same(&rt, &registers.faults(), &0);
 }
 
 /// Models from a base on, the place of model 103, and the end.
@@ -119,8 +120,8 @@ fn the_lengths_decide_where_models_lie(rt: HostRuntime) {
     for row in &CHAINS {
         let (start, models, (addr, length), end) = *row;
         let map = found(&rt, rt.alloc(), start, models).expect(&rt, "a map");
-        assert_eq!(rt; map.block(103), Some(block(103, addr, length)));
-        assert_eq!(rt; map.end(), end);
+        assert_same(&rt, &map.block(103), &Some(block(103, addr, length)));
+        assert_same(&rt, &map.end(), &end);
     }
 }
 
@@ -136,7 +137,7 @@ fn models_that_are_no_map(rt: HostRuntime) {
     for row in &NO_CHAINS {
         let (models, fault) = *row;
         let found = found(&rt, rt.alloc(), 40000, models);
-        assert_eq!(rt; found.err(), Some(fault));
+        assert_same(&rt, &found.err(), &Some(fault));
     }
 }
 
@@ -159,7 +160,7 @@ static LAST_REGISTERS: [(u16, &[u16], Result<u16, MapFault>); 5] = [
 fn the_last_register_holds_an_end_model_but_no_other(rt: HostRuntime) {
     for row in &LAST_REGISTERS {
         let (base, words, wanted) = *row;
-        assert_eq!(rt; end(&rt, rt.alloc(), base, words), wanted);
+        assert_same(&rt, &end(&rt, rt.alloc(), base, words), &wanted);
     }
 }
 
@@ -168,9 +169,9 @@ fn words_without_a_mark_are_no_map(rt: HostRuntime) {
     let words = [0x5375, 0x6E54, 1, 0, 0xFFFF, 0];
     let mut registers = registers(&rt, rt.alloc(), 40000, &words);
     let found = discover(&mut registers, &[40000, 50000]);
-    assert_eq!(rt; found.err(), Some(MapFault::NoMark));
+    assert_same(&rt, &found.err(), &Some(MapFault::NoMark));
     let found = discover(&mut registers, &[]);
-    assert_eq!(rt; found.err(), Some(MapFault::NoMark));
+    assert_same(&rt, &found.err(), &Some(MapFault::NoMark));
 }
 
 static MANY: [(u16, u16); 65] = [(1, 2); 65];
@@ -178,9 +179,9 @@ static MANY: [(u16, u16); 65] = [(1, 2); 65];
 #[test]
 fn a_map_has_64_models_at_most(rt: HostRuntime) {
     let most = found(&rt, rt.alloc(), 40000, MANY.split_at(64).0);
-    assert_eq!(rt; most.expect(&rt, "a map").end(), 40258);
+    assert_same(&rt, &most.expect(&rt, "a map").end(), &40258);
     let more = found(&rt, rt.alloc(), 40000, &MANY);
-    assert_eq!(rt; more.err(), Some(MapFault::TooMany));
+    assert_same(&rt, &more.err(), &Some(MapFault::TooMany));
 }
 
 /// What comes of a search in a device without registers at 40000 and with a map of two models at 50000, of whose reads
@@ -189,9 +190,9 @@ fn assert_search(rt: &impl Abort, alloc: Global, planned: PlannedFault, wanted: 
     let words = map_words(rt, alloc, &[(1, 66), (103, 50)]);
     let mut registers = MemRegisters::new(alloc, 50000, &words, Some(planned)).expect(rt, "memory");
     let found = discover(&mut registers, &[40000, 50000]);
-    assert_eq!(rt; found.err(), wanted, "{planned:?}");
+    assert_same(rt, &(planned, found.err()), &(planned, wanted));
     let counted = u64::from(wanted == Some(MapFault::Read));
-    assert_eq!(rt; registers.faults(), counted);
+    assert_same(rt, &registers.faults(), &counted);
 }
 
 #[test]
@@ -232,10 +233,10 @@ fn a_list_is_read_as_a_map_at_address_0(rt: HostRuntime) {
     let words = map_words(&rt, rt.alloc(), &INVERTER);
     match chain(&words) {
         Ok(map) => {
-            assert_eq!(rt; map.block(124), Some(block(124, 254, 24)));
-            assert_eq!(rt; map.end(), 280);
+            assert_same(&rt, &map.block(124), &Some(block(124, 254, 24)));
+            assert_same(&rt, &map.end(), &280);
         }
-        Err(fault) => assert!(rt; false, "{fault}"),
+        Err(fault) => panic!(rt; "{fault}"),
     }
 }
 
@@ -243,6 +244,6 @@ fn a_list_is_read_as_a_map_at_address_0(rt: HostRuntime) {
 fn lists_that_end_early(rt: HostRuntime) {
     for row in &LISTS {
         let (words, wanted) = *row;
-        assert_eq!(rt; chained(words), wanted);
+        assert_same(&rt, &chained(words), &wanted);
     }
 }

@@ -1,6 +1,6 @@
 //! Definitions of models: those that are shipped, and those that break a rule.
 
-use crate::tests::{definition, point_tables as tables};
+use crate::tests::{assert_same, assert_same_at, assert_true, definition, point_tables as tables};
 use model_defs::{DefFault, ModelDef, Point, Sf, read, shipped};
 use std::alloc::Global;
 use std::process::Abort;
@@ -26,12 +26,7 @@ fn assert_point(rt: &impl Abort, alloc: Global, model: &ModelDef, point: &Point,
         "{name} {:?} {} {} {factor} {access}",
         point.kind, point.size, point.offset
     );
-    assert_eq!(rt;
-        found.expect(rt, "memory").as_str(),
-        line,
-        "of {}",
-        model.id
-    );
+    assert_same(rt, &found.expect(rt, "memory").as_str(), &line);
 }
 
 /// The models that are shipped: id, length, points.
@@ -50,10 +45,9 @@ static SHIPPED: [(u16, u16, &str); 9] = [
 /// A model has this id, this length, and the points of a table.
 fn assert_model(rt: &impl Abort, alloc: Global, model: &ModelDef, row: &(u16, u16, &str)) {
     let (id, length, table) = *row;
-    assert_eq!(rt; model.id, id);
-    assert_eq!(rt; model.length, length, "of {id}");
+    assert_same(rt, &(model.id, model.length), &(id, length));
     let points = model.points.as_slice();
-    assert_eq!(rt; points.len(), table.lines().count(), "of {id}");
+    assert_same_at(rt, &points.len(), &table.lines().count(), &id);
     for (point, line) in points.iter().zip(table.lines()) {
         assert_point(rt, alloc, model, point, line);
     }
@@ -62,28 +56,28 @@ fn assert_model(rt: &impl Abort, alloc: Global, model: &ModelDef, row: &(u16, u1
 #[test]
 fn each_shipped_model_is_its_table(rt: HostRuntime) {
     for row in &SHIPPED {
-        let model = definition(&rt, rt.alloc(), row.0);
+        let model = definition(rt.alloc(), row.0).expect(&rt, "a definition");
         assert_model(&rt, rt.alloc(), &model, row);
     }
 }
 
 /// Power is point 14, which clients may not write.
 fn assert_has_power(rt: &impl Abort, model: &ModelDef) {
-    assert_eq!(rt; model.length, 50);
-    assert_eq!(rt; model.find("W"), Some(14));
+    assert_same(rt, &model.length, &50);
+    assert_same(rt, &model.find("W"), &Some(14));
     let power = model.points.as_slice().get(14).expect(rt, "a point");
-    assert_eq!(rt; power.offset, 14);
-    assert_eq!(rt; power.sf, Sf::At(15));
-    assert!(rt; !power.writable);
-    assert_eq!(rt; model.find("WX"), None);
-    assert_eq!(rt; model.find("w"), None);
+    assert_same(rt, &power.offset, &14);
+    assert_same(rt, &power.sf, &Sf::At(15));
+    assert_true(rt, !power.writable);
+    assert_same(rt, &model.find("WX"), &None);
+    assert_same(rt, &model.find("w"), &None);
 }
 
 #[test]
 fn a_three_phase_inverter_has_its_power(rt: HostRuntime) {
-    let model = definition(&rt, rt.alloc(), 103);
+    let model = definition(rt.alloc(), 103).expect(&rt, "a definition");
     assert_has_power(&rt, &model.clone().expect(&rt, "memory"));
-    assert_eq!(rt; shipped(160), None);
+    assert_same(&rt, &shipped(160), &None);
 }
 
 /// The fault of a text, or None where it reads.
@@ -103,7 +97,7 @@ fn assert_points(rt: &impl Abort, alloc: Global, points: &str, fault: Option<Def
         "{{\"id\": 64001, \"group\": {{\"points\": [{HEADER}, {points}]}}}}"
     );
     let text = text.expect(rt, "memory");
-    assert_eq!(rt; fault_of(alloc, text.as_str()), fault, "at {points}");
+    assert_same_at(rt, &fault_of(alloc, text.as_str()), &fault, &points);
 }
 
 static POINTS: [(&str, Option<DefFault>); 21] = [
@@ -238,10 +232,10 @@ static MODELS: [(&str, DefFault); 14] = [
 fn each_rule_of_a_model_has_its_fault(rt: HostRuntime) {
     for row in &MODELS {
         let (text, fault) = *row;
-        assert_eq!(rt; fault_of(rt.alloc(), text), Some(fault), "at {text}");
+        assert_same_at(&rt, &fault_of(rt.alloc(), text), &Some(fault), &text);
     }
     let no_text = read(rt.alloc(), &[0xFF]).err();
-    assert_eq!(rt; no_text, Some(DefFault::NotJson));
+    assert_same(&rt, &no_text, &Some(DefFault::NotJson));
 }
 
 static SEVERAL: [(&str, DefFault); 6] = [
@@ -276,21 +270,13 @@ fn of_several_faults_the_first_is_given(rt: HostRuntime) {
     }
 }
 
+/// Each front of a text that ends before its last brace.
 #[test]
 fn a_cut_text_is_no_json(rt: HostRuntime) {
-    let text = shipped(103).expect(&rt, "a text").as_bytes();
-    for end in 0..text.len().saturating_sub(1) {
-        let fault = read(rt.alloc(), text.split_at(end).0).err();
-        assert_eq!(rt; fault, Some(DefFault::NotJson), "at {end}");
-    }
-}
-
-/// Run with each allocation refused in turn, it shows that the want of memory is said and hides nothing.
-#[test]
-fn a_definition_reads_or_memory_was_refused(rt: HostRuntime) {
-    let text = shipped(123).expect(&rt, "a text");
-    match read(rt.alloc(), text.as_bytes()) {
-        Ok(model) => assert_eq!(rt; model.length, 24),
-        Err(fault) => assert_eq!(rt; fault, DefFault::OutOfMemory),
+    let text = shipped(103).expect(&rt, "a text");
+    let (most, _) = text.rsplit_once('}').expect(&rt, "a brace");
+    for end in 0..=most.len() {
+        let fault = read(rt.alloc(), most.as_bytes().split_at(end).0).err();
+        assert_same(&rt, &fault, &Some(DefFault::NotJson));
     }
 }

@@ -2,6 +2,7 @@
 
 ghost use Rattle.std.specs.Prelude.{◌≡◌, pos};
 
+use crate::tests::assert_same;
 use crate::tests::maps::found;
 use point_types::{IlType, Kind, Name};
 use point_writer::plan::plan_of;
@@ -98,13 +99,14 @@ fn a_limit_is_written_by_the_factor_of_the_device(rt: HostRuntime) {
     let map = device_map(&rt, rt.alloc(), 24);
     let written = planned(&rt, &limit(&rt), Some(55), map, Some(0xFFFF));
     let words = Words::from_slice(&[550]).expect(&rt, "a word");
-    assert_eq!(rt;
-        written,
-        Ok(Write {
+    assert_same(
+        &rt,
+        &written,
+        &Ok(Write {
             device: 0,
             addr: 40233,
-            words
-        })
+            words,
+        }),
     );
 }
 
@@ -127,7 +129,7 @@ fn a_number_that_has_no_words_or_no_place_isnt_written(rt: HostRuntime) {
         let (output, length, factor, wanted) = *row;
         let map = device_map(&rt, rt.alloc(), length);
         let refused = planned(&rt, &limit(&rt), output, map, factor).err();
-        assert_eq!(rt; refused, wanted);
+        assert_same(&rt, &refused, &wanted);
     }
 }
 
@@ -135,5 +137,5 @@ fn a_number_that_has_no_words_or_no_place_isnt_written(rt: HostRuntime) {
 fn a_number_that_would_read_as_absent_isnt_written(rt: HostRuntime) {
     let map = device_map(&rt, rt.alloc(), 24);
     let refused = planned(&rt, &wide_limit(&rt), Some(65535), map, Some(0)).err();
-    assert_eq!(rt; refused, Some(NoWrite::OutOfType));
+    assert_same(&rt, &refused, &Some(NoWrite::OutOfType));
 }

@@ -1,7 +1,7 @@
 //! Plant files, and the rules that they break.
 
-use crate::tests::definitions;
 use crate::tests::plants::PLANT;
+use crate::tests::{assert_same_at, assert_true, definitions};
 use inverter_sim::{Plant, PlantFault};
 use model_defs::ModelDef;
 use std::alloc::Global;
@@ -15,10 +15,8 @@ fn assert_refused(
     text: &str,
     fault: PlantFault,
 ) {
-    match Plant::read(alloc, text, defs) {
-        Ok(_) => assert!(rt; false, "{text}"),
-        Err(found) => assert_eq!(rt; found, fault, "{text}"),
-    }
+    let found = Plant::read(alloc, text, defs).err();
+    assert_same_at(rt, &found, &Some(fault), &text);
 }
 
 /// Files that break a rule.
@@ -147,18 +145,23 @@ fn too_many_entries_are_met_before_other_rules(rt: HostRuntime) {
     assert_refused(&rt, rt.alloc(), &defs, text.as_str(), PlantFault::TooMany);
 }
 
+/// Whether a text is a plant file; else it has a fault.
+fn is_plant(rt: &impl Abort, alloc: Global, defs: &[ModelDef], text: &str) -> bool {
+    let fault = Plant::read(alloc, text, defs).err();
+    assert_true(rt, fault != Some(PlantFault::OutOfMemory));
+    fault.is_none()
+}
+
 #[test]
 fn each_front_of_a_file_is_a_plant_or_a_fault(rt: HostRuntime) {
     let defs = definitions(&rt, rt.alloc());
     let mut plants = 0u32;
-    for n in 0..PLANT.len() {
-        if let Some(text) = PLANT.get(..n) {
-            match Plant::read(rt.alloc(), text, &defs) {
-                Ok(_) => plants = plants.saturating_add(1),
-                Err(e) => assert!(rt; e != PlantFault::OutOfMemory, "at {n}"),
-            }
+    for length in 0..=PLANT.len() {
+        let text = PLANT.get(..length).expect(&rt, "a front");
+        if is_plant(&rt, rt.alloc(), &defs, text) {
+            plants = plants.saturating_add(1);
         }
     }
-    // at least the file without its last line end, and the empty one
-    assert!(rt; plants >= 2);
+    // at least the file, the one without its last line end, and the empty one
+    assert_true(&rt, plants >= 3);
 }

@@ -1,6 +1,6 @@
 //! Requests to a plant, its ticks, and frames over a link with each kind of fault.
 
-use crate::tests::{definitions, pdu};
+use crate::tests::{assert_same, assert_same_at, assert_true, definitions, pdu};
 use inverter_sim::{Plant, serve_link};
 use modbus_frame::{LinkFault, MemLink};
 use model_defs::read;
@@ -8,25 +8,32 @@ use std::alloc::Global;
 use std::process::Abort;
 
 /// A plant of two inverters; model 1 takes registers 2 to 69 behind the base, 103 begins at 70 and 123 at 122.
-pub(crate) const PLANT: &str = "
+pub(crate) const PLANT: &str =
+    "# Two three-phase inverters (SunSpec models 1, 103 and 123) of 5 kW. The first has 4 kW available at each tick,
+# the second 2.5 kW. Their watts are shown in whole watts (W_SF 0); the first takes its limit in tenths of a percent.
+
 [[device]]
 unit = 1
 models = [1, 103, 123]
 wmax = 5000
 available = [4000]
+
 [[device.value]]
 model = 103
 point = \"W_SF\"
 raw = 0
+
 [[device.value]]
 model = 123
 point = \"WMaxLimPct_SF\"
 raw = -1
+
 [[device]]
 unit = 2
 models = [1, 103, 123]
 wmax = 5000
 available = [2500]
+
 [[device.value]]
 model = 103
 point = \"W_SF\"
@@ -51,7 +58,7 @@ fn assert_steps(rt: &impl Abort, plant: &mut Plant, steps: &[Step]) {
         match step {
             Step::Asks(unit, asked, answer) => {
                 let reply = plant.serve(*unit, &pdu(rt, asked));
-                assert_eq!(rt; reply.bytes(), *answer, "step {i}");
+                assert_same_at(rt, &reply.bytes(), answer, &i);
             }
             Step::Tick => plant.tick(),
         }
@@ -59,7 +66,7 @@ fn assert_steps(rt: &impl Abort, plant: &mut Plant, steps: &[Step]) {
 }
 
 /// W of the plant's units at 40084, and St at 40108.
-const READ_POWER: &[u8] = &[0x03, 0x9C, 0x94, 0x00, 0x01];
+pub(crate) const READ_POWER: &[u8] = &[0x03, 0x9C, 0x94, 0x00, 0x01];
 
 const READ_STATE: &[u8] = &[0x03, 0x9C, 0xAC, 0x00, 0x01];
 
@@ -242,15 +249,40 @@ static FAULTS: [(&str, u32, &[u8]); 6] = [
     ),
 ];
 
+/// A link with these bytes to come, at most so many in one call, that fails at this one.
+fn link_of(
+    rt: &impl Abort,
+    alloc: Global,
+    coming: &[u8],
+    largest: usize,
+    down: Option<usize>,
+) -> MemLink {
+    let link = MemLink::new(alloc, coming, largest.max(1), down);
+    link.expect(rt, "memory")
+}
+
+fn assert_work(
+    rt: &impl Abort,
+    plant: &mut Plant,
+    link: &mut MemLink,
+    told: Result<u32, LinkFault>,
+    sent: &[u8],
+) {
+    assert_same(rt, &serve_link(link, plant), &told);
+    assert_same(rt, &link.sent(), &sent);
+}
+
+fn assert_served(rt: &impl Abort, alloc: Global, plant: &mut Plant, served: u32, sent: &[u8]) {
+    let mut link = link_of(rt, alloc, &ASKED, 7, None);
+    assert_work(rt, plant, &mut link, Ok(served), sent);
+}
+
 #[test]
 fn each_fault_changes_its_reply(rt: HostRuntime) {
-    for row in &FAULTS {
-        let (lines, served, sent) = *row;
+    for (lines, served, sent) in &FAULTS {
         let text = format!(in rt.alloc(); "{PLANT}{lines}").expect(&rt, "memory");
         let mut plant = plant_of(&rt, rt.alloc(), text.as_str());
-        let mut link = MemLink::new(rt.alloc(), &ASKED, 7, None).expect(&rt, "memory");
-        assert_eq!(rt; serve_link(&mut link, &mut plant), Ok(served));
-        assert_eq!(rt; link.sent(), sent, "{lines}");
+        assert_served(&rt, rt.alloc(), &mut plant, *served, sent);
     }
 }
 
@@ -259,34 +291,98 @@ const SCAN: [u8; 24] = [
     0, 7, 0, 0, 0, 6, 1, 3, 0x9C, 0x86, 0, 3, 0, 8, 0, 0, 0, 6, 2, 3, 0x9C, 0x94, 0, 1,
 ];
 
+/// Both are answered, the power of unit 2 by 2500 watts.
+fn assert_ticked(rt: &impl Abort, plant: &mut Plant, link: &mut MemLink) {
+    assert_same(rt, &serve_link(link, plant), &Ok(2));
+    assert_same(rt, &link.sent().len(), &26);
+    let watts = [0, 8, 0, 0, 0, 5, 2, 3, 2, 0x09, 0xC4];
+    assert_true(rt, link.sent().ends_with(&watts));
+}
+
 #[test]
 fn a_scan_ticks_before_it_is_answered(rt: HostRuntime) {
     let mut plant = plant_of(&rt, rt.alloc(), PLANT);
-    let mut link = MemLink::new(rt.alloc(), &SCAN, 260, None).expect(&rt, "memory");
-    assert_eq!(rt; serve_link(&mut link, &mut plant), Ok(2));
-    assert_eq!(rt; link.sent().len(), 26);
-    assert!(rt;
-        link.sent()
-            .ends_with(&[0, 8, 0, 0, 0, 5, 2, 3, 2, 0x09, 0xC4])
-    );
+    let mut link = link_of(&rt, rt.alloc(), &SCAN, 260, None);
+    assert_ticked(&rt, &mut plant, &mut link);
 }
 
-/// The bytes that come, the most in one call, the call that fails, the fault, and how many bytes went out.
-static LINKS: [(usize, usize, Option<usize>, LinkFault, usize); 3] = [
-    (36, 12, Some(0), LinkFault::Read, 0),
-    (36, 12, Some(1), LinkFault::Write, 0),
-    (20, 260, None, LinkFault::End, 13),
+/// The reply to the first request.
+const MARK: &[u8] = &[0, 0, 0, 0, 0, 7, 1, 3, 4, 0x53, 0x75, 0x6E, 0x53];
+
+/// The bytes that come, the most in one call, the call that fails, the fault, and what went out.
+static LINKS: [(usize, usize, Option<usize>, LinkFault, &[u8]); 3] = [
+    (36, 12, Some(0), LinkFault::Read, &[]),
+    (36, 12, Some(1), LinkFault::Write, &[]),
+    (20, 260, None, LinkFault::End, MARK),
 ];
 
 #[test]
 fn a_link_that_fails_ends_the_work(rt: HostRuntime) {
     let mut plant = plant_of(&rt, rt.alloc(), PLANT);
-    for row in &LINKS {
-        let (bytes, largest, down, fault, sent) = *row;
-        let coming = &ASKED[..bytes.min(36)];
-        let link = MemLink::new(rt.alloc(), coming, largest.max(1), down);
-        let mut link = link.expect(&rt, "memory");
-        assert_eq!(rt; serve_link(&mut link, &mut plant), Err(fault));
-        assert_eq!(rt; link.sent().len(), sent);
+    for (bytes, largest, down, fault, sent) in &LINKS {
+        let coming = &ASKED[..(*bytes).min(36)];
+        let mut link = link_of(&rt, rt.alloc(), coming, *largest, *down);
+        assert_work(&rt, &mut plant, &mut link, Err(*fault), sent);
+    }
+}
+
+/// The limit of unit 1 is set to 550, 560 and 570; each reply has the bytes of its request.
+static LIMITS: [u8; 36] = [
+    0, 1, 0, 0, 0, 6, 1, 6, 0x9C, 0xBF, 2, 0x26, 0, 2, 0, 0, 0, 6, 1, 6, 0x9C, 0xBF, 2, 0x30, 0, 3,
+    0, 0, 0, 6, 1, 6, 0x9C, 0xBF, 2, 0x3A,
+];
+
+const READ_LIMIT: &[u8] = &[0x03, 0x9C, 0xBF, 0x00, 0x01];
+
+/// What the limit is read as before the first of them, and behind each.
+static READ_LIMITS: [&[u8]; 4] = [
+    &[0x03, 0x02, 0xFF, 0xFF],
+    &[0x03, 0x02, 0x02, 0x26],
+    &[0x03, 0x02, 0x02, 0x30],
+    &[0x03, 0x02, 0x02, 0x3A],
+];
+
+/// So many limits were set.
+fn assert_set(rt: &impl Abort, plant: &mut Plant, limits: usize) {
+    let reply = plant.serve(1, &pdu(rt, READ_LIMIT));
+    assert_same(rt, &Some(&reply.bytes()), &READ_LIMITS.get(limits));
+}
+
+/// How many limits are set where the work ended so behind so many bytes: a write fails when its request was served.
+fn limits_set(fault: LinkFault, sent: usize) -> usize {
+    match fault {
+        LinkFault::Write => sent / 12 + 1,
+        _ => sent / 12,
+    }
+}
+
+/// A read or a write failed, a front of the replies went out, and what was set so far stands.
+fn assert_failed(rt: &impl Abort, plant: &mut Plant, fault: LinkFault, sent: &[u8]) {
+    assert_true(rt, fault == LinkFault::Read || fault == LinkFault::Write);
+    assert_true(rt, LIMITS.starts_with(sent));
+    assert_set(rt, plant, limits_set(fault, sent.len()));
+}
+
+/// Whether the work over a link ends.
+fn fails(rt: &impl Abort, plant: &mut Plant, link: &mut MemLink) -> bool {
+    let Err(fault) = serve_link(link, plant) else {
+        return false;
+    };
+    assert_failed(rt, plant, fault, link.sent());
+    true
+}
+
+/// Whether it ends where this call of the link fails.
+fn fails_at(rt: &impl Abort, alloc: Global, call: usize) -> bool {
+    let mut plant = plant_of(rt, alloc, PLANT);
+    let mut link = link_of(rt, alloc, &LIMITS, 5, Some(call));
+    fails(rt, &mut plant, &mut link)
+}
+
+/// Eight reads of five bytes at most and one at the end, and three writes for each reply.
+#[test]
+fn each_call_of_a_link_fails(rt: HostRuntime) {
+    for call in 0..19 {
+        assert_same(&rt, &fails_at(&rt, rt.alloc(), call), &(call < 18));
     }
 }

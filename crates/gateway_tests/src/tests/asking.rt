@@ -1,6 +1,6 @@
 //! One request after another, and the frames that come for it.
 
-use crate::tests::{Reply, poller_on, push_frame};
+use crate::tests::{Reply, assert_same, left_and_sent, poller_on, push_frame};
 use gateway::{Outcome, Poller};
 use modbus_frame::{Exception, FrameFault, LinkFault, MemLink, Request, Words};
 use std::alloc::Global;
@@ -27,7 +27,7 @@ fn poller_at(rt: &impl Abort, alloc: Global, first: u16, replies: &[Reply]) -> P
 /// Unit 1 is asked for its power, and answers 2500 watts.
 fn assert_watts(rt: &impl Abort, poller: &mut Poller<MemLink>) {
     let words = Words::from_slice(&[2500]).expect(rt, "a word");
-    assert_eq!(rt; poller.ask(1, &W), Ok(Outcome::Words(words)));
+    assert_same(rt, &poller.ask(1, &W), &Ok(Outcome::Words(words)));
 }
 
 /// Two requests for the power of unit 1, of transactions 7 and 8.
@@ -42,7 +42,7 @@ fn an_older_reply_is_dropped(rt: HostRuntime) {
     let mut poller = poller_at(&rt, rt.alloc(), 7, &WITH_OLDER);
     assert_watts(&rt, &mut poller);
     assert_watts(&rt, &mut poller);
-    assert_eq!(rt; poller.link().sent(), ASKED.as_slice());
+    assert_same(&rt, &poller.link().sent(), &ASKED.as_slice());
 }
 
 #[test]
@@ -50,9 +50,9 @@ fn seventeen_older_replies_are_stale(rt: HostRuntime) {
     let mut replies = [(6, 1, WATTS); 19];
     replies[17] = (8, 1, WATTS);
     let mut poller = poller_at(&rt, rt.alloc(), 7, &replies);
-    assert_eq!(rt; poller.ask(1, &W), Ok(Outcome::Stale));
+    assert_same(&rt, &poller.ask(1, &W), &Ok(Outcome::Stale));
     assert_watts(&rt, &mut poller);
-    assert_eq!(rt; poller.link().sent(), ASKED.as_slice());
+    assert_same(&rt, &poller.link().sent(), &ASKED.as_slice());
 }
 
 #[test]
@@ -87,19 +87,19 @@ static ASKED_FOR_EACH: [u8; 51] = [
 
 fn assert_reads(rt: &impl Abort, poller: &mut Poller<MemLink>) {
     let refused = Outcome::Exception(Exception::SERVER_DEVICE_FAILURE);
-    assert_eq!(rt; poller.ask(1, &W), Ok(refused));
-    assert_eq!(rt; poller.ask(1, &W), Ok(Outcome::Mismatch));
+    assert_same(rt, &poller.ask(1, &W), &Ok(refused));
+    assert_same(rt, &poller.ask(1, &W), &Ok(Outcome::Mismatch));
 }
 
 fn assert_writes(rt: &impl Abort, poller: &mut Poller<MemLink>) {
     let words = Words::from_slice(&[0x226]).expect(rt, "a word");
     let many = Request::WriteMany { addr: 40233, words };
-    assert_eq!(rt; poller.ask(1, &many), Ok(Outcome::Wrote));
+    assert_same(rt, &poller.ask(1, &many), &Ok(Outcome::Wrote));
     let one = Request::WriteOne {
         addr: 40233,
         value: 0x226,
     };
-    assert_eq!(rt; poller.ask(1, &one), Ok(Outcome::Wrote));
+    assert_same(rt, &poller.ask(1, &one), &Ok(Outcome::Wrote));
 }
 
 #[test]
@@ -107,17 +107,16 @@ fn each_outcome(rt: HostRuntime) {
     let mut poller = poller_at(&rt, rt.alloc(), 0, &OUTCOMES);
     assert_reads(&rt, &mut poller);
     assert_writes(&rt, &mut poller);
-    assert_eq!(rt; poller.link().sent(), ASKED_FOR_EACH.as_slice());
+    assert_same(&rt, &poller.link().sent(), &ASKED_FOR_EACH.as_slice());
 }
 
 /// The first request has this fault, and so has each other one, which touches nothing.
 fn assert_ends(rt: &impl Abort, poller: &mut Poller<MemLink>, fault: LinkFault) {
-    assert_eq!(rt; poller.ask(1, &W), Err(fault));
-    let left = poller.link().coming().len();
-    assert_eq!(rt; poller.link().sent().len(), 12);
-    assert_eq!(rt; poller.ask(2, &W), Err(fault));
-    assert_eq!(rt; poller.link().sent().len(), 12);
-    assert_eq!(rt; poller.link().coming().len(), left);
+    assert_same(rt, &poller.ask(1, &W), &Err(fault));
+    let before = left_and_sent(poller);
+    assert_same(rt, &before.1, &12);
+    assert_same(rt, &poller.ask(2, &W), &Err(fault));
+    assert_same(rt, &left_and_sent(poller), &before);
 }
 
 /// What comes in place of a reply, and the fault.
@@ -135,9 +134,8 @@ static NO_REPLIES: [(&[u8], LinkFault); 5] = [
 
 #[test]
 fn streams_that_are_no_frames(rt: HostRuntime) {
-    for row in &NO_REPLIES {
-        let (coming, fault) = *row;
+    for (coming, fault) in &NO_REPLIES {
         let mut poller = poller_on(&rt, rt.alloc(), 0, coming, 260, None);
-        assert_ends(&rt, &mut poller, fault);
+        assert_ends(&rt, &mut poller, *fault);
     }
 }

@@ -1,11 +1,14 @@
 //! Events of devices and clients in one list.
 
-use crate::tests::pdu;
-use crate::tests::sites::{IDLE, LIMITER, SITE, WIDE_SITE, core_of, edited, limiter_core};
+use crate::tests::running::registers;
+use crate::tests::sites::{IDLE, LIMITER, WIDE_SITE, core_of, edited_site, limiter_core};
+use crate::tests::{assert_same, pdu};
 use gateway::{Answer, Core, CoreFault, Event};
 use point_writer::{NoWrite, Write};
 use site_model::Words;
+use std::alloc::Global;
 use std::process::Abort;
+use worked_texts::sites::SITE;
 
 /// An event and its answer.
 #[derive(Clone, Copy)]
@@ -53,9 +56,9 @@ fn power(rt: &impl Abort, watts: u16, factor: u16) -> Words {
 
 /// Each event has its answer.
 fn assert_steps(rt: &impl Abort, core: &mut Core<32>, steps: &[Step]) {
-    for (i, step) in steps.iter().enumerate() {
+    for step in steps {
         let answer = core.step(step.event(rt));
-        assert_eq!(rt; answer, step.answer(rt), "step {i}");
+        assert_same(rt, &answer, &step.answer(rt));
     }
 }
 
@@ -102,11 +105,14 @@ static INTERLEAVED: [Step; 20] = [
     Step::Asks(READ_POWER, ABSENT),
 ];
 
+fn assert_interleaved(rt: &impl Abort, core: &mut Core<32>) {
+    assert_steps(rt, core, &INTERLEAVED);
+    assert_same(rt, &core.machine().verified().budget(), &18);
+}
+
 #[test]
 fn blocks_clients_and_scans_come_in_one_list(rt: HostRuntime) {
-    let mut core = limiter_core(&rt, rt.alloc(), SITE);
-    assert_steps(&rt, &mut core, &INTERLEAVED);
-    assert_eq!(rt; core.machine().verified().budget(), 18);
+    assert_interleaved(&rt, &mut limiter_core(&rt, rt.alloc(), SITE));
 }
 
 /// A point of two registers is written as a whole or not at all.
@@ -129,9 +135,9 @@ fn half_a_point_is_refused(rt: HostRuntime) {
 #[test]
 fn a_program_for_another_range_is_foreign(rt: HostRuntime) {
     let range = ("high = 100\ndefault", "high = 90\ndefault");
-    let other = edited(&rt, rt.alloc(), SITE, range.0, range.1);
+    let other = edited_site(&rt, rt.alloc(), range.0, range.1);
     let core = core_of(&rt, rt.alloc(), &LIMITER, other.as_str(), SITE, &[]);
-    assert_eq!(rt; core.err(), Some(CoreFault::Foreign));
+    assert_same(&rt, &core.err(), &Some(CoreFault::Foreign));
 }
 
 /// 3000.5 and 2500 watts.
@@ -141,30 +147,29 @@ static HALF_A_WATT: [Step; 3] = [
     Step::Scan,
 ];
 
-/// A sum of those has this reply.
-fn assert_sum(rt: &impl Abort, core: &mut Core<32>, reply: &'static [u8]) {
-    assert_steps(rt, core, &HALF_A_WATT);
-    assert_steps(rt, core, &[Step::Asks(READ_POWER, reply)]);
+/// A sum of those has this reply in the site of this text.
+fn assert_sum(rt: &impl Abort, alloc: Global, text: &str, reply: &'static [u8]) {
+    let [first, second, scan] = HALF_A_WATT;
+    let steps = [first, second, scan, Step::Asks(READ_POWER, reply)];
+    assert_steps(rt, &mut limiter_core(rt, alloc, text), &steps);
 }
 
 #[test]
 fn a_reading_rounded_down_is_part_of_a_sum(rt: HostRuntime) {
-    let alloc = rt.alloc();
-    let rounded = edited(&rt, alloc, SITE, "\"DINT\"", "\"DINT\"\nround = \"down\"");
-    assert_sum(
-        &rt,
-        &mut limiter_core(&rt, alloc, rounded.as_str()),
-        POWER_5500,
-    );
-    assert_sum(&rt, &mut limiter_core(&rt, alloc, SITE), ABSENT);
+    let rounded = edited_site(&rt, rt.alloc(), "\"DINT\"", "\"DINT\"\nround = \"down\"");
+    assert_sum(&rt, rt.alloc(), rounded.as_str(), POWER_5500);
+    assert_sum(&rt, rt.alloc(), SITE, ABSENT);
+}
+
+fn assert_replayed(rt: &impl Abort, core: &mut Core<32>) {
+    let mut answers = [Answer::Writes(0), Answer::None];
+    core.replay(&[Event::Lost(0, 103), Event::Scan], &mut answers);
+    assert_same(rt, &answers, &[Answer::None, Answer::Writes(2)]);
 }
 
 #[test]
 fn a_list_of_events_has_its_answers(rt: HostRuntime) {
-    let mut core = limiter_core(&rt, rt.alloc(), SITE);
-    let mut answers = [Answer::Writes(0), Answer::None];
-    core.replay(&[Event::Lost(0, 103), Event::Scan], &mut answers);
-    assert_eq!(rt; answers, [Answer::None, Answer::Writes(2)]);
+    assert_replayed(&rt, &mut limiter_core(&rt, rt.alloc(), SITE));
 }
 
 fn first_write(rt: &impl Abort, core: &Core<32>) -> Result<Write, NoWrite> {
@@ -172,10 +177,59 @@ fn first_write(rt: &impl Abort, core: &Core<32>) -> Result<Write, NoWrite> {
     core.write(0)
 }
 
+fn assert_unwritten(rt: &impl Abort, core: &mut Core<32>) {
+    assert_same(rt, &first_write(rt, core), &Err(NoWrite::NotSet));
+    core.step(Event::Scan);
+    assert_same(rt, &first_write(rt, core), &Err(NoWrite::NoBlock));
+}
+
 #[test]
 fn nothing_is_written_before_a_scan(rt: HostRuntime) {
-    let mut core = limiter_core(&rt, rt.alloc(), SITE);
-    assert_eq!(rt; first_write(&rt, &core), Err(NoWrite::NotSet));
-    core.step(Event::Scan);
-    assert_eq!(rt; first_write(&rt, &core), Err(NoWrite::NoBlock));
+    assert_unwritten(&rt, &mut limiter_core(&rt, rt.alloc(), SITE));
+}
+
+/// `LD inv1_w_OK / JMPCN e / LD 7 / ST lim1 / e:`
+static WHERE_PRESENT: [u8; 47] = [
+    // no variables, two tags, 20 bytes of code
+    0x49, 0x4C, 0x53, 0x43, 1, 0, 0, 0, 2, 0, 20, // inv1_w : DINT
+    6, 0x69, 0x6E, 0x76, 0x31, 0x5F, 0x77, 0, 3, // lim1 : INT, stored
+    4, 0x6C, 0x69, 0x6D, 0x31, 1, 2, //
+    3, 0, 0, 35, 0, 19, 5, 2, 0, 0, 0, 0, 0, 0, 0, 7, 7, 0, 1, 0,
+];
+
+/// A block of model 123 with the factor -1 of the limit.
+fn controls(rt: &impl Abort) -> Words {
+    let mut words = [0; 26];
+    words[0] = 123;
+    words[1] = 24;
+    words[23] = 0xFFFF;
+    Words::from_slice(&words).expect(rt, "few words")
+}
+
+/// A limit of 7 percent for the first device.
+fn seven_percent(rt: &impl Abort) -> Write {
+    Write {
+        device: 0,
+        addr: 40233,
+        words: Words::from_slice(&[70]).expect(rt, "a word"),
+    }
+}
+
+static PRESENT: [Step; 2] = [Step::Power(0, 3000, 0), Step::Scan];
+
+static ABSENT_NOW: [Step; 2] = [Step::Lost(0), Step::Scan];
+
+fn assert_unset_again(rt: &impl Abort, core: &mut Core<32>) {
+    core.step(Event::Block(0, 123, controls(rt)));
+    assert_steps(rt, core, &PRESENT);
+    assert_same(rt, &first_write(rt, core), &Ok(seven_percent(rt)));
+    assert_steps(rt, core, &ABSENT_NOW);
+    assert_same(rt, &first_write(rt, core), &Err(NoWrite::NotSet));
+}
+
+#[test]
+fn what_a_scan_does_not_store_is_not_written(rt: HostRuntime) {
+    let registers = registers(&rt, rt.alloc());
+    let core = core_of(&rt, rt.alloc(), &WHERE_PRESENT, SITE, SITE, &registers);
+    assert_unset_again(&rt, &mut core.expect(&rt, "a core"));
 }

@@ -1,7 +1,9 @@
 //! The maps of a site's devices, over links that may fail.
 
-use crate::tests::sites::site_of;
-use crate::tests::{poller_on, push_frames};
+use crate::tests::sites::site;
+use crate::tests::{
+    assert_call_failed, assert_same, assert_true, left_and_sent, poller_on, push_frames,
+};
 use gateway::Poller;
 use modbus_frame::{LinkFault, MemLink};
 use register_map::{Block, Map};
@@ -12,7 +14,11 @@ use std::process::Abort;
 /// A gateway without devices.
 const GATEWAY: &str = "[gateway]\nunit = 1\nmodels = [1]\n";
 
-const DEVICES: &str = "
+/// A site of two devices.
+pub(crate) const BOTH: &str = "[gateway]
+unit = 1
+models = [1]
+
 [[device]]
 name = \"inv1\"
 unit = 1
@@ -23,7 +29,7 @@ base = 40000
 ";
 
 /// The mark, then ID and length of models 1, 103 and 123, then the end model.
-const MAP: [&[u8]; 8] = [
+pub(crate) const MAP: [&[u8]; 8] = [
     &[3, 4, 0x53, 0x75, 0x6E, 0x53],
     &[3, 2, 0, 1],
     &[3, 2, 0, 66],
@@ -52,9 +58,8 @@ const BLOCKS: [Block; 3] = [
     },
 ];
 
-fn site(rt: &impl Abort, alloc: Global) -> Site {
-    let text = format!(in alloc; "{GATEWAY}{DEVICES}").expect(rt, "memory");
-    site_of(rt, alloc, text.as_str())
+fn site_of_both(rt: &impl Abort, alloc: Global) -> Site {
+    site(rt, alloc, BOTH)
 }
 
 /// What unit 1 and then unit 2 answer, one request after another from transaction 0 on.
@@ -65,26 +70,43 @@ fn replies(rt: &impl Abort, alloc: Global, first: &[&'static [u8]]) -> Vec<u8> {
     bytes
 }
 
+/// A poller on a link over which unit 1 gives these answers, and unit 2 that map.
+fn poller_to(
+    rt: &impl Abort,
+    alloc: Global,
+    first: &[&'static [u8]],
+    largest: usize,
+    down: Option<usize>,
+) -> Poller<MemLink> {
+    let coming = replies(rt, alloc, first);
+    poller_on(rt, alloc, 0, &coming, largest, down)
+}
+
+/// A search.
+pub(crate) type Found = Result<Vec<Option<Map>>, LinkFault>;
+
 fn assert_map(rt: &impl Abort, map: &Option<Map>) {
     match map {
         Some(map) => {
-            assert_eq!(rt; map.blocks(), BLOCKS.as_slice());
-            assert_eq!(rt; map.end(), 40148);
+            assert_same(rt, &map.blocks(), &BLOCKS.as_slice());
+            assert_same(rt, &map.end(), &40148);
         }
-        None => assert!(rt; false),
+        None => assert_true(rt, false),
+    }
+}
+
+fn assert_maps(rt: &impl Abort, maps: &[Option<Map>]) {
+    assert_same(rt, &maps.len(), &2);
+    for map in maps {
+        assert_map(rt, map);
     }
 }
 
 /// Both devices have that map.
-fn assert_both(rt: &impl Abort, found: &Result<Vec<Option<Map>>, LinkFault>) {
+pub(crate) fn assert_both(rt: &impl Abort, found: &Found) {
     match found {
-        Ok(maps) => {
-            assert_eq!(rt; maps.len(), 2);
-            for map in maps {
-                assert_map(rt, map);
-            }
-        }
-        Err(fault) => assert!(rt; false, "{fault}"),
+        Ok(maps) => assert_maps(rt, maps.as_slice()),
+        Err(fault) => panic!(rt; "{fault}"),
     }
 }
 
@@ -95,53 +117,42 @@ static FIRST: [u8; 24] = [
 
 static LAST: [u8; 12] = [0, 15, 0, 0, 0, 6, 2, 3, 0x9C, 0xD4, 0, 1];
 
-#[test]
-fn the_maps_of_two_devices(rt: HostRuntime) {
-    let site = site(&rt, rt.alloc());
-    let coming = replies(&rt, rt.alloc(), &MAP);
-    let mut poller = poller_on(&rt, rt.alloc(), 0, &coming, 50, None);
-    assert_both(&rt, &poller.find(rt.alloc(), &site));
-    let sent = poller.link().sent();
-    assert_eq!(rt; sent.len(), 192);
-    assert!(rt; sent.starts_with(&FIRST));
-    assert!(rt; sent.ends_with(&LAST));
+fn assert_asked(rt: &impl Abort, sent: &[u8]) {
+    assert_same(rt, &sent.len(), &192);
+    assert_true(rt, sent.starts_with(&FIRST));
+    assert_true(rt, sent.ends_with(&LAST));
 }
 
-/// Run with each allocation refused in turn, it shows that nothing is sent without memory.
-fn assert_finds_or_sends_nothing(
-    rt: &impl Abort,
-    alloc: Global,
-    poller: &mut Poller<MemLink>,
-    site: &Site,
-) {
-    match poller.find(alloc, site) {
-        Ok(maps) => assert_eq!(rt; maps.len(), 2),
-        Err(LinkFault::OutOfMemory) => {
-            assert_eq!(rt; poller.link().sent().len(), 0);
-            assert_both(rt, &poller.find(alloc, site));
-        }
-        // the link in memory had no room for the bytes sent
-        Err(fault) => assert_eq!(rt; fault, LinkFault::Write),
+fn assert_found(rt: &impl Abort, alloc: Global, poller: &mut Poller<MemLink>, site: &Site) {
+    assert_both(rt, &poller.find(alloc, site));
+    assert_asked(rt, poller.link().sent());
+}
+
+#[test]
+fn the_maps_of_two_devices(rt: HostRuntime) {
+    let site = site_of_both(&rt, rt.alloc());
+    let mut poller = poller_to(&rt, rt.alloc(), &MAP, 50, None);
+    assert_found(&rt, rt.alloc(), &mut poller, &site);
+}
+
+/// How many maps were found.
+fn count(found: &Found) -> Result<usize, LinkFault> {
+    match found {
+        Ok(maps) => Ok(maps.len()),
+        Err(fault) => Err(*fault),
     }
 }
 
-#[test]
-fn without_memory_nothing_is_sent(rt: HostRuntime) {
-    let site = site(&rt, rt.alloc());
-    let coming = replies(&rt, rt.alloc(), &MAP);
-    let mut poller = poller_on(&rt, rt.alloc(), 0, &coming, 50, None);
-    assert_finds_or_sends_nothing(&rt, rt.alloc(), &mut poller, &site);
+fn assert_silent(rt: &impl Abort, alloc: Global, poller: &mut Poller<MemLink>, site: &Site) {
+    assert_same(rt, &count(&poller.find(alloc, site)), &Ok(0));
+    assert_same(rt, &poller.link().sent().len(), &0);
 }
 
 #[test]
 fn a_site_without_devices_sends_nothing(rt: HostRuntime) {
-    let site = site_of(&rt, rt.alloc(), GATEWAY);
+    let site = site(&rt, rt.alloc(), GATEWAY);
     let mut poller = poller_on(&rt, rt.alloc(), 0, &[], 50, Some(0));
-    match poller.find(rt.alloc(), &site) {
-        Ok(maps) => assert_eq!(rt; maps.len(), 0),
-        Err(fault) => assert!(rt; false, "{fault}"),
-    }
-    assert_eq!(rt; poller.link().sent().len(), 0);
+    assert_silent(&rt, rt.alloc(), &mut poller, &site);
 }
 
 /// What unit 1 answers from transaction 0 on, and how many bytes go out to both units.
@@ -157,27 +168,48 @@ static REFUSED: [(&[&[u8]], usize); 4] = [
 ];
 
 /// The first device has no map, the second one has its own.
-fn assert_second(rt: &impl Abort, found: &Result<Vec<Option<Map>>, LinkFault>) {
+fn assert_second(rt: &impl Abort, found: &Found) {
     match found.as_ref().map(|maps| maps.as_slice()) {
         Ok([None, second]) => assert_map(rt, second),
-        _ => assert!(rt; false),
+        _ => assert_true(rt, false),
     }
+}
+
+fn assert_refused(
+    rt: &impl Abort,
+    alloc: Global,
+    site: &Site,
+    pdus: &[&'static [u8]],
+    bytes: usize,
+) {
+    let mut poller = poller_to(rt, alloc, pdus, 260, None);
+    assert_second(rt, &poller.find(alloc, site));
+    assert_same(rt, &poller.link().sent().len(), &bytes);
 }
 
 #[test]
 fn a_device_without_a_map(rt: HostRuntime) {
-    let site = site(&rt, rt.alloc());
-    for row in &REFUSED {
-        let (pdus, bytes) = *row;
-        let coming = replies(&rt, rt.alloc(), pdus);
-        let mut poller = poller_on(&rt, rt.alloc(), 0, &coming, 260, None);
-        assert_second(&rt, &poller.find(rt.alloc(), &site));
-        assert_eq!(rt; poller.link().sent().len(), bytes);
+    let site = site_of_both(&rt, rt.alloc());
+    for (pdus, bytes) in &REFUSED {
+        assert_refused(&rt, rt.alloc(), &site, pdus, *bytes);
     }
 }
 
-/// Whether a search fails; what went out is a front of these bytes, and the next search answers the same fault and
-/// touches nothing.
+/// The next search answers the same fault and touches nothing.
+fn assert_stays(
+    rt: &impl Abort,
+    alloc: Global,
+    poller: &mut Poller<MemLink>,
+    site: &Site,
+    fault: LinkFault,
+) {
+    let before = left_and_sent(poller);
+    let found = count(&poller.find(alloc, site));
+    assert_same(rt, &found, &Err(fault));
+    assert_same(rt, &left_and_sent(poller), &before);
+}
+
+/// Whether a search fails; what went out is then a front of these bytes.
 fn fails(
     rt: &impl Abort,
     alloc: Global,
@@ -185,23 +217,18 @@ fn fails(
     site: &Site,
     whole: &[u8],
 ) -> bool {
-    let Err(fault) = poller.find(alloc, site) else {
+    let Err(fault) = count(&poller.find(alloc, site)) else {
         return false;
     };
-    assert!(rt; fault == LinkFault::Read || fault == LinkFault::Write);
-    assert!(rt; whole.starts_with(poller.link().sent()));
-    let sent = poller.link().sent().len();
-    let left = poller.link().coming().len();
-    assert_eq!(rt; poller.find(alloc, site).err(), Some(fault));
-    assert_eq!(rt; poller.link().sent().len(), sent);
-    assert_eq!(rt; poller.link().coming().len(), left);
+    assert_call_failed(rt, fault, whole, poller.link().sent());
+    assert_stays(rt, alloc, poller, site, fault);
     true
 }
 
 /// How many calls of a link fail in a search that succeeds where none does.
-fn failing(rt: &impl Abort, alloc: Global, site: &Site, coming: &[u8], whole: &[u8]) -> usize {
+fn failing(rt: &impl Abort, alloc: Global, site: &Site, whole: &[u8]) -> usize {
     for call in 0..1000 {
-        let mut poller = poller_on(rt, alloc, 0, coming, 5, Some(call));
+        let mut poller = poller_to(rt, alloc, &MAP, 5, Some(call));
         if !fails(rt, alloc, &mut poller, site, whole) {
             return call;
         }
@@ -211,10 +238,9 @@ fn failing(rt: &impl Abort, alloc: Global, site: &Site, coming: &[u8], whole: &[
 
 #[test]
 fn each_call_of_the_link_fails(rt: HostRuntime) {
-    let site = site(&rt, rt.alloc());
-    let coming = replies(&rt, rt.alloc(), &MAP);
-    let mut whole = poller_on(&rt, rt.alloc(), 0, &coming, 5, None);
+    let site = site_of_both(&rt, rt.alloc());
+    let mut whole = poller_to(&rt, rt.alloc(), &MAP, 5, None);
     assert_both(&rt, &whole.find(rt.alloc(), &site));
-    let failing = failing(&rt, rt.alloc(), &site, &coming, whole.link().sent());
-    assert!(rt; failing > 65 && failing < 1000);
+    let failing = failing(&rt, rt.alloc(), &site, whole.link().sent());
+    assert_true(&rt, failing > 65 && failing < 1000);
 }

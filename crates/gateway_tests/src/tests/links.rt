@@ -1,5 +1,6 @@
 //! Links that go on without end.
 
+use crate::tests::assert_same;
 use gateway::{Outcome, Poller};
 use modbus_frame::{Down, Link, LinkFault, Request};
 use std::process::Abort;
@@ -50,10 +51,10 @@ fn frames_of_another_request_without_end(rt: HostRuntime) {
         written: 0,
     });
     for reads in [17, 34] {
-        assert_eq!(rt; poller.ask(1, &W), Ok(Outcome::Stale));
-        assert_eq!(rt; poller.link().reads, reads);
+        assert_same(&rt, &poller.ask(1, &W), &Ok(Outcome::Stale));
+        assert_same(&rt, &poller.link().reads, &reads);
     }
-    assert_eq!(rt; poller.link().written, 2);
+    assert_same(&rt, &poller.link().written, &2);
 }
 
 /// Gives nothing, and takes nothing.
@@ -87,7 +88,7 @@ impl Link for Deaf {
 fn writes_that_take_nothing(rt: HostRuntime) {
     let mut poller = Poller::new(Deaf { writes: 0 });
     for _ in 0..2 {
-        assert_eq!(rt; poller.ask(1, &W), Err(LinkFault::Turns));
-        assert_eq!(rt; poller.link().writes, 1_000_000);
+        assert_same(&rt, &poller.ask(1, &W), &Err(LinkFault::Turns));
+        assert_same(&rt, &poller.link().writes, &1_000_000);
     }
 }

@@ -1,62 +1,25 @@
 //! One scan over the link on which the maps were found, with models that are shorter than their definitions.
 
-use crate::tests::sites::{core_with, machine, site_of};
-use crate::tests::{poller_on, push_frame, push_frames};
+use crate::tests::sites::{core_with, edited_site, machine, site};
+use crate::tests::{assert_same, assert_true, poller_on, push_frame, push_frames};
 use gateway::{Core, Poller, Report, run_scan};
 use modbus_frame::{LinkFault, MemLink};
 use std::alloc::Global;
 use std::process::Abort;
 
-const SITE: &str = "
-[gateway]
-unit = 1
-models = [1]
-[[device]]
-name = \"inv1\"
-unit = 1
-[[device]]
-name = \"inv2\"
-unit = 2
-[[tag]]
-name = \"inv1_w\"
-access = \"in\"
+/// How the limit stands in the worked site's file, and a tag of the second inverter in its place.
+const LIMIT: &str = "name = \"lim1\"
+access = \"out\"
 device = \"inv1\"
-model = 103
-point = \"W\"
-type = \"DINT\"
-exponent = 0
-low = -100000
-high = 100000
-[[tag]]
-name = \"inv2_w\"
-access = \"in\"
-device = \"inv2\"
-model = 103
-point = \"W\"
-type = \"DINT\"
-exponent = 0
-low = -100000
-high = 100000
-[[tag]]
-name = \"inv2_on\"
+model = 123
+point = \"WMaxLimPct\"
+";
+
+const CONNECTED: &str = "name = \"inv2_on\"
 access = \"in\"
 device = \"inv2\"
 model = 123
 point = \"Conn\"
-type = \"INT\"
-exponent = 0
-low = 0
-high = 1
-[[tag]]
-name = \"ena1\"
-access = \"out\"
-device = \"inv1\"
-model = 123
-point = \"WMaxLim_Ena\"
-type = \"BOOL\"
-exponent = 0
-low = 0
-high = 1
 ";
 
 /// The program of that site: LD TRUE, ST ena1.
@@ -108,7 +71,8 @@ static ASKED: [u8; 63] = [
 
 /// A core whose devices have the maps that are found.
 fn found_core(rt: &impl Abort, alloc: Global, poller: &mut Poller<MemLink>) -> Core<32> {
-    let site = site_of(rt, alloc, SITE);
+    let text = edited_site(rt, alloc, LIMIT, CONNECTED);
+    let site = site(rt, alloc, text.as_str());
     let machine = machine(rt, alloc, &ENABLING, &site);
     let maps = poller.find(alloc, &site).expect(rt, "maps");
     core_with(rt, alloc, site, machine, maps).expect(rt, "a core")
@@ -126,8 +90,8 @@ fn one_scan(rt: HostRuntime) {
     let coming = replies(&rt, rt.alloc());
     let mut poller = poller_on(&rt, rt.alloc(), 0, &coming, 100, None);
     let mut core = found_core(&rt, rt.alloc(), &mut poller);
-    assert_eq!(rt; run_scan(&mut core, &mut poller), REPORT);
+    assert_same(&rt, &run_scan(&mut core, &mut poller), &REPORT);
     let sent = poller.link().sent();
-    assert_eq!(rt; sent.len(), 255);
-    assert!(rt; sent.ends_with(&ASKED));
+    assert_same(&rt, &sent.len(), &255);
+    assert_true(&rt, sent.ends_with(&ASKED));
 }

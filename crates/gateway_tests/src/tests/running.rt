@@ -1,11 +1,14 @@
 //! A core that is scanned over a link, and that answers clients over one.
 
-use crate::tests::sites::{LIMITER, SITE, core_of, edited, limiter_core};
-use crate::tests::{pdu, poller_on, push_frame};
-use gateway::{Core, Event, Poller, Report, run_scan, serve_client};
+use crate::tests::sites::{LIMITER, core_of, edited_site, limiter_core};
+use crate::tests::{
+    assert_call_failed, assert_same, assert_true, left_and_sent, pdu, poller_on, push_frame,
+};
+use gateway::{Answer, Core, Event, Poller, Report, run_scan, serve_client};
 use modbus_frame::{LinkFault, MemLink};
 use std::alloc::Global;
 use std::process::Abort;
+use worked_texts::sites::SITE;
 
 /// The models of each device, with their lengths: the fourth of 123's registers begins at 40228.
 static MODELS: [(u16, u16); 7] = [
@@ -19,7 +22,7 @@ static MODELS: [(u16, u16); 7] = [
 ];
 
 /// The registers of a device from its base on, whose models have no values.
-fn registers(rt: &impl Abort, alloc: Global) -> Vec<u16> {
+pub(crate) fn registers(rt: &impl Abort, alloc: Global) -> Vec<u16> {
     let mut words = Vec::from_slice(alloc, &[0x5375, 0x6E53]).expect(rt, "memory");
     for (id, length) in &MODELS {
         words.push(*id).expect(rt, "memory");
@@ -101,16 +104,10 @@ fn coming(
 
 /// A core whose devices have maps, and whose target is set to 55; the first device is written so.
 fn mapped_core(rt: &impl Abort, alloc: Global, device: &str) -> Core<32> {
-    let text = edited(rt, alloc, SITE, "unit = 1\n\n[[device]]", device);
+    let text = edited_site(rt, alloc, DEVICE_BY_16, device);
     let registers = registers(rt, alloc);
-    let core = core_of(
-        rt,
-        alloc,
-        &LIMITER,
-        text.as_str(),
-        text.as_str(),
-        &registers,
-    );
+    let text = text.as_str();
+    let core = core_of(rt, alloc, &LIMITER, text, text, &registers);
     let mut core = core.expect(rt, "a core");
     core.step(Event::Client(pdu(rt, &[0x06, 0x9C, 0xBF, 0, 55])));
     core
@@ -184,42 +181,58 @@ fn assert_scan(
         refused,
         lost,
     };
-    assert_eq!(rt; run_scan(core, poller), Ok(report));
-    assert_eq!(rt; core.steps(), steps);
-    assert_eq!(rt; poller.link().sent(), sent);
+    assert_same(rt, &run_scan(core, poller), &Ok(report));
+    assert_same(rt, &core.steps(), &steps);
+    assert_same(rt, &poller.link().sent(), &sent);
+}
+
+fn assert_scanned(rt: &impl Abort, alloc: Global, scan: &Scan) {
+    let bytes = coming(rt, alloc, scan.older, scan.lost, scan.replies);
+    let mut poller = poller_on(rt, alloc, 7, &bytes, 5, None);
+    let mut core = mapped_core(rt, alloc, scan.device);
+    assert_scan(rt, &mut core, &mut poller, scan.counts, scan.sent);
 }
 
 #[test]
 fn scans_over_a_link(rt: HostRuntime) {
     for scan in &SCANS {
-        let bytes = coming(&rt, rt.alloc(), scan.older, scan.lost, scan.replies);
-        let mut poller = poller_on(&rt, rt.alloc(), 7, &bytes, 5, None);
-        let mut core = mapped_core(&rt, rt.alloc(), scan.device);
-        assert_scan(&rt, &mut core, &mut poller, scan.counts, scan.sent);
+        assert_scanned(&rt, rt.alloc(), scan);
     }
 }
 
-/// Whether a scan fails; the next one then answers the same fault and touches nothing.
+/// The next scan answers the same fault and touches nothing.
+fn assert_stays(
+    rt: &impl Abort,
+    core: &mut Core<32>,
+    poller: &mut Poller<MemLink>,
+    fault: LinkFault,
+) {
+    let before = left_and_sent(poller);
+    assert_same(rt, &run_scan(core, poller), &Err(fault));
+    assert_same(rt, &left_and_sent(poller), &before);
+}
+
+/// Whether a scan fails.
 fn fails(rt: &impl Abort, core: &mut Core<32>, poller: &mut Poller<MemLink>) -> bool {
     let Err(fault) = run_scan(core, poller) else {
         return false;
     };
-    assert!(rt; fault == LinkFault::Read || fault == LinkFault::Write);
-    assert!(rt; SENT_BY_16.starts_with(poller.link().sent()));
-    let sent = poller.link().sent().len();
-    let left = poller.link().coming().len();
-    assert_eq!(rt; run_scan(core, poller), Err(fault));
-    assert_eq!(rt; poller.link().sent().len(), sent);
-    assert_eq!(rt; poller.link().coming().len(), left);
+    assert_call_failed(rt, fault, &SENT_BY_16, poller.link().sent());
+    assert_stays(rt, core, poller, fault);
     true
+}
+
+/// Whether a scan fails whose link fails at this call.
+fn fails_at(rt: &impl Abort, alloc: Global, coming: &[u8], call: usize) -> bool {
+    let mut poller = poller_on(rt, alloc, 7, coming, 5, Some(call));
+    let mut core = mapped_core(rt, alloc, DEVICE_BY_16);
+    fails(rt, &mut core, &mut poller)
 }
 
 /// How many calls of a link fail in a scan that succeeds where none does.
 fn failing(rt: &impl Abort, alloc: Global, coming: &[u8]) -> usize {
     for call in 0..1000 {
-        let mut poller = poller_on(rt, alloc, 7, coming, 5, Some(call));
-        let mut core = mapped_core(rt, alloc, DEVICE_BY_16);
-        if !fails(rt, &mut core, &mut poller) {
+        if !fails_at(rt, alloc, coming, call) {
             return call;
         }
     }
@@ -230,7 +243,7 @@ fn failing(rt: &impl Abort, alloc: Global, coming: &[u8]) -> usize {
 fn each_call_of_the_link_fails_in_a_scan(rt: HostRuntime) {
     let coming = coming(&rt, rt.alloc(), 0, 0, &BY_16);
     let failing = failing(&rt, rt.alloc(), &coming);
-    assert!(rt; failing > 61 && failing < 1000);
+    assert_true(&rt, failing > 61 && failing < 1000);
 }
 
 /// The target is set and read; a unit that isn't there is read.
@@ -251,14 +264,83 @@ static CLIENTS: [(usize, Result<u32, LinkFault>, usize); 2] = [
     (20, Err(LinkFault::End), 12),
 ];
 
+fn assert_client(
+    rt: &impl Abort,
+    link: &mut MemLink,
+    core: &mut Core<32>,
+    told: Result<u32, LinkFault>,
+    sent: &[u8],
+) {
+    assert_same(rt, &serve_client(core, link), &told);
+    assert_same(rt, &link.sent(), &sent);
+}
+
+/// A link over which so many bytes of the requests come.
+fn client(rt: &impl Abort, alloc: Global, bytes: usize) -> MemLink {
+    let link = MemLink::new(alloc, &CLIENT[..bytes.min(36)], 5, None);
+    link.expect(rt, "memory")
+}
+
 #[test]
 fn clients_over_a_link(rt: HostRuntime) {
-    for row in &CLIENTS {
-        let (bytes, told, sent) = *row;
+    for (bytes, told, sent) in &CLIENTS {
         let mut core = limiter_core(&rt, rt.alloc(), SITE);
-        let link = MemLink::new(rt.alloc(), &CLIENT[..bytes.min(36)], 5, None);
-        let mut link = link.expect(&rt, "memory");
-        assert_eq!(rt; serve_client(&mut core, &mut link), told);
-        assert_eq!(rt; link.sent(), &REPLIES[..sent.min(32)]);
+        let mut link = client(&rt, rt.alloc(), *bytes);
+        let sent = &REPLIES[..(*sent).min(32)];
+        assert_client(&rt, &mut link, &mut core, *told, sent);
+    }
+}
+
+/// The target is set to 60, 61 and 62; each reply has the bytes of its request.
+static TARGETS: [u8; 36] = [
+    0, 1, 0, 0, 0, 6, 1, 6, 0x9C, 0xBF, 0, 60, 0, 2, 0, 0, 0, 6, 1, 6, 0x9C, 0xBF, 0, 61, 0, 3, 0,
+    0, 0, 6, 1, 6, 0x9C, 0xBF, 0, 62,
+];
+
+/// What the target is read as before the first of them, and behind each.
+static READ_TARGETS: [&[u8]; 4] = [
+    &[3, 2, 0xFF, 0xFF],
+    &[3, 2, 0, 60],
+    &[3, 2, 0, 61],
+    &[3, 2, 0, 62],
+];
+
+/// So many targets were set.
+fn assert_set(rt: &impl Abort, core: &mut Core<32>, targets: usize) {
+    let wanted = READ_TARGETS.get(targets).expect(rt, "a target");
+    let answer = core.step(Event::Client(pdu(rt, &[3, 0x9C, 0xBF, 0, 1])));
+    assert_same(rt, &answer, &Answer::Reply(pdu(rt, wanted)));
+}
+
+/// How many targets are set where the work ended so behind so many bytes: a write fails when its request was answered.
+fn targets_set(fault: LinkFault, sent: usize) -> usize {
+    match fault {
+        LinkFault::Write => sent / 12 + 1,
+        _ => sent / 12,
+    }
+}
+
+/// Whether the work ends; a front of the replies went out then, and what was set so far stands.
+fn ends(rt: &impl Abort, core: &mut Core<32>, link: &mut MemLink) -> bool {
+    let Err(fault) = serve_client(core, link) else {
+        return false;
+    };
+    assert_call_failed(rt, fault, &TARGETS, link.sent());
+    assert_set(rt, core, targets_set(fault, link.sent().len()));
+    true
+}
+
+/// Whether the work ends where this call of the link fails.
+fn ends_at(rt: &impl Abort, alloc: Global, call: usize) -> bool {
+    let mut core = limiter_core(rt, alloc, SITE);
+    let link = MemLink::new(alloc, &TARGETS, 5, Some(call));
+    ends(rt, &mut core, &mut link.expect(rt, "memory"))
+}
+
+/// Eight reads of five bytes at most and one at the end, and three writes for each reply.
+#[test]
+fn each_call_of_the_link_fails_for_a_client(rt: HostRuntime) {
+    for call in 0..19 {
+        assert_same(&rt, &ends_at(&rt, rt.alloc(), call), &(call < 18));
     }
 }

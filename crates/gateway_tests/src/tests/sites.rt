@@ -1,9 +1,9 @@
-//! Two sites, their programs, and cores for them.
+//! The worked site and one of a wide point, their programs, and cores for them.
 
 ghost use Rattle.std.specs.Prelude.{◌≡◌, length};
 
 use gateway::{Core, CoreFault};
-use model_defs::{ModelDef, read, shipped};
+use model_defs::ModelDef;
 use register_map::{Map, MemRegisters, discover};
 use scan_code::Image;
 use scan_vm::Machine;
@@ -11,94 +11,9 @@ use site_model::Site;
 use std::alloc::Global;
 use std::process::Abort;
 use verifier::verify::verify;
+use worked_texts::sites::{SITE, definition_of, definitions, edited};
 
-/// Two inverters, whose total power is shown, and a limit that clients set.
-pub(crate) static SITE: &str = r#"
-[gateway]
-unit = 1
-base = 40000
-models = [1, 103, 123]
-
-[[device]]
-name = "inv1"
-unit = 1
-
-[[device]]
-name = "inv2"
-unit = 2
-
-[[tag]]
-name = "inv1_w"
-access = "in"
-device = "inv1"
-model = 103
-point = "W"
-type = "DINT"
-exponent = 0
-low = -100000
-high = 100000
-
-[[tag]]
-name = "inv2_w"
-access = "in"
-device = "inv2"
-model = 103
-point = "W"
-type = "DINT"
-exponent = 0
-low = -100000
-high = 100000
-
-[[tag]]
-name = "target"
-access = "set"
-model = 123
-point = "WMaxLimPct"
-type = "INT"
-exponent = 0
-low = 0
-high = 100
-default = 50
-
-[[tag]]
-name = "lim1"
-access = "out"
-device = "inv1"
-model = 123
-point = "WMaxLimPct"
-type = "INT"
-exponent = 0
-low = 0
-high = 100
-
-[[tag]]
-name = "ena1"
-access = "out"
-device = "inv1"
-model = 123
-point = "WMaxLim_Ena"
-type = "BOOL"
-exponent = 0
-low = 0
-high = 1
-
-[[served]]
-model = 103
-point = "W"
-sum = ["inv1_w", "inv2_w"]
-
-[[served]]
-model = 103
-point = "W_SF"
-value = 0
-
-[[served]]
-model = 123
-point = "WMaxLimPct_SF"
-value = 0
-"#;
-
-/// The program of that site, which adds the powers where both are there, and stores target in lim1 and TRUE in ena1.
+/// The program of the worked site, which adds the powers where both are there, and stores target in lim1 and TRUE in ena1.
 pub(crate) static LIMITER: [u8; 129] = [
     // one variable, five tags, 46 bytes of code
     0x49, 0x4C, 0x53, 0x43, 1, 0, 1, 0, 5, 0, 46,
@@ -144,30 +59,21 @@ high = 100000
 pub(crate) static IDLE: [u8; 12] = [0x49, 0x4C, 0x53, 0x43, 1, 0, 0, 0, 0, 0, 1, 0];
 
 /// The definitions of models 1, 103 and 123, and the one with a point of two registers.
-fn definitions(rt: &impl Abort, alloc: Global) -> Vec<ModelDef> {
-    let mut defs = Vec::new(alloc);
-    for id in [1, 103, 123] {
-        let text = shipped(id).expect(rt, "a text");
-        push_definition(rt, alloc, &mut defs, text);
-    }
-    push_definition(rt, alloc, &mut defs, WIDE_MODEL);
+fn definitions_with_wide(rt: &impl Abort, alloc: Global) -> Vec<ModelDef> {
+    let mut defs = definitions(alloc).expect(rt, "definitions");
+    let wide = definition_of(alloc, WIDE_MODEL).expect(rt, "a definition");
+    defs.push(wide).expect(rt, "memory");
     defs
 }
 
-fn push_definition(rt: &impl Abort, alloc: Global, defs: &mut Vec<ModelDef>, text: &str) {
-    let def = read(alloc, text.as_bytes()).expect(rt, "a definition");
-    defs.push(def).expect(rt, "memory");
-}
-
-pub(crate) fn site_of(rt: &impl Abort, alloc: Global, text: &str) -> Site {
-    let defs = definitions(rt, alloc);
+pub(crate) fn site(rt: &impl Abort, alloc: Global, text: &str) -> Site {
+    let defs = definitions_with_wide(rt, alloc);
     Site::read(alloc, text, &defs).expect(rt, "a site")
 }
 
-/// A text with its first `old` replaced.
-pub(crate) fn edited(rt: &impl Abort, alloc: Global, text: &str, old: &str, new: &str) -> String {
-    let (before, after) = text.split_once(old).expect(rt, "what is replaced");
-    format!(in alloc; "{before}{new}{after}").expect(rt, "memory")
+/// The worked site's text with its first `old` replaced.
+pub(crate) fn edited_site(rt: &impl Abort, alloc: Global, old: &str, new: &str) -> String {
+    edited(alloc, SITE, old, new).expect(rt, "an edit")
 }
 
 /// A machine for a program that is accepted for a site.
@@ -197,8 +103,8 @@ pub(crate) fn core_of(
     text: &str,
     registers: &[u16],
 ) -> Result<Core<32>, CoreFault> {
-    let machine = machine(rt, alloc, program, &site_of(rt, alloc, accepted));
-    let site = site_of(rt, alloc, text);
+    let machine = machine(rt, alloc, program, &site(rt, alloc, accepted));
+    let site = site(rt, alloc, text);
     let maps = maps(rt, alloc, site.devices().len(), registers);
     core_with(rt, alloc, site, machine, maps)
 }

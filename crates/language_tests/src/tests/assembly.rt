@@ -1,6 +1,8 @@
 //! Programs and their images.
 
-use crate::tests::{joined, program_of};
+use crate::tests::{
+    assert_prints, assert_same, assert_same_at, assert_true_at, joined, program_of,
+};
 use il_assemble::{AsmFault, AsmFaultKind, assemble};
 use il_reader::Program;
 use scan_code::Image;
@@ -91,7 +93,7 @@ fn is_image(image: &Image, version: u8, tags: usize, code: &[u8]) -> bool {
 fn programs_have_their_images(rt: HostRuntime) {
     for (text, version, tags, code) in &ASSEMBLED {
         let image = image_of(&rt, rt.alloc(), text);
-        assert!(rt; is_image(&image, *version, *tags, code), "of {text}");
+        assert_true_at(&rt, is_image(&image, *version, *tags, code), text);
     }
 }
 
@@ -121,18 +123,20 @@ fn size_of(rt: &impl Abort, alloc: Global, text: &str) -> (usize, Option<u8>) {
 fn images_have_their_sizes(rt: HostRuntime) {
     for (text, version, size) in &SIZES {
         let found = size_of(&rt, rt.alloc(), text);
-        assert_eq!(rt; found, (*size, Some(*version)));
+        assert_same(&rt, &found, &(*size, Some(*version)));
     }
 }
 
 /// Lines, and the first static fault of the program with them from line 2 on.
-static FAULTS: [(&str, u32, AsmFaultKind); 9] = [
+static FAULTS: [(&str, u32, AsmFaultKind); 11] = [
     ("LD q", 2, AsmFaultKind::UnknownName),
     ("ST w_ok", 2, AsmFaultKind::UnknownName),
     ("JMP q", 2, AsmFaultKind::UnknownLabel),
     ("l:\nJMP l", 3, AsmFaultKind::BackwardJump),
     ("{LOOP 2} JMP f\nf:", 2, AsmFaultKind::ForwardLoop),
     ("LD w\nST w", 3, AsmFaultKind::LoadAndStore),
+    ("LD 1\nST w\nLD w", 4, AsmFaultKind::LoadAndStore),
+    ("LD 1\nST w\nLD w_ok", 4, AsmFaultKind::LoadAndStore),
     ("LIMIT 4000000000, q", 2, AsmFaultKind::UnknownName),
     ("LD b\nAND 1", 3, AsmFaultKind::LiteralType),
     ("LD 32768\nST a", 2, AsmFaultKind::LiteralType),
@@ -146,29 +150,82 @@ fn static_faults_have_their_lines(rt: HostRuntime) {
         let text = joined(&rt, rt.alloc(), HEAD, lines);
         let text = joined(&rt, rt.alloc(), text.as_str(), "\nEND_PROGRAM");
         let found = outcome_in(&rt, rt.alloc(), text.as_str());
-        assert_eq!(rt; found, Err((*line, *kind)), "of {lines}");
+        assert_same_at(&rt, &found, &Err((*line, *kind)), lines);
     }
 }
 
-/// So many loads, and the end's line.
-fn loads(rt: &impl Abort, alloc: Global, count: u32) -> String {
-    let mut text = joined(rt, alloc, HEAD, "");
+/// A text with this line so many times behind it.
+fn repeated(rt: &impl Abort, mut text: String, count: u32, line: &str) -> String {
     for _ in 0..count {
-        text.push_str("LD a\n").expect(rt, "memory");
+        text.push_str(line).expect(rt, "memory");
     }
-    text.push_str("END_PROGRAM").expect(rt, "memory");
     text
 }
 
+/// The head and a line, then another line so many times, and the end's line.
+fn lines_of(rt: &impl Abort, alloc: Global, first: &str, line: &str, count: u32) -> String {
+    let text = joined(rt, alloc, HEAD, first);
+    let text = repeated(rt, text, count, line);
+    joined(rt, alloc, text.as_str(), "END_PROGRAM")
+}
+
+/// A line that stands behind another one so many times, and how many bytes of code that is, or its fault.
+type Repeated = (
+    &'static str,
+    &'static str,
+    u32,
+    Result<usize, (u32, AsmFaultKind)>,
+);
+
+/// As much code as there can be, and as many counted jumps.
+static REPEATED: [Repeated; 4] = [
+    ("", "LD a\n", 21844, Ok(65533)),
+    ("", "LD a\n", 21845, Err((21847, AsmFaultKind::TooLong))),
+    ("l:\n", "{LOOP 1} JMP l\n", 256, Ok(1281)),
+    (
+        "l:\n",
+        "{LOOP 1} JMP l\n",
+        257,
+        Err((259, AsmFaultKind::TooLong)),
+    ),
+];
+
 #[test]
-fn code_may_have_65535_bytes(rt: HostRuntime) {
-    for (count, wanted) in [
-        (21844, Ok(65533)),
-        (21845, Err((21847, AsmFaultKind::TooLong))),
-    ] {
-        let text = loads(&rt, rt.alloc(), count);
+fn code_and_counted_jumps_have_their_limits(rt: HostRuntime) {
+    for (first, line, count, wanted) in &REPEATED {
+        let text = lines_of(&rt, rt.alloc(), first, line, *count);
         let found = outcome_in(&rt, rt.alloc(), text.as_str());
-        assert_eq!(rt; found, wanted);
+        assert_same(&rt, &found, wanted);
+    }
+}
+
+/// So many lines of 24 bytes of code, so many of 3, what stands behind them, and the line whose code passes the limit:
+/// inside parentheses that of the inner instruction, and for the operator behind them that of their beginning.
+static PASSING: [(u32, u32, &str, u32); 7] = [
+    (0, 21840, "ADD( a\nLD a\nLD a\nLD a\nLD a\n)\n", 21847),
+    (0, 21842, "ADD( a\nLD a\nLD a\nLD a\nLD a\n)\n", 21847),
+    (2730, 4, "ADD( a\nLD a\n)\n", 2737),
+    (2730, 4, "ADD(\nLD a\n)\n", 2738),
+    (2730, 2, "ADD( a\nLD a\nNOT\nNOT\n)\n", 2735),
+    (2730, 0, "ADD( a\nSUB( a\nLD a\nLD a\n)\nLD a\n)\n", 2738),
+    (2730, 0, "ADD( a\nSUB( a\nLD a\nLD a\nNOT\n)\n)\n", 2734),
+];
+
+/// PROGRAM and VAR in lines 1 and 2, from line 3 on so many LIMITs and so many loads, and these lines.
+fn filled(rt: &impl Abort, alloc: Global, limits: u32, loads: u32, lines: &str) -> String {
+    let text = joined(rt, alloc, "PROGRAM p\nVAR a : INT; END_VAR\n", "");
+    let text = repeated(rt, text, limits, "LIMIT 1, 2\n");
+    let text = repeated(rt, text, loads, "LD a\n");
+    let text = joined(rt, alloc, text.as_str(), lines);
+    joined(rt, alloc, text.as_str(), "END_PROGRAM")
+}
+
+#[test]
+fn the_line_that_passes_the_limit(rt: HostRuntime) {
+    for (limits, loads, lines, line) in &PASSING {
+        let text = filled(&rt, rt.alloc(), *limits, *loads, lines);
+        let found = outcome_in(&rt, rt.alloc(), text.as_str());
+        assert_same_at(&rt, &found, &Err((*line, AsmFaultKind::TooLong)), lines);
     }
 }
 
@@ -186,13 +243,11 @@ static KINDS: [AsmFaultKind; 8] = [
 #[test]
 fn words_of_faults(rt: HostRuntime) {
     for kind in &KINDS {
-        let printed = format!(in rt.alloc(); "{kind}").expect(&rt, "memory");
-        assert_eq!(rt; printed.as_str(), kind.word());
+        assert_prints(&rt, rt.alloc(), kind, kind.word());
     }
     let fault = AsmFault {
         line: 6,
         kind: AsmFaultKind::UnknownName,
     };
-    let printed = format!(in rt.alloc(); "{fault}").expect(&rt, "memory");
-    assert_eq!(rt; printed.as_str(), "UnknownName line 6");
+    assert_prints(&rt, rt.alloc(), &fault, "UnknownName line 6");
 }

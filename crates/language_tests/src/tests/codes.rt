@@ -1,5 +1,6 @@
 //! Instructions and their bytes.
 
+use crate::tests::{assert_same, assert_true};
 use point_types::{Condition, IlType};
 use scan_code::{Op, decode};
 
@@ -20,10 +21,10 @@ fn spells_and_decodes(rt: HostRuntime) {
     let mut code = Vec::new(rt.alloc());
     for (at, op, behind) in &DECODED {
         op.write(&mut code).expect(&rt, "memory");
-        assert_eq!(rt; decode(&BYTES, *at), Some((*op, *behind)));
+        assert_same(&rt, &decode(&BYTES, *at), &Some((*op, *behind)));
     }
-    assert!(rt; code.as_slice() == BYTES.as_slice());
-    assert!(rt; decode(&BYTES, 16).is_none());
+    assert_true(&rt, code.as_slice() == BYTES.as_slice());
+    assert_true(&rt, decode(&BYTES, 16).is_none());
 }
 
 /// A code byte past the table, cut arguments, a truth value of 2, 256 as a SINT, a count of 0.
@@ -38,6 +39,6 @@ static UNKNOWN: [&[u8]; 5] = [
 #[test]
 fn decodes_no_other_bytes(rt: HostRuntime) {
     for code in &UNKNOWN {
-        assert!(rt; decode(code, 0).is_none());
+        assert_true(&rt, decode(code, 0).is_none());
     }
 }

@@ -1,12 +1,13 @@
 //! Images and their bytes.
 
+use crate::tests::{assert_prints, assert_same, assert_true};
 use point_types::{IlType, Items, Name, Var};
 use scan_code::{Image, ImageFault, Tag};
 use std::alloc::Global;
 use std::process::Abort;
 
 /// The image of `LD a / DIV 3 / ADD a / ST b` with `a : INT := 7` and `b : INT`, put together by hand.
-static DIVIDED: [u8; 89] = [
+pub(crate) static DIVIDED: [u8; 89] = [
     b'I', b'L', b'S', b'C', 0x01, 0x00, 0x02, 0x00, 0x00, 0x00, 0x18, 0x01, b'a', 0x02, 0xFF, 0xFF,
     0xFF, 0xFF, 0xFF, 0xFF, 0x80, 0x00, 0x00, 0x00, 0x00, 0x00, 0x00, 0x00, 0x7F, 0xFF, 0x00, 0x00,
     0x00, 0x00, 0x00, 0x00, 0x00, 0x07, 0x01, b'b', 0x02, 0xFF, 0xFF, 0xFF, 0xFF, 0xFF, 0xFF, 0x80,
@@ -16,7 +17,7 @@ static DIVIDED: [u8; 89] = [
 ];
 
 /// Its code.
-static CODE: [u8; 24] = [
+pub(crate) static CODE: [u8; 24] = [
     0x01, 0x00, 0x00, 0x0C, 0x05, 0x02, 0x00, 0x00, 0x00, 0x00, 0x00, 0x00, 0x00, 0x03, 0x14, 0x0C,
     0x01, 0x00, 0x00, 0x11, 0x06, 0x00, 0x01, 0x00,
 ];
@@ -80,12 +81,12 @@ fn divided(rt: &impl Abort, alloc: Global) -> Image {
 #[test]
 fn an_image_of_89_bytes(rt: HostRuntime) {
     let image = divided(&rt, rt.alloc());
-    assert!(rt; is_written_by(&rt, rt.alloc(), &image, &DIVIDED));
+    assert_true(&rt, is_written_by(&rt, rt.alloc(), &image, &DIVIDED));
     let again = image_of(&rt, rt.alloc(), &DIVIDED);
-    assert!(rt; are_equal(&image, &again));
+    assert_true(&rt, are_equal(&image, &again));
 }
 
-fn are_equal(image: &Image, other: &Image) -> bool {
+pub(crate) fn are_equal(image: &Image, other: &Image) -> bool {
     image.version == other.version
         && image.vars.as_slice() == other.vars.as_slice()
         && image.tags.as_slice() == other.tags.as_slice()
@@ -95,8 +96,8 @@ fn are_equal(image: &Image, other: &Image) -> bool {
 #[test]
 fn an_image_of_87_bytes_with_a_counted_jump(rt: HostRuntime) {
     let image = image_of(&rt, rt.alloc(), &COUNTED);
-    assert!(rt; image.version == 2 && image.code.len() == 49);
-    assert!(rt; is_written_by(&rt, rt.alloc(), &image, &COUNTED));
+    assert_true(&rt, image.version == 2 && image.code.len() == 49);
+    assert_true(&rt, is_written_by(&rt, rt.alloc(), &image, &COUNTED));
 }
 
 /// Whether an image has two tags, an input `p : DINT` and an output `q : BOOL`.
@@ -117,21 +118,8 @@ fn is_tagged(rt: &impl Abort, image: &Image) -> bool {
 #[test]
 fn tags_with_their_directions(rt: HostRuntime) {
     let image = image_of(&rt, rt.alloc(), &TAGGED);
-    assert!(rt; is_tagged(&rt, &image));
-    assert!(rt; is_written_by(&rt, rt.alloc(), &image, &TAGGED));
-}
-
-/// Run with each allocation refused in turn, it shows that the want of memory is said.
-#[test]
-fn memory_that_is_refused(rt: HostRuntime) {
-    match Image::read(rt.alloc(), COUNTED.as_slice()) {
-        Ok(image) => {
-            if let Ok(bytes) = image.write(rt.alloc()) {
-                assert!(rt; bytes.as_slice() == COUNTED.as_slice());
-            }
-        }
-        Err(fault) => assert_eq!(rt; fault, ImageFault::OutOfMemory),
-    }
+    assert_true(&rt, is_tagged(&rt, &image));
+    assert_true(&rt, is_written_by(&rt, rt.alloc(), &image, &TAGGED));
 }
 
 /// How reading these bytes ends.
@@ -158,11 +146,11 @@ fn changed(
 fn prefixes_are_cut(rt: HostRuntime) {
     for length in 0..DIVIDED.len() {
         let fault = fault_of(rt.alloc(), &DIVIDED[..length]);
-        assert_eq!(rt; fault, Some(ImageFault::Cut));
+        assert_same(&rt, &fault, &Some(ImageFault::Cut));
     }
     let mut longer = Vec::from_slice(rt.alloc(), &DIVIDED).expect(&rt, "memory");
     longer.push(0x00).expect(&rt, "memory");
-    assert_eq!(rt; fault_of(rt.alloc(), &longer), Some(ImageFault::Rest));
+    assert_same(&rt, &fault_of(rt.alloc(), &longer), &Some(ImageFault::Rest));
 }
 
 /// The fault of the image with this byte 0xFF, where it is known.
@@ -182,7 +170,7 @@ fn damaged_bytes(rt: HostRuntime) {
     for at in 0..89 {
         let found = changed(&rt, rt.alloc(), &DIVIDED, at, 0xFF);
         if let Some(wanted) = damage(at) {
-            assert_eq!(rt; found, wanted);
+            assert_same(&rt, &found, &wanted);
         }
     }
 }
@@ -213,16 +201,79 @@ static TAG_FIELDS: [(usize, u8); 2] = [(13, 0x02), (16, b'p')];
 fn fields_at_fault(rt: HostRuntime) {
     for (version, wanted) in &VERSIONS {
         let fault = changed(&rt, rt.alloc(), &COUNTED, 4, *version);
-        assert_eq!(rt; fault, *wanted);
+        assert_same(&rt, &fault, wanted);
     }
     for (at, byte) in &FIELDS {
         let fault = changed(&rt, rt.alloc(), &DIVIDED, *at, *byte);
-        assert_eq!(rt; fault, Some(ImageFault::Field));
+        assert_same(&rt, &fault, &Some(ImageFault::Field));
     }
     for (at, byte) in &TAG_FIELDS {
         let fault = changed(&rt, rt.alloc(), &TAGGED, *at, *byte);
-        assert_eq!(rt; fault, Some(ImageFault::Field));
+        assert_same(&rt, &fault, &Some(ImageFault::Field));
     }
+}
+
+/// The image of nothing but a variable `f : BOOL`.
+static FLAGGED: [u8; 39] = [
+    b'I', b'L', b'S', b'C', 0x01, 0x00, 0x01, 0x00, 0x00, 0x00, 0x01, 0x01, b'f', 0x00, 0x00, 0x00,
+    0x00, 0x00, 0x00, 0x00, 0x00, 0x00, 0x00, 0x00, 0x00, 0x00, 0x00, 0x00, 0x00, 0x01, 0x00, 0x00,
+    0x00, 0x00, 0x00, 0x00, 0x00, 0x00, 0x00,
+];
+
+/// A start of 1; a range from 1 on, one up to 0, one up to 2, a start of 2.
+static FLAGS: [(usize, u8, Option<ImageFault>); 5] = [
+    (37, 0x01, None),
+    (21, 0x01, Some(ImageFault::Field)),
+    (29, 0x00, Some(ImageFault::Field)),
+    (29, 0x02, Some(ImageFault::Field)),
+    (37, 0x02, Some(ImageFault::Field)),
+];
+
+#[test]
+fn a_bool_has_the_range_of_its_type(rt: HostRuntime) {
+    for (at, byte, wanted) in &FLAGS {
+        let fault = changed(&rt, rt.alloc(), &FLAGGED, *at, *byte);
+        assert_same(&rt, &fault, wanted);
+    }
+    let mut from_one = FLAGGED;
+    from_one[21] = 0x01;
+    let fault = fault_of(rt.alloc(), &from_one[..22]);
+    assert_same(&rt, &fault, &Some(ImageFault::Field));
+}
+
+/// Whether there is an image of one variable.
+fn is_image_of(rt: &impl Abort, alloc: Global, var: Var) -> bool {
+    let mut vars = Items::new(alloc);
+    vars.push(var).expect(rt, "memory");
+    Image::new(1, vars, Items::new(alloc), Items::new(alloc)).is_some()
+}
+
+#[test]
+fn an_image_has_no_bool_with_a_subrange(rt: HostRuntime) {
+    let flag = Var {
+        name: name(&rt, b"f"),
+        kind: IlType::Bool,
+        low: 0,
+        high: 1,
+        start: 1,
+    };
+    let always_false = Var {
+        name: name(&rt, b"f"),
+        kind: IlType::Bool,
+        low: 0,
+        high: 0,
+        start: 0,
+    };
+    let always_true = Var {
+        name: name(&rt, b"f"),
+        kind: IlType::Bool,
+        low: 1,
+        high: 1,
+        start: 1,
+    };
+    assert_true(&rt, is_image_of(&rt, rt.alloc(), flag));
+    assert_true(&rt, !is_image_of(&rt, rt.alloc(), always_false));
+    assert_true(&rt, !is_image_of(&rt, rt.alloc(), always_true));
 }
 
 /// A fault comes before the end of the bytes, a part that is cut before its fault.
@@ -237,7 +288,7 @@ static FIRST_FAULTS: [(&[u8], ImageFault); 5] = [
 #[test]
 fn the_first_fault_is_told(rt: HostRuntime) {
     for (bytes, fault) in &FIRST_FAULTS {
-        assert_eq!(rt; fault_of(rt.alloc(), bytes), Some(*fault));
+        assert_same(&rt, &fault_of(rt.alloc(), bytes), &Some(*fault));
     }
 }
 
@@ -255,10 +306,10 @@ fn parts_that_are_no_image(rt: HostRuntime) {
     let alloc = rt.alloc();
     let twice = both(&rt, alloc, int(&rt, b"a", 0), int(&rt, b"a", 0));
     let none = Image::new(1, twice, Items::new(alloc), Items::new(alloc));
-    assert!(rt; none.is_none());
-    assert!(rt; !is_image(&rt, alloc, 3, 0));
-    assert!(rt; is_image(&rt, alloc, 2, 65535));
-    assert!(rt; !is_image(&rt, alloc, 2, 65536));
+    assert_true(&rt, none.is_none());
+    assert_true(&rt, !is_image(&rt, alloc, 3, 0));
+    assert_true(&rt, is_image(&rt, alloc, 2, 65535));
+    assert_true(&rt, !is_image(&rt, alloc, 2, 65536));
 }
 
 static FAULTS: [ImageFault; 6] = [
@@ -273,7 +324,6 @@ static FAULTS: [ImageFault; 6] = [
 #[test]
 fn words_of_faults(rt: HostRuntime) {
     for fault in &FAULTS {
-        let printed = format!(in rt.alloc(); "{fault}").expect(&rt, "memory");
-        assert_eq!(rt; printed.as_str(), fault.word());
+        assert_prints(&rt, rt.alloc(), fault, fault.word());
     }
 }

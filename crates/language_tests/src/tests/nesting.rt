@@ -3,7 +3,7 @@
 use crate::tests::seen::{
     Line, Spelled, Want, action_at, has_lines, inner_of, simple_operands, simple_spelling,
 };
-use crate::tests::{fault_of, joined, program_of};
+use crate::tests::{assert_same, assert_true, fault_of, joined, program_of};
 use il_reader::{Action, InnerLine, Program, ReadFaultKind, Simple};
 use std::alloc::Global;
 use std::process::Abort;
@@ -28,17 +28,17 @@ fn simple_at<'a>(rt: &impl Abort, program: &'a Program, place: usize) -> &'a Sim
 
 /// The instruction is this one, and what stands right behind its parenthesis is this.
 fn opens(rt: &impl Abort, simple: &Simple, spelled: Spelled, first: Want) {
-    assert!(rt; simple_spelling(simple) == spelled);
+    assert_true(rt, simple_spelling(simple) == spelled);
     let (operand, _) = simple_operands(simple);
-    assert!(rt; first.is(&operand));
+    assert_true(rt, first.is(&operand));
 }
 
 /// These are the numbers and instructions of the lines inside.
 fn holds(rt: &impl Abort, inner: &[InnerLine], wanted: &[(u32, Spelled)]) {
-    assert_eq!(rt; inner.len(), wanted.len());
+    assert_same(rt, &inner.len(), &wanted.len());
     for (line, (number, spelled)) in inner.iter().zip(wanted) {
-        assert_eq!(rt; line.line, *number);
-        assert!(rt; simple_spelling(&line.simple) == *spelled);
+        assert_same(rt, &line.line, number);
+        assert_true(rt, simple_spelling(&line.simple) == *spelled);
     }
 }
 
@@ -46,7 +46,7 @@ fn holds(rt: &impl Abort, inner: &[InnerLine], wanted: &[(u32, Spelled)]) {
 fn reads_parentheses(rt: HostRuntime) {
     let program = program_of(&rt, rt.alloc(), NESTED);
     has_lines(&rt, &program, &LINES);
-    assert_eq!(rt; program.end_line, 17);
+    assert_same(&rt, &program.end_line, &17);
     let sum = simple_at(&rt, &program, 1);
     opens(&rt, sum, ("ADD", "("), Want::Number(2));
     holds(
@@ -99,7 +99,11 @@ fn keeps_to_the_depth_of_parentheses(rt: HostRuntime) {
         (100, ReadFaultKind::Parenthesis, 102),
     ] {
         let text = opened(&rt, rt.alloc(), depth);
-        assert_eq!(rt; fault_of(rt.alloc(), text.as_str()), Some((kind, line)));
+        assert_same(
+            &rt,
+            &fault_of(rt.alloc(), text.as_str()),
+            &Some((kind, line)),
+        );
     }
 }
 
@@ -107,6 +111,6 @@ fn keeps_to_the_depth_of_parentheses(rt: HostRuntime) {
 fn reads_a_hundred_parentheses(rt: HostRuntime) {
     let text = closed(&rt, rt.alloc(), 100);
     let program = program_of(&rt, rt.alloc(), text.as_str());
-    assert_eq!(rt; program.end_line, 204);
+    assert_same(&rt, &program.end_line, &204);
     has_lines(&rt, &program, &CLOSED);
 }

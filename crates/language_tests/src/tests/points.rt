@@ -3,6 +3,7 @@
 ghost use Rattle.std.specs.Prelude.{◌≡◌, ◌≢◌};
 ghost use Rattle.point_types.specs.Point.{size_of};
 
+use crate::tests::{assert_prints, assert_same, assert_same_at};
 use point_types::{
     Cause, IlType, Kind, Name, Reading, Unencodable, encode, number, scaled, scaled_down, value,
 };
@@ -22,15 +23,16 @@ static RANGES: [(IlType, i64, i64); 8] = [
 #[test]
 fn types_have_the_ranges_of_the_standard(rt: HostRuntime) {
     for (kind, low, high) in &RANGES {
-        assert_eq!(rt; (kind.low(), kind.high()), (*low, *high));
+        assert_same(&rt, &(kind.low(), kind.high()), &(*low, *high));
     }
 }
 
 #[test]
 fn words_are_numbers(rt: HostRuntime) {
-    assert_eq!(rt;
-        (Kind::Pad.size(), Kind::Acc32.size(), Kind::Uint64.size()),
-        (1, 2, 4)
+    assert_same(
+        &rt,
+        &(Kind::Pad.size(), Kind::Acc32.size(), Kind::Uint64.size()),
+        &(1, 2, 4),
     );
     for (found, wanted) in [
         (number([0x1234]), 0x1234),
@@ -40,7 +42,7 @@ fn words_are_numbers(rt: HostRuntime) {
             18446744073709551614,
         ),
     ] {
-        assert_eq!(rt; found, wanted);
+        assert_same(&rt, &found, &wanted);
     }
 }
 
@@ -62,7 +64,7 @@ fn words_are_values(rt: HostRuntime) {
             Some(18446744073709551614),
         ),
     ] {
-        assert_eq!(rt; found, wanted);
+        assert_same(&rt, &found, &wanted);
     }
 }
 
@@ -104,7 +106,7 @@ fn points_are_scaled(rt: HostRuntime) {
         ),
         (scaled(0, None, 0, 0, 0), Reading::Absent(Cause::BadScale)),
     ] {
-        assert_eq!(rt; found, wanted);
+        assert_same(&rt, &found, &wanted);
     }
 }
 
@@ -136,7 +138,7 @@ fn numbers_are_rounded_down(rt: HostRuntime) {
             Reading::Absent(Cause::BadScale),
         ),
     ] {
-        assert_eq!(rt; found, wanted);
+        assert_same(&rt, &found, &wanted);
     }
 }
 
@@ -162,12 +164,13 @@ fn faults_come_in_order(rt: HostRuntime) {
             Err(Unencodable::OutOfType),
         ),
     ] {
-        assert_eq!(rt; found, wanted);
+        assert_same(&rt, &found, &wanted);
     }
-    assert_eq!(rt; encode(Kind::Uint32, 65538, 0, Some(0)), Ok([1, 2]));
-    assert_eq!(rt;
-        encode::<4>(Kind::Int64, i64::MAX, 10, Some(-10)),
-        Err(Unencodable::OutOfType)
+    assert_same(&rt, &encode(Kind::Uint32, 65538, 0, Some(0)), &Ok([1, 2]));
+    assert_same(
+        &rt,
+        &encode::<4>(Kind::Int64, i64::MAX, 10, Some(-10)),
+        &Err(Unencodable::OutOfType),
     );
 }
 
@@ -197,13 +200,14 @@ fn ends<const W: usize>(rt: &impl Abort, kind: Kind, low: i64, high: i64, unimpl
 {
     for v in [low, high] {
         match encode::<W>(kind, v, 0, Some(0)) {
-            Ok(words) => assert_eq!(rt; value(kind, &words), Some(i128::from(v)), "at {v}"),
-            Err(_) => panic!(rt; "no words for {v}"),
+            Ok(words) => assert_same_at(rt, &value(kind, &words), &Some(i128::from(v)), &v),
+            Err(_) => panic!(rt; "no words"),
         }
     }
-    assert_eq!(rt;
-        encode::<W>(kind, unimplemented, 0, Some(0)),
-        Err(Unencodable::OutOfType)
+    assert_same(
+        rt,
+        &encode::<W>(kind, unimplemented, 0, Some(0)),
+        &Err(Unencodable::OutOfType),
     );
 }
 
@@ -231,15 +235,14 @@ static NAMES: [(&str, bool); 18] = [
 #[test]
 fn reads_names(rt: HostRuntime) {
     for (text, is_name) in &NAMES {
-        assert_eq!(rt; Name::from_bytes(text.as_bytes()).is_some(), *is_name);
+        assert_same(&rt, &Name::from_bytes(text.as_bytes()).is_some(), is_name);
     }
 }
 
 #[test]
 fn keeps_lower_case(rt: HostRuntime) {
     let name = Name::from_bytes(b"Total_2").expect(&rt, "a name");
-    assert_eq!(rt; name.as_str(), "total_2");
-    assert_eq!(rt; name.as_bytes(), b"total_2".as_slice());
-    let printed = format!(in rt.alloc(); "{name}").expect(&rt, "memory");
-    assert_eq!(rt; printed.as_str(), "total_2");
+    assert_same(&rt, &name.as_str(), &"total_2");
+    assert_same(&rt, &name.as_bytes(), &b"total_2".as_slice());
+    assert_prints(&rt, rt.alloc(), &name, "total_2");
 }

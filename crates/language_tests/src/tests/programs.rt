@@ -1,7 +1,10 @@
 //! Whole texts and their programs.
 
 use crate::tests::seen::{Instruction, Line, Want, action_at, has_lines, instructs, turns};
-use crate::tests::{fault_of, joined, program_of, refuses};
+use crate::tests::{
+    assert_prints, assert_same, assert_same_at, assert_true, assert_true_at, fault_of, joined,
+    program_of, refuses,
+};
 use il_reader::{Program, ReadFault, ReadFaultKind, Variable as Declared};
 use point_types::IlType;
 use std::alloc::Global;
@@ -13,10 +16,9 @@ type Variable = (u32, &'static str, i64, i64, i64);
 /// The program declares these variables.
 fn declares(rt: &impl Abort, program: &Program, wanted: &[Variable]) {
     let variables = program.variables.as_slice();
-    assert_eq!(rt; variables.len(), wanted.len());
+    assert_same(rt, &variables.len(), &wanted.len());
     for (variable, row) in variables.iter().zip(wanted) {
-        let name = row.1;
-        assert!(rt; is_variable(variable, row), "of {name}");
+        assert_true_at(rt, is_variable(variable, row), &row.1);
     }
 }
 
@@ -28,46 +30,40 @@ fn is_variable(variable: &Declared, wanted: &Variable) -> bool {
         && (var.low, var.high, var.start) == (*low, *high, *start)
 }
 
+/// An external that is wanted: its line, its name and its type.
+type External = (u32, &'static str, IlType);
+
 /// The program has these externals.
-fn names(rt: &impl Abort, program: &Program, wanted: &[(u32, &str, IlType)]) {
+fn names(rt: &impl Abort, program: &Program, wanted: &[External]) {
     let externals = program.externals.as_slice();
-    assert_eq!(rt; externals.len(), wanted.len());
+    assert_same(rt, &externals.len(), &wanted.len());
     for (external, (line, name, kind)) in externals.iter().zip(wanted) {
         let is_wanted = external.line == *line && external.kind == *kind;
-        assert!(rt; is_wanted && external.name.as_str() == *name, "of {name}");
+        assert_true_at(rt, is_wanted && external.name.as_str() == *name, name);
     }
 }
 
 const WHOLE: &str =
     "(* A program\nend *)(*) *)\tPROGRAM P\r\nVAR a : INT := -1_0;\n b, C\n : dint; END_VAR\nvar (**) x_1:INT:=+07;end_var ldn A\r\n\n ADD-7\nSUB (* over\nlines *) c\nSTN X_1\nEND_PROGRAM\n (* end *)\n";
 
-static WHOLE_VARIABLES: [Variable; 4] = [
+const WHOLE_VARIABLES: &[Variable] = &[
     (3, "a", -32768, 32767, -10),
     (4, "b", -2147483648, 2147483647, 0),
     (4, "c", -2147483648, 2147483647, 0),
     (6, "x_1", -32768, 32767, 7),
 ];
 
-static WHOLE_LINES: [Line; 4] = [
+const WHOLE_LINES: &[Line] = &[
     (6, "", ("LD", "N")),
     (8, "", ("ADD", "")),
     (9, "", ("SUB", "")),
     (11, "", ("ST", "N")),
 ];
 
-#[test]
-fn reads_a_program(rt: HostRuntime) {
-    let program = program_of(&rt, rt.alloc(), WHOLE);
-    assert_eq!(rt; program.name.as_str(), "p");
-    assert_eq!(rt; program.end_line, 12);
-    declares(&rt, &program, &WHOLE_VARIABLES);
-    has_lines(&rt, &program, &WHOLE_LINES);
-}
-
 const DECLARED: &str =
     "PROGRAM p VAR_EXTERNAL u, v\n: INT; w : BOOL; END_VAR VAR q, v_o : BOOL := TRUE;\nu_okay : USINT (16#10 .. 8#77)\n:= USINT#2#1_0001; k : LINT := -9223372036854775808; f : BOOL;\nn : SINT (-128..127); END_VAR VAR_EXTERNAL END_VAR END_PROGRAM\n";
 
-static DECLARED_VARIABLES: [Variable; 6] = [
+const DECLARED_VARIABLES: &[Variable] = &[
     (2, "q", 0, 1, 1),
     (2, "v_o", 0, 1, 1),
     (3, "u_okay", 16, 63, 17),
@@ -82,18 +78,11 @@ static DECLARED_VARIABLES: [Variable; 6] = [
     (5, "n", -128, 127, -128),
 ];
 
-static DECLARED_EXTERNALS: [(u32, &str, IlType); 3] = [
+const DECLARED_EXTERNALS: &[External] = &[
     (1, "u", IlType::Int),
     (1, "v", IlType::Int),
     (2, "w", IlType::Bool),
 ];
-
-#[test]
-fn reads_declarations(rt: HostRuntime) {
-    let program = program_of(&rt, rt.alloc(), DECLARED);
-    declares(&rt, &program, &DECLARED_VARIABLES);
-    names(&rt, &program, &DECLARED_EXTERNALS);
-}
 
 /// Declarations without blanks, and the words of the grammar in letters of both cases.
 static PACKED: [(&str, IlType, i64, i64, i64); 4] = [
@@ -137,14 +126,14 @@ fn reads_declarations_without_blanks(rt: HostRuntime) {
     for (text, kind, low, high, start) in &PACKED {
         let program = program_of(&rt, rt.alloc(), text);
         declares(&rt, &program, &[(2, "a", *low, *high, *start)]);
-        assert!(rt; first_kind(&rt, &program) == *kind);
+        assert_true(&rt, first_kind(&rt, &program) == *kind);
     }
 }
 
 const INSTRUCTED: &str =
     "PROGRAM p\na:\nb: LD INT#-5\nc (* x\n*) : (* y\n*) LIMIT TRUE , a\nSEL 1, 2\nNOT\nABS\nINT_TO_DINT\nS x\nR x\nJMP a\n{ Loop 255 } JMPCN d\ne: {LOOP 1}JMP e\nRETC\nANDN x\n&N x\nMIN 3\nEND_PROGRAM";
 
-static INSTRUCTED_LINES: [Line; 16] = [
+const INSTRUCTED_LINES: &[Line] = &[
     (2, "a", ("", "")),
     (3, "b", ("LD", "")),
     (4, "c", ("LIMIT", "")),
@@ -163,11 +152,70 @@ static INSTRUCTED_LINES: [Line; 16] = [
     (19, "", ("MIN", "")),
 ];
 
+/// Names that end as presences do, of a variable and an external.
+const PRESENCES: &str =
+    "PROGRAM p VAR p, p_ok : INT; END_VAR VAR_EXTERNAL q_oki, q : INT; END_VAR END_PROGRAM\n";
+
+const PRESENCE_VARIABLES: &[Variable] = &[
+    (1, "p", -32768, 32767, 0),
+    (1, "p_ok", -32768, 32767, 0),
+];
+
+const PRESENCE_EXTERNALS: &[External] = &[(1, "q_oki", IlType::Int), (1, "q", IlType::Int)];
+
+/// A text, and what the program p has that it is.
+struct Whole {
+    text: &'static str,
+    variables: &'static [Variable],
+    externals: &'static [External],
+    lines: &'static [Line],
+    end_line: u32,
+}
+
+static WHOLES: [Whole; 4] = [
+    Whole {
+        text: WHOLE,
+        variables: WHOLE_VARIABLES,
+        externals: &[],
+        lines: WHOLE_LINES,
+        end_line: 12,
+    },
+    Whole {
+        text: DECLARED,
+        variables: DECLARED_VARIABLES,
+        externals: DECLARED_EXTERNALS,
+        lines: &[],
+        end_line: 5,
+    },
+    Whole {
+        text: INSTRUCTED,
+        variables: &[],
+        externals: &[],
+        lines: INSTRUCTED_LINES,
+        end_line: 20,
+    },
+    Whole {
+        text: PRESENCES,
+        variables: PRESENCE_VARIABLES,
+        externals: PRESENCE_EXTERNALS,
+        lines: &[],
+        end_line: 1,
+    },
+];
+
+fn assert_whole(rt: &impl Abort, program: &Program, wanted: &Whole) {
+    let found = (program.name.as_str(), program.end_line);
+    assert_same(rt, &found, &("p", wanted.end_line));
+    declares(rt, program, wanted.variables);
+    names(rt, program, wanted.externals);
+    has_lines(rt, program, wanted.lines);
+}
+
 #[test]
-fn reads_instructions(rt: HostRuntime) {
-    let program = program_of(&rt, rt.alloc(), INSTRUCTED);
-    has_lines(&rt, &program, &INSTRUCTED_LINES);
-    assert_eq!(rt; program.end_line, 20);
+fn reads_whole_programs(rt: HostRuntime) {
+    for whole in &WHOLES {
+        assert_whole(&rt, &program_of(&rt, rt.alloc(), whole.text), whole);
+    }
 }
 
 static OPERANDS: [Instruction; 4] = [
@@ -213,28 +261,55 @@ static TURNS: [(&str, Option<u8>); 5] = [
 fn reads_turns(rt: HostRuntime) {
     for (text, wanted) in &TURNS {
         let program = program_of(&rt, rt.alloc(), text);
-        assert_eq!(rt; turns(action_at(&rt, &program, 0)), *wanted, "at {text}");
+        let found = turns(action_at(&rt, &program, 0));
+        assert_same_at(&rt, &found, wanted, text);
     }
 }
 
-#[test]
-fn declares_a_presence_of_a_variable(rt: HostRuntime) {
-    let text =
-        "PROGRAM p VAR p, p_ok : INT; END_VAR VAR_EXTERNAL q_oki, q : INT; END_VAR END_PROGRAM\n";
-    let program = program_of(&rt, rt.alloc(), text);
-    assert_eq!(rt; (program.variables.len(), program.externals.len()), (2, 2));
+/// A program that shows the power of two inverters and limits the first one.
+pub(crate) static LIMITER: &str =
+    r#"(* Shows the total power of two inverters, and limits the first one to the target that clients set. *)
+PROGRAM limiter
+VAR_EXTERNAL
+  inv1_w, inv2_w : DINT;
+  target, lim1 : INT;
+  ena1 : BOOL;
+END_VAR
+VAR
+  total : DINT (0..200000);
+END_VAR
+  LD inv1_w_OK
+  AND inv2_w_OK
+  JMPCN hold
+  LD inv1_w
+  ADD inv2_w
+  MAX 0
+  ST total
+hold:
+  LD target
+  ST lim1
+  LD TRUE
+  ST ena1
+END_PROGRAM
+"#;
+
+/// A text is refused for what it says.
+fn assert_refused(rt: &impl Abort, fault: Option<(ReadFaultKind, u32)>) {
+    let (kind, _) = fault.expect(rt, "a fault");
+    assert_true(rt, kind != ReadFaultKind::TooLong);
+    assert_true(rt, kind != ReadFaultKind::OutOfMemory);
 }
 
-/// A program that holds the power of two inverters.
-const LIMITER: &str =
-    "PROGRAM limiter\nVAR_EXTERNAL\ninv1_w, inv2_w : DINT;\ntarget, lim1 : INT;\nena1 : BOOL;\nEND_VAR\nVAR\ntotal : DINT (0..200000);\nEND_VAR\nLD inv1_w_OK\nAND inv2_w_OK\nJMPCN hold\nLD inv1_w\nADD inv2_w\nMAX 0\nST total\nhold:\nLD target\nST lim1\nLD TRUE\nST ena1\nEND_PROGRAM";
-
 #[test]
-fn refuses_a_program_that_lacks_its_last_letter(rt: HostRuntime) {
-    assert!(rt; fault_of(rt.alloc(), LIMITER).is_none());
-    let (most, _) = LIMITER.split_at(LIMITER.len() - 1);
-    let fault = fault_of(rt.alloc(), most);
-    assert_eq!(rt; fault, Some((ReadFaultKind::Header, 22)));
+fn refuses_each_front_of_a_program_that_lacks_its_last_letter(rt: HostRuntime) {
+    assert_true(&rt, fault_of(rt.alloc(), LIMITER).is_none());
+    let (most, _) = LIMITER.rsplit_once('M').expect(&rt, "an M");
+    for end in 0..=most.len() {
+        let front = most.get(..end).expect(&rt, "a front");
+        assert_refused(&rt, fault_of(rt.alloc(), front));
+    }
+    let longest = fault_of(rt.alloc(), most);
+    assert_same(&rt, &longest, &Some((ReadFaultKind::Header, 23)));
 }
 
 /// A program, and blanks behind it up to this size.
@@ -253,7 +328,7 @@ fn keeps_to_the_size_of_a_text(rt: HostRuntime) {
         (1_048_577, Some((ReadFaultKind::TooLong, 1))),
     ] {
         let text = sized(&rt, rt.alloc(), size);
-        assert_eq!(rt; fault_of(rt.alloc(), text.as_str()), wanted);
+        assert_same(&rt, &fault_of(rt.alloc(), text.as_str()), &wanted);
     }
 }
 
@@ -263,8 +338,7 @@ fn prints_faults(rt: HostRuntime) {
         line: 1,
         kind: ReadFaultKind::TooLong,
     };
-    let printed = format!(in rt.alloc(); "{fault}").expect(&rt, "memory");
-    assert_eq!(rt; printed.as_str(), "TooLong line 1");
+    assert_prints(&rt, rt.alloc(), &fault, "TooLong line 1");
 }
 
 /// The text, and behind it 1,023 names that begin with this word.
@@ -314,8 +388,9 @@ fn reads_as_many_names_as_there_may_be(rt: HostRuntime) {
     let text = of_externals(&rt, rt.alloc());
     let text = joined(&rt, rt.alloc(), text.as_str(), ": INT; END_VAR END_PROGRAM");
     let program = program_of(&rt, rt.alloc(), text.as_str());
-    assert_eq!(rt;
-        (program.variables.len(), program.externals.len()),
-        (1024, 1024)
+    assert_same(
+        &rt,
+        &(program.variables.len(), program.externals.len()),
+        &(1024, 1024),
     );
 }

@@ -5,7 +5,7 @@ use crate::tests::refuses;
 /// Lines 1 and 2 of most texts that are refused.
 const HEAD: &str = "PROGRAM p\nVAR a : INT; END_VAR\n";
 
-static LINES: [(&str, &str, u32); 22] = [
+const LINES: &[(&str, &str, u32)] = &[
     ("LD\nEND_PROGRAM\n", "Operand", 3),
     ("LD a\nLD\nFOO a\nEND_PROGRAM\n", "Operand", 4),
     ("LD a\nLD a\nFOO a\nEND_PROGRAM\n", "Operator", 5),
@@ -30,12 +30,7 @@ static LINES: [(&str, &str, u32); 22] = [
     ("x: LD a\nX LD a\n", "Duplicate", 4),
 ];
 
-#[test]
-fn refuses_lines(rt: HostRuntime) {
-    refuses(&rt, rt.alloc(), HEAD, &LINES);
-}
-
-static PRAGMAS: [(&str, &str, u32); 13] = [
+const PRAGMAS: &[(&str, &str, u32)] = &[
     ("{LOOP 0} JMP x\n", "Literal", 3),
     ("{LOOP 256} JMP x\n", "Literal", 3),
     ("{LOOP +9} JMP x\n", "Literal", 3),
@@ -51,12 +46,7 @@ static PRAGMAS: [(&str, &str, u32); 13] = [
     ("END_PROGRAM }\n", "Word", 3),
 ];
 
-#[test]
-fn refuses_pragmas(rt: HostRuntime) {
-    refuses(&rt, rt.alloc(), HEAD, &PRAGMAS);
-}
-
-static WORDS: [(&str, &str, u32); 17] = [
+const WORDS: &[(&str, &str, u32)] = &[
     ("LD 9999999999999999999\n", "Literal", 3),
     ("LD 9223372036854775808\n", "Literal", 3),
     ("LD INT#32768\n", "Literal", 3),
@@ -76,12 +66,7 @@ static WORDS: [(&str, &str, u32); 17] = [
     ("LD 5_", "Header", 3),
 ];
 
-#[test]
-fn refuses_words(rt: HostRuntime) {
-    refuses(&rt, rt.alloc(), HEAD, &WORDS);
-}
-
-static DECLARATIONS: [(&str, &str, u32); 19] = [
+const DECLARATIONS: &[(&str, &str, u32)] = &[
     ("VAR a : REAL;\n", "Declaration", 2),
     ("VAR a : SINT := 200;\n", "Declaration", 2),
     ("VAR a : INT := 32768;\n", "Declaration", 2),
@@ -103,12 +88,7 @@ static DECLARATIONS: [(&str, &str, u32); 19] = [
     ("VAR { a : INT;\n", "Word", 2),
 ];
 
-#[test]
-fn refuses_declarations(rt: HostRuntime) {
-    refuses(&rt, rt.alloc(), "PROGRAM p\n", &DECLARATIONS);
-}
-
-static NAMES: [(&str, &str, u32); 6] = [
+const NAMES: &[(&str, &str, u32)] = &[
     ("VAR a : INT;\nA : INT;\n", "Duplicate", 3),
     ("VAR a,\na : INT;\n", "Duplicate", 3),
     (
@@ -129,12 +109,7 @@ static NAMES: [(&str, &str, u32); 6] = [
     ("VAR_EXTERNAL p_ok,\np : INT;\n", "Duplicate", 3),
 ];
 
-#[test]
-fn refuses_names(rt: HostRuntime) {
-    refuses(&rt, rt.alloc(), "PROGRAM p\n", &NAMES);
-}
-
-static HEADERS: [(&str, &str, u32); 7] = [
+const HEADERS: &[(&str, &str, u32)] = &[
     ("", "Header", 1),
     ("PROGRAM", "Header", 1),
     ("\nPROGRAM VAR\n", "Header", 2),
@@ -148,12 +123,7 @@ static HEADERS: [(&str, &str, u32); 7] = [
     ),
 ];
 
-#[test]
-fn refuses_headers(rt: HostRuntime) {
-    refuses(&rt, rt.alloc(), "", &HEADERS);
-}
-
-static PARENTHESES: [(&str, &str, u32); 19] = [
+const PARENTHESES: &[(&str, &str, u32)] = &[
     ("ADD(\n)\n", "Operand", 4),
     ("ADD( )\n", "Operand", 3),
     ("ADD( 1 )\n", "Operand", 3),
@@ -172,16 +142,25 @@ static PARENTHESES: [(&str, &str, u32); 19] = [
     ("ADD( 1\n5\n", "Operator", 4),
     ("ADD( 1\nVAR\n", "Operator", 4),
     ("ADD( 1\n{LOOP 9} JMP x\n", "Word", 4),
-    ("ADD( 1\nFOO\n", "Parenthesis", 4),
 ];
 
-#[test]
-fn refuses_parentheses(rt: HostRuntime) {
-    refuses(&rt, rt.alloc(), HEAD, &PARENTHESES);
-}
+/// A name inside is no operator, or a label where its colon comes next.
+const NAMES_INSIDE: &[(&str, &str, u32)] = &[
+    ("ADD( 1\nFOO\n", "Operator", 4),
+    ("ADD( 1\nFOO 2\n)\n", "Operator", 4),
+    ("orn( v0\nabs\ne9 s_r\n", "Operator", 5),
+    ("ADD( 1\nu6)\n", "Operator", 4),
+    ("ADD( 1\nx\n: LD 1\n", "Operator", 4),
+    ("ADD( 1\nx := 1\n", "Operator", 4),
+    ("ADD( 1\nx (* : *) LD 1\n", "Operator", 4),
+    ("ADD( 1\nx:", "Parenthesis", 4),
+    ("ADD( 1\nx\t:LD 1\n", "Parenthesis", 4),
+    ("ADD( 1\nx (*\n*) : LD 1\n", "Parenthesis", 4),
+    ("ADD( 1\nLD 1\nx : $\n", "Parenthesis", 5),
+];
 
 /// Inside two parentheses.
-static OF_THE_BODY: [(&str, &str, u32); 11] = [
+const OF_THE_BODY: &[(&str, &str, u32)] = &[
     ("ST a\n", "Parenthesis", 5),
     ("STN a\n", "Parenthesis", 5),
     ("S a\n", "Parenthesis", 5),
@@ -195,12 +174,7 @@ static OF_THE_BODY: [(&str, &str, u32); 11] = [
     ("x:\n", "Parenthesis", 5),
 ];
 
-#[test]
-fn refuses_instructions_of_the_body_inside(rt: HostRuntime) {
-    refuses(&rt, rt.alloc(), "PROGRAM p\nADD( 1\n\nMUL(\n", &OF_THE_BODY);
-}
-
-static STAY_OPEN: [(&str, &str, u32); 12] = [
+const STAY_OPEN: &[(&str, &str, u32)] = &[
     ("ADD(", "Parenthesis", 3),
     ("ADD(\n", "Parenthesis", 3),
     ("ADD( 1", "Parenthesis", 3),
@@ -215,7 +189,23 @@ static STAY_OPEN: [(&str, &str, u32); 12] = [
     ("ADD", "Header", 3),
 ];
 
+/// How the texts of each list begin.
+static REFUSED: [(&str, &[(&str, &str, u32)]); 10] = [
+    (HEAD, LINES),
+    (HEAD, PRAGMAS),
+    (HEAD, WORDS),
+    ("PROGRAM p\n", DECLARATIONS),
+    ("PROGRAM p\n", NAMES),
+    ("", HEADERS),
+    (HEAD, PARENTHESES),
+    (HEAD, NAMES_INSIDE),
+    ("PROGRAM p\nADD( 1\n\nMUL(\n", OF_THE_BODY),
+    (HEAD, STAY_OPEN),
+];
+
 #[test]
-fn refuses_parentheses_that_stay_open(rt: HostRuntime) {
-    refuses(&rt, rt.alloc(), HEAD, &STAY_OPEN);
+fn refuses_each_text(rt: HostRuntime) {
+    for (head, texts) in &REFUSED {
+        refuses(&rt, rt.alloc(), head, texts);
+    }
 }

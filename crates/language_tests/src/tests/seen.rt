@@ -1,6 +1,6 @@
 //! What these tests look at in the tree of a program.
 
-use crate::tests::{joined, program_of};
+use crate::tests::{assert_same, assert_true_at, joined, program_of};
 use il_reader::{Action, InnerLine, Operand, Program, Simple, Statement};
 use point_types::{Condition, IlType, Operator};
 use std::alloc::Global;
@@ -177,10 +177,8 @@ pub(crate) fn instructs(rt: &impl Abort, alloc: Global, wanted: &[Instruction]) 
         let head = joined(rt, alloc, "PROGRAM p\n", text);
         let whole = joined(rt, alloc, head.as_str(), "\nEND_PROGRAM");
         let program = program_of(rt, alloc, whole.as_str());
-        assert!(rt;
-            is_instruction(action_at(rt, &program, 0), row),
-            "at {text}"
-        );
+        let is_wanted = is_instruction(action_at(rt, &program, 0), row);
+        assert_true_at(rt, is_wanted, &text);
     }
 }
 
@@ -196,10 +194,9 @@ pub(crate) type Line = (u32, &'static str, Spelled);
 /// The program has these lines.
 pub(crate) fn has_lines(rt: &impl Abort, program: &Program, wanted: &[Line]) {
     let statements = program.statements.as_slice();
-    assert_eq!(rt; statements.len(), wanted.len());
+    assert_same(rt, &statements.len(), &wanted.len());
     for (statement, line) in statements.iter().zip(wanted) {
-        let number = line.0;
-        assert!(rt; is_line(statement, line), "in {number}");
+        assert_true_at(rt, is_line(statement, line), &line.0);
     }
 }
 

@@ -2,6 +2,7 @@
 
 ghost use Rattle.std.specs.Prelude.{◌≡◌};
 
+use crate::tests::assert_same;
 use intervals::{Relation, Span};
 
 const LEAST: i128 = -9_223_372_036_854_775_808;
@@ -32,7 +33,7 @@ fn spans_of_results(rt: HostRuntime) {
         (span(LEAST, -1).abs(), 1, -LEAST),
         (span(1, 2).join(span(8, 9)), 1, 9),
     ] {
-        assert_eq!(rt; made, span(low, high));
+        assert_same(&rt, &made, &span(low, high));
     }
 }
 
@@ -53,7 +54,7 @@ fn spans_that_are_cut(rt: HostRuntime) {
         (span(5, 9).cut(Relation::Lt, span(1, 5)), None),
         (span(0, 1).cut(Relation::Eq, span(2, 3)), None),
     ] {
-        assert_eq!(rt; left, want);
+        assert_same(&rt, &left, &want);
     }
 }
 
@@ -66,6 +67,6 @@ fn spans_within_spans(rt: HostRuntime) {
         (span(-1, 1).contains(0), true),
         (span(1, 2).contains(0), false),
     ] {
-        assert_eq!(rt; found, wanted);
+        assert_same(&rt, &found, &wanted);
     }
 }

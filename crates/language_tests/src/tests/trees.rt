@@ -1,12 +1,13 @@
-//! Trees that no text has: more parentheses or names than a reader lets pass, and a name that comes twice.
+//! Trees that no text has: more parentheses or names than a reader lets pass, a name that comes twice, and a BOOL with
+//! a subrange.
 
 use crate::tests::assembly::outcome_of;
-use crate::tests::program_of;
+use crate::tests::{assert_same, program_of};
 use il_assemble::AsmFaultKind;
 use il_reader::{
     Action, Computation, External, InnerLine, Operand, Program, Simple, Statement, Variable,
 };
-use point_types::{Items, Operator};
+use point_types::{IlType, Items, Operator, Var};
 use std::alloc::Global;
 use std::process::Abort;
 
@@ -62,7 +63,7 @@ fn add(rt: &impl Abort, statements: &mut Items<Statement>, action: Action) {
 fn parentheses_in_one_another(rt: HostRuntime) {
     for (depth, wanted) in [(100, Ok(1214)), (101, Err((2, AsmFaultKind::TooLong)))] {
         let tree = nested(&rt, rt.alloc(), depth);
-        assert_eq!(rt; outcome_of(rt.alloc(), &tree), wanted);
+        assert_same(&rt, &outcome_of(rt.alloc(), &tree), &wanted);
     }
 }
 
@@ -117,14 +118,37 @@ fn with_externals(rt: &impl Abort, alloc: Global, last: u32) -> Program {
 fn names_too_many(rt: HostRuntime) {
     let wide = with_variables(&rt, rt.alloc(), 1025);
     let wanted = Err((1025, AsmFaultKind::TooLong));
-    assert_eq!(rt; outcome_of(rt.alloc(), &wide), wanted);
+    assert_same(&rt, &outcome_of(rt.alloc(), &wide), &wanted);
     let tagged = with_externals(&rt, rt.alloc(), 1025);
-    assert_eq!(rt; outcome_of(rt.alloc(), &tagged), wanted);
+    assert_same(&rt, &outcome_of(rt.alloc(), &tagged), &wanted);
 }
 
 #[test]
 fn a_name_that_comes_twice(rt: HostRuntime) {
     let twice = with_variables(&rt, rt.alloc(), 2);
     let wanted = Err((1, AsmFaultKind::TooLong));
-    assert_eq!(rt; outcome_of(rt.alloc(), &twice), wanted);
+    assert_same(&rt, &outcome_of(rt.alloc(), &twice), &wanted);
+}
+
+/// A program with one variable more, in line 7: a BOOL that is always FALSE.
+fn with_constant(rt: &impl Abort, alloc: Global) -> Program {
+    let text = "PROGRAM p VAR a : BOOL; END_VAR LD q\nEND_PROGRAM";
+    let mut program = program_of(rt, alloc, text);
+    let var = Var {
+        name: first_variable(rt, &program).var.name,
+        kind: IlType::Bool,
+        low: 0,
+        high: 0,
+        start: 0,
+    };
+    let variable = Variable { line: 7, var };
+    program.variables.push(variable).expect(rt, "memory");
+    program
+}
+
+#[test]
+fn a_bool_with_a_subrange(rt: HostRuntime) {
+    let tree = with_constant(&rt, rt.alloc());
+    let wanted = Err((7, AsmFaultKind::LiteralType));
+    assert_same(&rt, &outcome_of(rt.alloc(), &tree), &wanted);
 }

@@ -6,10 +6,8 @@ ghost use Rattle.verifier.specs.Links.{is_stored};
 ghost use Rattle.verifier.specs.Ranges.{range_of};
 ghost use Rattle.verifier.specs.Sound.{IsInputOf, IsReadingOf};
 
-use crate::tests::programs::{Program, QUOTIENT};
-use crate::tests::worked::{CASES, Case, OF_POWERS, POWERS, QUOTIENTS, SITE, Worked};
-use crate::tests::{image, sixty_two_jumps, trial, tried_output, tried_value};
-use model_defs::ModelDef;
+use crate::tests::worked::{CASES, Case, OF_POWERS, POWERS, QUOTIENTS, Worked};
+use crate::tests::{assert_same, image_of, sixty_two_jumps, trial, tried_output, tried_value};
 use point_types::Reading;
 use scan_code::Image;
 use scan_vm::{Machine, Scan, Trial};
@@ -18,23 +16,27 @@ use std::alloc::Global;
 use std::process::Abort;
 use verifier::Link;
 use verifier::verify::verify;
-
-fn definition(rt: &impl Abort, alloc: Global, id: u16) -> ModelDef {
-    let text = model_defs::shipped(id).expect(rt, "a text");
-    model_defs::read(alloc, text.as_bytes()).expect(rt, "a model")
-}
+use worked_texts::programs::{Program, QUOTIENT};
+use worked_texts::sites::{SITE, site_of};
 
 fn site(rt: &impl Abort, alloc: Global) -> Site {
-    let mut models: Vec<ModelDef> = Vec::new(alloc);
-    for id in [1, 103, 123] {
-        models.push(definition(rt, alloc, id)).expect(rt, "memory");
-    }
-    Site::read(alloc, SITE, models.as_slice()).expect(rt, "a site")
+    site_of(alloc, SITE).expect(rt, "a site")
 }
 
-fn accepted(rt: &impl Abort, alloc: Global, image: Image, site: &Site) -> Machine<32> {
+fn machine_of(rt: &impl Abort, alloc: Global, image: Image, site: &Site) -> Machine<32> {
     let verified = verify(alloc, image, site).ok();
     Machine::new(alloc, verified.expect(rt, "a yes")).expect(rt, "memory")
+}
+
+/// The machine of a program that is accepted, with these start values.
+fn accepted(
+    rt: &impl Abort,
+    alloc: Global,
+    site: &Site,
+    program: &Program,
+    starts: &[i64],
+) -> Machine<32> {
+    machine_of(rt, alloc, image_of(rt, alloc, program, starts), site)
 }
 
 /// Whether an input may have a reading.
@@ -95,12 +97,20 @@ fn output(machine: &Machine<32>, t: usize) -> Option<i64> {
 }
 
 /// A scan of readings that it may be given.
-fn scanned(rt: &impl Abort, machine: &mut Machine<32>, readings: &[Reading]) -> Scan {
+pub(crate) fn scanned(rt: &impl Abort, machine: &mut Machine<32>, readings: &[Reading]) -> Scan {
     let tags = machine.verified().image().tags.len();
     assert!(rt; readings.len() == tags);
     let are_allowed = are_readings(machine.verified().links(), readings);
     assert!(rt; are_allowed);
     machine.scan(readings)
+}
+
+/// Both machines have the same variables and outputs.
+fn assert_agree(rt: &impl Abort, trial: &Trial, machine: &Machine<32>) {
+    for i in 0..4 {
+        assert_same(rt, &tried_value(trial, i), &value(machine, i));
+        assert_same(rt, &tried_output(trial, i), &output(machine, i));
+    }
 }
 
 /// One scan of both machines: both end, with the same steps, variables and outputs. Gives the steps.
@@ -111,33 +121,39 @@ fn scan_both(
     readings: &[Reading],
 ) -> u32 {
     let scan = scanned(rt, machine, readings);
-    assert!(rt; trial.scan(readings) == Ok(scan));
-    for i in 0..4 {
-        assert!(rt; tried_value(trial, i) == value(machine, i));
-        assert!(rt; tried_output(trial, i) == output(machine, i));
-    }
+    assert_same(rt, &trial.scan(readings), &Ok(scan));
+    assert_agree(rt, trial, machine);
     scan.steps
+}
+
+/// The machine has these variables and outputs, as far as there are two of them.
+fn assert_stands(rt: &impl Abort, machine: &Machine<32>, scan: &Worked) {
+    for i in 0..2 {
+        assert_same(rt, &value(machine, i), &scan.variables.get(i).copied());
+        let stored = scan.outputs.get(i).copied().unwrap_or(None);
+        assert_same(rt, &output(machine, i), &stored);
+    }
 }
 
 /// The scans of a case, one after the other.
 fn run(rt: &impl Abort, trial: &mut Trial, machine: &mut Machine<32>, scans: &[Worked]) {
     for scan in scans {
-        assert_eq!(rt; scan_both(rt, trial, machine, scan.readings), scan.steps);
-        for i in 0..2 {
-            assert_eq!(rt; value(machine, i), scan.variables.get(i).copied());
-            let stored = scan.outputs.get(i).copied().unwrap_or(None);
-            assert_eq!(rt; output(machine, i), stored);
-        }
+        let steps = scan_both(rt, trial, machine, scan.readings);
+        assert_same(rt, &steps, &scan.steps);
+        assert_stands(rt, machine, scan);
     }
 }
 
-/// A case on both machines.
-fn run_case(rt: &impl Abort, alloc: Global, site: &Site, case: &Case) {
+/// A case on this machine, and on a trial beside it.
+fn run_beside(rt: &impl Abort, alloc: Global, machine: &mut Machine<32>, case: &Case) {
     let mut trial = trial(rt, alloc, &case.program, case.starts);
-    let image = image(rt, alloc, &case.program, case.starts);
-    let mut machine = accepted(rt, alloc, image, site);
-    assert_eq!(rt; machine.verified().budget(), case.budget);
-    run(rt, &mut trial, &mut machine, case.scans);
+    run(rt, &mut trial, machine, case.scans);
+}
+
+fn run_case(rt: &impl Abort, alloc: Global, site: &Site, case: &Case) {
+    let mut machine = accepted(rt, alloc, site, &case.program, case.starts);
+    assert_same(rt, &machine.verified().budget(), &case.budget);
+    run_beside(rt, alloc, &mut machine, case);
 }
 
 #[test]
@@ -148,15 +164,22 @@ fn runs_accepted_programs(rt: HostRuntime) {
     }
 }
 
-/// 100 by a divisor: the steps and the quotient.
+/// 100 by a divisor, on this machine and on a trial beside it: the steps and the quotient.
+fn divide_beside(
+    rt: &impl Abort,
+    alloc: Global,
+    machine: &mut Machine<32>,
+    divisor: i64,
+) -> (u32, Option<i64>) {
+    let mut trial = trial(rt, alloc, &QUOTIENT, &[divisor, 0]);
+    let steps = scan_both(rt, &mut trial, machine, &[]);
+    (steps, value(machine, 1))
+}
+
 fn divide(rt: &impl Abort, alloc: Global, site: &Site, divisor: i64) -> (u32, Option<i64>) {
-    let starts = [divisor, 0];
-    let mut trial = trial(rt, alloc, &QUOTIENT, &starts);
-    let image = image(rt, alloc, &QUOTIENT, &starts);
-    let mut machine = accepted(rt, alloc, image, site);
-    assert_eq!(rt; machine.verified().budget(), 11);
-    let steps = scan_both(rt, &mut trial, &mut machine, &[]);
-    (steps, value(&machine, 1))
+    let mut machine = accepted(rt, alloc, site, &QUOTIENT, &[divisor, 0]);
+    assert_same(rt, &machine.verified().budget(), &11);
+    divide_beside(rt, alloc, &mut machine, divisor)
 }
 
 #[test]
@@ -164,35 +187,46 @@ fn divides_by_what_is_not_zero(rt: HostRuntime) {
     let site = site(&rt, rt.alloc());
     for (divisor, steps, quotient) in &QUOTIENTS {
         let found = divide(&rt, rt.alloc(), &site, *divisor);
-        assert!(rt; found == (*steps, Some(*quotient)));
+        assert_same(&rt, &found, &(*steps, Some(*quotient)));
     }
 }
 
-/// Scans of a program on each pair of powers, one after the other.
-fn scan_pairs(rt: &impl Abort, alloc: Global, site: &Site, program: &Program) {
-    let mut trial = trial(rt, alloc, program, &[0]);
-    let image = image(rt, alloc, program, &[0]);
-    let mut machine = accepted(rt, alloc, image, site);
+/// Scans on each pair of powers, one after the other.
+fn scan_pairs(rt: &impl Abort, trial: &mut Trial, machine: &mut Machine<32>) {
     for first in &POWERS {
         for second in &POWERS {
-            scan_both(rt, &mut trial, &mut machine, &[*first, *second]);
+            scan_both(rt, trial, machine, &[*first, *second]);
         }
     }
+}
+
+/// Those scans of a program on this machine, and on a trial beside it.
+fn scan_beside(rt: &impl Abort, alloc: Global, machine: &mut Machine<32>, program: &Program) {
+    let mut trial = trial(rt, alloc, program, &[0]);
+    scan_pairs(rt, &mut trial, machine);
+}
+
+fn agree_on_pairs(rt: &impl Abort, alloc: Global, site: &Site, program: &Program) {
+    let mut machine = accepted(rt, alloc, site, program, &[0]);
+    scan_beside(rt, alloc, &mut machine, program);
 }
 
 #[test]
 fn agrees_on_each_pair_of_powers(rt: HostRuntime) {
     let site = site(&rt, rt.alloc());
     for program in &OF_POWERS {
-        scan_pairs(&rt, rt.alloc(), &site, program);
+        agree_on_pairs(&rt, rt.alloc(), &site, program);
     }
+}
+
+fn assert_taken(rt: &impl Abort, mut machine: Machine<32>) {
+    assert_same(rt, &machine.verified().budget(), &996_093);
+    assert_same(rt, &scanned(rt, &mut machine, &[]).steps, &15_873);
 }
 
 #[test]
 fn takes_each_of_62_counted_jumps(rt: HostRuntime) {
     let site = site(&rt, rt.alloc());
     let image = sixty_two_jumps(&rt, rt.alloc());
-    let mut machine = accepted(&rt, rt.alloc(), image, &site);
-    assert_eq!(rt; machine.verified().budget(), 996_093);
-    assert_eq!(rt; scanned(&rt, &mut machine, &[]).steps, 15_873);
+    assert_taken(&rt, machine_of(&rt, rt.alloc(), image, &site));
 }

@@ -1,40 +1,16 @@
 //! Scans of the machine that tests each step: where they end, where they trap, and what they leave.
 
-use crate::tests::programs::{MOST_TURNS, NINE_TURNS, NO_REST, Program};
-use crate::tests::{sixty_two_jumps, trial, tried_output, tried_value, variables, write};
+use crate::tests::programs::NO_REST;
+use crate::tests::{assert_same, sixty_two_jumps, trial, tried_output, tried_value, write};
 use point_types::{Cause, IlType, Items, Operator, Reading};
 use scan_code::{Image, Op};
 use scan_vm::{Scan, Trap, TrapKind, Trial};
 use std::alloc::Global;
+use std::fmt::Display;
 use std::process::Abort;
-
-/// `LD seven / DIV 3 / ADD seven / ST a`
-const DIVIDED: Program = Program {
-    version: 1,
-    vars: &[
-        ("seven", IlType::Int, -32768, 32767),
-        ("a", IlType::Int, -32768, 32767),
-    ],
-    tags: &[],
-    code: &[
-        1, 0, 0, 12, 5, 2, 0, 0, 0, 0, 0, 0, 0, 3, 20, 12, 1, 0, 0, 17, 6, 0, 1, 0,
-    ],
-};
-
-/// `LD a / ADD 1 / ST a`, where a has its type's range.
-const ONE_MORE: Program = Program {
-    version: 1,
-    vars: &[("a", IlType::Int, -32768, 32767)],
-    tags: &[],
-    code: &[1, 0, 0, 12, 5, 2, 0, 0, 0, 0, 0, 0, 0, 1, 17, 6, 0, 0, 0],
-};
-
-/// The same, where z is at most 100.
-const ONE_PERCENT_MORE: Program = Program {
-    version: 1,
-    vars: &[("z", IlType::Int, 0, 100)],
-    tags: &[],
-    code: &[1, 0, 0, 12, 5, 2, 0, 0, 0, 0, 0, 0, 0, 1, 17, 6, 0, 0, 0],
+use worked_texts::images::variables;
+use worked_texts::programs::{
+    DIVIDED, MOST_TURNS, NINE_TURNS, NO_RESULT, ONE_MORE, ONE_PERCENT_MORE, Program,
 };
 
 /// `LD 1 / DIV 0 / ST a`
@@ -79,14 +55,6 @@ const UNDEFERRED: Program = Program {
     vars: &[],
     tags: &[],
     code: &[17, 0],
-};
-
-/// A store without a result.
-const NO_RESULT: Program = Program {
-    version: 1,
-    vars: &[("a", IlType::Int, -32768, 32767)],
-    tags: &[],
-    code: &[6, 0, 0, 0],
 };
 
 /// `LD in / ST out / LD in_ok / ST c`
@@ -327,9 +295,16 @@ static CASES: [Case; 14] = [
 /// The variables and outputs of a trial, as far as there are two of them.
 fn stands(rt: &impl Abort, trial: &Trial, variables: &[i64], outputs: &[Option<i64>]) {
     for i in 0..2 {
-        assert_eq!(rt; tried_value(trial, i), variables.get(i).copied());
+        assert_same(rt, &tried_value(trial, i), &variables.get(i).copied());
         let stored = outputs.get(i).copied().unwrap_or(None);
-        assert_eq!(rt; tried_output(trial, i), stored);
+        assert_same(rt, &tried_output(trial, i), &stored);
+    }
+}
+
+fn assert_scans(rt: &impl Abort, trial: &mut Trial, scans: &[Tried]) {
+    for scan in scans {
+        assert_same(rt, &trial.scan(scan.readings), &scan.outcome);
+        stands(rt, trial, scan.variables, scan.outputs);
     }
 }
 
@@ -338,10 +313,7 @@ fn ends_or_traps_where_it_should(rt: HostRuntime) {
     for case in &CASES {
         let mut trial = trial(&rt, rt.alloc(), &case.program, case.starts);
         stands(&rt, &trial, case.starts, &[]);
-        for scan in case.scans {
-            assert!(rt; trial.scan(scan.readings) == scan.outcome);
-            stands(&rt, &trial, scan.variables, scan.outputs);
-        }
+        assert_scans(&rt, &mut trial, case.scans);
     }
 }
 
@@ -363,7 +335,8 @@ fn added_up(rt: &impl Abort, alloc: Global, count: u32) -> Vec<u8> {
 
 /// The trial of the same, with the sum as its variable.
 fn hundred(rt: &impl Abort, alloc: Global) -> Trial {
-    let vars = variables(rt, alloc, &[("a", IlType::Int, -32768, 32767)], &[0]);
+    let vars = variables(alloc, &[("a", IlType::Int, -32768, 32767)], &[0]);
+    let vars = vars.expect(rt, "variables");
     let code = Items::from_vec(added_up(rt, alloc, 100));
     let image = Image::new(1, vars, Items::new(alloc), code).expect(rt, "an image");
     Trial::new(alloc, image).expect(rt, "memory")
@@ -372,15 +345,15 @@ fn hundred(rt: &impl Abort, alloc: Global) -> Trial {
 #[test]
 fn defers_a_hundred_values(rt: HostRuntime) {
     let mut trial = hundred(&rt, rt.alloc());
-    assert_eq!(rt; trial.scan(&[]), Ok(Scan { steps: 303 }));
-    assert_eq!(rt; tried_value(&trial, 0), Some(101));
+    assert_same(&rt, &trial.scan(&[]), &Ok(Scan { steps: 303 }));
+    assert_same(&rt, &tried_value(&trial, 0), &Some(101));
 }
 
 #[test]
 fn takes_each_of_62_counted_jumps(rt: HostRuntime) {
     let image = sixty_two_jumps(&rt, rt.alloc());
     let mut trial = Trial::new(rt.alloc(), image).expect(&rt, "memory");
-    assert_eq!(rt; trial.scan(&[]), Ok(Scan { steps: 15873 }));
+    assert_same(&rt, &trial.scan(&[]), &Ok(Scan { steps: 15873 }));
 }
 
 static KINDS: [(TrapKind, &str); 7] = [
@@ -393,17 +366,20 @@ static KINDS: [(TrapKind, &str); 7] = [
     (TrapKind::StoreRange, "StoreRange"),
 ];
 
+fn assert_prints(rt: &impl Abort, alloc: Global, shown: &impl Display, text: &str) {
+    let printed = format!(in alloc; "{shown}").expect(rt, "memory");
+    assert_same(rt, &printed.as_str(), &text);
+}
+
 #[test]
 fn prints_traps(rt: HostRuntime) {
     let trap = Trap {
         at: 3,
         kind: TrapKind::WrongType,
     };
-    let text = format!(in rt.alloc(); "{trap}").expect(&rt, "memory");
-    assert_eq!(rt; text.as_str(), "Type at 3");
+    assert_prints(&rt, rt.alloc(), &trap, "Type at 3");
     for (kind, word) in &KINDS {
-        assert_eq!(rt; kind.word(), *word);
-        let printed = format!(in rt.alloc(); "{kind}").expect(&rt, "memory");
-        assert_eq!(rt; printed.as_str(), *word);
+        assert_same(&rt, &kind.word(), word);
+        assert_prints(&rt, rt.alloc(), kind, word);
     }
 }

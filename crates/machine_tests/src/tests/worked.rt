@@ -1,58 +1,8 @@
 //! Accepted programs, and what their scans make.
 
-use crate::tests::programs::{
-    BRANCHES, DEFERRED, GUARDED, LIMITED, MOST_TURNS, NINE_TURNS, NO_REST, Program, SUM,
-    TOWARD_ZERO,
-};
+use crate::tests::programs::{DEFERRED, LIMITED, NO_REST, TOWARD_ZERO};
 use point_types::{Cause, Reading};
-
-/// Two inverters: the power of each, and a limit of the first.
-pub const SITE: &str = "[gateway]
-unit = 1
-base = 40000
-models = [1]
-
-[[device]]
-name = \"inv1\"
-unit = 1
-
-[[device]]
-name = \"inv2\"
-unit = 2
-
-[[tag]]
-name = \"inv1_w\"
-access = \"in\"
-device = \"inv1\"
-model = 103
-point = \"W\"
-type = \"DINT\"
-exponent = 0
-low = -100000
-high = 100000
-
-[[tag]]
-name = \"inv2_w\"
-access = \"in\"
-device = \"inv2\"
-model = 103
-point = \"W\"
-type = \"DINT\"
-exponent = 0
-low = -100000
-high = 100000
-
-[[tag]]
-name = \"lim1\"
-access = \"out\"
-device = \"inv1\"
-model = 123
-point = \"WMaxLimPct\"
-type = \"INT\"
-exponent = 0
-low = 0
-high = 100
-";
+use worked_texts::programs::{BRANCHES, GUARDED, MOST_TURNS, NINE_TURNS, Program, SUM};
 
 /// A scan: its readings, its steps, and the variables and outputs behind it.
 pub struct Worked {

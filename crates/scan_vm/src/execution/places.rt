@@ -1,3 +1,4 @@
+//! What a trial's instructions load from and store to.
 ghost use Rattle.std.specs.Prelude.{◌≡◌, slice_get};
 ghost use Rattle.point_types.specs.Value.{is_within};
 ghost use Rattle.scan_code.specs.Table.{input_kind, output_kind};
@@ -10,15 +11,12 @@ use scan_code::Image;
 
 // The instructions that load and store variables, inputs and outputs.
 impl Execution {
-    ghost use Rattle.std.specs.Prelude.{◌≡◌, ℕ, ◌<◌, [], Some, None, Result, Ok, Err, MatchResult, IfErr, length, replicate, slice_set};
-    ghost use Rattle.point_types.specs.Value.{Value as TypedNumber, Fault, WrongType};
+    ghost use Rattle.std.specs.Prelude.{◌≡◌, ◌<◌, [], Some, None, Result, Ok, Err, MatchResult, slice_set};
+    ghost use Rattle.point_types.specs.Value.{WrongType};
     ghost use Rattle.scan_code.specs.declared.op.Op.TheVariants as does;
-    ghost use Rattle.scan_code.specs.Machine.{Ended, Goes, Trapped, done, opening, run, step, then_goes, with_result};
-    ghost use Rattle.scan_code.specs.Table.{acts, no_turns, output_value, storable};
-    ghost use Rattle.scan_vm.specs.Outcome.{told};
-    ghost use Rattle.scan_vm.specs.Progress.{Progresses, SameSizes};
-    ghost use Rattle.scan_vm.specs.Trap.{trap_of};
-    ghost use Rattle.scan_vm.specs.Step.{IsAfter, answer_of, is_set, no_image};
+    ghost use Rattle.scan_code.specs.Machine.{Goes, done, then_goes};
+    ghost use Rattle.scan_code.specs.Table.{acts, output_value, storable};
+    ghost use Rattle.scan_vm.specs.Step.{IsAfter, answer_of, is_set};
 
     /// The value of a variable.
     fn variable(&self, v: u16) -> Option<i64>

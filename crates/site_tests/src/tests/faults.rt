@@ -1,7 +1,7 @@
 //! Each rule of a site file, broken alone: what is replaced, by what, and the fault.
 
 use crate::tests::files::SITE;
-use crate::tests::{definitions, edited, fault_of};
+use crate::tests::{assert_same, assert_same_at, definitions, edited, fault_of};
 use model_defs::ModelDef;
 use site_model::SiteFault;
 use std::alloc::Global;
@@ -17,7 +17,8 @@ fn assert_faults(
     for edit in edits {
         let (old, new, fault) = *edit;
         let text = edited(rt, alloc, SITE, old, new);
-        assert_eq!(rt; fault_of(rt, alloc, defs, text.as_str()), fault, "{new}");
+        let found = fault_of(rt, alloc, defs, text.as_str());
+        assert_same_at(rt, &found, &fault, &new);
     }
 }
 
@@ -240,9 +241,14 @@ fn each_rule_has_its_fault(rt: HostRuntime) {
 #[test]
 fn a_broken_text(rt: HostRuntime) {
     let defs = definitions(&rt, rt.alloc());
-    assert_eq!(rt;
-        fault_of(&rt, rt.alloc(), &defs, "x = "),
-        SiteFault::NotToml
+    assert_same(
+        &rt,
+        &fault_of(&rt, rt.alloc(), &defs, "x = "),
+        &SiteFault::NotToml,
     );
-    assert_eq!(rt; fault_of(&rt, rt.alloc(), &defs, ""), SiteFault::MissingKey);
+    assert_same(
+        &rt,
+        &fault_of(&rt, rt.alloc(), &defs, ""),
+        &SiteFault::MissingKey,
+    );
 }

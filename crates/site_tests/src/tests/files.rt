@@ -1,7 +1,10 @@
 //! Site files.
 
 /// Two inverters, a target that clients set, a limit for the first inverter, and the total power.
-pub(crate) const SITE: &str = "[gateway]
+pub(crate) const SITE: &str =
+    "# Two inverters behind a gateway that shows their total power and takes a limit for the first one.
+
+[gateway]
 unit = 1
 base = 40000
 models = [1, 103, 123]

@@ -1,7 +1,7 @@
 //! Which of two broken rules comes first: each edit adds an earlier fault, and the later ones stay.
 
 use crate::tests::files::SITE;
-use crate::tests::{definitions, fault_of};
+use crate::tests::{assert_same, assert_same_at, definitions, fault_of};
 use model_defs::ModelDef;
 use site_model::SiteFault;
 use std::alloc::Global;
@@ -25,7 +25,8 @@ fn assert_in_turn(
     for edit in edits {
         let (old, new, fault) = *edit;
         text = edited_at_last(rt, alloc, text.as_str(), old, new);
-        assert_eq!(rt; fault_of(rt, alloc, defs, text.as_str()), fault, "{new}");
+        let found = fault_of(rt, alloc, defs, text.as_str());
+        assert_same_at(rt, &found, &fault, &new);
     }
 }
 
@@ -136,6 +137,10 @@ fn too_many_devices(rt: HostRuntime) {
     for row in &MANY {
         let (number, behind, fault) = *row;
         let text = devices(&rt, rt.alloc(), number, behind);
-        assert_eq!(rt; fault_of(&rt, rt.alloc(), &defs, text.as_str()), fault);
+        assert_same(
+            &rt,
+            &fault_of(&rt, rt.alloc(), &defs, text.as_str()),
+            &fault,
+        );
     }
 }

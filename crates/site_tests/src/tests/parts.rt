@@ -1,7 +1,7 @@
 //! Site files that read, part by part.
 
 use crate::tests::files::{LINES, SITE};
-use crate::tests::{definitions, edited, site_of};
+use crate::tests::{assert_same, assert_true, assert_true_at, definitions, edited, site_of};
 use model_defs::{ModelDef, read};
 use site_model::{Served, Site, SiteDevice, SiteFault, SiteTag, Source};
 use std::alloc::{AllocError, Global};
@@ -92,12 +92,13 @@ fn read_lines(rt: &impl Abort, alloc: Global, defs: &[ModelDef], text: &str) -> 
 fn the_site_reads(rt: HostRuntime) {
     let defs = definitions(&rt, rt.alloc());
     let lines = read_lines(&rt, rt.alloc(), &defs, SITE);
-    assert_eq!(rt; lines.as_str(), LINES);
+    assert_same(&rt, &lines.as_str(), &LINES);
 }
 
 fn assert_line(rt: &impl Abort, alloc: Global, defs: &[ModelDef], text: &str, line: &str) {
     let lines = read_lines(rt, alloc, defs, text);
-    assert!(rt; lines.as_str().lines().any(|found| found == line), "{line}");
+    let has_line = lines.as_str().lines().any(|found| found == line);
+    assert_true_at(rt, has_line, &line);
 }
 
 /// The site file with an edit, its old and its new text, has a part that reads as this line.
@@ -146,7 +147,7 @@ const SHORTER: &str =
 
 fn assert_length(rt: &impl Abort, alloc: Global, defs: &[ModelDef], model: u16, length: u16) {
     let site = site_of(rt, alloc, defs, SITE);
-    assert_eq!(rt; site.length(model), Some(length));
+    assert_same(rt, &site.length(model), &Some(length));
 }
 
 #[test]
@@ -160,17 +161,23 @@ fn the_last_definition_of_an_id_counts(rt: HostRuntime) {
     assert_line(&rt, rt.alloc(), &defs, SITE, line);
 }
 
+/// Whether a text is a site file; else it has a fault.
+fn is_site(rt: &impl Abort, alloc: Global, defs: &[ModelDef], text: &str) -> bool {
+    let fault = Site::read(alloc, text, defs).err();
+    assert_true(rt, fault != Some(SiteFault::OutOfMemory));
+    fault.is_none()
+}
+
 #[test]
 fn each_prefix_is_answered(rt: HostRuntime) {
     let defs = definitions(&rt, rt.alloc());
     let mut sites = 0u32;
-    for length in 0..SITE.len() {
-        if let Some(text) = SITE.get(..length) {
-            match Site::read(rt.alloc(), text, &defs) {
-                Ok(_) => sites = sites.saturating_add(1),
-                Err(fault) => assert!(rt; fault != SiteFault::OutOfMemory),
-            }
+    for length in 0..=SITE.len() {
+        let text = SITE.get(..length).expect(&rt, "a front");
+        if is_site(&rt, rt.alloc(), &defs, text) {
+            sites = sites.saturating_add(1);
         }
     }
-    assert!(rt; sites > 0);
+    // at least the file, and the one without its last line end
+    assert_true(&rt, sites >= 2);
 }

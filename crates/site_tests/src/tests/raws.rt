@@ -1,6 +1,6 @@
 //! The raw numbers that a site file may give a point are those that its kind encodes.
 
-use crate::tests::definitions;
+use crate::tests::{assert_same, assert_same_at, definitions};
 use model_defs::{ModelDef, read};
 use point_types::Kind;
 use point_writer::plan::words_for;
@@ -64,17 +64,14 @@ fn assert_raw(
     raw: i64,
     inside: bool,
 ) {
-    assert_eq!(rt; encodes(kind, raw), inside, "{kind:?} {raw}");
+    assert_same_at(rt, &encodes(kind, raw), &inside, &raw);
     let wanted = if inside {
         None
     } else {
         Some(SiteFault::BadRange)
     };
-    assert_eq!(rt;
-        answer(rt, alloc, defs, kind, raw),
-        wanted,
-        "{kind:?} {raw}"
-    );
+    let found = answer(rt, alloc, defs, kind, raw);
+    assert_same(rt, &(kind, raw, found), &(kind, raw, wanted));
 }
 
 #[test]

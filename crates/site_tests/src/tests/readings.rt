@@ -4,7 +4,7 @@ ghost use Rattle.std.specs.Prelude.{◌≡◌, ◌≤ℤ◌, ℤ, pos, neg_ℤ, 
 ghost use Rattle.point_types.specs.declared.il_type.IlType.TheVariants as il;
 
 use crate::tests::files::SITE;
-use crate::tests::{definitions, edited, site_of};
+use crate::tests::{assert_same, definitions, edited, site_of};
 use model_defs::ModelDef;
 use point_types::{Cause, IlType, Kind, Name, Reading};
 use site_model::readings::readings;
@@ -97,7 +97,8 @@ type Row = (&'static [u16], Reading);
 fn assert_reads(rt: &impl Abort, tag: &SiteTag, rows: &[Row]) {
     for row in rows {
         let (registers, wanted) = *row;
-        assert_eq!(rt; read(rt, tag, registers), wanted, "{registers:?}");
+        let found = read(rt, tag, registers);
+        assert_same(rt, &(registers, found), &(registers, wanted));
     }
 }
 
@@ -173,7 +174,7 @@ fn a_bit_is_read_without_a_factor(rt: HostRuntime) {
     let mut only_false = second;
     only_false.high = 0;
     let beyond = Reading::Absent(Cause::OutOfRange);
-    assert_eq!(rt; read(&rt, &only_false, &[0, 2]), beyond);
+    assert_same(&rt, &read(&rt, &only_false, &[0, 2]), &beyond);
 }
 
 static DEFAULTS: [Row; 3] = [
@@ -190,7 +191,7 @@ fn a_default_stands_for_what_is_absent(rt: HostRuntime) {
     let mut other_model = tag;
     other_model.model = 101;
     let unknown = Reading::Default(50, Cause::NoBlock);
-    assert_eq!(rt; read(&rt, &other_model, &[3000, 0]), unknown);
+    assert_same(&rt, &read(&rt, &other_model, &[3000, 0]), &unknown);
 }
 
 /// What a tag reads where this number was set, and no words are known.
@@ -206,15 +207,19 @@ fn read_set(tag: &SiteTag, set: Option<i64>) -> Reading
 fn settings_are_what_was_set(rt: HostRuntime) {
     let tag = target(&rt);
     let unset = Reading::Absent(Cause::NotImplemented);
-    assert_eq!(rt; read_set(&tag, None), unset);
-    assert_eq!(rt; read_set(&tag, Some(60)), Reading::Value(60));
+    assert_same(&rt, &read_set(&tag, None), &unset);
+    assert_same(&rt, &read_set(&tag, Some(60)), &Reading::Value(60));
     let mut half = tag;
     half.default = Some(50);
     let unset = Reading::Default(50, Cause::NotImplemented);
-    assert_eq!(rt; read_set(&half, None), unset);
+    assert_same(&rt, &read_set(&half, None), &unset);
     let mut shown = tag;
     shown.access = Access::Shown;
-    assert_eq!(rt; read_set(&shown, None), Reading::Absent(Cause::NoBlock));
+    assert_same(
+        &rt,
+        &read_set(&shown, None),
+        &Reading::Absent(Cause::NoBlock),
+    );
 }
 
 /// Registers of model 103 up to the factor of its power, with a power of 30005 by the factor -1.
@@ -243,7 +248,7 @@ static KEYS: [(&str, Reading); 2] = [
 fn assert_first(rt: &impl Abort, alloc: Global, defs: &[ModelDef], key: &str, wanted: Reading) {
     let text = edited(rt, alloc, SITE, "low = -100000", key);
     let site = site_of(rt, alloc, defs, text.as_str());
-    assert_eq!(rt; first_reading(rt, &site), wanted);
+    assert_same(rt, &first_reading(rt, &site), &wanted);
 }
 
 #[test]

@@ -1,5 +1,6 @@
 //! What a site wants of its devices.
 
+use crate::tests::assert_same;
 use point_types::{IlType, Kind, Name};
 use site_model::wants::{length_of, outs_of, place_of, wants_of};
 use site_model::{Access, Sf, SiteTag};
@@ -49,21 +50,21 @@ fn tags(rt: &impl Abort, alloc: Global) -> Vec<SiteTag> {
 fn blocks_are_wanted_by_first_use(rt: HostRuntime) {
     let tags = tags(&rt, rt.alloc());
     let wants = wants_of(rt.alloc(), &tags).expect(&rt, "memory");
-    assert_eq!(rt; wants.as_slice(), &[(1, 103), (0, 123), (0, 103)][..]);
+    assert_same(&rt, &wants.as_slice(), &&[(1, 103), (0, 123), (0, 103)][..]);
     let outs = outs_of(rt.alloc(), &tags).expect(&rt, "memory");
-    assert_eq!(rt; outs.as_slice(), &[2, 4][..]);
+    assert_same(&rt, &outs.as_slice(), &&[2, 4][..]);
 }
 
 #[test]
 fn tags_have_places_by_their_names(rt: HostRuntime) {
     let tags = tags(&rt, rt.alloc());
-    assert_eq!(rt; place_of(&tags, "ena1"), Some(4));
-    assert_eq!(rt; place_of(&tags, "ENA1"), None);
+    assert_same(&rt, &place_of(&tags, "ena1"), &Some(4));
+    assert_same(&rt, &place_of(&tags, "ENA1"), &None);
 }
 
 #[test]
 fn the_length_of_a_model_is_that_of_the_table(rt: HostRuntime) {
     let lengths = [(1, 66), (103, 50), (123, 24)];
-    assert_eq!(rt; length_of(&lengths, 103), Some(50));
-    assert_eq!(rt; length_of(&lengths, 120), None);
+    assert_same(&rt, &length_of(&lengths, 103), &Some(50));
+    assert_same(&rt, &length_of(&lengths, 120), &None);
 }

@@ -1,6 +1,9 @@
+//! Spans by their changes.
+
+use crate::tests::assert_same;
 use point_types::{IlType, Items};
-use std::alloc::{AllocError, Global};
-use std::test::Fail;
+use std::alloc::Global;
+use std::process::Abort;
 use verifier::changes::Changes;
 use verifier::fact::Fact;
 use verifier::frame::Frame;
@@ -9,47 +12,82 @@ use verifier::presence::Presence;
 use verifier::span::Span;
 
 /// Four spans from 0 to 9.
-fn four(alloc: Global) -> Result<Changes, AllocError> {
+fn four(rt: &impl Abort, alloc: Global) -> Changes {
     let mut spans = Items::new(alloc);
     for _ in 0..4 {
-        spans.push(Span::between(0, 9))?;
+        spans.push(Span::between(0, 9)).expect(rt, "memory");
     }
-    Changes::at_entry(alloc, spans)
+    Changes::at_entry(alloc, spans).expect(rt, "memory")
+}
+
+fn assert_span(rt: &impl Abort, spans: &Changes, number: usize, wanted: Span) {
+    assert_same(rt, &spans.get(number), &Some(wanted));
+}
+
+/// With the third span 5 to 5.
+fn changed(rt: &impl Abort, alloc: Global, entry: &Changes) -> Changes {
+    entry.with(alloc, 2, Span::only(5)).expect(rt, "memory")
+}
+
+fn assert_changed(rt: &impl Abort, spans: &Changes) {
+    assert_span(rt, spans, 2, Span::only(5));
+    assert_span(rt, spans, 3, Span::between(0, 9));
+    assert_same(rt, &spans.get(4), &None);
+}
+
+/// Joined with the spans at entry, they are those again.
+fn assert_joined(rt: &impl Abort, alloc: Global, spans: &Changes, entry: &Changes) {
+    let both = spans.joined(alloc, entry).expect(rt, "memory");
+    assert_span(rt, &both, 2, Span::between(0, 9));
 }
 
 #[test]
-fn a_span_is_that_at_entry_where_nothing_changed_it(rt: HostRuntime) -> Result<(), Fail> {
-    let entry = four(rt.alloc())?;
-    assert_eq!(rt; entry.get(2), Some(Span::between(0, 9)));
-    let one = entry.with(rt.alloc(), 2, Span::only(5))?;
-    assert_eq!(rt; one.get(2), Some(Span::only(5)));
-    assert_eq!(rt; one.get(3), Some(Span::between(0, 9)));
-    assert_eq!(rt; one.get(4), None);
-    let both = one.joined(rt.alloc(), &entry)?;
-    assert_eq!(rt; both.get(2), Some(Span::between(0, 9)));
-    Ok(())
+fn a_span_is_that_at_entry_where_nothing_changed_it(rt: HostRuntime) {
+    let entry = four(&rt, rt.alloc());
+    assert_span(&rt, &entry, 2, Span::between(0, 9));
+    let one = changed(&rt, rt.alloc(), &entry);
+    assert_changed(&rt, &one);
+    assert_joined(&rt, rt.alloc(), &one, &entry);
 }
 
-#[test]
-fn a_store_changes_one_span(rt: HostRuntime) -> Result<(), Fail> {
-    let alloc = rt.alloc();
-    let frame = Frame {
+/// A frame of nothing.
+fn empty_frame(alloc: Global) -> Frame {
+    Frame {
         variables: Items::new(alloc),
-        links: Items::new(alloc),
+        tags: Items::new(alloc),
         depth: 0,
         listing: Items::new(alloc),
-    };
-    let fact = Fact {
-        variables: four(alloc)?,
-        inputs: four(alloc)?,
+    }
+}
+
+/// Four variables and as many inputs, of which nothing more is known.
+fn fact(rt: &impl Abort, alloc: Global) -> Fact {
+    let variables = four(rt, alloc);
+    let inputs = four(rt, alloc);
+    Fact {
+        variables,
+        inputs,
         present: Presence::none(alloc, 4),
         deferred: Items::new(alloc),
         result: None,
-    };
-    let value = Known::plain(alloc, &frame, IlType::Int, Span::only(5));
-    let stored = fact.stored(alloc, 1, value)?;
-    assert_eq!(rt; stored.variables.get(1), Some(Span::only(5)));
-    assert_eq!(rt; stored.variables.get(0), Some(Span::between(0, 9)));
-    assert_eq!(rt; stored.inputs.get(1), Some(Span::between(0, 9)));
-    Ok(())
+    }
+}
+
+/// The same, where 5 is stored in the second variable.
+fn stored(rt: &impl Abort, alloc: Global) -> Fact {
+    let frame = empty_frame(alloc);
+    let five = Known::plain(alloc, &frame, IlType::Int, Span::only(5));
+    let stored = fact(rt, alloc).stored(alloc, 1, five);
+    stored.expect(rt, "memory")
+}
+
+fn assert_stored(rt: &impl Abort, fact: &Fact) {
+    assert_span(rt, &fact.variables, 1, Span::only(5));
+    assert_span(rt, &fact.variables, 0, Span::between(0, 9));
+    assert_span(rt, &fact.inputs, 1, Span::between(0, 9));
+}
+
+#[test]
+fn a_store_changes_one_span(rt: HostRuntime) {
+    assert_stored(&rt, &stored(&rt, rt.alloc()));
 }

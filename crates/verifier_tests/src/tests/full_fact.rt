@@ -2,6 +2,7 @@
 //! tag whether its input is present.
 
 ghost use Rattle.std.specs.Prelude.{◌≡◌, IfOk};
+ghost use Rattle.facts.specs.Fact.{met};
 
 use point_types::Items;
 use scan_code::Op;
@@ -15,25 +16,31 @@ use verifier::known::Known;
 use verifier::presence::Presence;
 use verifier::span::Span;
 
-/// A fact by full lists: the pass judges by it as by the changes alone.
+/// Full lists: a span for each variable and each tag, and of each tag whether its input is present.
 #[derive(Drop)]
-pub struct FullFact {
+struct Lists {
     variables: Items<Span>,
     inputs: Items<Span>,
     present: Items<bool>,
+}
+
+/// A fact by full lists: the pass judges by it as by the changes alone.
+#[derive(Drop)]
+pub struct FullFact {
+    lists: Lists,
     deferred: Items<Option<Known>>,
     result: Option<Known>,
 }
 
 impl Model for FullFact {
-    ghost use Rattle.verifier.specs.declared.fact.Fact.{Fact as Listed};
+    ghost use Rattle.facts.specs.declared.fact.Fact.{Fact as Listed};
 
     ghost Value = { Listed };
 
     ghost view = { λ f. record {
-      variables = f.variables;
-      inputs = f.inputs;
-      present = f.present;
+      variables = f.lists.variables;
+      inputs = f.lists.inputs;
+      present = f.lists.present;
       deferred = f.deferred;
       result = f.result;
     } };
@@ -44,26 +51,44 @@ impl FullFact {
     fn listed(alloc: Global, fact: Fact) -> Result<FullFact, AllocError>
         ensures { IfOk result (λ listed. listed ≡ fact) }
     {
-        Ok(FullFact {
-            variables: listed_spans(alloc, &fact.variables)?,
-            inputs: listed_spans(alloc, &fact.inputs)?,
-            present: listed_truths(alloc, &fact.present)?,
-            deferred: fact.deferred,
-            result: fact.result,
-        })
+        match lists_of(alloc, &fact) {
+            Ok(lists) => Ok(over(lists, fact)),
+            Err(error) => Err(error),
+        }
     }
 
     /// The same as changes, of which there is none over the spans themselves.
     fn changes(self, alloc: Global) -> Result<Fact, AllocError>
         ensures { IfOk result (λ fact. fact ≡ self) }
     {
-        Ok(Fact {
-            present: presence(alloc, self.present.as_slice())?,
-            variables: Changes::at_entry(alloc, self.variables)?,
-            inputs: Changes::at_entry(alloc, self.inputs)?,
+        match changes_of(alloc, &self.lists) {
+            Ok(changes) => Ok(self.with(changes)),
+            Err(error) => Err(error),
+        }
+    }
+
+    /// The fact by these changes, in place of the lists.
+    fn with(self, changes: ByChanges) -> Fact
+        ensures { result ≡ record self { variables = changes.variables; inputs = changes.inputs; present = changes.present } }
+    {
+        Fact {
+            variables: changes.variables,
+            inputs: changes.inputs,
+            present: changes.present,
             deferred: self.deferred,
             result: self.result,
-        })
+        }
+    }
+}
+
+/// The fact by these lists, in place of the changes.
+fn over(lists: Lists, fact: Fact) -> FullFact
+    ensures { result ≡ record fact { variables = lists.variables; inputs = lists.inputs; present = lists.present } }
+{
+    FullFact {
+        lists,
+        deferred: fact.deferred,
+        result: fact.result,
     }
 }
 
@@ -82,15 +107,75 @@ impl AsFact for FullFact {
     }
 
     fn meet(self, alloc: Global, other: Self) -> Result<Option<Self>, AllocError> {
-        match self.changes(alloc)?.meet(alloc, other.changes(alloc)?)? {
-            Some(both) => Ok(Some(FullFact::listed(alloc, both)?)),
-            None => Ok(None),
+        match self.changes(alloc) {
+            Ok(one) => met_with(alloc, one, other),
+            Err(error) => Err(error),
         }
     }
 
     fn depth(&self) -> usize {
         self.deferred.len()
     }
+}
+
+fn met_with(alloc: Global, one: Fact, other: FullFact) -> Result<Option<FullFact>, AllocError>
+    ensures { IfOk result (λ both. both ≡ met one other) }
+{
+    match other.changes(alloc) {
+        Ok(other) => listed_meeting(alloc, one.meet(alloc, other)?),
+        Err(error) => Err(error),
+    }
+}
+
+fn listed_meeting(alloc: Global, both: Option<Fact>) -> Result<Option<FullFact>, AllocError>
+    ensures { IfOk result (λ listed. listed ≡ both) }
+{
+    match both {
+        Some(both) => Ok(Some(FullFact::listed(alloc, both)?)),
+        None => Ok(None),
+    }
+}
+
+/// What a fact shows of variables and tags.
+fn lists_of(alloc: Global, fact: &Fact) -> Result<Lists, AllocError>
+    ensures { IfOk result (λ lists. (lists.variables ≡ fact.now.variables) × (lists.inputs ≡ fact.now.inputs) × (lists.present ≡ fact.now.present)) }
+{
+    let variables = listed_spans(alloc, &fact.variables)?;
+    let inputs = listed_spans(alloc, &fact.inputs)?;
+    let present = listed_truths(alloc, &fact.present)?;
+    Ok(Lists {
+        variables,
+        inputs,
+        present,
+    })
+}
+
+/// The same as changes.
+#[derive(Drop)]
+struct ByChanges {
+    variables: Changes,
+    inputs: Changes,
+    present: Presence,
+}
+
+fn changes_of(alloc: Global, lists: &Lists) -> Result<ByChanges, AllocError>
+    ensures { IfOk result (λ changes. (changes.variables ≡ lists.now.variables) × (changes.inputs ≡ lists.now.inputs) × (changes.present ≡ lists.now.present)) }
+{
+    let variables = entry_of(alloc, lists.variables.as_slice())?;
+    let inputs = entry_of(alloc, lists.inputs.as_slice())?;
+    let present = presence(alloc, lists.present.as_slice())?;
+    Ok(ByChanges {
+        variables,
+        inputs,
+        present,
+    })
+}
+
+/// These spans, of which none is changed.
+fn entry_of(alloc: Global, spans: &[Span]) -> Result<Changes, AllocError>
+    ensures { IfOk result (λ changes. changes ≡ spans.now) }
+{
+    Changes::at_entry(alloc, Items::from_vec(Vec::from_slice(alloc, spans)?))
 }
 
 /// The span of each number.

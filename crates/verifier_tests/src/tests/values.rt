@@ -1,13 +1,12 @@
-use crate::tests::{name, site_tag};
+//! What is known of values.
+
+use crate::tests::{assert_same, assert_true, frame_of};
 use intervals::Relation;
-use point_types::{IlType, Items, Operator, Var};
-use site_model::Access;
-use std::alloc::{AllocError, Global};
+use point_types::{IlType, Operator};
+use std::alloc::Global;
 use std::process::Abort;
-use std::test::Fail;
 use verifier::frame::Frame;
-use verifier::known::{Known, Origin, met_value};
-use verifier::link::Link;
+use verifier::known::{Consequences, Known, Origin, met_value};
 use verifier::operand::{Made, applied, converted, selected};
 use verifier::refusal::RefusalKind;
 use verifier::span::Span;
@@ -15,142 +14,210 @@ use verifier::span::Span;
 #[test]
 fn keeps_what_is_left_of_spans(rt: HostRuntime) {
     let all = Span::between(0, 10);
-    for (left, want) in [
-        (
-            all.cut_by(Relation::Ne, Span::only(0)),
-            Span::between(1, 10),
-        ),
-        (all.joined(Span::only(-5)), Span::between(-5, 10)),
-        (all.intersected(Span::between(7, 20)), Span::between(7, 10)),
-        (all.intersected(Span::only(11)), Span::empty()),
-        (Span::only(1).flipped(), Span::only(0)),
-        (
-            Span::between(i64::MIN, i64::MAX).flipped(),
-            Span::between(0, 1),
-        ),
-    ] {
-        assert_eq!(rt; left, want);
-    }
-    assert!(rt; all.lies_in(0, 10));
-    assert!(rt; !all.has_member(11));
+    let cut = all.cut_by(Relation::Ne, Span::only(0));
+    assert_same(&rt, &cut, &Span::between(1, 10));
+    let joined = all.joined(Span::only(-5));
+    assert_same(&rt, &joined, &Span::between(-5, 10));
+    let intersected = all.intersected(Span::between(7, 20));
+    assert_same(&rt, &intersected, &Span::between(7, 10));
+    let nothing = all.intersected(Span::only(11));
+    assert_same(&rt, &nothing, &Span::empty());
+}
+
+#[test]
+fn turns_truths_over(rt: HostRuntime) {
+    assert_same(&rt, &Span::only(1).flipped(), &Span::only(0));
+    let any = Span::between(i64::MIN, i64::MAX);
+    assert_same(&rt, &any.flipped(), &Span::between(0, 1));
+}
+
+#[test]
+fn knows_the_members_of_spans(rt: HostRuntime) {
+    let all = Span::between(0, 10);
+    assert_true(&rt, all.lies_in(0, 10));
+    assert_true(&rt, !all.has_member(11));
 }
 
 /// One variable x of type INT, and one input.
-fn frame(rt: &impl Abort, alloc: Global) -> Result<Frame, AllocError> {
-    let x = Var {
-        name: name(rt, b"x"),
-        kind: IlType::Int,
-        low: 0,
-        high: 100,
-        start: 0,
-    };
-    let link = Link {
-        number: 0,
-        site: site_tag(rt, b"inv1_w", Access::Input),
-    };
-    let (mut variables, mut links) = (Items::new(alloc), Items::new(alloc));
-    variables.push(x)?;
-    links.push(link)?;
-    Ok(Frame {
-        variables,
-        links,
-        depth: 1,
-        listing: Items::new(alloc),
-    })
+fn frame(rt: &impl Abort, alloc: Global) -> Frame {
+    frame_of(rt, alloc, &[("x", IlType::Int, 0, 100)])
 }
 
-fn loaded(alloc: Global, frame: &Frame) -> Result<Known, AllocError> {
+/// The value of x.
+fn loaded(rt: &impl Abort, alloc: Global, frame: &Frame) -> Known {
     let declared = Span::between(0, 100);
-    Known::source(alloc, frame, IlType::Int, declared, Origin::OfVariable(0))
+    let source = Known::source(alloc, frame, IlType::Int, declared, Origin::OfVariable(0));
+    source.expect(rt, "memory")
 }
 
-/// Of x <> 0.
-fn compared(alloc: Global, frame: &Frame) -> Made {
-    let x = loaded(alloc, frame)?;
+fn made(rt: &impl Abort, made: Made) -> Known {
+    made.expect(rt, "memory").expect(rt, "a value")
+}
+
+/// The value of x <> 0.
+fn compared(rt: &impl Abort, alloc: Global, frame: &Frame) -> Known {
+    let x = loaded(rt, alloc, frame);
     let zero = Known::plain(alloc, frame, IlType::Int, Span::only(0));
-    applied(alloc, frame, Operator::Ne, &x, &zero)
+    made(rt, applied(alloc, frame, Operator::Ne, &x, &zero))
+}
+
+/// Whether the input is there.
+fn present(rt: &impl Abort, alloc: Global, frame: &Frame) -> Known {
+    Known::presence(alloc, frame, 0).expect(rt, "memory")
+}
+
+/// x <> 0, and the input is there.
+fn conjoined(rt: &impl Abort, alloc: Global, frame: &Frame) -> Known {
+    let differs = compared(rt, alloc, frame);
+    let here = present(rt, alloc, frame);
+    made(rt, applied(alloc, frame, Operator::And, &differs, &here))
+}
+
+/// The span that follows for a variable, if one does.
+fn assert_follows(
+    rt: &impl Abort,
+    follows: &Consequences,
+    variable: usize,
+    wanted: Option<Option<Span>>,
+) {
+    assert_same(rt, &follows.variables.get(variable), &wanted);
+}
+
+/// What follows for x and the input where both hold; nothing does where they don't.
+fn assert_conjoined(rt: &impl Abort, both: &Known) {
+    assert_follows(rt, &both.where_true, 0, Some(Some(Span::between(1, 100))));
+    assert_same(rt, &both.where_true.present.get(0), &Some(true));
+    assert_follows(rt, &both.where_false, 0, Some(None));
+    assert_follows(rt, &both.where_false, 1, None);
 }
 
 #[test]
-fn knows_what_follows_from_both(rt: HostRuntime) -> Result<(), Fail> {
-    let alloc = rt.alloc();
-    let frame = frame(&rt, alloc)?;
-    let differs = compared(alloc, &frame)??;
-    let here = Known::presence(alloc, &frame, 0)?;
-    let both = applied(alloc, &frame, Operator::And, &differs, &here)??;
-    let positive = Span::between(1, 100);
-    assert_eq!(rt; both.where_true.variables.get(0), Some(Some(positive)));
-    assert_eq!(rt; both.where_true.present.get(0), Some(true));
-    assert_eq!(rt; both.where_false.variables.get(0), Some(None));
-    assert_eq!(rt; both.where_false.variables.get(1), None);
-    Ok(())
+fn knows_what_follows_from_both(rt: HostRuntime) {
+    let frame = frame(&rt, rt.alloc());
+    assert_conjoined(&rt, &conjoined(&rt, rt.alloc(), &frame));
+}
+
+/// Where x is 0 is known, until x is stored.
+fn assert_forgets(rt: &impl Abort, alloc: Global, same: Known) {
+    assert_follows(rt, &same.where_true, 0, Some(Some(Span::only(0))));
+    let stored = same.forgets(alloc, 0).expect(rt, "memory");
+    assert_follows(rt, &stored.where_true, 0, Some(None));
+    assert_same(rt, &stored.where_true.variables.filled(), &0);
 }
 
 #[test]
-fn forgets_what_is_stored(rt: HostRuntime) -> Result<(), Fail> {
-    let frame = frame(&rt, rt.alloc())?;
-    let same = compared(rt.alloc(), &frame)??.inverted();
-    assert_eq!(rt; same.where_true.variables.get(0), Some(Some(Span::only(0))));
-    let stored = same.forgets(rt.alloc(), 0)?;
-    assert_eq!(rt; stored.where_true.variables.get(0), Some(None));
-    assert_eq!(rt; stored.where_true.variables.filled(), 0);
-    Ok(())
+fn forgets_what_is_stored(rt: HostRuntime) {
+    let frame = frame(&rt, rt.alloc());
+    let same = compared(&rt, rt.alloc(), &frame).inverted();
+    assert_forgets(&rt, rt.alloc(), same);
 }
 
-#[test]
-fn refuses_operations(rt: HostRuntime) -> Result<(), Fail> {
-    let alloc = rt.alloc();
-    let frame = frame(&rt, alloc)?;
-    let x = loaded(alloc, &frame)?;
-    let most = Known::plain(alloc, &frame, IlType::Int, Span::only(32_767));
-    let truth = Known::plain(alloc, &frame, IlType::Bool, Span::only(1));
-    for (o, first, second, want) in [
-        (Operator::Add, &x, &most, Some(RefusalKind::Overflow)),
-        (Operator::Div, &most, &x, Some(RefusalKind::ZeroDivisor)),
-        (Operator::Div, &x, &most, None),
-        (Operator::Mod, &x, &truth, Some(RefusalKind::WrongType)),
-        (Operator::And, &x, &truth, Some(RefusalKind::WrongType)),
-        (Operator::Or, &truth, &truth, None),
-        (Operator::Lt, &truth, &truth, Some(RefusalKind::WrongType)),
-        (Operator::Eq, &truth, &truth, None),
-    ] {
-        let made = applied(alloc, &frame, o, first, second)?;
-        assert_eq!(rt; made.err(), want);
+/// The places of x, the greatest INT, and TRUE among the values of the table.
+const X: usize = 0;
+
+const MOST: usize = 1;
+
+const TRUTH: usize = 2;
+
+fn values(rt: &impl Abort, alloc: Global, frame: &Frame) -> Vec<Known> {
+    let mut values = Vec::new(alloc);
+    values.push(loaded(rt, alloc, frame)).expect(rt, "memory");
+    let most = Known::plain(alloc, frame, IlType::Int, Span::only(32_767));
+    values.push(most).expect(rt, "memory");
+    let truth = Known::plain(alloc, frame, IlType::Bool, Span::only(1));
+    values.push(truth).expect(rt, "memory");
+    values
+}
+
+/// An operator and its operands, and why it is refused.
+static OPERATIONS: [(Operator, usize, usize, Option<RefusalKind>); 8] = [
+    (Operator::Add, X, MOST, Some(RefusalKind::Overflow)),
+    (Operator::Div, MOST, X, Some(RefusalKind::ZeroDivisor)),
+    (Operator::Div, X, MOST, None),
+    (Operator::Mod, X, TRUTH, Some(RefusalKind::WrongType)),
+    (Operator::And, X, TRUTH, Some(RefusalKind::WrongType)),
+    (Operator::Or, TRUTH, TRUTH, None),
+    (Operator::Lt, TRUTH, TRUTH, Some(RefusalKind::WrongType)),
+    (Operator::Eq, TRUTH, TRUTH, None),
+];
+
+fn value<'a>(rt: &impl Abort, values: &'a [Known], place: usize) -> &'a Known {
+    values.get(place).expect(rt, "a value")
+}
+
+/// Why an operator is refused for two of the values.
+fn refusal(
+    rt: &impl Abort,
+    alloc: Global,
+    frame: &Frame,
+    operator: Operator,
+    first: &Known,
+    second: &Known,
+) -> Option<RefusalKind> {
+    let made = applied(alloc, frame, operator, first, second);
+    made.expect(rt, "memory").err()
+}
+
+fn refuse_operations(rt: &impl Abort, alloc: Global, frame: &Frame, values: &[Known]) {
+    for (operator, first, second, wanted) in &OPERATIONS {
+        let first = value(rt, values, *first);
+        let second = value(rt, values, *second);
+        let found = refusal(rt, alloc, frame, *operator, first, second);
+        assert_same(rt, &found, wanted);
     }
-    Ok(())
 }
 
 #[test]
-fn makes_one_of_two_values(rt: HostRuntime) -> Result<(), Fail> {
-    let alloc = rt.alloc();
-    let frame = frame(&rt, alloc)?;
-    let x = loaded(alloc, &frame)?;
-    let differs = compared(alloc, &frame)??;
-    let chosen = selected(alloc, &frame, &differs, &x, &x)??;
-    assert_eq!(rt; chosen.span, Span::between(0, 100));
-    let narrow = converted(alloc, &frame, IlType::Int, IlType::Bool, &chosen)?;
-    assert_eq!(rt; narrow.err(), Some(RefusalKind::Overflow));
-    Ok(())
+fn refuses_operations(rt: HostRuntime) {
+    let frame = frame(&rt, rt.alloc());
+    let values = values(&rt, rt.alloc(), &frame);
+    refuse_operations(&rt, rt.alloc(), &frame, &values);
+}
+
+/// One of x and x, as x <> 0 chooses.
+fn chosen(rt: &impl Abort, alloc: Global, frame: &Frame) -> Known {
+    let x = loaded(rt, alloc, frame);
+    let differs = compared(rt, alloc, frame);
+    made(rt, selected(alloc, frame, &differs, &x, &x))
+}
+
+/// Why a value of type INT is no BOOL.
+fn narrowed(rt: &impl Abort, alloc: Global, frame: &Frame, value: &Known) -> Option<RefusalKind> {
+    let narrow = converted(alloc, frame, IlType::Int, IlType::Bool, value);
+    narrow.expect(rt, "memory").err()
+}
+
+fn assert_chosen(rt: &impl Abort, alloc: Global, frame: &Frame, chosen: &Known) {
+    assert_same(rt, &chosen.span, &Span::between(0, 100));
+    let refusal = narrowed(rt, alloc, frame, chosen);
+    assert_same(rt, &refusal, &Some(RefusalKind::Overflow));
 }
 
 #[test]
-fn meets_values(rt: HostRuntime) -> Result<(), Fail> {
-    let alloc = rt.alloc();
-    let frame = frame(&rt, alloc)?;
-    let here = Known::presence(alloc, &frame, 0)?;
-    let again = here.copied(alloc)?;
-    let both = met_value(alloc, Some(here), Some(again)).map(|v| v.where_true.present);
-    assert!(rt; both.is_some_and(|present| present.get(0) == Some(true)));
-    Ok(())
+fn makes_one_of_two_values(rt: HostRuntime) {
+    let frame = frame(&rt, rt.alloc());
+    let chosen = chosen(&rt, rt.alloc(), &frame);
+    assert_chosen(&rt, rt.alloc(), &frame, &chosen);
+}
+
+/// Whether the input is there, where a value that is known on both ways is TRUE.
+fn met(alloc: Global, one: Known, other: Known) -> Option<bool> {
+    let both = met_value(alloc, Some(one), Some(other))?;
+    both.where_true.present.get(0)
 }
 
 #[test]
-fn drops_what_follows_on_one_way(rt: HostRuntime) -> Result<(), Fail> {
-    let alloc = rt.alloc();
-    let frame = frame(&rt, alloc)?;
-    let here = Known::presence(alloc, &frame, 0)?;
-    let plain = Known::plain(alloc, &frame, IlType::Bool, Span::only(1));
-    let both = met_value(alloc, Some(here), Some(plain)).map(|v| v.where_true.present);
-    assert!(rt; both.is_some_and(|present| present.get(0) == Some(false)));
-    Ok(())
+fn meets_values(rt: HostRuntime) {
+    let frame = frame(&rt, rt.alloc());
+    let here = present(&rt, rt.alloc(), &frame);
+    let again = here.copied(rt.alloc()).expect(&rt, "memory");
+    assert_same(&rt, &met(rt.alloc(), here, again), &Some(true));
+}
+
+#[test]
+fn drops_what_follows_on_one_way(rt: HostRuntime) {
+    let frame = frame(&rt, rt.alloc());
+    let here = present(&rt, rt.alloc(), &frame);
+    let plain = Known::plain(rt.alloc(), &frame, IlType::Bool, Span::only(1));
+    assert_same(&rt, &met(rt.alloc(), here, plain), &Some(false));
 }

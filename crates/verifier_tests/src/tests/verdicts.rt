@@ -1,515 +1,278 @@
 //! Verdicts on whole images, against a site of two inverters.
 
-ghost use Rattle.std.specs.Prelude.{◌≡◌};
-ghost use Rattle.point_types.specs.Value.{is_ranged, is_within};
-
 use crate::tests::full_fact::FullFact;
-use model_defs::ModelDef;
-use point_types::{IlType, Items, Name, Var};
-use scan_code::{Image, Tag};
+use crate::tests::rows::ROWS;
+use crate::tests::{assert_same, assert_true, name};
+use point_types::{IlType, Items, Var};
+use scan_code::Image;
 use site_model::Site;
 use std::alloc::Global;
-use std::test::Fail;
+use std::process::Abort;
 use verifier::as_fact::AsFact;
 use verifier::budget::most_steps;
 use verifier::frame::Frame;
-use verifier::link::links;
+use verifier::link::{links, ranges};
 use verifier::listing::listing;
 use verifier::pass::pass;
 use verifier::refusal::{Refusal, RefusalKind};
+use verifier::verified::Verified;
 use verifier::verify::verify;
+use worked_texts::images::{image, image_of_code, variable};
+use worked_texts::programs::Program;
+use worked_texts::sites::{SITE, site_of};
 
-pub(crate) const SITE: &str = "[gateway]
-unit = 1
-base = 40000
-models = [1, 103, 123]
-
-[[device]]
-name = \"inv1\"
-unit = 1
-
-[[device]]
-name = \"inv2\"
-unit = 2
-
-[[tag]]
-name = \"inv1_w\"
-access = \"in\"
-device = \"inv1\"
-model = 103
-point = \"W\"
-type = \"DINT\"
-exponent = 0
-low = -100000
-high = 100000
-
-[[tag]]
-name = \"inv2_w\"
-access = \"in\"
-device = \"inv2\"
-model = 103
-point = \"W\"
-type = \"DINT\"
-exponent = 0
-low = -100000
-high = 100000
-
-[[tag]]
-name = \"target\"
-access = \"set\"
-model = 123
-point = \"WMaxLimPct\"
-type = \"INT\"
-exponent = 0
-low = 0
-high = 100
-default = 50
-
-[[tag]]
-name = \"lim1\"
-access = \"out\"
-device = \"inv1\"
-model = 123
-point = \"WMaxLimPct\"
-type = \"INT\"
-exponent = 0
-low = 0
-high = 100
-";
-
-/// The same with a wider range of the output.
-const WIDER: &str = "[gateway]
+/// A site with a wider range of the output.
+static WIDER: &str = r#"[gateway]
 unit = 1
 base = 40000
 models = [1]
 
 [[device]]
-name = \"inv1\"
+name = "inv1"
 unit = 1
 
 [[tag]]
-name = \"lim1\"
-access = \"out\"
-device = \"inv1\"
+name = "lim1"
+access = "out"
+device = "inv1"
 model = 123
-point = \"WMaxLimPct\"
-type = \"INT\"
+point = "WMaxLimPct"
+type = "INT"
 exponent = 0
 low = 0
 high = 110
-";
+"#;
 
-/// A program and its verdict: its budget, or why it is refused.
-struct Row {
-    vars: &'static [(IlType, i64, i64)],
-    tags: &'static [(&'static str, bool, IlType)],
-    code: &'static [u8],
-    verdict: Result<u32, (RefusalKind, usize)>,
+pub(crate) fn site(rt: &impl Abort, alloc: Global) -> Site {
+    site_of(alloc, SITE).expect(rt, "a site")
 }
 
-static ROWS: [Row; 25] = [
-    Row {
-        vars: &[(IlType::Int, -32_768, 32_767)],
-        tags: &[],
-        code: &[1, 0, 0, 12, 5, 2, 0, 0, 0, 0, 0, 0, 0, 1, 17, 6, 0, 0, 0],
-        verdict: Err((RefusalKind::Overflow, 3)),
-    },
-    Row {
-        vars: &[(IlType::Int, 0, 100)],
-        tags: &[],
-        code: &[1, 0, 0, 12, 5, 2, 0, 0, 0, 0, 0, 0, 0, 1, 17, 6, 0, 0, 0],
-        verdict: Err((RefusalKind::StoreRange, 4)),
-    },
-    Row {
-        vars: &[(IlType::Dint, -2_147_483_648, 2_147_483_647)],
-        tags: &[
-            ("inv1_w", false, IlType::Dint),
-            ("inv2_w", false, IlType::Dint),
-        ],
-        code: &[2, 0, 0, 6, 0, 0, 0],
-        verdict: Err((RefusalKind::MayBeMissing, 0)),
-    },
-    Row {
-        vars: &[(IlType::Dint, -2_147_483_648, 2_147_483_647)],
-        tags: &[
-            ("inv1_w", false, IlType::Dint),
-            ("inv2_w", false, IlType::Dint),
-        ],
-        code: &[
-            3, 0, 0, 12, 3, 0, 1, 14, 35, 0, 22, 2, 0, 0, 12, 2, 0, 1, 17, 6, 0, 0, 0,
-        ],
-        verdict: Ok(11),
-    },
-    Row {
-        vars: &[(IlType::Int, 0, 10), (IlType::Int, -32_768, 32_767)],
-        tags: &[],
-        code: &[
-            1, 0, 0, 12, 5, 2, 0, 0, 0, 0, 0, 0, 0, 0, 24, 34, 0, 36, 5, 2, 0, 0, 0, 0, 0, 0, 0,
-            100, 12, 1, 0, 0, 20, 6, 0, 1, 0,
-        ],
-        verdict: Ok(11),
-    },
-    Row {
-        vars: &[(IlType::Int, 0, 10), (IlType::Int, -32_768, 32_767)],
-        tags: &[],
-        code: &[5, 2, 0, 0, 0, 0, 0, 0, 0, 100, 12, 1, 0, 0, 20, 6, 0, 1, 0],
-        verdict: Err((RefusalKind::ZeroDivisor, 3)),
-    },
-    Row {
-        vars: &[(IlType::Int, -1, 10), (IlType::Int, -32_768, 32_767)],
-        tags: &[],
-        code: &[
-            1, 0, 0, 12, 5, 2, 0, 0, 0, 0, 0, 0, 0, 0, 24, 34, 0, 36, 5, 2, 0, 0, 0, 0, 0, 0, 0,
-            100, 12, 1, 0, 0, 20, 6, 0, 1, 0,
-        ],
-        verdict: Err((RefusalKind::ZeroDivisor, 8)),
-    },
-    Row {
-        vars: &[],
-        tags: &[],
-        code: &[33, 0, 5, 5, 2, 0, 0, 0, 0, 0, 0, 0, 3, 0],
-        verdict: Err((RefusalKind::Jump, 0)),
-    },
-    Row {
-        vars: &[],
-        tags: &[],
-        code: &[33, 0, 13, 5, 2, 0, 0, 0, 0, 0, 0, 0, 3, 0],
-        verdict: Ok(2),
-    },
-    Row {
-        vars: &[
-            (IlType::Bool, 0, 1),
-            (IlType::Dint, -2_147_483_648, 2_147_483_647),
-        ],
-        tags: &[],
-        code: &[
-            1, 0, 0, 35, 0, 22, 5, 3, 0, 0, 0, 0, 0, 0, 0, 1, 6, 0, 1, 33, 0, 83, 5, 3, 0, 0, 0, 0,
-            0, 0, 0, 0, 12, 5, 3, 0, 0, 0, 0, 0, 0, 0, 1, 17, 12, 5, 3, 0, 0, 0, 0, 0, 0, 0, 1, 17,
-            12, 5, 3, 0, 0, 0, 0, 0, 0, 0, 1, 17, 12, 5, 3, 0, 0, 0, 0, 0, 0, 0, 1, 17, 6, 0, 1, 0,
-        ],
-        verdict: Ok(17),
-    },
-    Row {
-        vars: &[(IlType::Int, 0, 100)],
-        tags: &[],
-        code: &[
-            5, 2, 0, 0, 0, 0, 0, 0, 0, 0, 6, 0, 0, 1, 0, 0, 12, 5, 2, 0, 0, 0, 0, 0, 0, 0, 7, 17,
-            12, 5, 2, 0, 0, 0, 0, 0, 0, 0, 100, 28, 6, 0, 0, 38, 0, 9, 0, 13, 0,
-        ],
-        verdict: Ok(120),
-    },
-    Row {
-        vars: &[(IlType::Int, 0, 100)],
-        tags: &[],
-        code: &[
-            5, 2, 0, 0, 0, 0, 0, 0, 0, 0, 6, 0, 0, 1, 0, 0, 12, 5, 2, 0, 0, 0, 0, 0, 0, 0, 7, 17,
-            12, 5, 2, 0, 0, 0, 0, 0, 0, 0, 100, 28, 6, 0, 0, 38, 0, 255, 0, 13, 0,
-        ],
-        verdict: Ok(3072),
-    },
-    Row {
-        vars: &[(IlType::Int, 0, 100)],
-        tags: &[],
-        code: &[
-            5, 2, 0, 0, 0, 0, 0, 0, 0, 0, 6, 0, 0, 1, 0, 0, 12, 5, 2, 0, 0, 0, 0, 0, 0, 0, 7, 17,
-            6, 0, 0, 38, 0, 9, 0, 13, 0,
-        ],
-        verdict: Err((RefusalKind::StoreRange, 6)),
-    },
-    Row {
-        vars: &[(IlType::Dint, -2_147_483_648, 2_147_483_647)],
-        tags: &[
-            ("inv1_w", false, IlType::Dint),
-            ("inv2_w", false, IlType::Dint),
-        ],
-        code: &[3, 0, 0, 35, 0, 17, 2, 0, 0, 6, 0, 0, 38, 0, 2, 0, 6, 0],
-        verdict: Err((RefusalKind::MayBeMissing, 2)),
-    },
-    Row {
-        vars: &[(IlType::Dint, -2_147_483_648, 2_147_483_647)],
-        tags: &[
-            ("inv1_w", false, IlType::Dint),
-            ("inv2_w", false, IlType::Dint),
-        ],
-        code: &[3, 0, 0, 35, 0, 17, 2, 0, 0, 6, 0, 0, 38, 0, 2, 0, 0, 0],
-        verdict: Ok(18),
-    },
-    Row {
-        vars: &[],
-        tags: &[("nope", false, IlType::Int)],
-        code: &[2, 0, 0, 0],
-        verdict: Err((RefusalKind::TagUnknown, 0)),
-    },
-    Row {
-        vars: &[],
-        tags: &[("target", false, IlType::Dint)],
-        code: &[2, 0, 0, 0],
-        verdict: Err((RefusalKind::TagType, 0)),
-    },
-    Row {
-        vars: &[],
-        tags: &[("inv1_w", true, IlType::Dint)],
-        code: &[5, 3, 0, 0, 0, 0, 0, 0, 0, 0, 7, 0, 0, 0],
-        verdict: Err((RefusalKind::TagAccess, 0)),
-    },
-    Row {
-        vars: &[],
-        tags: &[("lim1", true, IlType::Int), ("inv1_w", false, IlType::Int)],
-        code: &[0],
-        verdict: Err((RefusalKind::TagType, 1)),
-    },
-    Row {
-        vars: &[],
-        tags: &[("lim1", false, IlType::Int)],
-        code: &[0],
-        verdict: Err((RefusalKind::TagAccess, 0)),
-    },
-    Row {
-        vars: &[(IlType::Int, -32_768, 32_767)],
-        tags: &[],
-        code: &[6, 0, 0, 0],
-        verdict: Err((RefusalKind::NoResult, 0)),
-    },
-    Row {
-        vars: &[
-            (IlType::Int, -32_768, 32_767),
-            (IlType::Dint, -2_147_483_648, 2_147_483_647),
-        ],
-        tags: &[],
-        code: &[1, 0, 0, 6, 0, 1, 0],
-        verdict: Err((RefusalKind::WrongType, 1)),
-    },
-    Row {
-        vars: &[],
-        tags: &[],
-        code: &[255],
-        verdict: Err((RefusalKind::Code, 0)),
-    },
-    Row {
-        vars: &[(IlType::Int, -32_768, 32_767)],
-        tags: &[],
-        code: &[1, 0, 0],
-        verdict: Err((RefusalKind::Code, 1)),
-    },
-    Row {
-        vars: &[],
-        tags: &[],
-        code: &[0, 255],
-        verdict: Err((RefusalKind::Code, 1)),
-    },
-];
+/// The budget, or why an image is refused and where.
+pub(crate) type Verdict = Result<u32, (RefusalKind, usize)>;
 
-pub(crate) fn site(alloc: Global, text: &str) -> Result<Site, Fail> {
-    let mut defs: Vec<ModelDef> = Vec::new(alloc);
-    for id in [1, 103, 123] {
-        let text = model_defs::shipped(id).ok_or("no text")?;
-        defs.push(model_defs::read(alloc, text.as_bytes())?)?;
-    }
-    Ok(Site::read(alloc, text, defs.as_slice())?)
-}
-
-/// Whether a range lies in its type, and the start in the range.
-fn is_ranged(kind: IlType, low: i64, high: i64, start: i64) -> bool
-    ensures { result ≡ is_ranged kind low high start }
-{
-    kind.low() <= low && is_within(low, high, start) && high <= kind.high()
-}
-
-fn is_within(low: i64, high: i64, number: i64) -> bool
-    ensures { result ≡ is_within low high number }
-{
-    low <= number && number <= high
-}
-
-fn variable(number: usize, kind: IlType, low: i64, high: i64) -> Result<Var, Fail> {
-    let text = [
-        b'v',
-        b'a' + (number / 26 / 26 % 26) as u8,
-        b'a' + (number / 26 % 26) as u8,
-        b'a' + (number % 26) as u8,
-    ];
-    let name = Name::from_bytes(&text).ok_or("no name")?;
-    if is_ranged(kind, low, high, low) {
-        Ok(Var {
-            name,
-            kind,
-            low,
-            high,
-            start: low,
-        })
-    } else {
-        Err("no range")?
-    }
-}
-
-pub(crate) fn variables(alloc: Global, list: &[(IlType, i64, i64)]) -> Result<Items<Var>, Fail> {
-    let mut vars = Vec::new(alloc);
-    for (kind, low, high) in list {
-        vars.push(variable(vars.len(), *kind, *low, *high)?)?;
-    }
-    Ok(Items::from_vec(vars))
-}
-
-pub(crate) fn tags(alloc: Global, list: &[(&str, bool, IlType)]) -> Result<Items<Tag>, Fail> {
-    let mut tags = Vec::new(alloc);
-    for (name, output, kind) in list {
-        tags.push(Tag {
-            name: Name::from_bytes(name.as_bytes()).ok_or("no name")?,
-            output: *output,
-            kind: *kind,
-        })?;
-    }
-    Ok(Items::from_vec(tags))
-}
-
-fn image(alloc: Global, row: &Row) -> Result<Image, Fail> {
-    let vars = variables(alloc, row.vars)?;
-    let tags = tags(alloc, row.tags)?;
-    let code = Items::from_vec(Vec::from_slice(alloc, row.code)?);
-    Ok(Image::new(2, vars, tags, code).ok_or("no image")?)
-}
-
-fn verdict(alloc: Global, image: Image, site: &Site) -> Result<u32, (RefusalKind, usize)> {
-    match verify::<32>(alloc, image, site) {
+fn verdict<const DEPTH: usize>(alloc: Global, image: Image, site: &Site) -> Verdict {
+    match verify::<DEPTH>(alloc, image, site) {
         Ok(verified) => Ok(verified.budget()),
         Err(refused) => Err((refused.kind, refused.at)),
     }
 }
 
-#[test]
-fn judges_programs(rt: HostRuntime) -> Result<(), Fail> {
-    let site = site(rt.alloc(), SITE)?;
-    for row in &ROWS {
-        let image = image(rt.alloc(), row)?;
-        assert!(rt; verdict(rt.alloc(), image, &site) == row.verdict);
+pub(crate) fn assert_verdict<const DEPTH: usize>(
+    rt: &impl Abort,
+    alloc: Global,
+    image: Image,
+    site: &Site,
+    wanted: &Verdict,
+) {
+    assert_same(rt, &verdict::<DEPTH>(alloc, image, site), wanted);
+}
+
+pub(crate) fn image_of(rt: &impl Abort, alloc: Global, program: &Program) -> Image {
+    image(alloc, 2, program, &[]).expect(rt, "an image")
+}
+
+fn judge_rows(rt: &impl Abort, alloc: Global, site: &Site) {
+    for (program, wanted) in &ROWS {
+        assert_verdict::<32>(rt, alloc, image_of(rt, alloc, program), site, wanted);
     }
-    Ok(())
+}
+
+#[test]
+fn judges_programs(rt: HostRuntime) {
+    judge_rows(&rt, rt.alloc(), &site(&rt, rt.alloc()));
+}
+
+/// What is fixed while a program is judged by 32 deferred values at most.
+fn frame_of(rt: &impl Abort, alloc: Global, image: &Image, site: &Site) -> Result<Frame, Refusal> {
+    let links = links(alloc, site.tags(), image.tags.as_slice())?;
+    let listing = listing(alloc, image)?;
+    let variables = Vec::from_slice(alloc, image.vars.as_slice());
+    Ok(Frame {
+        variables: Items::from_vec(variables.expect(rt, "memory")),
+        tags: ranges(alloc, links.as_slice())?,
+        depth: 32,
+        listing,
+    })
 }
 
 /// The budget by facts of this kind, or why the program is refused.
-fn judged<F: AsFact>(alloc: Global, image: &Image, site: &Site) -> Result<usize, Refusal> {
-    let links = links(alloc, site.tags(), image.tags.as_slice())?;
-    let listing = listing(alloc, image)?;
-    let frame = Frame {
-        variables: Items::from_vec(Vec::from_slice(alloc, image.vars.as_slice())?),
-        links,
-        depth: 32,
-        listing,
-    };
-    let out_of_memory = Refusal {
-        at: 0,
-        kind: RefusalKind::OutOfMemory,
-    };
-    if frame.size() >= 65_536 {
-        return Err(out_of_memory);
+fn budget<F: AsFact>(rt: &impl Abort, alloc: Global, frame: &Frame) -> Result<usize, Refusal> {
+    assert!(rt; frame.size() < 65_536);
+    let reached = pass::<F>(alloc, frame)?;
+    assert!(rt; reached.len() == frame.size());
+    let steps = most_steps(alloc, frame.instructions(), reached.as_slice());
+    Ok(steps.expect(rt, "memory"))
+}
+
+fn judged(rt: &impl Abort, alloc: Global, image: &Image, site: &Site) -> Result<usize, Refusal> {
+    match frame_of(rt, alloc, image, site) {
+        Ok(frame) => budget::<FullFact>(rt, alloc, &frame),
+        Err(refusal) => Err(refusal),
     }
-    let reached = pass::<F>(alloc, &frame)?;
-    if reached.len() != frame.size() {
-        return Err(out_of_memory);
+}
+
+fn as_judged(verdict: Verdict) -> Result<usize, Refusal> {
+    match verdict {
+        Ok(budget) => Ok(budget as usize),
+        Err((kind, at)) => Err(Refusal { at, kind }),
     }
-    Ok(most_steps(alloc, frame.instructions(), reached.as_slice())?)
+}
+
+fn assert_judged(
+    rt: &impl Abort,
+    alloc: Global,
+    image: &Image,
+    site: &Site,
+    wanted: &Result<usize, Refusal>,
+) {
+    assert_same(rt, &judged(rt, alloc, image, site), wanted);
+}
+
+fn judge_by_full_facts(rt: &impl Abort, alloc: Global, site: &Site) {
+    for (program, verdict) in &ROWS {
+        let image = image_of(rt, alloc, program);
+        assert_judged(rt, alloc, &image, site, &as_judged(*verdict));
+    }
 }
 
 #[test]
-fn full_facts_give_the_same(rt: HostRuntime) -> Result<(), Fail> {
-    let site = site(rt.alloc(), SITE)?;
-    for row in &ROWS {
-        let image = image(rt.alloc(), row)?;
-        match (judged::<FullFact>(rt.alloc(), &image, &site), row.verdict) {
-            (Ok(steps), Ok(budget)) => assert_eq!(rt; steps, budget as usize),
-            (Err(refusal), Err((kind, at))) => {
-                assert_eq!(rt; refusal.kind, kind);
-                assert_eq!(rt; refusal.at, at);
-            }
-            _ => Err("another verdict")?,
-        }
-    }
-    Ok(())
+fn full_facts_give_the_same(rt: HostRuntime) {
+    judge_by_full_facts(&rt, rt.alloc(), &site(&rt, rt.alloc()));
 }
 
 /// So many jumps back to themselves, each at most 255 times.
-fn loops(alloc: Global, count: u16) -> Result<Image, Fail> {
+fn loops(rt: &impl Abort, alloc: Global, count: u16) -> Image {
     let mut code = Vec::new(alloc);
     for k in 0..count {
         let [_, counter] = k.to_be_bytes();
         let [high, low] = k.wrapping_mul(5).to_be_bytes();
-        code.extend_from_slice(&[0x26, counter, 255, high, low])?;
+        let jump = [0x26, counter, 255, high, low];
+        code.extend_from_slice(&jump).expect(rt, "memory");
     }
-    code.push(0)?;
-    let code = Items::from_vec(code);
-    Ok(Image::new(2, Items::new(alloc), Items::new(alloc), code).ok_or("no image")?)
+    code.push(0).expect(rt, "memory");
+    image_of_code(alloc, 2, code).expect(rt, "an image")
+}
+
+static LOOPS: [(u16, Verdict); 2] = [(62, Ok(996_093)), (63, Err((RefusalKind::OverBudget, 0)))];
+
+fn judge_loops(rt: &impl Abort, alloc: Global, site: &Site) {
+    for (count, wanted) in &LOOPS {
+        assert_verdict::<32>(rt, alloc, loops(rt, alloc, *count), site, wanted);
+    }
+}
+
+#[test]
+fn bounds_steps(rt: HostRuntime) {
+    judge_loops(&rt, rt.alloc(), &site(&rt, rt.alloc()));
+}
+
+/// These bytes, so many times.
+fn repeat(rt: &impl Abort, code: &mut Vec<u8>, bytes: &[u8], count: u16) {
+    for _ in 0..count {
+        code.extend_from_slice(bytes).expect(rt, "memory");
+    }
 }
 
 /// LD 1, so many ADD( 1, as many ), ST.
-fn nested(alloc: Global, count: u16) -> Result<Image, Fail> {
+fn nested(rt: &impl Abort, alloc: Global, count: u16) -> Image {
     let mut code = Vec::new(alloc);
-    code.extend_from_slice(&[5, 2, 0, 0, 0, 0, 0, 0, 0, 1])?;
-    for _ in 0..count {
-        code.extend_from_slice(&[0x0C, 5, 2, 0, 0, 0, 0, 0, 0, 0, 1])?;
+    repeat(rt, &mut code, &[5, 2, 0, 0, 0, 0, 0, 0, 0, 1], 1);
+    repeat(rt, &mut code, &[0x0C, 5, 2, 0, 0, 0, 0, 0, 0, 0, 1], count);
+    repeat(rt, &mut code, &[0x11], count);
+    repeat(rt, &mut code, &[6, 0, 0, 0], 1);
+    image_of_int(rt, alloc, code)
+}
+
+/// The image of code with one INT variable.
+fn image_of_int(rt: &impl Abort, alloc: Global, code: Vec<u8>) -> Image {
+    let var = variable(name(rt, "a"), IlType::Int, -32_768, 32_767, -32_768);
+    let mut vars = Items::new(alloc);
+    vars.push(var.expect(rt, "a variable")).expect(rt, "memory");
+    let image = Image::new(1, vars, Items::new(alloc), Items::from_vec(code));
+    image.expect(rt, "an image")
+}
+
+static NESTED: [(u16, Verdict); 2] = [(32, Ok(99)), (33, Err((RefusalKind::Stack, 65)))];
+
+fn judge_nested(rt: &impl Abort, alloc: Global, site: &Site) {
+    for (count, wanted) in &NESTED {
+        assert_verdict::<32>(rt, alloc, nested(rt, alloc, *count), site, wanted);
     }
-    for _ in 0..count {
-        code.push(0x11)?;
-    }
-    code.extend_from_slice(&[6, 0, 0, 0])?;
-    let vars = variables(alloc, &[(IlType::Int, -32_768, 32_767)])?;
-    Ok(Image::new(1, vars, Items::new(alloc), Items::from_vec(code)).ok_or("no image")?)
 }
 
 #[test]
-fn bounds_steps_and_deferred_values(rt: HostRuntime) -> Result<(), Fail> {
-    let site = site(rt.alloc(), SITE)?;
-    for (count, want) in [(62, Ok(996_093)), (63, Err((RefusalKind::OverBudget, 0)))] {
-        let image = loops(rt.alloc(), count)?;
-        assert!(rt; verdict(rt.alloc(), image, &site) == want);
+fn bounds_deferred_values(rt: HostRuntime) {
+    judge_nested(&rt, rt.alloc(), &site(&rt, rt.alloc()));
+}
+
+/// So many variables: the names are v0, v1 and so on.
+fn add_flags(rt: &impl Abort, alloc: Global, vars: &mut Items<Var>, count: u16) {
+    for n in 0..count {
+        let text = format!(in alloc; "v{n}").expect(rt, "memory");
+        let var = variable(name(rt, text.as_str()), IlType::Bool, 0, 1, 0);
+        vars.push(var.expect(rt, "a variable")).expect(rt, "memory");
     }
-    for (count, want) in [(32, Ok(99)), (33, Err((RefusalKind::Stack, 65)))] {
-        let image = nested(rt.alloc(), count)?;
-        assert!(rt; verdict(rt.alloc(), image, &site) == want);
+}
+
+/// LD v0 / JMPCN to the next / ST v0, so many times.
+fn labelled(rt: &impl Abort, alloc: Global, count: u16) -> Vec<u8> {
+    let mut code = Vec::new(alloc);
+    for k in 1..=count {
+        let [high, low] = k.wrapping_mul(9).to_be_bytes();
+        let three = [1, 0, 0, 0x23, high, low, 6, 0, 0];
+        code.extend_from_slice(&three).expect(rt, "memory");
     }
-    Ok(())
+    code.push(0).expect(rt, "memory");
+    code
 }
 
 /// 1,000 variables, of which one is stored, and 900 labels.
-fn large(alloc: Global) -> Result<Image, Fail> {
-    let mut vars = Vec::new(alloc);
-    for n in 0..1000 {
-        vars.push(variable(n, IlType::Bool, 0, 1)?)?;
-    }
-    let mut code = Vec::new(alloc);
-    for k in 1..=900_u16 {
-        let [high, low] = k.wrapping_mul(9).to_be_bytes();
-        code.extend_from_slice(&[1, 0, 0, 0x23, high, low, 6, 0, 0])?;
-    }
-    code.push(0)?;
-    let code = Items::from_vec(code);
-    Ok(Image::new(1, Items::from_vec(vars), Items::new(alloc), code).ok_or("no image")?)
+fn large(rt: &impl Abort, alloc: Global) -> Image {
+    let mut vars = Items::new(alloc);
+    add_flags(rt, alloc, &mut vars, 1000);
+    let code = Items::from_vec(labelled(rt, alloc, 900));
+    Image::new(1, vars, Items::new(alloc), code).expect(rt, "an image")
 }
 
 #[test]
-fn judges_a_large_program(rt: HostRuntime) -> Result<(), Fail> {
-    let site = site(rt.alloc(), SITE)?;
-    let image = large(rt.alloc())?;
-    assert!(rt; verdict(rt.alloc(), image, &site) == Ok(2701));
-    Ok(())
+fn judges_a_large_program(rt: HostRuntime) {
+    let site = site(&rt, rt.alloc());
+    let image = large(&rt, rt.alloc());
+    assert_verdict::<32>(&rt, rt.alloc(), image, &site, &Ok(2701));
+}
+
+/// A program of one END with the limit as its tag.
+static ENDING: Program = Program {
+    version: 1,
+    vars: &[],
+    tags: &[("lim1", true, IlType::Int)],
+    code: &[0],
+};
+
+fn accepted(rt: &impl Abort, alloc: Global, site: &Site) -> Verified<32> {
+    let image = image(alloc, 1, &ENDING, &[]).expect(rt, "an image");
+    verify::<32>(alloc, image, site).ok().expect(rt, "a yes")
+}
+
+fn assert_told(rt: &impl Abort, verified: &Verified<32>, site: &Site) {
+    assert_same(rt, &verified.budget(), &1);
+    assert_same(rt, &verified.image().code.len(), &1);
+    assert_same(rt, &verified.links().len(), &1);
+    assert_true(rt, verified.matches(site));
+}
+
+fn matches_wider(rt: &impl Abort, alloc: Global, verified: &Verified<32>) -> bool {
+    let wider = site_of(alloc, WIDER).expect(rt, "a site");
+    verified.matches(&wider)
+}
+
+fn assert_accepted(rt: &impl Abort, alloc: Global, site: &Site) {
+    let verified = accepted(rt, alloc, site);
+    assert_told(rt, &verified, site);
+    assert_true(rt, !matches_wider(rt, alloc, &verified));
 }
 
 #[test]
-fn tells_what_was_accepted(rt: HostRuntime) -> Result<(), Fail> {
-    let alloc = rt.alloc();
-    let first = site(alloc, SITE)?;
-    let wider = site(alloc, WIDER)?;
-    let tags = tags(alloc, &[("lim1", true, IlType::Int)])?;
-    let code = Items::from_vec(Vec::from_slice(alloc, &[0])?);
-    let image = Image::new(1, Items::new(alloc), tags, code).ok_or("no image")?;
-    match verify::<32>(alloc, image, &first) {
-        Ok(verified) => {
-            assert_eq!(rt; verified.budget(), 1);
-            assert_eq!(rt; verified.image().code.len(), 1);
-            assert_eq!(rt; verified.links().len(), 1);
-            assert!(rt; verified.matches(&first));
-            assert!(rt; !verified.matches(&wider));
-        }
-        Err(_) => Err("refused")?,
-    }
-    Ok(())
+fn tells_what_was_accepted(rt: HostRuntime) {
+    assert_accepted(&rt, rt.alloc(), &site(&rt, rt.alloc()));
 }

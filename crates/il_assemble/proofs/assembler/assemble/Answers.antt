@@ -11,13 +11,13 @@ emit_lines-requires c =
 pub returns-clause-assembled : goal.returns-clause-assembled
 returns-clause-assembled c =
     let t = c.args.program.now in
-    let m = made t c.in_ok-uses.uses.items (search rules) (search rules) (search rules) (search rules) (search rules) (search rules)
+    let m = made t c.in_ok-uses.uses.items (search rules) (search rules) (search rules) (search rules) (search rules) (search rules) (search rules)
     c.in_ok-addresses.addresses.items (search rules) _ _ _ _ (search rules) (search rules) (search rules) (search rules) (search rules) in
     m.assembled
 
 pub invariant_of-result : goal.invariant_of-result
 invariant_of-result c =
     let t = c.args.program.now in
-    let m = made t c.in_ok-uses.uses.items (search rules) (search rules) (search rules) (search rules) (search rules) (search rules)
+    let m = made t c.in_ok-uses.uses.items (search rules) (search rules) (search rules) (search rules) (search rules) (search rules) (search rules)
     c.in_ok-addresses.addresses.items (search rules) _ _ _ _ (search rules) (search rules) (search rules) (search rules) (search rules) in
     m.proper

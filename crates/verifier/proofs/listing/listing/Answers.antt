@@ -1,7 +1,7 @@
 use Rattle.std.proofs.Common.{rules, ◌≡◌, ◌+◌, ◌<◌, ◌≤◌, length, false, true, Some, Err, List, [], ◌∷◌, ◌++◌, inl, sym, ap, ◌∙◌, arith, length-append}
 use Rattle.scan_code.specs.Instruction.{decoded_at}
-use Rattle.verifier.specs.declared.refusal.Refusal.{Refusal}
-use Rattle.verifier.specs.declared.refusal.RefusalKind.TheVariants.{Code}
+use Rattle.facts.specs.declared.refusal.Refusal.{Refusal}
+use Rattle.facts.specs.declared.refusal.RefusalKind.TheVariants.{Code}
 use Rattle.verifier.specs.Listing.{Entry, is_placed}
 use Rattle.verifier.proofs.Listed.{left_after, left_misplaced, jumps_few}
 use Rattle.verifier.proofs.listing.listing.Goals as goal

@@ -1,6 +1,6 @@
 use Rattle.std.proofs.Common.{◌≡◌, ◌∙◌, ◌+◌, ◌<◌, ◌++◌, ◌∷◌, [], ℕ, suc, Bool, List, Ok, Err, None, inl, length, map, slice_get, slice_set, subst, sym, ap, arith}
 use Rattle.verifier.specs.Passing.{all_delivered, all_stood, closed, flow_stood, stood, ways_stood}
-use Rattle.verifier.specs.Slots.{Slot, Unreached, flow_of, is_reached, slots}
+use Rattle.facts.specs.Slots.{Slot, Unreached, flow_of, is_reached, slots}
 use Rattle.verifier.proofs.Passing.{ArePending, none_refused, pending_next, reached_next, refusal_to, refused_at_last, slot_of, stood_get}
 use Rattle.verifier.proofs.pass.pass_over.Goals as goal
 

@@ -1,6 +1,6 @@
 use Rattle.std.proofs.Common.{◌≡◌, ◌-◌, ◌≤◌, length, map, None}
 use Rattle.verifier.specs.Passing.{all_stood}
-use Rattle.verifier.specs.Slots.{is_reached, slots}
+use Rattle.facts.specs.Slots.{is_reached, slots}
 use Rattle.verifier.proofs.Passing.{ArePending, refusal_to}
 use Rattle.verifier.proofs.pass.pass_over.Given as goal
 

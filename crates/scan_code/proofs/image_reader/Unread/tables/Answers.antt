@@ -5,7 +5,7 @@ use Rattle.scan_code.proofs.image_reader.Unread.tables.Goals as goal
 
 pub invariant_of-result : goal.invariant_of-result
 invariant_of-result c =
-    let vars = vars_counted c.args.vars [] c.args.self.now (c.in_ok-vars.vars, c.vars.new.self) c.in_ok-vars.ensures refl in
+    let vars = vars_counted c.args.vars [] c.args.self.now (c.in_ok-vars.vars, c.vars.new.self) c.in_ok-vars.ensures refl refl in
     let read : tags_at c.args.tags c.in_ok-vars.vars [] c.vars.new.self ≡ Ok (c.in_ok-tags.tags, c.tags.new.self) = search rules in
     let tags = tags_counted c.args.tags c.in_ok-vars.vars [] c.vars.new.self (c.in_ok-tags.tags, c.tags.new.self) read vars.1 in
     record {
@@ -14,4 +14,5 @@ invariant_of-result c =
       few_tags = omega (arith, tags.0, c.requires.tags);
       short = search rules;
       distinct = tags.1;
+      whole_bools = vars.2;
     }

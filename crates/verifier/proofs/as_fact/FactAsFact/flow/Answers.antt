@@ -1,5 +1,5 @@
 use Rattle.std.proofs.Common.{◌≡◌, ◌∙◌}
-use Rattle.verifier.specs.Flow.{Flow, flow}
+use Rattle.facts.specs.Flow.{Flow, flow}
 use Rattle.verifier.specs.Passing.{flow_stood}
 use Rattle.verifier.proofs.SameFacts.{flow_same, if_ok_then}
 use Rattle.verifier.proofs.as_fact.FactAsFact.flow.Goals as goal

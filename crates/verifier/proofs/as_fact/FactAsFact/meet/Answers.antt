@@ -1,5 +1,6 @@
 use Rattle.std.proofs.Common.{◌≡◌, ◌∙◌, Option, option_map}
-use Rattle.verifier.specs.Fact.{Fact, met}
+use Rattle.facts.specs.declared.fact.Fact.{Fact}
+use Rattle.facts.specs.Fact.{met}
 use Rattle.verifier.proofs.SameFacts.{both_same, if_ok_then}
 use Rattle.verifier.proofs.as_fact.FactAsFact.meet.Goals as goal
 

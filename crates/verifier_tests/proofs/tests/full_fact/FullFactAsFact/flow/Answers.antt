@@ -1,6 +1,6 @@
 use Rattle.std.proofs.Common.{◌∙◌, List, Ok, ap, sym}
-use Rattle.verifier.specs.declared.fact.Fact.{Fact}
-use Rattle.verifier.specs.Flow.{Flow, Way, flow}
+use Rattle.facts.specs.declared.fact.Fact.{Fact}
+use Rattle.facts.specs.Flow.{Flow, Way, flow}
 use Rattle.verifier.proofs.SameFacts.{flow_same}
 use Rattle.verifier_tests.proofs.tests.full_fact.FullFactAsFact.flow.Goals as goal
 

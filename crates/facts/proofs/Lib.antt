@@ -1,0 +1,9 @@
+pub mod Comparing
+pub mod Spans
+pub mod Spread
+pub mod Overlaying
+pub mod Lists
+pub mod Marking
+pub mod Covering
+pub mod Values
+pub mod Leads

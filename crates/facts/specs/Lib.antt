@@ -1,0 +1,10 @@
+pub mod Branches
+pub mod Fact
+pub mod Fit
+pub mod Fitting
+pub mod Flow
+pub mod Overlay
+pub mod Places
+pub mod Slots
+pub mod Span
+pub mod Word

@@ -1,7 +1,0 @@
-use Rattle.std.proofs.Common.{Option, None}
-use Rattle.verifier.specs.Span.{Span}
-use Rattle.verifier.proofs.Lists.{map_one}
-use Rattle.verifier.proofs.consequences.emptied.Goals as goal
-
-pub returns : goal.returns
-returns c = rw (map_one {B = Option Span} c.args.spans.now None, ← c.len.ensures) c.empty.ensures
