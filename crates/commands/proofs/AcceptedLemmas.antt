@@ -1,10 +1,12 @@
 -- A program that is accepted for a site, and what is made of it.
-use Rattle.std.proofs.Common.{◌≡◌, ◌≢◌, ◌⊎◌, ℕ, List, inl, inr, refl, ap, sym, subst, ◌∙◌, Result, Ok, Err, IfOk}
+use Rattle.std.proofs.Common.{◌≡◌, ◌≢◌, ◌⊎◌, ℕ, List, inl, inr, refl, ap, sym, subst, ◌∙◌, Result, Ok, Err, IfOk, OnErr}
 use Rattle.model_defs.specs.declared.model.ModelDef.{ModelDef}
 use Rattle.il_assemble.specs.declared.fault.AsmFault.{AsmFault}
 use Rattle.il_assemble.specs.Assembled.{IsAssembled}
 use Rattle.il_assemble.specs.Correct.{DoesWhatItMeans}
+use Rattle.il_assemble.specs.Elaboration.{elaborated}
 use Rattle.il_assemble.specs.Meaning.{Program}
+use Rattle.il_assemble.specs.Texts.{elaborated_text}
 use Rattle.il_reader.specs.declared.fault.ReadFault.{ReadFault}
 use Rattle.il_reader.specs.declared.tree.Program.{Program as Tree}
 use Rattle.il_reader.specs.Reading.{reading}
@@ -21,9 +23,9 @@ use Rattle.gateway.specs.Polling.{Polling}
 use Rattle.commands.specs.declared.accepted.Accepted.{Accepted}
 use Rattle.commands.specs.Accepted.{AcceptsProgram, Gives, GivesSite, GivesVerdict, GivesVerified, IsAcceptedOn, RefusesAssembled, RefusesVerdict, most_deferred}
 use Rattle.commands.specs.Check.{TellsInputs}
-use Rattle.commands.specs.Defined.{AreRead}
+use Rattle.commands.specs.Defined.{AreDefined}
 use Rattle.commands.specs.Report.{accepted_lines, unverified_line}
-use Rattle.commands.specs.Scans.{OpensCore, StartsCore}
+use Rattle.commands.specs.Scans.{IsSearched, LeavesPoller, OpensCore, StartsCore}
 use Rattle.commands.specs.Told.{Told, refused_with}
 
 -- what is told of an image that the verdict refuses
@@ -37,8 +39,8 @@ verdict_told site image at kind (Err e) why h = tt
 
 -- the verdict on an assembled image is one on its tree
 pub verified_tree : {E : Type 0} (site : Site) (tree : Tree) (image : Image) (r : Result (Result Acceptance Told) E)
-    → IsAssembled tree image → IfOk r (GivesVerdict site image) → IfOk r (GivesVerified site (Ok tree))
-verified_tree site tree image (Ok (Ok a)) is h = (
+    → elaborated tree ≡ elaborated_text tree → IsAssembled tree image → IfOk r (GivesVerdict site image) → IfOk r (GivesVerified site (Ok tree))
+verified_tree site tree image (Ok (Ok a)) same is h = (
   is.program,
   record {
     resolved = is.resolved;
@@ -46,22 +48,22 @@ verified_tree site tree image (Ok (Ok a)) is h = (
     accepted = subst (λ (i : Image). IsAcceptedOn site i a) is.coded h;
   },
 )
-verified_tree site tree image (Ok (Err told)) is h =
-    subst (λ (p : Result Program AsmFault). RefusesAssembled site.tags p told) (sym is.resolved)
+verified_tree site tree image (Ok (Err told)) same is h =
+    subst (λ (p : Result Program AsmFault). RefusesAssembled site.tags p told) (sym is.resolved ∙ same)
     (subst (λ (i : Image). RefusesVerdict (judged i site.tags most_deferred) told) is.coded h)
-verified_tree site tree image (Err e) is h = tt
+verified_tree site tree image (Err e) same is h = tt
 
 -- a program and a site over the definitions of texts
-pub by_models : {E : Type 0} (shipped models : List ModelDef) (texts : List (List ℕ)) (site program : List ℕ) (r : Result (Result Accepted Told) E)
-    → AreRead texts shipped models → IfOk r (GivesSite models site program) → IfOk r (Gives site program texts)
-by_models shipped models texts site program (Ok (Ok given)) defined h = by_reading (reading program) refl h.1
+pub by_models : {E : Type 0} (models : List ModelDef) (texts : List (List ℕ)) (site program : List ℕ) (r : Result (Result Accepted Told) E)
+    → AreDefined texts models → IfOk r (GivesSite models site program) → IfOk r (Gives site program texts)
+by_models models texts site program (Ok (Ok given)) defined h = by_reading (reading program) refl h.1
   where
     by_reading : (t : Result Tree ReadFault) → reading program ≡ t → AcceptsProgram given.site t given.verified → Gives site program texts (Ok given)
     by_reading (Ok tree) read a =
-        (a.0, record { shipped = shipped; models = models; defined = defined; located = h.0; tree = tree; read = read; accepted = a.1 })
+        (a.0, record { models = models; defined = defined; located = h.0; tree = tree; read = read; accepted = a.1 })
     by_reading (Err fault) read a = absurd a
-by_models shipped models texts site program (Ok (Err told)) defined h = inl (shipped, models, defined, h)
-by_models shipped models texts site program (Err e) defined h = tt
+by_models models texts site program (Ok (Err told)) defined h = inl (models, defined, h)
+by_models models texts site program (Err e) defined h = tt
 
 -- what `check` tells of it
 pub told_accepted : {E : Type 0} (texts : List (List ℕ)) (site program : List ℕ) (given : Accepted) (budget : ℕ) (r : Result Told E)
@@ -76,3 +78,9 @@ pub core_accepted : {E : Type 0} (texts : List (List ℕ)) (site program : List 
 core_accepted texts site program p q given (Ok (Ok core)) h k = (given.site, h.0, given.verified, h.1, k)
 core_accepted texts site program p q given (Ok (Err told)) h k = inr (given.site, h.0, given.verified, h.1, k)
 core_accepted texts site program p q given (Err e) h k = tt
+
+-- the poller where memory was refused behind it
+pub left_searched : {T E : Type 0} (texts : List (List ℕ)) (site program : List ℕ) (p q : Polling) (given : Accepted) (r : Result T E)
+    → Gives site program texts (Ok given) → OnErr r (IsSearched given.site.devices p q) → OnErr r (LeavesPoller site program texts p q)
+left_searched texts site program p q given (Ok x) h k = tt
+left_searched texts site program p q given (Err e) h k = inr (given.site, h.0, given.verified, h.1, k)

@@ -33,7 +33,7 @@ use Rattle.facts.proofs.Comparing.{and_left, and_right, both_true, le_true, true
 use Rattle.verifier.proofs.Images.{AreLinked, IsLinked, links_are}
 use Rattle.verifier.proofs.Scans.{runs_well, yes_is_accepted}
 use Rattle.scan_vm.specs.Bare.{BareEnding, BareEnded, BareUnfinished, EndsWithinAlike, bare_opening, bare_run}
-use Rattle.verifier.specs.declared.link.Link.{Link}
+use Rattle.verifier.specs.declared.tag_link.TagLink.{TagLink}
 use Rattle.verifier.specs.Links.{links_from}
 use Rattle.verifier.specs.Sound.{AreInRanges, AreReadings, InRanges, IsFine, IsReadingOf, IsYes}
 use Rattle.verifier.specs.Verdict.{judged}
@@ -101,7 +101,7 @@ usable_typed tag t (reading.Absent why) e h = tt
 -- ---- the readings of a program's tags
 
 module _ (tags : List SiteTag) (readings : List Reading) (usable : AreUsable tags readings) where
-  input_typed : (tag : Tag) (link : Link) → IsLinked tag link → HasAlike (slice_get tags link.number) link.site → IsReading tag (reading_at readings link.number)
+  input_typed : (tag : Tag) (link : TagLink) → IsLinked tag link → HasAlike (slice_get tags link.number) link.site → IsReading tag (reading_at readings link.number)
   input_typed tag link same h = by_tag (slice_get tags link.number) refl h
     where
       by_entry : (t : SiteTag) → slice_get tags link.number ≡ Some t → IsAlike t link.site → (o : Option Reading) → slice_get readings link.number ≡ o → IsReading tag (reading_at readings link.number)
@@ -112,7 +112,7 @@ module _ (tags : List SiteTag) (readings : List Reading) (usable : AreUsable tag
       by_tag None here k = absurd k
       by_tag (Some t) here k = by_entry t here k (slice_get readings link.number) refl
 
-  inputs_typed : (ts : List Tag) (links : List Link) → AreLinked ts links → HasLinks tags links → means.AreReadings ts (map (reading_at readings) (map number_of links))
+  inputs_typed : (ts : List Tag) (links : List TagLink) → AreLinked ts links → HasLinks tags links → means.AreReadings ts (map (reading_at readings) (map number_of links))
   inputs_typed [] [] l h = tt
   inputs_typed [] (link ∷ links) l h = absurd l
   inputs_typed (t ∷ ts) [] l h = absurd l
@@ -136,7 +136,7 @@ writes_kept tags (Some points) words old (Err e) new h kept = subst (AreSettings
 
 module _ (site : Site) (p : Program) (a : Acceptance) (right : DoesWhatItMeans p a.image) (linked : links_from site.tags 0 a.image.tags ≡ Ok a.links) (proper : IsProper a.image) (verdict : judged a.image site.tags most_deferred ≡ Ok a.budget) (matched : HasLinks site.tags a.links) where
   -- what clients set and the variables lie in their ranges
-  record IsKept (s : Standing) : Type 0 where
+  pub record IsKept (s : Standing) : Type 0 where
     pub sets : AreSettings site.tags s.sets
     pub variables : AreVariables a.image.vars s.variables
 
@@ -150,28 +150,28 @@ module _ (site : Site) (p : Program) (a : Acceptance) (right : DoesWhatItMeans p
     usable : AreUsable site.tags h.readings
     usable i u r e f = tag-usable u _ _ r (setting-in (λ n. (u.low ≤ℤ n) × (n ≤ℤ u.high)) s.sets i (λ n g. kept.sets i u n e g)) (h.read i u r e f)
 
-    frames : IsFramed a.image a.links most_deferred yes.frame
-    frames = framed a.image site.tags most_deferred a.links yes.frame linked (yes.accepted).framed
+    frames : IsFramed a.image a.links most_deferred yes.context
+    frames = framed a.image site.tags most_deferred a.links yes.context linked (yes.accepted).framed
 
-    fit : AreReadings yes.frame inputs
+    fit : AreReadings yes.context inputs
     fit = λ i. subst (λ ts. IsReadingOf (slice_get ts i) (slice_get inputs i)) frames.tags (inputs_fit site.tags h.readings usable h.each a.links matched i)
 
     ranged : AreInRanges a.image.vars s.variables
     ranged = to_ranges a.image.vars s.variables kept.variables
 
-    fine : InRanges yes.frame h.end
-    fine = subst (IsFine yes.frame inputs) h.ended (runs_well a.image site.tags most_deferred yes.frame yes.accepted inputs fit s.variables ranged a.budget)
+    fine : InRanges yes.context h.end
+    fine = subst (IsFine yes.context inputs) h.ended (runs_well a.image site.tags most_deferred yes.context yes.accepted inputs fit s.variables ranged a.budget)
 
-    alike : EndsWithinAlike yes.frame a.budget (Ended h.steps h.end) (bare_run a.image inputs 0 a.budget (bare_opening (pos 0) a.image s.variables))
+    alike : EndsWithinAlike yes.context a.budget (Ended h.steps h.end) (bare_run a.image inputs 0 a.budget (bare_opening (pos 0) a.image s.variables))
     alike =
-        subst (λ e. EndsWithinAlike yes.frame a.budget e (bare_run a.image inputs 0 a.budget (bare_opening (pos 0) a.image s.variables))) h.ended
-        (subst (λ n. EndsWithinAlike yes.frame n (run a.image inputs 0 n (opening a.image s.variables)) (bare_run a.image inputs 0 n (bare_opening (pos 0) a.image s.variables))) (sym yes.budgeted)
-        (bare_runs_out a.image site.tags most_deferred yes.frame yes.accepted inputs fit s.variables ranged (pos 0)))
+        subst (λ e. EndsWithinAlike yes.context a.budget e (bare_run a.image inputs 0 a.budget (bare_opening (pos 0) a.image s.variables))) h.ended
+        (subst (λ n. EndsWithinAlike yes.context n (run a.image inputs 0 n (opening a.image s.variables)) (bare_run a.image inputs 0 n (bare_opening (pos 0) a.image s.variables))) (sym yes.budgeted)
+        (bare_runs_out a.image site.tags most_deferred yes.context yes.accepted inputs fit s.variables ranged (pos 0)))
 
     same_length : length (h.end).variables ≡ length s.variables
     same_length = by_end (bare_run a.image inputs 0 a.budget (bare_opening (pos 0) a.image s.variables)) alike (run_same a.image inputs a.budget 0 (bare_opening (pos 0) a.image s.variables))
       where
-        by_end : (b : BareEnding) → EndsWithinAlike yes.frame a.budget (Ended h.steps h.end) b → EndsInSamePlaces (bare_opening (pos 0) a.image s.variables) b → length (h.end).variables ≡ length s.variables
+        by_end : (b : BareEnding) → EndsWithinAlike yes.context a.budget (Ended h.steps h.end) b → EndsInSamePlaces (bare_opening (pos 0) a.image s.variables) b → length (h.end).variables ≡ length s.variables
         by_end (BareEnded bare b) l k = ap length (sym l.2) ∙ k.variables
         by_end (BareUnfinished b) l k = absurd l
 
@@ -216,7 +216,7 @@ module _ (site : Site) (p : Program) (a : Acceptance) (right : DoesWhatItMeans p
   replies_kept s pdu (Err e) reply t h kept = subst IsKept (sym h.1) kept
   replies_kept s pdu (Ok asked) reply t (r, does, is) kept = does_kept s asked r t does kept
 
-  step_meant : (s : Standing) (e : Event) (r : Answer) (t : Standing) → IsKept s → Steps site a.image (numbers_of a) a.budget s e r t → StepsAsMeant p site a s e r t × IsKept t
+  pub step_meant : (s : Standing) (e : Event) (r : Answer) (t : Standing) → IsKept s → Steps site a.image (numbers_of a) a.budget s e r t → StepsAsMeant p site a s e r t × IsKept t
   step_meant s (event.Block device model words) r t kept h = (h, still s t (ap (λ (x : Standing). x.sets) h.1) (ap (λ (x : Standing). x.variables) h.1) kept)
   step_meant s (event.Lost device model) r t kept h = (h, still s t (ap (λ (x : Standing). x.sets) h.1) (ap (λ (x : Standing). x.variables) h.1) kept)
   step_meant s event.Scan r t kept h = ((h.0, scan_meant s t kept h.1), scan_kept s t kept h.1)
@@ -228,7 +228,7 @@ module _ (site : Site) (p : Program) (a : Acceptance) (right : DoesWhatItMeans p
       let k = step_meant s e r next kept step in
       (r, rest, next, k.0, split, runs_meant next es rest t k.1 run)
 
-  opening_kept : IsKept (opened site (map start_of a.image.vars))
+  pub opening_kept : IsKept (opened site (map start_of a.image.vars))
   opening_kept = record {
     sets = none_in site.tags site.tags;
     variables = subst (λ vs. AreVariables vs (map start_of vs)) (sym right.variables) (starts_are_in_range p.variables);

@@ -19,6 +19,7 @@ use Rattle.il_assemble.specs.Correct.{AreVariables, EndsAs, IsOver}
 use Rattle.il_assemble.specs.declared.fault.AsmFault.{AsmFault}
 use Rattle.il_assemble.specs.declared.fault.AsmFaultKind.TheVariants as asm_fault
 use Rattle.il_assemble.specs.Elaboration.{elaborated}
+use Rattle.il_assemble.specs.Texts.{elaborated_text}
 use Rattle.il_assemble.specs.Word as assembling
 use Rattle.il_reader.specs.declared.fault.ReadFault.{ReadFault}
 use Rattle.il_reader.specs.declared.fault.ReadFaultKind.TheVariants as read_fault
@@ -107,22 +108,22 @@ image_trapped readings image n at k new told r e l p right known = tells_trap p 
     lines t = refused_with (variable_lines t.image.vars t.variables ++ output_lines t.image.tags t.outputs ++ trap_line (word_of k) at)
 
 -- what the image tells is what the program tells
-pub tree_told : (tree : Tree) (image : Image) (inputs : List (List ℕ)) (told : Told) → IsAssembled tree image → TellsGivenImage image inputs told → TellsTree tree inputs told
-tree_told tree image inputs told a h =
-    subst (λ r. TellsResolved r inputs told) (sym a.resolved) (given (readings_given image.tags inputs) refl h)
+pub tree_told : (tree : Tree) (image : Image) (inputs : List (List ℕ)) (told : Told) → elaborated tree ≡ elaborated_text tree → IsAssembled tree image → TellsGivenImage image inputs told → TellsTree tree inputs told
+tree_told tree image inputs told same a h =
+    subst (λ r. TellsResolved r inputs told) (sym a.resolved ∙ same) (given (readings_given image.tags inputs) refl h)
   where
     given : (r : Result (List Reading) ℕ) → readings_given image.tags inputs ≡ r → TellsKnown image r told → TellsGiven a.program (readings_given a.program.tags inputs) told
     given (Ok readings) e h =
-        let same : readings_given a.program.tags inputs ≡ Ok readings = ap (λ ts. readings_given ts inputs) (sym a.right.tags) ∙ e in
-        subst (λ r. TellsGiven a.program r told) (sym same)
+        let these : readings_given a.program.tags inputs ≡ Ok readings = ap (λ ts. readings_given ts inputs) (sym a.right.tags) ∙ e in
+        subst (λ r. TellsGiven a.program r told) (sym these)
         (subst (λ i. TellsScan a.program readings i (meaning a.program readings (starts a.program)) told) a.coded (h a.program a.right (readings_are image.tags inputs readings e)))
     given (Err k) e h =
-        let same : readings_given a.program.tags inputs ≡ Err k = ap (λ ts. readings_given ts inputs) (sym a.right.tags) ∙ e in
-        subst (λ r. TellsGiven a.program r told) (sym same) h
+        let these : readings_given a.program.tags inputs ≡ Err k = ap (λ ts. readings_given ts inputs) (sym a.right.tags) ∙ e in
+        subst (λ r. TellsGiven a.program r told) (sym these) h
 
-pub tree_told_by : {E : Type 0} (tree : Tree) (image : Image) (inputs : List (List ℕ)) (r : Result Told E) → IsAssembled tree image → IfOk r (TellsGivenImage image inputs) → IfOk r (TellsTree tree inputs)
-tree_told_by tree image inputs (Ok told) a h = tree_told tree image inputs told a h
-tree_told_by tree image inputs (Err e) a h = tt
+pub tree_told_by : {E : Type 0} (tree : Tree) (image : Image) (inputs : List (List ℕ)) (r : Result Told E) → elaborated tree ≡ elaborated_text tree → IsAssembled tree image → IfOk r (TellsGivenImage image inputs) → IfOk r (TellsTree tree inputs)
+tree_told_by tree image inputs (Ok told) same a h = tree_told tree image inputs told same a h
+tree_told_by tree image inputs (Err e) same a h = tt
 
 -- three parts in turn, the last where it is appended
 pub parts_then : {A E : Type 0} (r : Result A E) (old a b c v o s : List ℕ) → a ≡ old ++ v → b ≡ a ++ o → OnOk r (c ≡ b ++ s) → OnOk r (c ≡ old ++ (v ++ o) ++ s)
@@ -177,8 +178,8 @@ unread_told answer inputs fault (Ok told) (inr why) real is = subst (λ (a : Res
 unread_told answer inputs fault (Err e) why real is = tt
 
 -- what is told of a program without code
-pub unassembled_told : {E : Type 0} (tree : Tree) (inputs : List (List ℕ)) (fault : AsmFault) (r : Result Told E) → (elaborated tree ≡ Err fault) ⊎ (fault ≡ assembling.out_of_memory)
+pub unassembled_told : {E : Type 0} (tree : Tree) (inputs : List (List ℕ)) (fault : AsmFault) (r : Result Told E) → elaborated tree ≡ elaborated_text tree → (elaborated tree ≡ Err fault) ⊎ (fault ≡ assembling.out_of_memory)
     → OnOk r (fault.kind ≢ asm_fault.OutOfMemory) → IfOk r (λ o. o ≡ refused_with (unassembled_line (assembling.word_of fault.kind) fault.line)) → IfOk r (TellsTree tree inputs)
-unassembled_told tree inputs fault (Ok told) (inl why) real is = subst (λ (p : Result Program AsmFault). TellsResolved p inputs told) (sym why) is
-unassembled_told tree inputs fault (Ok told) (inr none) real is = absurd (real (ap (λ f. f.kind) none))
-unassembled_told tree inputs fault (Err e) why real is = tt
+unassembled_told tree inputs fault (Ok told) same (inl why) real is = subst (λ (p : Result Program AsmFault). TellsResolved p inputs told) (sym why ∙ same) is
+unassembled_told tree inputs fault (Ok told) same (inr none) real is = absurd (real (ap (λ f. f.kind) none))
+unassembled_told tree inputs fault (Err e) same why real is = tt

@@ -15,27 +15,18 @@ use Rattle.gateway.specs.declared.event.Event.{Event}
 use Rattle.gateway.specs.declared.event.Event.TheVariants as event
 use Rattle.gateway.proofs.Parts.{same_then, steps_same}
 use Rattle.commands.specs.Report.{no_memory_line, scan_line, scan_lines}
-use Rattle.commands.specs.Scans.{AreScans, DoesScans, End, IsBroken, IsLast, IsPrinted, IsUnlinked, IsUnlinkedBehind, IsWhole, LeavesOff}
-use Rattle.commands.specs.Told.{IsTold, refused_with}
+use Rattle.commands.specs.Scans.{AreScans, DoesScans, End, IsBroken, IsLast, IsPrinted, IsUnlinked, IsUnprinted, IsWhole, LeavesOff}
+use Rattle.commands.specs.Told.{IsCut, IsTold, refused_with}
 
 -- ---- what is told
 
 pub told_well : (old new : Option (List ℕ)) (lines : List ℕ) (status : ℕ) → IsTold old new (record { lines = lines; status = 0 }) status → status ≡ 0 → Appends old new lines
 told_well old new lines status (inl h) e = h.0
-told_well old new lines status (inr h) e = absurd (omega (arith, h, e))
+told_well old new lines status (inr h) e = absurd (let one = h.1 in omega (arith, one, e))
 
-pub told_badly : (old new : Option (List ℕ)) (lines : List ℕ) (status : ℕ) → IsTold old new (record { lines = lines; status = 0 }) status → status ≢ 0 → status ≡ 1
+pub told_badly : (old new : Option (List ℕ)) (lines : List ℕ) (status : ℕ) → IsTold old new (record { lines = lines; status = 0 }) status → status ≢ 0 → IsCut old new lines × (status ≡ 1)
 told_badly old new lines status (inl h) e = absurd (e h.1)
 told_badly old new lines status (inr h) e = h
-
-told_behind : (old middle new : Option (List ℕ)) (front lines : List ℕ) (code status : ℕ) → Appends old middle front → IsTold middle new (record { lines = lines; status = code }) status
-    → IsTold old new (record { lines = front ++ lines; status = code }) status
-told_behind old middle new front lines code status a (inl h) = inl (Appends-trans old middle new front lines a h.0, h.1)
-told_behind old middle new front lines code status a (inr h) = inr h
-
-unlinked_behind : (old middle new : Option (List ℕ)) (front : List ℕ) (fault : LinkFault) (status : ℕ) → Appends old middle front → IsUnlinked fault middle new status → IsUnlinkedBehind front fault old new status
-unlinked_behind old middle new front fault status a (inl h) = inl (told_behind old middle new front _ 3 status a h)
-unlinked_behind old middle new front fault status a (inr h) = inr (told_behind old middle new front _ 1 status a h)
 
 lines_more : (k j : ℕ) (reports : List Report) (report : Report) → j ≡ k + length reports → scan_lines k (reports ++ report ∷ []) ≡ scan_lines k reports ++ scan_line j report
 lines_more k j [] report e = append-nil _ ∙ ap (λ n. scan_line n report) (omega (arith, e))
@@ -44,14 +35,14 @@ lines_more k j (r ∷ rs) report e = ap (λ l. scan_line k r ++ l) (lines_more (
 -- ---- one scan more
 
 scans_more : (p : Polling) (s : Gateway) (reports : List Report) (events : List Event) (q : Polling) (t : Gateway) (u : Polling) (v : Gateway) (report : Report) (own : List Event)
-    → AreScans p s reports events q t → IsWhole q t u v report own → AreScans p s (reports ++ report ∷ []) (events ++ own) u v
+    → AreScans Advances p s reports events q t → IsWhole Advances q t u v report own → AreScans Advances p s (reports ++ report ∷ []) (events ++ own) u v
 scans_more p s [] events q t u v report own (none, here, there) w = (
   u,
   v,
   own,
   [],
   ap (λ es. es ++ own) none ∙ sym (append-nil own),
-  subst (λ (x : Polling). IsWhole x s u v report own) here (subst (λ (x : Gateway). IsWhole q x u v report own) there w),
+  subst (λ (x : Polling). IsWhole Advances x s u v report own) here (subst (λ (x : Gateway). IsWhole Advances q x u v report own) there w),
   (refl, refl, refl),
 )
 scans_more p s (r ∷ rs) events q t u v report own (middle, between, first, more, split, one, rest) w =
@@ -62,7 +53,7 @@ pub record SoFar (k : ℕ) (p : Polling) (s : Gateway) (q : Polling) (t : Gatewa
   pub reports : List Report
   pub events : List Event
   pub all : length reports ≡ k
-  pub whole : AreScans p s reports events q t
+  pub whole : AreScans Advances p s reports events q t
   pub printed : Appends old new (scan_lines 1 reports)
   pub unfailed : q.fault ≡ None
 
@@ -98,7 +89,7 @@ done_all n k p s q t old new h e = (
 
 -- one was the last
 pub done_before : (n k : ℕ) (p : Polling) (s : Gateway) (q : Polling) (t : Gateway) (u : Polling) (v : Gateway) (old middle new : Option (List ℕ)) (status : ℕ)
-    → SoFar k p s q t old middle → k < n → IsLast q t u v middle new status → LeavesOff n p s u v old new status
+    → SoFar k p s q t old middle → k < n → IsLast (k + 1) q t u v middle new status → LeavesOff n p s u v old new status
 done_before n k p s q t u v old middle new status h within (inl (report, own, whole, told)) = (
   h.events ++ own,
   record {
@@ -118,7 +109,9 @@ done_before n k p s q t u v old middle new status h within (inl (report, own, wh
         within = let e = length-append h.reports (report ∷ []) in omega (arith, e, within, h.all);
         poller = refl;
         core = refl;
-        told = told_behind old middle new (scan_lines 1 h.reports) no_memory_line 1 status h.printed told;
+        written = middle;
+        printed = h.printed;
+        told = subst (λ j. IsUnprinted j report middle new status) (sym (length-append h.reports (report ∷ []) ∙ ap (λ j. j + 1) h.all)) told;
       },
     ));
   },
@@ -137,14 +130,16 @@ done_before n k p s q t u v old middle new status h within (inr (fault, own, bro
       within = omega (arith, within, h.all);
       fault = fault;
       broken = broken;
-      told = unlinked_behind old middle new (scan_lines 1 h.reports) fault status h.printed told;
+      written = middle;
+      printed = h.printed;
+      told = told;
     }));
   },
 )
 
 -- ---- one scan
 
-broken_by : (p : Polling) (s : Gateway) (fault : LinkFault) (q : Polling) (t : Gateway) → StopsScan Advances IsPlanned s.site s.maps p s fault q t → (events : List Event) × IsBroken p s fault q t events
+broken_by : (p : Polling) (s : Gateway) (fault : LinkFault) (q : Polling) (t : Gateway) → StopsScan Advances IsPlanned s.site s.maps p s fault q t → (events : List Event) × IsBroken Advances p s fault q t events
 broken_by p s fault q t (inl stop) = ((stop.taken).events, inl (stop, refl))
 broken_by p s fault q t (inr stop) = ((stop.taken).events ++ event.Scan ∷ [], inr (stop, refl))
 
@@ -154,27 +149,30 @@ pub printed_by : (k : ℕ) (p : Polling) (s : Gateway) (q : Polling) (t : Gatewa
     → status ≡ 0 → IsPrinted k p s q t old new
 printed_by k p s q t report old new lines status scan e told well = (report, (scan.taken).events ++ event.Scan ∷ [], (scan, refl), subst (Appends old new) e (told_well old new lines status told well))
 
-pub unprinted_by : (p : Polling) (s : Gateway) (q : Polling) (t : Gateway) (report : Report) (old new : Option (List ℕ)) (lines : List ℕ) (status : ℕ)
-    → Scans Advances IsPlanned steps_of s.site s.maps p s q t report → IsTold old new (record { lines = lines; status = 0 }) status → status ≢ 0 → IsLast p s q t old new status
-unprinted_by p s q t report old new lines status scan told bad = inl (report, (scan.taken).events ++ event.Scan ∷ [], (scan, refl), inr (told_badly old new lines status told bad))
+pub unprinted_by : (k : ℕ) (p : Polling) (s : Gateway) (q : Polling) (t : Gateway) (report : Report) (old new : Option (List ℕ)) (lines : List ℕ) (status : ℕ)
+    → Scans Advances IsPlanned steps_of s.site s.maps p s q t report → lines ≡ scan_line k report → IsTold old new (record { lines = lines; status = 0 }) status
+    → status ≢ 0 → IsLast k p s q t old new status
+unprinted_by k p s q t report old new lines status scan e told bad =
+    let cut = told_badly old new lines status told bad in
+    inl (report, (scan.taken).events ++ event.Scan ∷ [], (scan, refl), inl (subst (IsCut old new) e cut.0, cut.1))
 
 -- a whole scan for whose line there was no memory
-pub unsaid_by : (p : Polling) (s : Gateway) (q : Polling) (t : Gateway) (report : Report) (old new : Option (List ℕ)) (status : ℕ)
-    → Scans Advances IsPlanned steps_of s.site s.maps p s q t report → IsTold old new (refused_with no_memory_line) status → IsLast p s q t old new status
-unsaid_by p s q t report old new status scan told = inl (report, (scan.taken).events ++ event.Scan ∷ [], (scan, refl), told)
+pub unsaid_by : (k : ℕ) (p : Polling) (s : Gateway) (q : Polling) (t : Gateway) (report : Report) (old new : Option (List ℕ)) (status : ℕ)
+    → Scans Advances IsPlanned steps_of s.site s.maps p s q t report → IsTold old new (refused_with no_memory_line) status → IsLast k p s q t old new status
+unsaid_by k p s q t report old new status scan told = inl (report, (scan.taken).events ++ event.Scan ∷ [], (scan, refl), inr told)
 
 pub refused_never_well : {W : Type 0} (old new : Option (List ℕ)) (lines : List ℕ) (status : ℕ) → IsTold old new (refused_with lines) status → status ≡ 0 → W
 refused_never_well old new lines status (inl h) e = absurd (let one = h.1 in omega (arith, one, e))
-refused_never_well old new lines status (inr h) e = absurd (omega (arith, h, e))
+refused_never_well old new lines status (inr h) e = absurd (let one = h.1 in omega (arith, one, e))
 
 pub unlinked_never_well : {W : Type 0} (fault : LinkFault) (old new : Option (List ℕ)) (status : ℕ) → IsUnlinked fault old new status → status ≡ 0 → W
 unlinked_never_well fault old new status (inl (inl h)) e = absurd (let three = h.1 in omega (arith, three, e))
-unlinked_never_well fault old new status (inl (inr h)) e = absurd (omega (arith, h, e))
+unlinked_never_well fault old new status (inl (inr h)) e = absurd (let one = h.1 in omega (arith, one, e))
 unlinked_never_well fault old new status (inr h) e = refused_never_well old new _ status h e
 
-pub unlinked_by : (p : Polling) (s : Gateway) (fault : LinkFault) (q : Polling) (t : Gateway) (old new : Option (List ℕ)) (status : ℕ)
-    → StopsScan Advances IsPlanned s.site s.maps p s fault q t → IsUnlinked fault old new status → IsLast p s q t old new status
-unlinked_by p s fault q t old new status stops told = let b = broken_by p s fault q t stops in inr (fault, b.0, b.1, told)
+pub unlinked_by : (k : ℕ) (p : Polling) (s : Gateway) (fault : LinkFault) (q : Polling) (t : Gateway) (old new : Option (List ℕ)) (status : ℕ)
+    → StopsScan Advances IsPlanned s.site s.maps p s fault q t → IsUnlinked fault old new status → IsLast k p s q t old new status
+unlinked_by k p s fault q t old new status stops told = let b = broken_by p s fault q t stops in inr (fault, b.0, b.1, told)
 
 -- ---- the site run
 
@@ -221,24 +219,24 @@ follows_scan g s same es t u a run last =
 follows_as : (g s t : Gateway) (es fs : List Event) → es ≡ fs → Follows g s fs t → Follows g s es t
 follows_as g s t es fs e h = subst (λ (xs : List Event). Follows g s xs t) (sym e) h
 
-follows_whole : (g s : Gateway) → IsSame g s → (p q : Polling) (t : Gateway) (report : Report) (own : List Event) → IsWhole p s q t report own → Follows g s own t
+follows_whole : (g s : Gateway) → IsSame g s → (p q : Polling) (t : Gateway) (report : Report) (own : List Event) → IsWhole Advances p s q t report own → Follows g s own t
 follows_whole g s same p q t report own (scan, e) = follows_as g s t own _ e (follows_scan g s same (scan.taken).events scan.before t scan.answer (scan.taken).runs scan.scan)
 
-follows_broken : (g s : Gateway) → IsSame g s → (p q : Polling) (t : Gateway) (fault : LinkFault) (own : List Event) → IsBroken p s fault q t own → Follows g s own t
+follows_broken : (g s : Gateway) → IsSame g s → (p q : Polling) (t : Gateway) (fault : LinkFault) (own : List Event) → IsBroken Advances p s fault q t own → Follows g s own t
 follows_broken g s same p q t fault own (inl (stop, e)) = follows_as g s t own _ e (runs_to g s same (stop.taken).events t (stop.taken).runs)
 follows_broken g s same p q t fault own (inr (stop, e)) = follows_as g s t own _ e (follows_scan g s same (stop.taken).events stop.before t stop.answer (stop.taken).runs stop.scan)
 
 follows_still : (g s t : Gateway) → IsSame g s → t ≡ s → (events : List Event) → events ≡ [] → Follows g s events t
 follows_still g s t same e events none = follows_as g s t events [] none (subst (λ (x : Gateway). Follows g s [] x) (sym e) (record { answers = []; runs = (refl, refl); same = same }))
 
-follows_scans : (g s : Gateway) → IsSame g s → (p : Polling) (reports : List Report) (events : List Event) (q : Polling) (t : Gateway) → AreScans p s reports events q t → Follows g s events t
+follows_scans : (g s : Gateway) → IsSame g s → (p : Polling) (reports : List Report) (events : List Event) (q : Polling) (t : Gateway) → AreScans Advances p s reports events q t → Follows g s events t
 follows_scans g s same p [] events q t (none, here, there) = follows_still g s t same there events none
 follows_scans g s same p (r ∷ rs) events q t (middle, between, own, more, split, one, rest) =
     let first = follows_whole g s same p middle between r own one in
     follows_as g s t events (own ++ more) split (follows_then g s between t own more first (follows_scans g between first.same middle rs more q t rest))
 
 follows_end : (g s : Gateway) → IsSame g s → (n : ℕ) (reports : List Report) (events : List Event) (p q : Polling) (t : Gateway) (old new : Option (List ℕ)) (status : ℕ)
-    → End n reports events p s q t old new status → Follows g s events t
+    → End Advances n reports events p s q t old new status → Follows g s events t
 follows_end g s same n reports events p q t old new status (inl (none, h)) = follows_still g s t same h.core events none
 follows_end g s same n reports events p q t old new status (inr (inl (none, h))) = follows_still g s t same h.core events none
 follows_end g s same n reports events p q t old new status (inr (inr h)) = follows_broken g s same p q t h.fault events h.broken
@@ -246,7 +244,7 @@ follows_end g s same n reports events p q t old new status (inr (inr h)) = follo
 pub same_self : (g : Gateway) → IsSame g g
 same_self g = record { site = refl; maps = refl; accepted = refl }
 
-pub follows_all : (n : ℕ) (p : Polling) (s : Gateway) (events : List Event) (q : Polling) (t : Gateway) (old new : Option (List ℕ)) (status : ℕ) → DoesScans n p s events q t old new status
+pub follows_all : (n : ℕ) (p : Polling) (s : Gateway) (events : List Event) (q : Polling) (t : Gateway) (old new : Option (List ℕ)) (status : ℕ) → DoesScans Advances n p s events q t old new status
     → ((answers : List Answer) × RunsFrom s s.standing events answers t.standing) × IsSame s t
 follows_all n p s events q t old new status h =
     let first = follows_scans s s (same_self s) p h.reports h.before h.middle h.between h.whole in

@@ -16,6 +16,7 @@ use Rattle.il_assemble.specs.Code.{image_of}
 use Rattle.il_assemble.specs.Correct.{DoesWhatItMeans}
 use Rattle.il_assemble.specs.Elaboration.{elaborated}
 use Rattle.il_assemble.specs.Meaning.{Program}
+use Rattle.il_assemble.specs.Texts.{elaborated_text}
 use Rattle.il_assemble.specs.Word as assemble
 use Rattle.il_reader.specs.declared.fault.ReadFault.{ReadFault}
 use Rattle.il_reader.specs.declared.tree.Program.{Program as Tree}
@@ -28,7 +29,7 @@ use Rattle.verifier.specs.Verified.{Acceptance}
 use Rattle.facts.specs.Word as verify
 use Rattle.facts.specs.declared.refusal.Refusal.{Refusal}
 use Rattle.commands.specs.declared.accepted.Accepted.{Accepted}
-use Rattle.commands.specs.Defined.{AreRead, IsFirstBroken}
+use Rattle.commands.specs.Defined.{AreDefined, IsUndefined}
 use Rattle.commands.specs.Told.{Told, refused_with}
 use Rattle.commands.specs.Report.{bad_definition_line, bad_site_line, unassembled_line, unread_line, unverified_line}
 
@@ -53,9 +54,8 @@ pub record IsAcceptedFor (site : Site) (tree : Tree) (p : Program) (a : Acceptan
 
 -- The texts of a site and of a program, over the definitions that are shipped and behind them those of the texts.
 pub record Accepts (site_text program_text : List ℕ) (texts : List (List ℕ)) (site : Site) (p : Program) (a : Acceptance) : Type 0 where
-  pub shipped : List ModelDef
   pub models : List ModelDef
-  pub defined : AreRead texts shipped models
+  pub defined : AreDefined texts models
   pub located : site_in models site_text ≡ Ok (site_view site)
   pub tree : Tree
   pub read : reading program_text ≡ Ok tree
@@ -72,8 +72,9 @@ abbrev pub RefusesAssembled : List SiteTag → Result Program AsmFault → Told 
 RefusesAssembled tags (Ok program) told = RefusesVerdict (judged (image_of program) tags most_deferred) told
 RefusesAssembled tags (Err fault) told = told ≡ refused_with (unassembled_line (assemble.word_of fault.kind) fault.line)
 
+-- a program that is read has the faults that a text can have alone
 abbrev pub RefusesProgram : List SiteTag → Result Tree ReadFault → Told → Type 0
-RefusesProgram tags (Ok tree) told = RefusesAssembled tags (elaborated tree) told
+RefusesProgram tags (Ok tree) told = RefusesAssembled tags (elaborated_text tree) told
 RefusesProgram tags (Err fault) told = told ≡ refused_with (unread_line (read.word_of fault.kind) fault.line)
 
 abbrev pub RefusesSite : Result Layout SiteFault → List ℕ → Told → Type 0
@@ -83,10 +84,10 @@ RefusesSite (Err fault) program told = told ≡ refused_with (bad_site_line (sit
 -- by the definitions that are shipped, and behind them those of the texts
 abbrev pub RefusesDefined : List ℕ → List ℕ → List (List ℕ) → Told → Type 0
 RefusesDefined site program texts told =
-    (shipped models : List ModelDef) × AreRead texts shipped models × RefusesSite (site_in models site) program told
+    (models : List ModelDef) × AreDefined texts models × RefusesSite (site_in models site) program told
 
 abbrev pub TellsUndefined : List (List ℕ) → Told → Type 0
-TellsUndefined texts told = (fault : DefFault) × IsFirstBroken texts fault × (told ≡ refused_with (bad_definition_line (definition.fault_word fault)))
+TellsUndefined texts told = (fault : DefFault) × IsUndefined texts fault × (told ≡ refused_with (bad_definition_line (definition.fault_word fault)))
 
 -- first the definitions are looked at, then the site, then the program
 abbrev pub Refuses : List ℕ → List ℕ → List (List ℕ) → Told → Type 0

@@ -4,7 +4,7 @@ use Rattle.std.specs.Prelude.{◌≡◌, List, [], ◌∷◌, length, map}
 use Rattle.site_model.specs.declared.site.Site.{Site}
 use Rattle.il_assemble.specs.Meaning.{Program, Done, meaning}
 use Rattle.verifier.specs.Verified.{Acceptance}
-use Rattle.gateway.specs.Core.{numbers_of}
+use Rattle.gateway.specs.Core.{Gateway, IsSame, numbers_of}
 use Rattle.gateway.specs.SiteRun.{IsScan, Standing, Steps, reading_at}
 use Rattle.gateway.specs.declared.event.Answer.{Answer}
 use Rattle.gateway.specs.declared.event.Answer.TheVariants as answer
@@ -23,6 +23,10 @@ StepsAsMeant p site a s event.Scan r t = (r ≡ answer.Writes (length site.outs)
 StepsAsMeant p site a s (event.Block device model words) r t = Steps site a.image (numbers_of a) a.budget s (event.Block device model words) r t
 StepsAsMeant p site a s (event.Lost device model) r t = Steps site a.image (numbers_of a) a.budget s (event.Lost device model) r t
 StepsAsMeant p site a s (event.Client pdu) r t = Steps site a.image (numbers_of a) a.budget s (event.Client pdu) r t
+
+-- one event at a core: the site run's step, a scan as the program means it, and nothing else changes
+abbrev pub AdvancesAsMeant : Program → Gateway → Event → Answer → Gateway → Type 0
+AdvancesAsMeant p old e r new = StepsAsMeant p old.site old.machine.accepted old.standing e r new.standing × IsSame old new
 
 -- events, one after another, with their answers in order
 abbrev pub RunsAsMeant : Program → Site → Acceptance → Standing → List Event → List Answer → Standing → Type 0

@@ -15,7 +15,7 @@ use Rattle.il_assemble.specs.declared.fault.AsmFault.{AsmFault}
 use Rattle.il_assemble.specs.Meaning.{Program, Outcome, Done, Fails, meaning}
 use Rattle.il_assemble.specs.Code.{image_of}
 use Rattle.il_assemble.specs.Correct.{AreReadings, DoesWhatItMeans}
-use Rattle.il_assemble.specs.Elaboration.{elaborated}
+use Rattle.il_assemble.specs.Texts.{elaborated_text}
 use Rattle.il_assemble.specs.Word as assemble
 use Rattle.il_reader.specs.declared.fault.ReadFault.{ReadFault}
 use Rattle.il_reader.specs.Fault as read
@@ -61,9 +61,9 @@ abbrev pub TellsResolved : Result Program AsmFault → List (List ℕ) → Told 
 TellsResolved (Err fault) inputs told = told ≡ refused_with (unassembled_line (assemble.word_of fault.kind) fault.line)
 TellsResolved (Ok p) inputs told = TellsGiven p (readings_given p.tags inputs) told
 
--- a program as it was read, and the input lines
+-- a program as it was read, which has the faults that a text can have alone, and the input lines
 abbrev pub TellsTree : Tree → List (List ℕ) → Told → Type 0
-TellsTree tree inputs told = TellsResolved (elaborated tree) inputs told
+TellsTree tree inputs told = TellsResolved (elaborated_text tree) inputs told
 
 -- an image on a reading for each tag, in its type: what it tells of each program whose meaning it has
 abbrev pub TellsImage : Image → List Reading → Told → Type 0

@@ -1,4 +1,5 @@
 -- The lines that the program prints.
+-- No standard says what is printed; these lines are this project's.
 use Rattle.std.specs.Prelude.{ℕ, ◌+◌, ℤ, pos, List, [], ◌∷◌, ◌++◌, Option, Some, None, if◌then◌else◌, codes}
 use Rattle.std.specs.Fmt.{decimal, signed_decimal}
 use Rattle.point_types.specs.declared.il_type.IlType.{IlType}

@@ -7,7 +7,7 @@ use Rattle.inverter_sim.specs.State.{PlantState}
 use Rattle.inverter_sim.specs.declared.fault.PlantFault.{PlantFault}
 use Rattle.model_defs.specs.declared.model.ModelDef.{ModelDef}
 use Rattle.commands.specs.Accepted.{TellsUndefined}
-use Rattle.commands.specs.Defined.{AreRead}
+use Rattle.commands.specs.Defined.{AreDefined}
 use Rattle.commands.specs.Report.{bad_plant_line}
 use Rattle.commands.specs.Told.{Told, refused_with}
 
@@ -18,7 +18,7 @@ GivesPlant models plant (Err told) = (fault : PlantFault) × Breaks models plant
 
 -- by the definitions that are shipped, and behind them those of the texts
 abbrev pub GivesDefined : List ℕ → List (List ℕ) → Result PlantState Told → Type 0
-GivesDefined plant texts given = (shipped models : List ModelDef) × AreRead texts shipped models × GivesPlant models plant given
+GivesDefined plant texts given = (models : List ModelDef) × AreDefined texts models × GivesPlant models plant given
 
 -- the line of the first text that is no definition
 abbrev pub GivesUndefined : List (List ℕ) → Result PlantState Told → Type 0

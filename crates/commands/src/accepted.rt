@@ -1,5 +1,7 @@
 //! A program that is accepted for a site.
 ghost use Rattle.std.specs.Prelude.{◌≡◌, ◌≢◌, map, string_bytes, Err, IfOk, Ok};
+ghost use Rattle.il_assemble.specs.Elaboration.{elaborated};
+ghost use Rattle.il_assemble.specs.Texts.{elaborated_text};
 ghost use Rattle.il_reader.specs.Reading.{reading};
 ghost use Rattle.facts.specs.Word as verdict_word;
 ghost use Rattle.facts.specs.declared.refusal.RefusalKind.TheVariants as refusal;
@@ -11,6 +13,7 @@ use crate::definitions::definitions;
 use crate::outcome::Outcome;
 use crate::report::{no_site, undefined, unverified};
 use il_assemble::assemble;
+use il_assemble::laws::texts_keep_the_limits;
 use il_reader::{Program, read};
 use model_defs::{DefFault, ModelDef};
 use scan_code::Image;
@@ -32,7 +35,7 @@ pub struct Accepted {
 /// The program of a text that is accepted for the site of a text, by the shipped model definitions and those of the
 /// texts `defs`, of which the last one of an ID counts; or what is told of the first refusal, of the definitions, the
 /// site and the program in this order.
-pub fn accept(
+pub(crate) fn accept(
     alloc: Global,
     site: &str,
     program: &str,
@@ -82,6 +85,7 @@ fn verified_on(
 ) -> Result<Result<Verified<DEPTH>, Outcome>, AllocError>
     ensures { IfOk result (GivesVerified site.now (reading text.now)) }
 {
+    texts_keep_the_limits();
     match read(alloc, text) {
         Ok(program) => verified_program(alloc, site, &program),
         Err(fault) => Ok(Err(Outcome::unread(alloc, fault)?)),
@@ -94,6 +98,7 @@ fn verified_program(
     site: &Site,
     program: &Program,
 ) -> Result<Result<Verified<DEPTH>, Outcome>, AllocError>
+    requires { elaborated program.now ≡ elaborated_text program.now }
     ensures { IfOk result (GivesVerified site.now (Ok program.now)) }
 {
     match assemble(alloc, program) {

@@ -2,48 +2,41 @@
 ghost use Rattle.std.specs.Prelude.{◌≡◌, ◌≢◌, ◌++◌, ◌∷◌, [], List, map, string_bytes, IfOk, IfErr, OnOk};
 ghost use Rattle.model_defs.specs.declared.fault.DefFault.TheVariants as fault;
 ghost use Rattle.model_defs.specs.declared.model.ModelDef.{ModelDef};
-ghost use Rattle.model_defs.specs.Definition.{Breaks};
-ghost use Rattle.commands.specs.Defined.{AreRead, IsFirstBroken, IsRead};
+ghost use Rattle.model_defs.specs.Definition.{Breaks, IsRead};
+ghost use Rattle.commands.specs.Defined.{AreDefined, AreRead, IsFirstBroken, IsUndefined};
 
-use model_defs::{DefFault, ModelDef, read, shipped};
+use model_defs::{DefFault, ModelDef, read, shipped, shipped_models};
 use std::alloc::Global;
 
-/// The models whose definitions are shipped.
-const SHIPPED: [u16; 9] = [1, 101, 102, 103, 120, 121, 122, 123, 124];
-
-/// The definitions that are shipped, and behind them those of the texts, so that the last one of an ID counts.
+/// The definitions that are shipped, and behind them those of the texts, so that the last one of an ID counts; or the
+/// fault of the first text that is none.
 pub fn definitions(alloc: Global, texts: &[String]) -> Result<Vec<ModelDef>, DefFault>
-    ensures read { IfOk result (λ models. (first : List ModelDef) × AreRead (map string_bytes texts.now) first models.items) }
-    ensures refused { IfErr result (λ e. e ≢ fault.OutOfMemory → IsFirstBroken (map string_bytes texts.now) e) }
+    ensures read { IfOk result (λ models. AreDefined (map string_bytes texts.now) models.items) }
+    ensures refused { IfErr result (λ e. e ≢ fault.OutOfMemory → IsUndefined (map string_bytes texts.now) e) }
 {
-    let mut models = shipped_definitions(alloc)?;
+    let mut models = Vec::new(alloc);
+    push_shipped(alloc, &mut models, shipped_models())?;
     push_definitions(alloc, &mut models, texts)?;
     Ok(models)
 }
 
-/// The definitions that are shipped.
-fn shipped_definitions(alloc: Global) -> Result<Vec<ModelDef>, DefFault>
-    ensures { IfErr result (λ e. e ≡ fault.OutOfMemory) }
+/// Appends the definitions of models that are shipped, in order.
+fn push_shipped(
+    alloc: Global,
+    models: &mut Vec<ModelDef>,
+    shipped: &[(u16, &str)],
+) -> Result<(), DefFault>
+    ensures read { OnOk result (AreRead (map (λ model. model.1.now) shipped.now) models.old.items models.new.items) }
+    ensures refused { IfErr result (λ e. e ≢ fault.OutOfMemory → IsFirstBroken (map (λ model. model.1.now) shipped.now) e) }
 {
-    let mut models = Vec::new(alloc);
-    push_shipped(alloc, &mut models)?;
-    Ok(models)
-}
-
-/// Appends the definitions that are shipped.
-fn push_shipped(alloc: Global, models: &mut Vec<ModelDef>) -> Result<(), DefFault>
-    ensures { IfErr result (λ e. e ≡ fault.OutOfMemory) }
-{
-    for id in SHIPPED {
-        if let Some(model) = shipped_definition(alloc, id)? {
-            models.push(model)?;
-        }
+    for model in shipped {
+        push_definition(alloc, models, model.1)?;
     }
     Ok(())
 }
 
 /// The shipped definition of a model; each one that is shipped can be read.
-pub fn shipped_definition(alloc: Global, id: u16) -> Result<Option<ModelDef>, DefFault>
+pub(crate) fn shipped_definition(alloc: Global, id: u16) -> Result<Option<ModelDef>, DefFault>
     ensures { IfErr result (λ e. e ≡ fault.OutOfMemory) }
 {
     let Some(text) = shipped(id) else {
@@ -66,16 +59,16 @@ fn push_definitions(
     ensures refused { IfErr result (λ e. e ≢ fault.OutOfMemory → IsFirstBroken (map string_bytes texts.now) e) }
 {
     for text in texts {
-        push_definition(alloc, models, text)?;
+        push_definition(alloc, models, text.as_str())?;
     }
     Ok(())
 }
 
 /// Appends the definition of a text.
-fn push_definition(alloc: Global, models: &mut Vec<ModelDef>, text: &String) -> Result<(), DefFault>
-    ensures read { OnOk result ((model : ModelDef) × IsRead (string_bytes text.now) model
+fn push_definition(alloc: Global, models: &mut Vec<ModelDef>, text: &str) -> Result<(), DefFault>
+    ensures read { OnOk result ((model : ModelDef) × IsRead text.now model
         × (models.new.items ≡ models.old.items ++ model ∷ [])) }
-    ensures refused { IfErr result (λ e. e ≢ fault.OutOfMemory → Breaks (string_bytes text.now) e) }
+    ensures refused { IfErr result (λ e. e ≢ fault.OutOfMemory → Breaks text.now e) }
 {
     match read(alloc, text.as_bytes()) {
         Ok(model) => {

@@ -23,7 +23,7 @@ const ABSENT: Reading = Reading::Absent(Cause::NoBlock);
 /// A reading for each tag by the input lines, those that no line names absent; or the number of the
 /// first line that is refused, counted from 1, blank lines aside. A line is refused where its form,
 /// its name or its value isn't that of an input, or where an earlier one named the same input.
-pub fn readings_given(
+pub(crate) fn readings_given(
     alloc: Global,
     tags: &[Tag],
     lines: &[u8],

@@ -6,7 +6,7 @@ ghost use Rattle.commands.specs.Input as input;
 
 /// The length of the program text at the front of what was read: its lines up to the first whose
 /// only word is END_PROGRAM, that one with its end; all of it where there is no such line.
-pub fn program_length(text: &[u8]) -> usize
+pub(crate) fn program_length(text: &[u8]) -> usize
     ensures within { result ≤ length text.now }
     ensures boundary { IsUtf8 text.now → IsCharBoundary text.now result }
     ensures program { take result text.now ≡ input.program_text text.now }
@@ -24,7 +24,7 @@ pub fn program_length(text: &[u8]) -> usize
 }
 
 /// The length of the first line, with its end.
-pub fn line_length(text: &[u8]) -> usize
+pub(crate) fn line_length(text: &[u8]) -> usize
     ensures exact { result ≡ input.line_length text.now }
     ensures within { result ≤ length text.now }
 {
@@ -55,7 +55,7 @@ fn trimmed(line: &[u8]) -> &[u8]
 }
 
 /// A line without its end.
-pub fn before_end(line: &[u8]) -> &[u8]
+pub(crate) fn before_end(line: &[u8]) -> &[u8]
     ensures { result.now ≡ input.before_end line.now }
 {
     match line.strip_suffix(b"\r\n") {
@@ -97,7 +97,7 @@ fn is_blank(byte: u8) -> bool
 }
 
 /// Whether there is no word on a line.
-pub fn is_blank_line(line: &[u8]) -> bool
+pub(crate) fn is_blank_line(line: &[u8]) -> bool
     ensures { result ≡ input.is_blank_line line.now }
 {
     before_end(line).iter().all(|byte| is_blank(*byte))

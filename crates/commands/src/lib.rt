@@ -11,6 +11,7 @@ mod definitions;
 mod given;
 mod help;
 mod input;
+pub mod laws;
 mod number;
 mod outcome;
 mod plant_run;
@@ -24,6 +25,7 @@ mod standard_input;
 mod trial_scan;
 mod unit_points;
 mod verdict;
+mod writing;
 
 // what a program's `main` calls, and its parts
 pub use command_line::{command, obey, obey_command_line};

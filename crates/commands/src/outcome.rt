@@ -10,6 +10,7 @@ ghost use Rattle.commands.specs.Scans.{IsUnlinked};
 ghost use Rattle.commands.specs.Told.{IsTold, refused_with};
 
 use crate::report::{accepted, link_failed, unassembled, unread, unusable};
+use crate::writing::write_bytes;
 use il_assemble::{AsmFault, AsmFaultKind};
 use il_reader::{ReadFault, ReadFaultKind};
 use modbus_frame::LinkFault;
@@ -70,7 +71,7 @@ impl Outcome {
     }
 
     /// The line of a program without code, with status 1; none where memory was refused.
-    pub fn unassembled(alloc: Global, fault: AsmFault) -> Result<Outcome, AllocError>
+    pub(crate) fn unassembled(alloc: Global, fault: AsmFault) -> Result<Outcome, AllocError>
         ensures real { OnOk result (fault.kind ≢ asm_fault.OutOfMemory) }
         ensures told { IfOk result (λ o. o ≡ refused_with (unassembled_line (assembling.word_of fault.kind) fault.line)) }
     {
@@ -82,7 +83,7 @@ impl Outcome {
     }
 
     /// The line `link: KIND`, with status 3.
-    pub fn unlinked(alloc: Global, fault: LinkFault) -> Result<Outcome, AllocError>
+    pub(crate) fn unlinked(alloc: Global, fault: LinkFault) -> Result<Outcome, AllocError>
         ensures { IfOk result (λ o. o ≡ record { lines = link_line (link_fault_word fault); status = FAILED_LINK }) }
     {
         let line = link_failed(alloc, fault.word())?;
@@ -101,24 +102,24 @@ impl Outcome {
 }
 
 /// Writes lines and gives their status; a failed write gives status 1.
-pub fn write_lines<W: Write>(out: &mut W, lines: &[u8], status: u8) -> u8
+pub(crate) fn write_lines<W: Write>(out: &mut W, lines: &[u8], status: u8) -> u8
     ensures { IsTold (W.contents out.old) (W.contents out.new) (record { lines = lines.now; status = status }) result }
 {
-    match out.write_all(lines) {
+    match write_bytes(out, lines) {
         Ok(()) => status,
         Err(_) => 1,
     }
 }
 
 /// Writes that memory was refused, and gives the status.
-pub fn tell_no_memory<W: Write>(out: &mut W) -> u8
+pub(crate) fn tell_no_memory<W: Write>(out: &mut W) -> u8
     ensures { IsTold (W.contents out.old) (W.contents out.new) (refused_with no_memory_line) result }
 {
     write_lines(out, b"refused: memory\n", 1)
 }
 
 /// Writes that the file at a path can't be used, and gives the status.
-pub fn tell_unusable<W: Write>(alloc: Global, path: &str, out: &mut W) -> u8 {
+pub(crate) fn tell_unusable<W: Write>(alloc: Global, path: &str, out: &mut W) -> u8 {
     match unusable(alloc, path) {
         Ok(line) => write_lines(out, line.as_bytes(), 1),
         Err(_) => tell_no_memory(out),
@@ -126,7 +127,7 @@ pub fn tell_unusable<W: Write>(alloc: Global, path: &str, out: &mut W) -> u8 {
 }
 
 /// Writes that a link failed, and gives the status.
-pub fn tell_unlinked<W: Write>(alloc: Global, fault: LinkFault, out: &mut W) -> u8
+pub(crate) fn tell_unlinked<W: Write>(alloc: Global, fault: LinkFault, out: &mut W) -> u8
     ensures { IsUnlinked fault (W.contents out.old) (W.contents out.new) result }
 {
     match Outcome::unlinked(alloc, fault) {

@@ -22,7 +22,7 @@ pub fn shown(alloc: Global, kind: IlType, number: i64) -> Result<String, AllocEr
 }
 
 /// Appends the line NAME=VALUE.
-pub fn push_named(lines: &mut Vec<u8>, name: &Name, value: &str) -> Result<(), AllocError>
+pub(crate) fn push_named(lines: &mut Vec<u8>, name: &Name, value: &str) -> Result<(), AllocError>
     ensures ok { OnOk result (lines.new.items ≡ lines.old.items ++ report.named_line name.now value.now) }
 {
     lines.extend_from_slice(name.as_bytes())?;
@@ -33,7 +33,7 @@ pub fn push_named(lines: &mut Vec<u8>, name: &Name, value: &str) -> Result<(), A
 }
 
 /// Appends the line `steps N`.
-pub fn push_steps(lines: &mut Vec<u8>, alloc: Global, steps: u32) -> Result<(), AllocError>
+pub(crate) fn push_steps(lines: &mut Vec<u8>, alloc: Global, steps: u32) -> Result<(), AllocError>
     ensures ok { OnOk result (lines.new.items ≡ lines.old.items ++ report.steps_line steps) }
 {
     let line = format!(in alloc; "steps {steps}\n")?;
@@ -42,7 +42,12 @@ pub fn push_steps(lines: &mut Vec<u8>, alloc: Global, steps: u32) -> Result<(), 
 }
 
 /// Appends the line `trap KIND at N`.
-pub fn push_trap(lines: &mut Vec<u8>, alloc: Global, kind: &str, at: u32) -> Result<(), AllocError>
+pub(crate) fn push_trap(
+    lines: &mut Vec<u8>,
+    alloc: Global,
+    kind: &str,
+    at: u32,
+) -> Result<(), AllocError>
     ensures ok { OnOk result (lines.new.items ≡ lines.old.items ++ report.trap_line kind.now at) }
 {
     let line = format!(in alloc; "trap {kind} at {at}\n")?;
@@ -59,7 +64,7 @@ pub fn unread(alloc: Global, kind: &str, line: u32) -> Result<String, AllocError
 }
 
 /// The line `refused: assemble KIND line N`.
-pub fn unassembled(alloc: Global, kind: &str, line: u32) -> Result<String, AllocError>
+pub(crate) fn unassembled(alloc: Global, kind: &str, line: u32) -> Result<String, AllocError>
     ensures ok { IfOk result (λ text. string_bytes text ≡ report.unassembled_line kind.now line) }
 {
     let text = format!(in alloc; "refused: assemble {kind} line {line}\n")?;
@@ -67,7 +72,7 @@ pub fn unassembled(alloc: Global, kind: &str, line: u32) -> Result<String, Alloc
 }
 
 /// The line `refused: input K`, of the K-th input line.
-pub fn bad_input(alloc: Global, number: usize) -> Result<String, AllocError>
+pub(crate) fn bad_input(alloc: Global, number: usize) -> Result<String, AllocError>
     ensures ok { IfOk result (λ text. string_bytes text ≡ report.bad_input_line number) }
 {
     let text = format!(in alloc; "refused: input {number}\n")?;
@@ -83,14 +88,14 @@ fn with_word(alloc: Global, before: &str, word: &str) -> Result<String, AllocErr
 }
 
 /// The line `refused: definition KIND`.
-pub fn undefined(alloc: Global, kind: &str) -> Result<String, AllocError>
+pub(crate) fn undefined(alloc: Global, kind: &str) -> Result<String, AllocError>
     ensures ok { IfOk result (λ text. string_bytes text ≡ report.bad_definition_line kind.now) }
 {
     with_word(alloc, "refused: definition ", kind)
 }
 
 /// The line `refused: site KIND`.
-pub fn no_site(alloc: Global, kind: &str) -> Result<String, AllocError>
+pub(crate) fn no_site(alloc: Global, kind: &str) -> Result<String, AllocError>
     ensures ok { IfOk result (λ text. string_bytes text ≡ report.bad_site_line kind.now) }
 {
     with_word(alloc, "refused: site ", kind)
@@ -105,7 +110,7 @@ pub fn accepted(alloc: Global, budget: u32) -> Result<String, AllocError>
 }
 
 /// The line `refused: verify KIND at N`.
-pub fn unverified(alloc: Global, kind: &str, at: usize) -> Result<String, AllocError>
+pub(crate) fn unverified(alloc: Global, kind: &str, at: usize) -> Result<String, AllocError>
     ensures ok { IfOk result (λ text. string_bytes text ≡ report.unverified_line kind.now at) }
 {
     let text = format!(in alloc; "refused: verify {kind} at {at}\n")?;
@@ -113,14 +118,14 @@ pub fn unverified(alloc: Global, kind: &str, at: usize) -> Result<String, AllocE
 }
 
 /// The line `refused: plant KIND`.
-pub fn no_plant(alloc: Global, kind: &str) -> Result<String, AllocError>
+pub(crate) fn no_plant(alloc: Global, kind: &str) -> Result<String, AllocError>
     ensures ok { IfOk result (λ text. string_bytes text ≡ report.bad_plant_line kind.now) }
 {
     with_word(alloc, "refused: plant ", kind)
 }
 
 /// The line `listening PORT`.
-pub fn listening(alloc: Global, port: u16) -> Result<String, AllocError>
+pub(crate) fn listening(alloc: Global, port: u16) -> Result<String, AllocError>
     ensures ok { IfOk result (λ text. string_bytes text ≡ report.listening_line port) }
 {
     let text = format!(in alloc; "listening {port}\n")?;
@@ -128,21 +133,21 @@ pub fn listening(alloc: Global, port: u16) -> Result<String, AllocError>
 }
 
 /// The line `link: KIND`.
-pub fn link_failed(alloc: Global, kind: &str) -> Result<String, AllocError>
+pub(crate) fn link_failed(alloc: Global, kind: &str) -> Result<String, AllocError>
     ensures ok { IfOk result (λ text. string_bytes text ≡ report.link_line kind.now) }
 {
     with_word(alloc, "link: ", kind)
 }
 
 /// The line `refused: file PATH`.
-pub fn unusable(alloc: Global, path: &str) -> Result<String, AllocError>
+pub(crate) fn unusable(alloc: Global, path: &str) -> Result<String, AllocError>
     ensures ok { IfOk result (λ text. string_bytes text ≡ report.unusable_line path.now) }
 {
     with_word(alloc, "refused: file ", path)
 }
 
 /// The line `refused: map KIND`.
-pub fn no_map(alloc: Global, kind: &str) -> Result<String, AllocError>
+pub(crate) fn no_map(alloc: Global, kind: &str) -> Result<String, AllocError>
     ensures ok { IfOk result (λ text. string_bytes text ≡ report.bad_map_line kind.now) }
 {
     with_word(alloc, "refused: map ", kind)
@@ -160,7 +165,7 @@ pub fn push_model(lines: &mut Vec<u8>, alloc: Global, block: &Block) -> Result<(
 }
 
 /// Appends the line `NAME NUMBER`.
-pub fn push_point(
+pub(crate) fn push_point(
     lines: &mut Vec<u8>,
     alloc: Global,
     name: &str,
@@ -174,7 +179,7 @@ pub fn push_point(
 }
 
 /// Appends the line `end ADDR`.
-pub fn push_end(lines: &mut Vec<u8>, alloc: Global, addr: u16) -> Result<(), AllocError>
+pub(crate) fn push_end(lines: &mut Vec<u8>, alloc: Global, addr: u16) -> Result<(), AllocError>
     ensures ok { OnOk result (lines.new.items ≡ lines.old.items ++ probe.end_line addr) }
 {
     let line = format!(in alloc; "end {addr}\n")?;
@@ -183,7 +188,7 @@ pub fn push_end(lines: &mut Vec<u8>, alloc: Global, addr: u16) -> Result<(), All
 }
 
 /// The line `refused: core KIND`.
-pub fn no_core(alloc: Global, kind: &str) -> Result<String, AllocError>
+pub(crate) fn no_core(alloc: Global, kind: &str) -> Result<String, AllocError>
     ensures ok { IfOk result (λ text. string_bytes text ≡ report.bad_core_line kind.now) }
 {
     with_word(alloc, "refused: core ", kind)

@@ -13,7 +13,7 @@ use scan_vm::{Scan, Trap, Trial};
 use std::alloc::{AllocError, Global};
 
 /// The outcome of the first scan of a trial, on a reading for each tag.
-pub fn scan_outcome(
+pub(crate) fn scan_outcome(
     alloc: Global,
     trial: &mut Trial,
     readings: &[Reading],

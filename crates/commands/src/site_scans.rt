@@ -1,11 +1,12 @@
 //! The scans of a program on a site, whose devices are asked over a poller.
-ghost use Rattle.std.specs.Prelude.{◌≡◌, ◌≢◌, length, map, Err, None, string_bytes, IfOk};
+ghost use Rattle.std.specs.Prelude.{◌≡◌, ◌≢◌, length, map, Err, None, string_bytes, IfOk, OnErr};
 ghost use Rattle.gateway.specs.Fault.{core_fault_word};
 ghost use Rattle.gateway.specs.declared.fault.CoreFault.TheVariants.{Foreign};
 ghost use Rattle.modbus_frame.specs.Fault.{link_fault_word};
+ghost use Rattle.modbus_frame.specs.declared.link.LinkFault.TheVariants as link;
 ghost use Rattle.scan_vm.specs.Machine as vm;
 ghost use Rattle.commands.specs.Report.{bad_core_line, link_line};
-ghost use Rattle.commands.specs.Scans.{IsLast, IsPrinted, IsScans, LeavesOff, MakesCore, OpensCore, StartsCore, unlinked_with};
+ghost use Rattle.commands.specs.Scans.{IsLast, IsPrinted, IsScans, IsSearched, LeavesOff, LeavesPoller, MakesCore, OpensCore, StartsCore, unlinked_with};
 ghost use Rattle.commands.specs.Told.{refused_with};
 
 pub use crate::accepted::DEPTH;
@@ -78,7 +79,7 @@ fn scan_once<L: Link, W: Write>(
 ) -> u8
     requires { poller.old.fault ≡ None }
     ensures printed { result ≡ 0 → IsPrinted k poller.old core.old poller.new core.new (W.contents out.old) (W.contents out.new) }
-    ensures last { result ≢ 0 → IsLast poller.old core.old poller.new core.new (W.contents out.old) (W.contents out.new) result }
+    ensures last { result ≢ 0 → IsLast k poller.old core.old poller.new core.new (W.contents out.old) (W.contents out.new) result }
 {
     match run_scan(core, poller) {
         Ok(report) => match scanned(alloc, k, &report) {
@@ -97,7 +98,8 @@ fn core_of<L: Link>(
     defs: &[String],
     poller: &mut Poller<L>,
 ) -> Result<Result<Core<DEPTH>, Outcome>, AllocError>
-    ensures { IfOk result (StartsCore site.now program.now (map string_bytes defs.now) poller.old poller.new) }
+    ensures starts { IfOk result (StartsCore site.now program.now (map string_bytes defs.now) poller.old poller.new) }
+    ensures left { OnErr result (LeavesPoller site.now program.now (map string_bytes defs.now) poller.old poller.new) }
 {
     match accept(alloc, site, program, defs) {
         Ok(Ok(given)) => opened(alloc, given, poller),
@@ -112,7 +114,8 @@ fn opened<L: Link>(
     given: Accepted,
     poller: &mut Poller<L>,
 ) -> Result<Result<Core<DEPTH>, Outcome>, AllocError>
-    ensures { IfOk result (OpensCore given.site given.verified poller.old poller.new) }
+    ensures opens { IfOk result (OpensCore given.site given.verified poller.old poller.new) }
+    ensures left { OnErr result (IsSearched given.site.devices poller.old poller.new) }
 {
     match poller.find(alloc, &given.site) {
         Ok(maps) => core_over(alloc, given, maps),
@@ -122,7 +125,7 @@ fn opened<L: Link>(
 
 /// What is told where the devices' maps aren't found.
 fn unfound(alloc: Global, fault: LinkFault) -> Result<Result<Core<DEPTH>, Outcome>, AllocError>
-    ensures { IfOk result (λ none. none ≡ Err (unlinked_with (link_line (link_fault_word fault)))) }
+    ensures { IfOk result (λ none. (fault ≢ link.OutOfMemory) × (none ≡ Err (unlinked_with (link_line (link_fault_word fault))))) }
 {
     if let LinkFault::OutOfMemory = fault {
         return Err(AllocError);

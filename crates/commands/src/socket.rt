@@ -5,7 +5,7 @@ use std::net::{Ipv4Addr, SocketAddr, SocketAddrV4};
 
 /// A connection as a link. What it carries, and how often it fails, isn't known to contracts.
 #[derive(Drop)]
-pub struct SocketLink<S: Read + Write + Drop> {
+pub(crate) struct SocketLink<S: Read + Write + Drop> {
     stream: S,
 }
 
@@ -18,10 +18,11 @@ impl<S: Read + Write + Drop> SocketLink<S> {
 
 impl<S: Read + Write + Drop> Link for SocketLink<S> {
     ghost use Rattle.std.specs.Prelude.{None};
+    ghost use Rattle.modbus_frame.specs.Link.{untold};
 
     ghost calls = { λ _. None };
 
-    ghost failures = { λ _. None };
+    ghost failures = { λ _. untold };
 
     ghost coming = { λ _. None };
 
@@ -43,6 +44,6 @@ impl<S: Read + Write + Drop> Link for SocketLink<S> {
 }
 
 /// A port of this machine; 0 stands for a free one.
-pub fn loopback(port: u16) -> SocketAddr {
+pub(crate) fn loopback(port: u16) -> SocketAddr {
     SocketAddr::V4(SocketAddrV4::new(Ipv4Addr::LOCALHOST, port))
 }

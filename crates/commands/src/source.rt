@@ -13,13 +13,13 @@ const LARGEST_FILE: u64 = 16_777_216;
 /// Why a file isn't taken: it can't be read to its end, isn't UTF-8, or has too many bytes; or
 /// memory was refused.
 #[derive(Clone, Copy)]
-pub enum SourceFault {
+pub(crate) enum SourceFault {
     Unusable,
     OutOfMemory,
 }
 
 /// The text of a file, read to its end.
-pub fn read_text<R: Read + Drop>(alloc: Global, reader: R) -> Result<String, SourceFault>
+pub(crate) fn read_text<R: Read + Drop>(alloc: Global, reader: R) -> Result<String, SourceFault>
     ensures small { IfOk result (λ text. length (string_bytes text) ≤ LARGEST_FILE) }
     ensures whole { IfOk result (λ text. IfSome (R.remaining reader) (λ bytes. string_bytes text ≡ bytes)) }
 {
@@ -36,7 +36,7 @@ pub fn read_text<R: Read + Drop>(alloc: Global, reader: R) -> Result<String, Sou
 }
 
 /// The text of the file at a path; `-` is standard input.
-pub fn read_file(
+pub(crate) fn read_file(
     rt: &(impl Input + AllocGlobal + Files),
     alloc: Global,
     path: &str,

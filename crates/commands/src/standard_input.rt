@@ -2,11 +2,11 @@
 use clap::ArgMatches;
 
 /// The path of standard input.
-pub const STANDARD_INPUT: &str = "-";
+pub(crate) const STANDARD_INPUT: &str = "-";
 
 /// Why the files that a command line names can't be had, where standard input is among them: it is read once, and a
 /// second process doesn't get it.
-pub fn misuse(command: &str, matches: &ArgMatches<'_>) -> Option<&'static str> {
+pub(crate) fn misuse(command: &str, matches: &ArgMatches<'_>) -> Option<&'static str> {
     let plant = file(matches, "plant");
     let defs = matches.get_strs("def").unwrap_or(&[]);
     let handed_on = inputs(&[plant]).saturating_add(inputs(defs));

@@ -1,5 +1,7 @@
 //! The command without words: a trial scan of a program by itself.
 ghost use Rattle.std.specs.Prelude.{◌≡◌, IfOk};
+ghost use Rattle.il_assemble.specs.Elaboration.{elaborated};
+ghost use Rattle.il_assemble.specs.Texts.{elaborated_text};
 ghost use Rattle.scan_code.specs.Image.{Image};
 ghost use Rattle.scan_vm.specs.Trial.{started};
 ghost use Rattle.commands.specs.Input as input;
@@ -13,6 +15,7 @@ use crate::outcome::{Outcome, tell_no_memory};
 use crate::report::bad_input;
 use crate::scan::scan_outcome;
 use il_assemble::assemble;
+use il_assemble::laws::texts_keep_the_limits;
 use il_reader::{Program, read};
 use scan_code::Image;
 use scan_vm::Trial;
@@ -35,6 +38,7 @@ pub fn trial<W: Write>(alloc: Global, input: &str, out: &mut W) -> u8
 fn outcome_of(alloc: Global, input: &str) -> Result<Outcome, AllocError>
     ensures { IfOk result (TellsInput input.now) }
 {
+    texts_keep_the_limits();
     let (text, inputs) = input.split_at(program_length(input.as_bytes()));
     match read(alloc, text) {
         Ok(program) => outcome_of_program(alloc, &program, inputs.as_bytes()),
@@ -48,6 +52,7 @@ fn outcome_of_program(
     program: &Program,
     inputs: &[u8],
 ) -> Result<Outcome, AllocError>
+    requires { elaborated program.now ≡ elaborated_text program.now }
     ensures { IfOk result (TellsTree program.now (input.lines_of inputs.now)) }
 {
     match assemble(alloc, program) {

@@ -8,7 +8,7 @@ use Rattle.std.specs.Prelude.{unwrap_or}
 use Rattle.point_types.specs.declared.reading.Reading.{Reading}
 use Rattle.point_types.specs.Value.{Value, int_eq, code_of, low_of, high_of}
 use Rattle.facts.specs.Span.{Span, Empty, Between, joined, intersected, only}
-use Rattle.facts.specs.Fact.{Fact, Known, Consequences, Origin, OfVariable, OfInput, both_spans, united, with_span, applied_span, under, nothing_like, nothing_for, zipped, met_set, met_known, met_value, met_origin, same_list, same_optional, same_bool, same_origin, same_consequences, any_empty}
+use Rattle.facts.specs.Fact.{Fact, AbstractValue, Consequences, Origin, OfVariable, OfInput, both_spans, united, with_span, applied_span, under, nothing_like, nothing_for, zipped, met_set, met_known, met_value, met_origin, same_list, same_optional, same_bool, same_origin, same_consequences, any_empty}
 use Rattle.scan_code.specs.Machine.{State}
 use Rattle.facts.specs.Flow.{without, names, forgets, forgets_in, widened, stored_fact}
 use Rattle.facts.specs.Fit.{IsIn, LiesIn, HasIn, Hold, Fits, FitsValue, FitsResult, FitsDeferred, EqualsOrigin, IfListed, HasOwnValue, span_at, reading_number, origin_number}
@@ -215,7 +215,7 @@ one_listed_right : (P : Type 0) (x y : Bool) → IfListed (Some y) P → IfListe
 one_listed_right P true y h = h
 one_listed_right P false y h = tt
 
-met_known_left : (vs : List ℤ) (rs : List Reading) (a b : Known) (v : Value) → FitsValue vs rs a v → FitsResult vs rs (met_known a b) (Some v)
+met_known_left : (vs : List ℤ) (rs : List Reading) (a b : AbstractValue) (v : Value) → FitsValue vs rs a v → FitsResult vs rs (met_known a b) (Some v)
 met_known_left vs rs a b v h = go (nat_eq (code_of a.kind) (code_of b.kind))
   where
     go : (t : Bool) → FitsResult vs rs (if t then Some (record { kind = a.kind; span = joined a.span b.span; origin = met_origin a.origin b.origin; where_true = met_set a.where_true b.where_true; where_false = met_set a.where_false b.where_false }) else None) (Some v)
@@ -229,7 +229,7 @@ met_known_left vs rs a b v h = go (nat_eq (code_of a.kind) (code_of b.kind))
       where_false = λ e. met_left vs rs a.where_false b.where_false (h.where_false e);
     }
 
-met_known_right : (vs : List ℤ) (rs : List Reading) (a b : Known) (v : Value) → FitsValue vs rs b v → FitsResult vs rs (met_known a b) (Some v)
+met_known_right : (vs : List ℤ) (rs : List Reading) (a b : AbstractValue) (v : Value) → FitsValue vs rs b v → FitsResult vs rs (met_known a b) (Some v)
 met_known_right vs rs a b v h = go (nat_eq (code_of a.kind) (code_of b.kind)) refl
   where
     go : (t : Bool) → nat_eq (code_of a.kind) (code_of b.kind) ≡ t → FitsResult vs rs (if t then Some (record { kind = a.kind; span = joined a.span b.span; origin = met_origin a.origin b.origin; where_true = met_set a.where_true b.where_true; where_false = met_set a.where_false b.where_false }) else None) (Some v)
@@ -243,25 +243,25 @@ met_known_right vs rs a b v h = go (nat_eq (code_of a.kind) (code_of b.kind)) re
       where_false = λ e. met_right vs rs a.where_false b.where_false (h.where_false e);
     }
 
-met_value_left : (vs : List ℤ) (rs : List Reading) (a b : Option Known) (v : Option Value) → FitsResult vs rs a v → FitsResult vs rs (met_value a b) v
+met_value_left : (vs : List ℤ) (rs : List Reading) (a b : Option AbstractValue) (v : Option Value) → FitsResult vs rs a v → FitsResult vs rs (met_value a b) v
 met_value_left vs rs None b v h = tt
 met_value_left vs rs (Some a) None v h = tt
 met_value_left vs rs (Some a) (Some b) None h = absurd h
 met_value_left vs rs (Some a) (Some b) (Some v) h = met_known_left vs rs a b v h
 
-met_value_right : (vs : List ℤ) (rs : List Reading) (a b : Option Known) (v : Option Value) → FitsResult vs rs b v → FitsResult vs rs (met_value a b) v
+met_value_right : (vs : List ℤ) (rs : List Reading) (a b : Option AbstractValue) (v : Option Value) → FitsResult vs rs b v → FitsResult vs rs (met_value a b) v
 met_value_right vs rs None b v h = tt
 met_value_right vs rs (Some a) None v h = tt
 met_value_right vs rs (Some a) (Some b) None h = absurd h
 met_value_right vs rs (Some a) (Some b) (Some v) h = met_known_right vs rs a b v h
 
-met_deferred_left : (vs : List ℤ) (rs : List Reading) (as' bs : List (Option Known)) (ws : List Value) → length as' ≡ length bs → FitsDeferred vs rs as' ws → FitsDeferred vs rs (zipped met_value as' bs) ws
+met_deferred_left : (vs : List ℤ) (rs : List Reading) (as' bs : List (Option AbstractValue)) (ws : List Value) → length as' ≡ length bs → FitsDeferred vs rs as' ws → FitsDeferred vs rs (zipped met_value as' bs) ws
 met_deferred_left vs rs [] bs ws e h = h
 met_deferred_left vs rs (a ∷ as') [] ws e h = absurd (omega arith)
 met_deferred_left vs rs (a ∷ as') (b ∷ bs) [] e h = absurd h
 met_deferred_left vs rs (a ∷ as') (b ∷ bs) (w ∷ ws) e h = (met_value_left vs rs a b (Some w) h.0, met_deferred_left vs rs as' bs ws (omega arith) h.1)
 
-met_deferred_right : (vs : List ℤ) (rs : List Reading) (as' bs : List (Option Known)) (ws : List Value) → length as' ≡ length bs → FitsDeferred vs rs bs ws → FitsDeferred vs rs (zipped met_value as' bs) ws
+met_deferred_right : (vs : List ℤ) (rs : List Reading) (as' bs : List (Option AbstractValue)) (ws : List Value) → length as' ≡ length bs → FitsDeferred vs rs bs ws → FitsDeferred vs rs (zipped met_value as' bs) ws
 met_deferred_right vs rs [] [] ws e h = h
 met_deferred_right vs rs [] (b ∷ bs) ws e h = absurd (omega arith)
 met_deferred_right vs rs (a ∷ as') [] ws e h = absurd (omega arith)
@@ -351,7 +351,7 @@ module _ (rs : List Reading) (v : ℕ) (vs ws : List ℤ) (others : (j : ℕ) �
   origin_kept (Some (OfVariable j)) n e h = others j (λ same. absurd (grind arith)) ∙ h
   origin_kept (Some (OfInput j)) n e h = h
 
-  pub forgets_fits : (k : Known) (w : Value) → FitsValue vs rs k w → FitsValue ws rs (forgets v k) w
+  pub forgets_fits : (k : AbstractValue) (w : Value) → FitsValue vs rs k w → FitsValue ws rs (forgets v k) w
   forgets_fits k w h = record {
     kind = h.kind;
     span = h.span;
@@ -365,12 +365,12 @@ module _ (rs : List Reading) (v : ℕ) (vs ws : List ℤ) (others : (j : ℕ) �
       origin true e = tt
       origin false e = origin_kept k.origin w.number e h.origin
 
-  forgets_result : (k : Option Known) (w : Option Value) → FitsResult vs rs k w → FitsResult ws rs (forgets_in v k) w
+  forgets_result : (k : Option AbstractValue) (w : Option Value) → FitsResult vs rs k w → FitsResult ws rs (forgets_in v k) w
   forgets_result None w h = tt
   forgets_result (Some k) None h = absurd h
   forgets_result (Some k) (Some w) h = forgets_fits k w h
 
-  forgets_deferred : (ks : List (Option Known)) (us : List Value) → FitsDeferred vs rs ks us → FitsDeferred ws rs (map (forgets_in v) ks) us
+  forgets_deferred : (ks : List (Option AbstractValue)) (us : List Value) → FitsDeferred vs rs ks us → FitsDeferred ws rs (map (forgets_in v) ks) us
   forgets_deferred [] [] h = tt
   forgets_deferred [] (u ∷ us) h = absurd h
   forgets_deferred (k ∷ ks) [] h = absurd h
@@ -407,7 +407,7 @@ widened_fits rs v n f s ws a others h k = go (slice_get f.variables v) refl
     }
 
 -- a variable that was written with the result
-pub stored_fits : (rs : List Reading) (v : ℕ) (f : Fact) (r : Known) (w : Value) (s : State) (a : ℕ) → v < length s.variables → Fits rs f s → s.result ≡ Some w → FitsValue s.variables rs r w → Fits rs (stored_fact v r f) (record s { address = a; variables = slice_set s.variables v w.number })
+pub stored_fits : (rs : List Reading) (v : ℕ) (f : Fact) (r : AbstractValue) (w : Value) (s : State) (a : ℕ) → v < length s.variables → Fits rs f s → s.result ≡ Some w → FitsValue s.variables rs r w → Fits rs (stored_fact v r f) (record s { address = a; variables = slice_set s.variables v w.number })
 stored_fits rs v f r w s a long h e k = record {
   variables = spans_written rs v s.variables ws others f.variables r.span h.variables (subst (λ (o : Option ℤ). LiesIn (Some r.span) o) (sym here) (lies_of r.span w.number k.span));
   inputs = h.inputs;

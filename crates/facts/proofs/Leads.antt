@@ -5,13 +5,13 @@ use Rattle.scan_code.specs.declared.op.Op.{Op}
 use Rattle.scan_code.specs.declared.op.Op.TheVariants as does
 use Rattle.point_types.specs.Value.{is_bool, ◌>>=◌}
 use Rattle.facts.specs.Span.{Between, has_member, lies_in}
-use Rattle.facts.specs.Fact.{Fact, Known, OfInput}
-use Rattle.facts.specs.Flow.{on_result, Frame, Way, Flow, flow, need, check, goes_on, with_value, source_value, stored_fact, widened, selected_known, applied_known, absolute_known, converted_known, inverted_known, bool_result, later, earlier, tested, number_at, way_to, way_where}
+use Rattle.facts.specs.Fact.{Fact, AbstractValue, OfInput}
+use Rattle.facts.specs.Flow.{on_result, Context, Way, Flow, flow, need, check, goes_on, with_value, source_value, stored_fact, widened, selected_known, applied_known, absolute_known, converted_known, inverted_known, bool_result, later, earlier, tested, number_at, way_to, way_where}
 use Rattle.facts.specs.declared.refusal.RefusalKind.{RefusalKind}
 use Rattle.facts.specs.declared.refusal.RefusalKind.TheVariants.{Jump, NoResult, WrongType, StoreRange, Stack}
 use Rattle.facts.proofs.Values.{Yields, by_ok, by_bind, by_need, by_check, by_first}
 
-abbrev pub Leads : Frame → ℕ → Op → ℕ → Type 0
+abbrev pub Leads : Context → ℕ → Op → ℕ → Type 0
 Leads c at does.End m = ⊥
 Leads c at (does.Return when.Always) m = ⊥
 Leads c at (does.Jump when.Always to) m = number_at c.listing 0 to ≡ Some m
@@ -30,7 +30,7 @@ all_to : (m : ℕ) (f : Option Fact) (P : ℕ → Type 0) → P m → AllWays (w
 all_to m None P h = tt
 all_to m (Some f) P h = (h, tt)
 
-module _ (c : Frame) where
+module _ (c : Context) where
   -- one way, to the next instruction
   on : (at : ℕ) (f : Fact) → Yields {E = RefusalKind} (Ok ((at + 1, f) ∷ [])) (λ ways. AllWays ways (λ m. m ≡ at + 1))
   on at f = by_ok _ _ (refl, tt)
@@ -46,7 +46,7 @@ module _ (c : Frame) where
           go true f = cc
           go false f = absurd (cc)
 
-  one : (at : ℕ) (f : Fact) (make : Known → Result Known RefusalKind) → Yields (on_result f make (at + 1)) (λ ways. AllWays ways (λ m. m ≡ at + 1))
+  one : (at : ℕ) (f : Fact) (make : AbstractValue → Result AbstractValue RefusalKind) → Yields (on_result f make (at + 1)) (λ ways. AllWays ways (λ m. m ≡ at + 1))
   one at f make = by_bind (need NoResult f.result >>= make) _ _ (λ v e. on at (with_value f v))
 
   pub flow_leads : (at : ℕ) (i : Op) (f : Fact) → Yields (flow c at i f) (λ ways. AllWays ways (Leads c at i))

@@ -9,8 +9,8 @@ use Rattle.point_types.specs.declared.reading.Reading.TheVariants as reading
 use Rattle.point_types.specs.Value.{Value, Fault, truth, number_of, applied, inverted, WrongType, divided, on_numbers, on_bools, alike, same_kind, fitted, int_eq, int_least, int_most, code_of, low_of, high_of, is_bool, is_within, ◌>>=◌}
 use Rattle.scan_code.specs.Table.{is_present, selected, absolute_of, converted, magnitude}
 use Rattle.facts.specs.Span.{spanning, Span, Empty, Between, joined, only, operated_ends, operated, has_member, lies_in, absolute_span, cut_by, mirrored, opposite}
-use Rattle.facts.specs.Fact.{Known, Consequences, Origin, united, with_span}
-use Rattle.facts.specs.Flow.{Frame, need, check, first_deferred, inverted_known, is_whole_pair, applied_known, selected_known, absolute_known, converted_known, relation_sets, comparison_of, logic_of, division_of, arithmetic_of, source_value, plain_value, presence_value, none_of}
+use Rattle.facts.specs.Fact.{AbstractValue, Consequences, Origin, united, with_span}
+use Rattle.facts.specs.Flow.{Context, need, check, first_deferred, inverted_known, is_whole_pair, applied_known, selected_known, absolute_known, converted_known, relation_sets, comparison_of, logic_of, division_of, arithmetic_of, source_value, plain_value, presence_value, none_of}
 use Rattle.facts.specs.declared.refusal.RefusalKind.{RefusalKind}
 use Rattle.facts.specs.declared.refusal.RefusalKind.TheVariants.{ZeroDivisor, Overflow}
 use Rattle.facts.specs.Fit.{IsIn, Hold, FitsValue, IfListed, HasOwnValue, origin_number}
@@ -59,12 +59,12 @@ pub by_then : {A B E : Type 0} (r : Result A E) (k : A → Result B E) (Q : A �
 by_then (Ok a) k Q P y h = h a (y.yields a refl)
 by_then (Err e) k Q P y h = record { yields = λ b e. absurd (cc) }
 
-pub by_first : {B : Type 0} (ds : List (Option Known)) (k : Option Known × List (Option Known) → Result B RefusalKind) (P : B → Type 0) → ((d : Option Known) (rest : List (Option Known)) → ds ≡ d ∷ rest → Yields (k (d, rest)) P) → Yields (first_deferred ds >>= k) P
+pub by_first : {B : Type 0} (ds : List (Option AbstractValue)) (k : Option AbstractValue × List (Option AbstractValue) → Result B RefusalKind) (P : B → Type 0) → ((d : Option AbstractValue) (rest : List (Option AbstractValue)) → ds ≡ d ∷ rest → Yields (k (d, rest)) P) → Yields (first_deferred ds >>= k) P
 by_first [] k P h = record { yields = λ b e. absurd (cc) }
 by_first (d ∷ ds) k P h = h d ds refl
 
 -- the operation succeeds, with a value that is covered
-abbrev pub Good : List ℤ → List Reading → Result Value Fault → Known → Type 0
+abbrev pub Good : List ℤ → List Reading → Result Value Fault → AbstractValue → Type 0
 Good vs rs (Ok v) k = FitsValue vs rs k v
 Good vs rs (Err e) k = ⊥
 
@@ -146,11 +146,11 @@ most_or false false a b e f p q r s = (omega (arith, ends, clamps), omega (arith
 divides : (g : ℤ → ℤ → ℤ) (a b : ℤ) → int_eq b (pos 0) ≡ false → divided g a b ≡ Ok (g a b)
 divides g a b e = rw e refl
 
-module _ (c : Frame) (vs : List ℤ) (rs : List Reading) where
+module _ (c : Context) (vs : List ℤ) (rs : List Reading) where
   none_hold : Hold vs rs (none_of c)
   none_hold = nothing_for_hold vs rs (length c.variables) (length c.tags)
 
-  pub bit_value : (k : Known) (v : Value) → is_bool k.kind ≡ true → FitsValue vs rs k v → (x : Bool) × (v.number ≡ number_of x)
+  pub bit_value : (k : AbstractValue) (v : Value) → is_bool k.kind ≡ true → FitsValue vs rs k v → (x : Bool) × (v.number ≡ number_of x)
   bit_value k v e h = bit_of v.number (subst (λ (l : IlType). IsIn (Between (low_of l) (high_of l)) v.number) (bool_kind k.kind e) h.of_type)
 
   pub plain_fits : (k : IlType) (s : Span) (v : Value) → v.kind ≡ k → IsIn s v.number → IsIn (Between (low_of k) (high_of k)) v.number → FitsValue vs rs (plain_value c k s) v
@@ -193,7 +193,7 @@ module _ (c : Frame) (vs : List ℤ) (rs : List Reading) where
             (λ other. subst (λ (o : Option Bool). IfListed o (HasOwnValue (slice_get rs i))) (sym (get_set_other (none_of c).present t i true other)) (none_hold.present i));
       }
 
-  pub inverted_good : (k : Known) (v : Value) → FitsValue vs rs k v → is_bool k.kind ≡ true → Good vs rs (inverted v) (inverted_known k)
+  pub inverted_good : (k : AbstractValue) (v : Value) → FitsValue vs rs k v → is_bool k.kind ≡ true → Good vs rs (inverted v) (inverted_known k)
   inverted_good k v h e =
       let b = bit_value k v e h in
       let t : is_bool v.kind ≡ true = rw h.kind e in
@@ -209,7 +209,7 @@ module _ (c : Frame) (vs : List ℤ) (rs : List Reading) where
       })
 
   -- arithmetic
-  numbers_good : (g : ℤ → ℤ → Result ℤ Fault) (d r : Known) (dv rv : Value) (s : Span) (z : ℤ) → FitsValue vs rs d dv → FitsValue vs rs r rv → is_whole_pair d r ≡ true → g dv.number rv.number ≡ Ok z → IsIn s z → lies_in s (low_of d.kind) (high_of d.kind) ≡ true → Good vs rs (on_numbers g dv rv) (plain_value c d.kind s)
+  numbers_good : (g : ℤ → ℤ → Result ℤ Fault) (d r : AbstractValue) (dv rv : Value) (s : Span) (z : ℤ) → FitsValue vs rs d dv → FitsValue vs rs r rv → is_whole_pair d r ≡ true → g dv.number rv.number ≡ Ok z → IsIn s z → lies_in s (low_of d.kind) (high_of d.kind) ≡ true → Good vs rs (on_numbers g dv rv) (plain_value c d.kind s)
   numbers_good g d r dv rv s z h k pair e i l =
       let p : same_kind dv rv && not (is_bool dv.kind) ≡ true = rw (h.kind, k.kind) pair in
       let low = lies_low s (low_of d.kind) (high_of d.kind) z l i in
@@ -217,17 +217,17 @@ module _ (c : Frame) (vs : List ℤ) (rs : List Reading) where
       let w : is_within (low_of dv.kind) (high_of dv.kind) z ≡ true = rw h.kind (both_true _ _ (le_true _ _ low) (le_true _ _ high)) in
       rw (p, e, w) (plain_fits d.kind s (record { kind = dv.kind; number = z }) h.kind i (low, high))
 
-  arithmetic_good : (o : Operator) (g : ℤ → ℤ → Result ℤ Fault) (d r : Known) (dv rv : Value) (z : ℤ) → FitsValue vs rs d dv → FitsValue vs rs r rv → g dv.number rv.number ≡ Ok z → (IsIn d.span dv.number → IsIn r.span rv.number → IsIn (operated o d.span r.span) z) → Yields (arithmetic_of c o d r) (Good vs rs (on_numbers g dv rv))
+  arithmetic_good : (o : Operator) (g : ℤ → ℤ → Result ℤ Fault) (d r : AbstractValue) (dv rv : Value) (z : ℤ) → FitsValue vs rs d dv → FitsValue vs rs r rv → g dv.number rv.number ≡ Ok z → (IsIn d.span dv.number → IsIn r.span rv.number → IsIn (operated o d.span r.span) z) → Yields (arithmetic_of c o d r) (Good vs rs (on_numbers g dv rv))
   arithmetic_good o g d r dv rv z h k e i =
       by_check _ _ _ _ (λ pair. by_check _ _ _ _ (λ l. by_ok _ _ (numbers_good g d r dv rv (operated o d.span r.span) z h k pair e (i h.span k.span) l)))
 
   -- no divisor is zero
-  division_good : (o : Operator) (g : ℤ → ℤ → ℤ) (d r : Known) (dv rv : Value) → FitsValue vs rs d dv → FitsValue vs rs r rv → (has_member (pos 0) r.span ≡ false → IsIn d.span dv.number → IsIn r.span rv.number → IsIn (operated o d.span r.span) (g dv.number rv.number)) → Yields (division_of c o d r) (Good vs rs (on_numbers (divided g) dv rv))
+  division_good : (o : Operator) (g : ℤ → ℤ → ℤ) (d r : AbstractValue) (dv rv : Value) → FitsValue vs rs d dv → FitsValue vs rs r rv → (has_member (pos 0) r.span ≡ false → IsIn d.span dv.number → IsIn r.span rv.number → IsIn (operated o d.span r.span) (g dv.number rv.number)) → Yields (division_of c o d r) (Good vs rs (on_numbers (divided g) dv rv))
   division_good o g d r dv rv h k i =
       by_check RefusalKind.WrongType (is_whole_pair d r) (λ x. check ZeroDivisor (not (has_member (pos 0) r.span)) >>= λ y. arithmetic_of c o d r) _ (λ pair. by_check ZeroDivisor _ (λ y. arithmetic_of c o d r) _ (λ out. arithmetic_good o (divided g) d r dv rv (g dv.number rv.number) h k (divides g dv.number rv.number (not_member r.span rv.number (not_true _ out) k.span)) (i (not_true _ out))))
 
   -- logic
-  bools_good : (g : Bool → Bool → Bool) (d r k : Known) (dv rv : Value) → FitsValue vs rs d dv → FitsValue vs rs r rv → ((x y : Bool) → dv.number ≡ number_of x → rv.number ≡ number_of y → FitsValue vs rs k (truth (g x y))) → Yields (logic_of d r k) (Good vs rs (on_bools g dv rv))
+  bools_good : (g : Bool → Bool → Bool) (d r k : AbstractValue) (dv rv : Value) → FitsValue vs rs d dv → FitsValue vs rs r rv → ((x y : Bool) → dv.number ≡ number_of x → rv.number ≡ number_of y → FitsValue vs rs k (truth (g x y))) → Yields (logic_of d r k) (Good vs rs (on_bools g dv rv))
   bools_good g d r k dv rv h l i = by_check _ _ _ _ (λ both. by_ok _ _ (
       let p = and_left (is_bool d.kind) _ both in
       let q = and_right (is_bool d.kind) _ both in
@@ -239,12 +239,12 @@ module _ (c : Frame) (vs : List ℤ) (rs : List Reading) where
       rw (t, x, y) (i a.0 b.0 a.1 b.1)))
 
   -- comparisons
-  relation_hold : (o : Relation) (d r : Known) (dv rv : Value) → FitsValue vs rs d dv → FitsValue vs rs r rv → Stands o dv.number rv.number → Hold vs rs (relation_sets c o d r)
+  relation_hold : (o : Relation) (d r : AbstractValue) (dv rv : Value) → FitsValue vs rs d dv → FitsValue vs rs r rv → Stands o dv.number rv.number → Hold vs rs (relation_sets c o d r)
   relation_hold o d r dv rv h k t =
       with_span_hold vs rs r.origin (cut_by (mirrored o) r.span d.span) rv.number _ k.origin (cut_in (mirrored o) r.span d.span rv.number dv.number k.span h.span (stands_mirrored o dv.number rv.number t))
       (with_span_hold vs rs d.origin (cut_by o d.span r.span) dv.number _ h.origin (cut_in o d.span r.span dv.number rv.number h.span k.span t) none_hold)
 
-  comparison_good : (o : Relation) (on_bool : Bool) (g : ℤ → ℤ → Bool) (d r : Known) (dv rv : Value) → FitsValue vs rs d dv → FitsValue vs rs r rv → ((x y : ℤ) → g x y ≡ true → Stands o x y) → ((x y : ℤ) → g x y ≡ false → Stands (opposite o) x y) → Yields (comparison_of c o on_bool d r) (λ k. Good vs rs (if same_kind dv rv && (on_bool || not (is_bool dv.kind)) then Ok (truth (g dv.number rv.number)) else Err WrongType) k)
+  comparison_good : (o : Relation) (on_bool : Bool) (g : ℤ → ℤ → Bool) (d r : AbstractValue) (dv rv : Value) → FitsValue vs rs d dv → FitsValue vs rs r rv → ((x y : ℤ) → g x y ≡ true → Stands o x y) → ((x y : ℤ) → g x y ≡ false → Stands (opposite o) x y) → Yields (comparison_of c o on_bool d r) (λ k. Good vs rs (if same_kind dv rv && (on_bool || not (is_bool dv.kind)) then Ok (truth (g dv.number rv.number)) else Err WrongType) k)
   comparison_good o on_bool g d r dv rv h k on_yes on_no = by_check _ _ _ _ (λ pair. by_ok _ _ (
       let p : same_kind dv rv && (on_bool || not (is_bool dv.kind)) ≡ true = rw (h.kind, k.kind) pair in
       rw p (truth_fits _ _ _ (g dv.number rv.number) (number_in (g dv.number rv.number)) (λ e. relation_hold o d r dv rv h k (on_yes _ _ e)) (λ e. relation_hold (opposite o) d r dv rv h k (on_no _ _ e)))))
@@ -259,11 +259,11 @@ module _ (c : Frame) (vs : List ℤ) (rs : List Reading) where
       let l : has_member (pos 0) (Between e f) ≡ true = both_true _ _ (le_true e (pos 0) m.0) (le_true (pos 0) f m.1) in
       absurd (cc)
 
-  alike_good : (o : Relation) (g : ℤ → ℤ → Bool) (d r : Known) (dv rv : Value) → FitsValue vs rs d dv → FitsValue vs rs r rv → ((x y : ℤ) → g x y ≡ true → Stands o x y) → ((x y : ℤ) → g x y ≡ false → Stands (opposite o) x y) → Yields (comparison_of c o true d r) (Good vs rs (alike g dv rv))
+  alike_good : (o : Relation) (g : ℤ → ℤ → Bool) (d r : AbstractValue) (dv rv : Value) → FitsValue vs rs d dv → FitsValue vs rs r rv → ((x y : ℤ) → g x y ≡ true → Stands o x y) → ((x y : ℤ) → g x y ≡ false → Stands (opposite o) x y) → Yields (comparison_of c o true d r) (Good vs rs (alike g dv rv))
   alike_good o g d r dv rv h k on_yes on_no = weaker _ _ _ (comparison_good o true g d r dv rv h k on_yes on_no)
       (λ a. subst (λ (t : Bool). Good vs rs (if t then Ok (truth (g dv.number rv.number)) else Err WrongType) a) (and_true (same_kind dv rv)))
 
-  pub applied_good : (o : Operator) (d r : Known) (dv rv : Value) → FitsValue vs rs d dv → FitsValue vs rs r rv → Yields (applied_known c o d r) (Good vs rs (applied o dv rv))
+  pub applied_good : (o : Operator) (d r : AbstractValue) (dv rv : Value) → FitsValue vs rs d dv → FitsValue vs rs r rv → Yields (applied_known c o d r) (Good vs rs (applied o dv rv))
   applied_good op.And d r dv rv h k = bools_good (λ x y. x && y) d r _ dv rv h k (λ x y p q.
       truth_fits (operated op.And d.span r.span) (united d.where_true r.where_true) (none_of c) (x && y)
       (operated_in op.And d.span r.span (number_of x) (number_of y) (number_of (x && y)) (λ a b e f a' b' e' f' _ _. least_and x y a b e f a' b' e' f') (subst (λ (n : ℤ). IsIn d.span n) p h.span) (subst (λ (n : ℤ). IsIn r.span n) q k.span))
@@ -289,7 +289,7 @@ module _ (c : Frame) (vs : List ℤ) (rs : List Reading) where
   applied_good op.Le d r dv rv h k = comparison_good is.Le false int_le d r dv rv h k (λ x y e. true_le x y e) (λ x y e. false_le x y e)
   applied_good op.Lt d r dv rv h k = comparison_good is.Lt false int_lt d r dv rv h k (λ x y e. true_lt x y e) (λ x y e. false_lt x y e)
 
-  pub selected_good : (k a b : Known) (kv av bv : Value) → FitsValue vs rs k kv → FitsValue vs rs a av → FitsValue vs rs b bv → Yields (selected_known c k a b) (Good vs rs (selected kv av bv))
+  pub selected_good : (k a b : AbstractValue) (kv av bv : Value) → FitsValue vs rs k kv → FitsValue vs rs a av → FitsValue vs rs b bv → Yields (selected_known c k a b) (Good vs rs (selected kv av bv))
   selected_good k a b kv av bv hk ha hb = by_check _ _ _ _ (λ same. by_ok _ _ (
       let t : is_bool kv.kind && same_kind av bv ≡ true = rw (hk.kind, ha.kind, hb.kind) same in
       let e = same_code a.kind b.kind (and_right (is_bool k.kind) _ same) in
@@ -306,12 +306,12 @@ module _ (c : Frame) (vs : List ℤ) (rs : List Reading) where
       let w : is_within (low_of k') (high_of k') n ≡ true = rw e (both_true _ _ (le_true _ _ low) (le_true _ _ high)) in
       rw w (plain_fits k s (record { kind = k'; number = n }) e i (low, high))
 
-  pub absolute_good : (k : Known) (v : Value) → FitsValue vs rs k v → Yields (absolute_known c k) (Good vs rs (absolute_of v))
+  pub absolute_good : (k : AbstractValue) (v : Value) → FitsValue vs rs k v → Yields (absolute_known c k) (Good vs rs (absolute_of v))
   absolute_good k v h = by_check _ _ (λ x. check Overflow (lies_in (absolute_span k.span) (low_of k.kind) (high_of k.kind)) >>= λ y. Ok (plain_value c k.kind (absolute_span k.span))) _ (λ whole. by_check _ _ (λ y. Ok (plain_value c k.kind (absolute_span k.span))) _ (λ l. by_ok (plain_value c k.kind (absolute_span k.span)) _ (
       let t : is_bool v.kind ≡ false = rw h.kind (not_true (is_bool k.kind) whole) in
       rw t (fitted_good k.kind v.kind (absolute_span k.span) (magnitude v.number) h.kind (absolute_in k.span v.number h.span) l))))
 
-  pub converted_good : (from to : IlType) (k : Known) (v : Value) → FitsValue vs rs k v → Yields (converted_known c from to k) (Good vs rs (converted from to v))
+  pub converted_good : (from to : IlType) (k : AbstractValue) (v : Value) → FitsValue vs rs k v → Yields (converted_known c from to k) (Good vs rs (converted from to v))
   converted_good from to k v h = by_check _ _ (λ x. check Overflow (lies_in k.span (low_of to) (high_of to)) >>= λ y. Ok (plain_value c to k.span)) _ (λ same. by_check _ _ (λ y. Ok (plain_value c to k.span)) _ (λ l. by_ok (plain_value c to k.span) _ (
       let t : nat_eq (code_of v.kind) (code_of from) ≡ true = rw h.kind (code_same k.kind from (sym (same_code from k.kind same))) in
       rw t (fitted_good to to k.span v.number refl h.span l))))

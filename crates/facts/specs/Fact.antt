@@ -4,10 +4,10 @@ use Rattle.std.specs.Prelude.{ℕ, Bool, true, false, ◌&&◌, ◌||◌, not, L
 use Rattle.point_types.specs.Value.{code_of}
 use Rattle.facts.specs.Span.{Span, Empty, Between, joined, intersected}
 pub use Rattle.facts.specs.Span.{same_span}
-pub use Rattle.facts.specs.declared.known.Origin.{Origin}
-pub use Rattle.facts.specs.declared.known.Origin.TheVariants.{OfVariable, OfInput}
-pub use Rattle.facts.specs.declared.known.Consequences.{Consequences}
-pub use Rattle.facts.specs.declared.known.Known.{Known}
+pub use Rattle.facts.specs.declared.abstract_value.Origin.{Origin}
+pub use Rattle.facts.specs.declared.abstract_value.Origin.TheVariants.{OfVariable, OfInput}
+pub use Rattle.facts.specs.declared.abstract_value.Consequences.{Consequences}
+pub use Rattle.facts.specs.declared.abstract_value.AbstractValue.{AbstractValue}
 pub use Rattle.facts.specs.declared.fact.Fact.{Fact}
 
 abbrev pub same_optional : Option Span → Option Span → Bool
@@ -85,13 +85,13 @@ met_origin (Some a) (Some b) = if same_origin a b then Some a else None
 abbrev pub met_set : Consequences → Consequences → Consequences
 met_set a b = if same_consequences a b then a else nothing_like a
 
-abbrev pub met_known : Known → Known → Option Known
+abbrev pub met_known : AbstractValue → AbstractValue → Option AbstractValue
 met_known a b =
     if nat_eq (code_of a.kind) (code_of b.kind)
     then Some (record { kind = a.kind; span = joined a.span b.span; origin = met_origin a.origin b.origin; where_true = met_set a.where_true b.where_true; where_false = met_set a.where_false b.where_false })
     else None
 
-abbrev pub met_value : Option Known → Option Known → Option Known
+abbrev pub met_value : Option AbstractValue → Option AbstractValue → Option AbstractValue
 met_value None v = None
 met_value (Some a) None = None
 met_value (Some a) (Some b) = met_known a b

@@ -5,7 +5,7 @@ use Rattle.point_types.specs.declared.reading.Reading.{Reading}
 use Rattle.point_types.specs.declared.reading.Reading.TheVariants as reading
 use Rattle.point_types.specs.Value.{Value, low_of, high_of}
 use Rattle.facts.specs.Span.{Span, Empty, Between}
-use Rattle.facts.specs.Fact.{Fact, Known, Consequences, Origin, OfVariable, OfInput}
+use Rattle.facts.specs.Fact.{Fact, AbstractValue, Consequences, Origin, OfVariable, OfInput}
 use Rattle.scan_code.specs.Machine.{State}
 
 abbrev pub IsIn : Span → ℤ → Type 0
@@ -60,7 +60,7 @@ abbrev pub EqualsOrigin : List ℤ → List Reading → Option Origin → ℤ �
 EqualsOrigin variables readings None n = Unit {0}
 EqualsOrigin variables readings (Some o) n = origin_number variables readings o ≡ Some n
 
-pub record FitsValue (variables : List ℤ) (readings : List Reading) (k : Known) (v : Value) : Type 0 where
+pub record FitsValue (variables : List ℤ) (readings : List Reading) (k : AbstractValue) (v : Value) : Type 0 where
   pub kind : v.kind ≡ k.kind
   pub span : IsIn k.span v.number
   pub of_type : IsIn (Between (low_of k.kind) (high_of k.kind)) v.number
@@ -69,12 +69,12 @@ pub record FitsValue (variables : List ℤ) (readings : List Reading) (k : Known
   pub where_false : v.number ≡ pos 0 → Hold variables readings k.where_false
 
 -- a value that is nothing in the fact may be any, or none
-abbrev pub FitsResult : List ℤ → List Reading → Option Known → Option Value → Type 0
+abbrev pub FitsResult : List ℤ → List Reading → Option AbstractValue → Option Value → Type 0
 FitsResult variables readings None v = Unit {0}
 FitsResult variables readings (Some k) None = ⊥
 FitsResult variables readings (Some k) (Some v) = FitsValue variables readings k v
 
-abbrev pub FitsDeferred : List ℤ → List Reading → List (Option Known) → List Value → Type 0
+abbrev pub FitsDeferred : List ℤ → List Reading → List (Option AbstractValue) → List Value → Type 0
 FitsDeferred variables readings [] [] = Unit {0}
 FitsDeferred variables readings [] (v ∷ vs) = ⊥
 FitsDeferred variables readings (k ∷ ks) [] = ⊥

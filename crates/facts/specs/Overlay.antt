@@ -1,4 +1,5 @@
--- Spans that are those at entry, but for some.
+-- inner: spans that are those at entry, but for some.
+-- IEC 61131-3 edition 2, 2.4.3 (variables); how spans are kept is this project's.
 use Rattle.std.specs.Prelude.{◌≡◌, ℕ, List, [], ◌∷◌, Option, Some, None, slice_get, if◌then◌else◌}
 use Rattle.facts.specs.Span.{Span, Empty, same_span}
 

@@ -1,4 +1,5 @@
--- Lists of which most places are empty, by those that aren't.
+-- inner: lists of which most places are empty, by those that aren't.
+-- IEC 61131-3 edition 2, 2.4.3 (variables); how lists are kept is this project's.
 use Rattle.std.specs.Prelude.{ℕ, suc, ◌≡◌, Bool, true, false, List, [], ◌∷◌, ◌++◌, replicate, Option, Some, None}
 
 -- each kept item behind so many empty places, and then those at the end

@@ -6,7 +6,7 @@ use Rattle.scan_code.specs.declared.op.Op.TheVariants as does
 use Rattle.facts.specs.declared.refusal.RefusalKind.TheVariants.{Code, Stack}
 use Rattle.facts.specs.Span.{Between}
 use Rattle.facts.specs.Fact.{Fact, met}
-use Rattle.facts.specs.Flow.{Frame, Way, Flow, flow}
+use Rattle.facts.specs.Flow.{Context, Way, Flow, flow}
 
 -- before an instruction: not reached, what is known, or facts that don't meet
 pub data Slot : Type 0 where
@@ -24,7 +24,7 @@ abbrev pub arriving : ℕ → List Way → Slot → Slot
 arriving n [] slot = slot
 arriving n (way ∷ ways) slot = arriving n ways (if nat_eq way.0 n then meets slot way.1 else slot)
 
-abbrev pub flow_of : Frame → ℕ → Slot → Option (ℕ × Op) → Flow
+abbrev pub flow_of : Context → ℕ → Slot → Option (ℕ × Op) → Flow
 flow_of c at Unreached entry = Ok []
 flow_of c at Clash entry = Err Stack
 flow_of c at (Holds f) None = Err Code
@@ -35,11 +35,11 @@ ways_of (Ok ways) = ways
 ways_of (Err e) = []
 
 -- the meeting of all that flows to n from the instructions of a table that begins at number at
-abbrev pub gathered : Frame → ℕ → ℕ → List Slot → Slot → Slot
+abbrev pub gathered : Context → ℕ → ℕ → List Slot → Slot → Slot
 gathered c n at [] slot = slot
 gathered c n at (s ∷ rest) slot = gathered c n (at + 1) rest (arriving n (ways_of (flow_of c at s (slice_get c.listing at))) slot)
 
-abbrev pub entry_fact : Frame → Fact
+abbrev pub entry_fact : Context → Fact
 entry_fact c = record {
   variables = map (λ d. Between d.low d.high) c.variables;
   inputs = map (λ t. Between t.low t.high) c.tags;
@@ -59,13 +59,13 @@ address_of None = 0
 address_of (Some entry) = entry.0
 
 -- what arrives at the head of a counted loop is forgotten; deferred values may not arrive there
-abbrev pub head_slot : Frame → Slot → Slot
+abbrev pub head_slot : Context → Slot → Slot
 head_slot c Clash = Clash
 head_slot c Unreached = Holds (entry_fact c)
 head_slot c (Holds f) = if nat_eq (length f.deferred) 0 then Holds (entry_fact c) else Clash
 
 -- the slots of the instructions below n
-abbrev pub slots : Frame → ℕ → List Slot
+abbrev pub slots : Context → ℕ → List Slot
 slots c zero = []
 slots c (suc n) =
     let before = slots c n in

@@ -3,10 +3,10 @@ ghost use Rattle.std.specs.Prelude.{◌≡◌, IfOk, OnOk, true, None, Some, map
 ghost use Rattle.facts.specs.Fact.{both_spans, met_set, nothing_for, nothing_like, same_consequences, same_list, same_optional, united, with_span, zipped};
 ghost use Rattle.facts.specs.Flow.{without};
 
-use crate::known::{Consequences, Origin};
-use crate::presence::Presence;
+use crate::abstract_value::{Consequences, Origin};
+use crate::present_inputs::PresentInputs;
 use crate::span::Span;
-use crate::sparse::Sparse;
+use crate::sparse_list::SparseList;
 use std::alloc::{AllocError, Global};
 
 impl Consequences {
@@ -15,9 +15,9 @@ impl Consequences {
         ensures { result ≡ nothing_for variables inputs }
     {
         Consequences {
-            variables: Sparse::empty(alloc, variables),
-            inputs: Sparse::empty(alloc, inputs),
-            present: Presence::none(alloc, inputs),
+            variables: SparseList::empty(alloc, variables),
+            inputs: SparseList::empty(alloc, inputs),
+            present: PresentInputs::none(alloc, inputs),
         }
     }
 
@@ -33,7 +33,11 @@ impl Consequences {
     }
 
     /// What follows where both hold; two spans of one variable or input are intersected.
-    pub fn united(&self, alloc: Global, other: &Consequences) -> Result<Consequences, AllocError>
+    pub(crate) fn united(
+        &self,
+        alloc: Global,
+        other: &Consequences,
+    ) -> Result<Consequences, AllocError>
         ensures { IfOk result (λ c. c ≡ united self.now other.now) }
     {
         Ok(Consequences {
@@ -44,7 +48,7 @@ impl Consequences {
     }
 
     /// And what it equals, if anything, lies in a span.
-    pub fn with_span(
+    pub(crate) fn with_span(
         self,
         alloc: Global,
         origin: Option<Origin>,
@@ -80,7 +84,7 @@ impl Consequences {
     }
 
     /// And this input has a value.
-    pub fn with_presence(self, alloc: Global, t: usize) -> Result<Consequences, AllocError>
+    pub(crate) fn with_presence(self, alloc: Global, t: usize) -> Result<Consequences, AllocError>
         ensures { IfOk result (λ c. c ≡ record self { present = slice_set self.present t true }) }
     {
         let mut more = self;
@@ -115,7 +119,7 @@ impl Consequences {
     }
 
     /// Nothing follows, for as many variables and inputs; takes no memory.
-    pub fn nothing_like(&self, alloc: Global) -> Consequences
+    pub(crate) fn nothing_like(&self, alloc: Global) -> Consequences
         ensures { result ≡ nothing_like self.now }
     {
         Consequences {
@@ -147,12 +151,12 @@ impl Consequences {
 /// Both spans of each, intersected.
 fn both_of(
     alloc: Global,
-    ones: &Sparse<Span>,
-    others: &Sparse<Span>,
-) -> Result<Sparse<Span>, AllocError>
+    ones: &SparseList<Span>,
+    others: &SparseList<Span>,
+) -> Result<SparseList<Span>, AllocError>
     ensures { IfOk result (λ spans. spans ≡ zipped both_spans ones.now others.now) }
 {
-    let mut spans = Sparse::empty(alloc, 0);
+    let mut spans = SparseList::empty(alloc, 0);
     let (mut ones, mut others) = (ones.rest(), others.rest());
     while let Some(one) = ones.next() {
         let Some(other) = others.next() else {
@@ -177,10 +181,10 @@ fn both(one: Option<Span>, other: Option<Span>) -> Option<Span>
 /// With one more span at a number.
 fn tightened(
     alloc: Global,
-    spans: &Sparse<Span>,
+    spans: &SparseList<Span>,
     at: usize,
     span: Span,
-) -> Result<Sparse<Span>, AllocError>
+) -> Result<SparseList<Span>, AllocError>
     ensures { IfOk result (λ left. left ≡ slice_set spans.now at (both_spans (option_and_then (λ o. o) (slice_get spans.now at)) (Some span))) }
 {
     let left = both(span_at(spans, at), Some(span));
@@ -188,7 +192,7 @@ fn tightened(
 }
 
 /// The span at a number, if there is one.
-fn span_at(spans: &Sparse<Span>, at: usize) -> Option<Span>
+fn span_at(spans: &SparseList<Span>, at: usize) -> Option<Span>
     ensures { result ≡ option_and_then (λ o. o) (slice_get spans.now at) }
 {
     match spans.get(at) {
@@ -198,14 +202,14 @@ fn span_at(spans: &Sparse<Span>, at: usize) -> Option<Span>
 }
 
 /// No span for each.
-fn emptied(alloc: Global, spans: &Sparse<Span>) -> Sparse<Span>
+fn emptied(alloc: Global, spans: &SparseList<Span>) -> SparseList<Span>
     ensures { result ≡ map (λ s. None) spans.now }
 {
-    Sparse::empty(alloc, spans.len())
+    SparseList::empty(alloc, spans.len())
 }
 
 /// Whether two lists of spans are the same.
-fn same_spans(ones: &Sparse<Span>, others: &Sparse<Span>) -> bool
+fn same_spans(ones: &SparseList<Span>, others: &SparseList<Span>) -> bool
     ensures { result ≡ same_list same_optional ones.now others.now }
 {
     let (mut ones, mut others) = (ones.rest(), others.rest());

@@ -3,12 +3,15 @@ ghost use Rattle.std.specs.Prelude.{◌≡◌, ◌∷◌, IfOk, OnOk, drop, map}
 ghost use Rattle.facts.specs.Fact.{met_value, zipped};
 ghost use Rattle.facts.specs.Flow.{forgets_in};
 
-use crate::known::{Known, meet_value};
+use crate::abstract_value::{AbstractValue, meet_value};
 use point_types::Items;
 use std::alloc::{AllocError, Global};
 
 /// A value that may be nothing, once more.
-pub fn copied_value(alloc: Global, value: &Option<Known>) -> Result<Option<Known>, AllocError>
+pub(crate) fn copied_value(
+    alloc: Global,
+    value: &Option<AbstractValue>,
+) -> Result<Option<AbstractValue>, AllocError>
     ensures { IfOk result (λ copy. copy ≡ value.now) }
 {
     match value {
@@ -18,10 +21,10 @@ pub fn copied_value(alloc: Global, value: &Option<Known>) -> Result<Option<Known
 }
 
 /// Deferred values, once more.
-pub fn copied_values(
+pub(crate) fn copied_values(
     alloc: Global,
-    values: &[Option<Known>],
-) -> Result<Items<Option<Known>>, AllocError>
+    values: &[Option<AbstractValue>],
+) -> Result<Items<Option<AbstractValue>>, AllocError>
     ensures { IfOk result (λ copies. copies ≡ values.now) }
 {
     let mut copies = Vec::with_capacity(alloc, values.len())?;
@@ -32,7 +35,11 @@ pub fn copied_values(
 }
 
 /// What is still known of a value once a variable has another value.
-pub fn forget_in(alloc: Global, value: &mut Option<Known>, v: usize) -> Result<(), AllocError>
+pub(crate) fn forget_in(
+    alloc: Global,
+    value: &mut Option<AbstractValue>,
+    v: usize,
+) -> Result<(), AllocError>
     ensures { OnOk result (value.new ≡ forgets_in v value.old) }
 {
     match value {
@@ -42,11 +49,11 @@ pub fn forget_in(alloc: Global, value: &mut Option<Known>, v: usize) -> Result<(
 }
 
 /// What is still known of deferred values once a variable has another value.
-pub fn forgetting(
+pub(crate) fn forgetting(
     alloc: Global,
-    values: Items<Option<Known>>,
+    values: Items<Option<AbstractValue>>,
     v: usize,
-) -> Result<Items<Option<Known>>, AllocError>
+) -> Result<Items<Option<AbstractValue>>, AllocError>
     ensures { IfOk result (λ kept. kept ≡ map (forgets_in v) values) }
 {
     let mut kept = Vec::with_capacity(alloc, values.len())?;
@@ -59,11 +66,11 @@ pub fn forgetting(
 }
 
 /// What is known of deferred values on ways that meet.
-pub fn met_values(
+pub(crate) fn met_values(
     alloc: Global,
-    ones: Items<Option<Known>>,
-    others: &[Option<Known>],
-) -> Result<Items<Option<Known>>, AllocError>
+    ones: Items<Option<AbstractValue>>,
+    others: &[Option<AbstractValue>],
+) -> Result<Items<Option<AbstractValue>>, AllocError>
     ensures { IfOk result (λ values. values ≡ zipped met_value ones others.now) }
 {
     let mut values = Vec::with_capacity(alloc, ones.len())?;
@@ -80,7 +87,7 @@ pub fn met_values(
 }
 
 /// The deferred values but for the last one, if there is one.
-pub fn without_last(values: Items<Option<Known>>) -> Items<Option<Known>>
+pub(crate) fn without_last(values: Items<Option<AbstractValue>>) -> Items<Option<AbstractValue>>
     ensures { result ≡ drop 1 values }
 {
     let mut others = values.into_vec();
@@ -91,10 +98,10 @@ pub fn without_last(values: Items<Option<Known>>) -> Items<Option<Known>>
 }
 
 /// The deferred values with one more, which is the last.
-pub fn deferring(
-    value: Option<Known>,
-    values: Items<Option<Known>>,
-) -> Result<Items<Option<Known>>, AllocError>
+pub(crate) fn deferring(
+    value: Option<AbstractValue>,
+    values: Items<Option<AbstractValue>>,
+) -> Result<Items<Option<AbstractValue>>, AllocError>
     ensures { IfOk result (λ deferred. deferred ≡ value ∷ values) }
 {
     let mut values = values.into_vec();

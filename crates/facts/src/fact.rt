@@ -5,12 +5,12 @@ ghost use Rattle.facts.specs.Fact.{met, under};
 ghost use Rattle.facts.specs.Flow.{forgotten, stored_fact, way_where, widened, with_value};
 ghost use Rattle.facts.specs.Slots.{entry_fact};
 
-use crate::changes::Changes;
+use crate::abstract_value::{AbstractValue, Consequences, meet_value};
+use crate::changed_spans::ChangedSpans;
+use crate::context::Context;
 use crate::deferred::{copied_value, copied_values, forget_in, forgetting, met_values};
-use crate::frame::Frame;
-use crate::known::{Consequences, Known, meet_value};
 use crate::parts::{declared_ranges, none_present, site_ranges};
-use crate::presence::Presence;
+use crate::present_inputs::PresentInputs;
 use crate::span::Span;
 use point_types::Items;
 use std::alloc::{AllocError, Global};
@@ -22,25 +22,25 @@ use std::mem;
 /// present.
 #[derive(Drop)]
 pub struct Fact {
-    pub variables: Changes,
-    pub inputs: Changes,
-    pub present: Presence,
-    pub deferred: Items<Option<Known>>,
-    pub result: Option<Known>,
+    pub variables: ChangedSpans,
+    pub inputs: ChangedSpans,
+    pub present: PresentInputs,
+    pub deferred: Items<Option<AbstractValue>>,
+    pub result: Option<AbstractValue>,
 }
 
 impl Fact {
     /// What is known before the first instruction: the declared ranges, and nothing more.
-    pub fn entry(alloc: Global, frame: &Frame) -> Result<Fact, AllocError>
-        ensures { IfOk result (λ fact. fact ≡ entry_fact frame.now) }
+    pub fn entry(alloc: Global, context: &Context) -> Result<Fact, AllocError>
+        ensures { IfOk result (λ fact. fact ≡ entry_fact context.now) }
     {
         Ok(Fact {
-            variables: Changes::at_entry(
+            variables: ChangedSpans::at_entry(
                 alloc,
-                declared_ranges(alloc, frame.variables.as_slice())?,
+                declared_ranges(alloc, context.variables.as_slice())?,
             )?,
-            inputs: Changes::at_entry(alloc, site_ranges(alloc, frame.tags.as_slice())?)?,
-            present: none_present(alloc, frame.tags.as_slice()),
+            inputs: ChangedSpans::at_entry(alloc, site_ranges(alloc, context.tags.as_slice())?)?,
+            present: none_present(alloc, context.tags.as_slice()),
             deferred: Items::new(alloc),
             result: None,
         })
@@ -77,9 +77,9 @@ impl Fact {
     fn over(
         &self,
         alloc: Global,
-        variables: Changes,
-        inputs: Changes,
-        present: Presence,
+        variables: ChangedSpans,
+        inputs: ChangedSpans,
+        present: PresentInputs,
     ) -> Result<Fact, AllocError>
         ensures { IfOk result (λ fact. fact ≡ record self.now { variables = variables; inputs = inputs; present = present }) }
     {
@@ -95,11 +95,11 @@ impl Fact {
     }
 
     /// The way on which this result is this truth; None where it can't be.
-    pub fn way_where(
+    pub(crate) fn way_where(
         &self,
         alloc: Global,
         truth: bool,
-        known: &Known,
+        known: &AbstractValue,
     ) -> Result<Option<Fact>, AllocError>
         ensures { IfOk result (λ way. way ≡ way_where truth known.now self.now) }
     {
@@ -124,7 +124,7 @@ impl Fact {
     }
 
     /// The fact with another result.
-    pub fn with_value(mut self, value: Known) -> Fact
+    pub(crate) fn with_value(mut self, value: AbstractValue) -> Fact
         ensures { result ≡ with_value self value }
     {
         self.result = Some(value);
@@ -150,7 +150,7 @@ impl Fact {
     }
 
     /// What is known where a variable has got this value: the result equals it.
-    pub fn stored(self, alloc: Global, v: usize, value: Known) -> Result<Fact, AllocError>
+    pub fn stored(self, alloc: Global, v: usize, value: AbstractValue) -> Result<Fact, AllocError>
         ensures { IfOk result (λ fact. fact ≡ stored_fact v value self) }
     {
         let mut fact = self;
@@ -159,7 +159,7 @@ impl Fact {
     }
 
     /// A variable has got this value.
-    fn store(&mut self, alloc: Global, v: usize, value: Known) -> Result<(), AllocError>
+    fn store(&mut self, alloc: Global, v: usize, value: AbstractValue) -> Result<(), AllocError>
         ensures { OnOk result (self.new ≡ stored_fact v value self.old) }
     {
         self.change(alloc, v, value.span)?;
@@ -178,7 +178,7 @@ impl Fact {
     }
 
     /// What is known where a variable may have got this number.
-    pub fn widened(self, alloc: Global, v: usize, number: i64) -> Result<Fact, AllocError>
+    pub(crate) fn widened(self, alloc: Global, v: usize, number: i64) -> Result<Fact, AllocError>
         ensures { IfOk result (λ fact. fact ≡ widened v number (slice_get self.variables v) self) }
     {
         let mut fact = self;

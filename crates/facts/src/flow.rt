@@ -4,9 +4,9 @@ ghost use Rattle.facts.specs.Branches.{refused_or, stepped, with_made};
 ghost use Rattle.facts.specs.Fact.{Fact};
 ghost use Rattle.facts.specs.Flow.{flow, goes_on, way_to};
 
+use crate::abstract_value::AbstractValue;
+use crate::context::Context;
 use crate::fact::Fact;
-use crate::frame::Frame;
-use crate::known::Known;
 use crate::refusal::RefusalKind;
 use point_types::Items;
 use scan_code::Op;
@@ -30,12 +30,12 @@ type Step = Result<Onward, AllocError>;
 
 impl Fact {
     /// What flows on from an instruction, by its number, where this is known before it.
-    pub fn flow(self, alloc: Global, frame: &Frame, at: usize, op: Op) -> Ways
+    pub fn flow(self, alloc: Global, context: &Context, at: usize, op: Op) -> Ways
         requires { at + 1 < 2 ^ 64 }
-        ensures { IfOk result (λ ways. ways ≡ flow frame.now at op self) }
+        ensures { IfOk result (λ ways. ways ≡ flow context.now at op self) }
     {
         let mut fact = self;
-        match fact.step(alloc, frame, at, op)? {
+        match fact.step(alloc, context, at, op)? {
             Ok(None) => goes_on(alloc, at + 1, fact),
             Ok(Some(ways)) => Ok(Ok(ways)),
             Err(kind) => Ok(Err(kind)),
@@ -43,39 +43,39 @@ impl Fact {
     }
 
     /// Takes an instruction: the fact is then what is known before the next one, where that follows.
-    fn step(&mut self, alloc: Global, frame: &Frame, at: usize, op: Op) -> Step
+    fn step(&mut self, alloc: Global, context: &Context, at: usize, op: Op) -> Step
         requires { at + 1 < 2 ^ 64 }
-        ensures { IfOk result (λ step. flow frame.now at op self.old ≡ stepped at self.new step) }
+        ensures { IfOk result (λ step. flow context.now at op self.old ≡ stepped at self.new step) }
     {
         match op {
             Op::End => Ok(Ok(Some(Items::new(alloc)))),
-            Op::LoadVariable(v) => self.load_variable(alloc, frame, at, usize::from(v)),
-            Op::LoadInput(t) => self.load_input(alloc, frame, at, usize::from(t)),
-            Op::LoadPresence(t) => self.load_presence(alloc, frame, at, usize::from(t)),
-            Op::LoadBool(truth) => self.load_bool(alloc, frame, at, truth),
-            Op::LoadNumber(kind, number) => self.load_number(alloc, frame, at, kind, number),
-            Op::StoreVariable(v) => self.store_variable(alloc, frame, at, usize::from(v)),
-            Op::StoreOutput(t) => self.store_output(frame, at, usize::from(t)),
-            Op::SetVariable(v) => self.set_variable(alloc, frame, at, usize::from(v)),
-            Op::ResetVariable(v) => self.reset_variable(alloc, frame, at, usize::from(v)),
-            Op::SetOutput(t) => self.set_output(frame, at, usize::from(t)),
-            Op::ResetOutput(t) => self.reset_output(frame, at, usize::from(t)),
-            Op::Push => self.push(alloc, frame, at),
-            Op::Not => self.not(alloc, frame, at),
-            Op::Apply(o) => self.apply(alloc, frame, at, o),
-            Op::Select => self.select(alloc, frame, at),
-            Op::Absolute => self.absolute(alloc, frame, at),
-            Op::Convert(from, to) => self.convert(alloc, frame, at, from, to),
-            Op::Jump(condition, to) => self.jump(alloc, frame, at, condition, usize::from(to)),
-            Op::Return(condition) => self.leave(alloc, frame, at, condition),
+            Op::LoadVariable(v) => self.load_variable(alloc, context, at, usize::from(v)),
+            Op::LoadInput(t) => self.load_input(alloc, context, at, usize::from(t)),
+            Op::LoadPresence(t) => self.load_presence(alloc, context, at, usize::from(t)),
+            Op::LoadBool(truth) => self.load_bool(alloc, context, at, truth),
+            Op::LoadNumber(kind, number) => self.load_number(alloc, context, at, kind, number),
+            Op::StoreVariable(v) => self.store_variable(alloc, context, at, usize::from(v)),
+            Op::StoreOutput(t) => self.store_output(context, at, usize::from(t)),
+            Op::SetVariable(v) => self.set_variable(alloc, context, at, usize::from(v)),
+            Op::ResetVariable(v) => self.reset_variable(alloc, context, at, usize::from(v)),
+            Op::SetOutput(t) => self.set_output(context, at, usize::from(t)),
+            Op::ResetOutput(t) => self.reset_output(context, at, usize::from(t)),
+            Op::Push => self.push(alloc, context, at),
+            Op::Not => self.not(alloc, context, at),
+            Op::Apply(o) => self.apply(alloc, context, at, o),
+            Op::Select => self.select(alloc, context, at),
+            Op::Absolute => self.absolute(alloc, context, at),
+            Op::Convert(from, to) => self.convert(alloc, context, at, from, to),
+            Op::Jump(condition, to) => self.jump(alloc, context, at, condition, usize::from(to)),
+            Op::Return(condition) => self.leave(alloc, context, at, condition),
             Op::Repeat(condition, counter, count, to) => {
-                self.repeat(frame, at, condition, counter, count, usize::from(to))
+                self.repeat(context, at, condition, counter, count, usize::from(to))
             }
         }
     }
 
     /// The result is what was made, if it was.
-    fn take_made(&mut self, made: Result<Known, RefusalKind>) -> Onward
+    fn take_made(&mut self, made: Result<AbstractValue, RefusalKind>) -> Onward
         ensures { (at : ℕ) → with_made at self.old made ≡ stepped at self.new result }
     {
         match made {

@@ -5,20 +5,20 @@
 //! [`Fact`]: fact::Fact
 #![tactic(auto)]
 
+pub mod abstract_value;
 pub mod address;
-pub mod changes;
-pub mod consequences;
+pub mod changed_spans;
+mod consequences;
+pub mod context;
 mod deferred;
 pub mod fact;
-pub mod flow;
-pub mod frame;
-pub mod known;
+mod flow;
 pub mod operand;
 mod parts;
-pub mod presence;
+pub mod present_inputs;
 pub mod refusal;
 pub mod span;
-pub mod sparse;
+mod sparse_list;
 pub mod tag_range;
 
 pub use fact::Fact;

@@ -2,14 +2,14 @@
 ghost use Rattle.std.specs.Prelude.{◌≡◌, IfOk, false, map};
 ghost use Rattle.facts.specs.Span.{Between};
 
-use crate::presence::Presence;
+use crate::present_inputs::PresentInputs;
 use crate::span::Span;
 use crate::tag_range::TagRange;
 use point_types::{Items, Var};
 use std::alloc::{AllocError, Global};
 
 /// The declared range of each variable.
-pub fn declared_ranges(alloc: Global, variables: &[Var]) -> Result<Items<Span>, AllocError>
+pub(crate) fn declared_ranges(alloc: Global, variables: &[Var]) -> Result<Items<Span>, AllocError>
     ensures { IfOk result (λ spans. spans ≡ map (λ d. Between d.low d.high) variables.now) }
 {
     let mut spans = Vec::with_capacity(alloc, variables.len())?;
@@ -26,7 +26,7 @@ fn declared_range(variable: &Var) -> Span
 }
 
 /// The range of each tag.
-pub fn site_ranges(alloc: Global, tags: &[TagRange]) -> Result<Items<Span>, AllocError>
+pub(crate) fn site_ranges(alloc: Global, tags: &[TagRange]) -> Result<Items<Span>, AllocError>
     ensures { IfOk result (λ spans. spans ≡ map (λ t. Between t.low t.high) tags.now) }
 {
     let mut spans = Vec::with_capacity(alloc, tags.len())?;
@@ -43,8 +43,8 @@ fn site_range(tag: &TagRange) -> Span
 }
 
 /// Of each tag, that its input may be missing.
-pub fn none_present(alloc: Global, tags: &[TagRange]) -> Presence
+pub(crate) fn none_present(alloc: Global, tags: &[TagRange]) -> PresentInputs
     ensures { result ≡ map (λ t. false) tags.now }
 {
-    Presence::none(alloc, tags.len())
+    PresentInputs::none(alloc, tags.len())
 }

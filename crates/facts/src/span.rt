@@ -148,7 +148,7 @@ impl Span {
 
     /// The numbers that an operator makes of members of both, where all lie in the type's range; of
     /// truths for AND and OR. No divisor of DIV and MOD may be 0.
-    pub fn operated(self, o: Operator, other: Span, kind: IlType) -> Option<Span>
+    pub(crate) fn operated(self, o: Operator, other: Span, kind: IlType) -> Option<Span>
         requires { IsTrue (not (divides o && has_member (pos 0) other)) }
         ensures { result ≡ fitting kind (operated o self other) }
     {

@@ -16,4 +16,3 @@ pub mod Talking
 pub mod Reading
 pub mod Found
 pub mod Blocks
-pub mod Replying

@@ -8,10 +8,10 @@ use Rattle.scan_code.specs.declared.image.Tag.{Tag}
 use Rattle.site_model.specs.declared.site.Site.{Site}
 use Rattle.site_model.specs.declared.tag.SiteTag.{SiteTag}
 use Rattle.site_model.specs.Readings.{AreSettings}
-use Rattle.verifier.specs.declared.link.Link.{Link}
+use Rattle.verifier.specs.declared.tag_link.TagLink.{TagLink}
 use Rattle.facts.specs.declared.refusal.Refusal.{Refusal}
 use Rattle.verifier.specs.Links.{links_from, link_of, refused_at}
-use Rattle.gateway.specs.declared.known.Known.{Known}
+use Rattle.gateway.specs.declared.memory.Memory.{Memory}
 use Rattle.gateway.specs.declared.point.OwnPoint.{OwnPoint}
 use Rattle.gateway.specs.declared.event.Event.{Event}
 use Rattle.gateway.specs.declared.event.Answer.{Answer}
@@ -30,7 +30,7 @@ pub served_again : (site : Site) (outputs : List (Option ℤ)) (readings : List 
 served_again site outputs readings sets points given image kept a b e h =
     subst (λ (ws : List ℕ). AreServed site outputs readings sets (own_points site) ws) (sym e) (subst (λ (ps : List OwnPoint). AreServed site outputs readings sets ps image) (a ∙ b) h)
 
-pub opened_known : (site : Site) (k : Known) → IsOpening site k → IsKnown site k
+pub opened_known : (site : Site) (k : Memory) → IsOpening site k → IsKnown site k
 opened_known site k h =
     let outputs : k.outputs.items ≡ none_of site.tags = ap (λ l. l.outputs) h.last in
     let readings : k.readings.items ≡ map unread site.tags = ap (λ l. l.readings) h.last in
@@ -60,22 +60,22 @@ ready_core site maps machine o matched linked mapped h = record {
   fed = h.fed;
 }
 
-pub ready_standing : (site : Site) (m : Running) (k : Known) → IsOpening site k → standing_of m k ≡ opened site m.variables
+pub ready_standing : (site : Site) (m : Running) (k : Memory) → IsOpening site k → standing_of m k ≡ opened site m.variables
 ready_standing site m k h =
     let blocks = h.blocks in
     let sets = h.sets in
     let last = h.last in cc
 
 -- a link for each tag of an image
-pub links_length : (site : List SiteTag) (n : ℕ) (tags : List Tag) (links : List Link) → links_from site n tags ≡ Ok links → length links ≡ length tags
+pub links_length : (site : List SiteTag) (n : ℕ) (tags : List Tag) (links : List TagLink) → links_from site n tags ≡ Ok links → length links ≡ length tags
 links_length site n [] links e = let same : links ≡ [] = cc in ap length same
 links_length site n (t ∷ ts) links e = first (λ ls q. links_length site (n + 1) ts ls q) (refused_at n (link_of site t)) e
   where
-    rest : ((ls : List Link) → links_from site (n + 1) ts ≡ Ok ls → length ls ≡ length ts) → (link : Link) (r : Result (List Link) Refusal) → links_from site (n + 1) ts ≡ r → (r >>= λ ls. Ok (link ∷ ls)) ≡ Ok links → length links ≡ suc (length ts)
+    rest : ((ls : List TagLink) → links_from site (n + 1) ts ≡ Ok ls → length ls ≡ length ts) → (link : TagLink) (r : Result (List TagLink) Refusal) → links_from site (n + 1) ts ≡ r → (r >>= λ ls. Ok (link ∷ ls)) ≡ Ok links → length links ≡ suc (length ts)
     rest again link (Err x) q h = cc
     rest again link (Ok ls) q h = let same : links ≡ link ∷ ls = cc in ap length same ∙ ap suc (again ls q)
 
-    first : ((ls : List Link) → links_from site (n + 1) ts ≡ Ok ls → length ls ≡ length ts) → (r : Result Link Refusal) → (r >>= λ link. links_from site (n + 1) ts >>= λ ls. Ok (link ∷ ls)) ≡ Ok links → length links ≡ suc (length ts)
+    first : ((ls : List TagLink) → links_from site (n + 1) ts ≡ Ok ls → length ls ≡ length ts) → (r : Result TagLink Refusal) → (r >>= λ link. links_from site (n + 1) ts >>= λ ls. Ok (link ∷ ls)) ≡ Ok links → length links ≡ suc (length ts)
     first again (Err x) h = cc
     first again (Ok link) h = rest again link (links_from site (n + 1) ts) refl h
 

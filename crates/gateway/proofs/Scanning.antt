@@ -7,7 +7,7 @@ use Rattle.point_types.specs.declared.reading.Reading.{Reading}
 use Rattle.point_types.specs.declared.reading.Reading.TheVariants as reading
 use Rattle.site_model.specs.declared.tag.SiteTag.{SiteTag}
 use Rattle.site_model.specs.Readings.{AreSettings, AreUsable, IsUsable}
-use Rattle.verifier.specs.declared.link.Link.{Link}
+use Rattle.verifier.specs.declared.tag_link.TagLink.{TagLink}
 use Rattle.verifier.specs.Listing.{is_there}
 use Rattle.verifier.specs.Ranges.{range_of}
 use Rattle.verifier.specs.Sound.{IsInputOf, IsReadingOf, OutputInRange}
@@ -19,7 +19,7 @@ use Rattle.gateway.proofs.Settled.{set-cases, still_settings}
 
 -- ---- inputs
 
-usable_input : (t : SiteTag) (link : Link) (r : Reading) → IsAlike t link.site → IsUsable t r → IsInputOf (range_of link) r
+usable_input : (t : SiteTag) (link : TagLink) (r : Reading) → IsAlike t link.site → IsUsable t r → IsInputOf (range_of link) r
 usable_input t link (reading.Value n) a h = (subst (λ z. z ≤ℤ n) a.low h.0, subst (λ z. n ≤ℤ z) a.high h.1)
 usable_input t link (reading.Default n why) a h = (subst (λ z. z ≤ℤ n) a.low h.0, subst (λ z. n ≤ℤ z) a.high h.1)
 usable_input t link (reading.Absent why) a h = ap is_there (sym a.default ∙ h)
@@ -32,7 +32,7 @@ alike_within tags n s h = go (slice_get tags n) refl h
     go (Some t) e k = (t, e, k)
 
 module _ (tags : List SiteTag) (readings : List Reading) (usable : AreUsable tags readings) (each : length readings ≡ length tags) where
-  input_at : (link : Link) → HasAlike (slice_get tags link.number) link.site → IsInputOf (range_of link) (reading_at readings link.number)
+  input_at : (link : TagLink) → HasAlike (slice_get tags link.number) link.site → IsInputOf (range_of link) (reading_at readings link.number)
   input_at link h =
       let t = alike_within tags link.number link.site h in
       let w = slice_get_within tags link.number t.0 t.1 in
@@ -41,21 +41,21 @@ module _ (tags : List SiteTag) (readings : List Reading) (usable : AreUsable tag
       let k = usable_input t.0 link r t.2 (usable link.number t.0 r t.1 e) in
       rw e k
 
-  pub inputs_fit : (links : List Link) → HasLinks tags links → (t : ℕ) → IsReadingOf (slice_get (map range_of links) t) (slice_get (map (reading_at readings) (map number_of links)) t)
+  pub inputs_fit : (links : List TagLink) → HasLinks tags links → (t : ℕ) → IsReadingOf (slice_get (map range_of links) t) (slice_get (map (reading_at readings) (map number_of links)) t)
   inputs_fit [] h t = tt
   inputs_fit (link ∷ links) h zero = λ loaded. input_at link h.0
   inputs_fit (link ∷ links) h (suc t) = inputs_fit links h.1 t
 
 -- ---- outputs
 
-pub stored_more : (links : List Link) (outputs cur : List (Option ℤ)) (i : ℕ) (d : Link) (o : Option ℤ) → i < length links → slice_get outputs i ≡ Some o →
+pub stored_more : (links : List TagLink) (outputs cur : List (Option ℤ)) (i : ℕ) (d : TagLink) (o : Option ℤ) → i < length links → slice_get outputs i ≡ Some o →
     stored_at (map number_of (drop i links)) (drop i outputs) cur ≡ stored_at (map number_of (drop (i + 1) links)) (drop (i + 1) outputs) (slice_set cur (number_of (get_or links i d)) o)
 stored_more links outputs cur i d o h e =
     let w = slice_get_within outputs i o e in
     let a : drop i outputs ≡ o ∷ drop (i + 1) outputs = drop_more outputs i o w ∙ ap (λ x. x ∷ drop (i + 1) outputs) (get_or_from_slice_get outputs i o o e) in
     rw (drop_more links i d h) (rw a refl)
 
-pub stored_whole : (links : List Link) (outputs cur : List (Option ℤ)) (i : ℕ) → length links ≤ i → stored_at (map number_of (drop i links)) (drop i outputs) cur ≡ cur
+pub stored_whole : (links : List TagLink) (outputs cur : List (Option ℤ)) (i : ℕ) → length links ≤ i → stored_at (map number_of (drop i links)) (drop i outputs) cur ≡ cur
 stored_whole links outputs cur i h = rw (drop_all i links h) refl
 
 kept_none : (tags : List SiteTag) (cur : List (Option ℤ)) (n : ℕ) → AreSettings tags cur → AreSettings tags (slice_set cur n None)
@@ -65,7 +65,7 @@ kept_none tags cur n ranged k u m p q = go (set-cases cur n None k (Some m) q)
     go (inl h) = cc
     go (inr h) = ranged k u m p h
 
-pub stored_in : (tags : List SiteTag) (links : List Link) (outputs cur : List (Option ℤ)) → HasLinks tags links → ((t : ℕ) → OutputInRange (slice_get (map range_of links) t) (slice_get outputs t)) → AreSettings tags cur →
+pub stored_in : (tags : List SiteTag) (links : List TagLink) (outputs cur : List (Option ℤ)) → HasLinks tags links → ((t : ℕ) → OutputInRange (slice_get (map range_of links) t) (slice_get outputs t)) → AreSettings tags cur →
     AreSettings tags (stored_at (map number_of links) outputs cur)
 stored_in tags [] outputs cur h within ranged = ranged
 stored_in tags (link ∷ links) [] cur h within ranged = ranged

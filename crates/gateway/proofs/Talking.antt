@@ -6,18 +6,18 @@ use Rattle.std.specs.Io.KnownBytes.{Appends, Consumes}
 use Rattle.std.specs.List.{flat_map}
 use Rattle.modbus_frame.specs.declared.message.Request.{Request}
 use Rattle.modbus_frame.specs.Frame.{frame_bytes}
-use Rattle.modbus_frame.proofs.Sending.{CountsBy-none, CountsBy-trans}
+use Rattle.modbus_frame.proofs.Sending.{FailsBy-none, FailsBy-then}
 use Rattle.gateway.specs.declared.outcome.Outcome.{Outcome}
 use Rattle.gateway.specs.LinkRun.{Exchange, AreDecided, bytes_out, bytes_in, id_after, next_id, frame_of, asked_in}
-use Rattle.gateway.specs.Polling.{Polling, Decides, Talks, asked_next}
+use Rattle.gateway.specs.Polling.{Polling, Decides, Talks, asked_next, stream}
 
 -- before the first request
 pub talks_none : (p : Polling) → p.fault ≡ None → Talks p [] p
 talks_none p none = record {
   decided = tt;
-  came = Consumes-nil p.coming;
+  came = Consumes-nil (stream p);
   went = Appends-nil p.sent;
-  failures = CountsBy-none p.failures;
+  failures = FailsBy-none p.failures;
   id = refl;
   fault = none;
 }
@@ -33,9 +33,9 @@ talks_first p m q unit request o es one rest =
     let W : ℕ → Type 0 = λ id. Appends m.sent q.sent (bytes_out id es) in
     record {
       decided = (one.decided, subst D one.id rest.decided);
-      came = Consumes-trans p.coming m.coming q.coming (flat_map frame_bytes one.frames) (bytes_in es) one.came rest.came;
+      came = Consumes-trans (stream p) (stream m) (stream q) (flat_map frame_bytes one.frames) (bytes_in es) one.came rest.came;
       went = Appends-trans p.sent m.sent q.sent (frame_bytes (frame_of (asked_next p unit request))) (bytes_out (next_id p.id) es) one.went (subst W one.id rest.went);
-      failures = CountsBy-trans 0 0 0 p.failures m.failures q.failures one.failures rest.failures refl;
+      failures = FailsBy-then 0 0 0 p.failures m.failures q.failures one.failures rest.failures;
       id = rest.id ∙ ap (λ id. id_after id es) one.id;
       fault = rest.fault;
     }
@@ -61,9 +61,9 @@ talks_behind p m q es fs first second =
     let W : ℕ → Type 0 = λ id. Appends m.sent q.sent (bytes_out id fs) in
     record {
       decided = AreDecided-append p.id es fs first.decided (subst D first.id second.decided);
-      came = subst (Consumes p.coming q.coming) (sym (flat_map-append (λ (e : Exchange). flat_map frame_bytes e.frames) es fs)) (Consumes-trans p.coming m.coming q.coming (bytes_in es) (bytes_in fs) first.came second.came);
+      came = subst (Consumes (stream p) (stream q)) (sym (flat_map-append (λ (e : Exchange). flat_map frame_bytes e.frames) es fs)) (Consumes-trans (stream p) (stream m) (stream q) (bytes_in es) (bytes_in fs) first.came second.came);
       went = subst (Appends p.sent q.sent) (sym (bytes_out-append p.id es fs)) (Appends-trans p.sent m.sent q.sent (bytes_out p.id es) (bytes_out (id_after p.id es) fs) first.went (subst W first.id second.went));
-      failures = CountsBy-trans 0 0 0 p.failures m.failures q.failures first.failures second.failures refl;
+      failures = FailsBy-then 0 0 0 p.failures m.failures q.failures first.failures second.failures;
       id = second.id ∙ ap (λ id. id_after id fs) first.id ∙ sym (id_after-append p.id es fs);
       fault = second.fault;
     }

@@ -1,4 +1,5 @@
--- One call of a poller, which asks one unit after another by at most so many reads and writes.
+-- inner: one call of a poller, which asks one unit after another by at most so many reads and writes.
+-- MODBUS Messaging on TCP/IP Implementation Guide, section 4.4.1 (MODBUS client).
 use Rattle.std.specs.Prelude.{◌≡◌, ◌⊎◌, ℕ, ◌-◌, ◌≤◌, Option, None, Some, Result, Err}
 use Rattle.modbus_frame.specs.declared.link.LinkFault.{LinkFault}
 use Rattle.modbus_frame.specs.declared.link.LinkFault.TheVariants as link

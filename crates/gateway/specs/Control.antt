@@ -1,7 +1,9 @@
 -- What a scan over a link makes of a core, and what it answers to the frames of clients.
-use Rattle.std.specs.Prelude.{◌≡◌, ℕ, List, Result}
+-- IEC 61131-3 edition 2, 3.2 (one scan after another); Modbus Application Protocol V1.1b3, section 7.
+use Rattle.std.specs.Prelude.{◌≡◌, ℕ, Bool, true, List, Result}
 use Rattle.modbus_frame.specs.declared.frame.Frame.{Frame}
-use Rattle.modbus_frame.specs.Served.{unknown_unit_pdu}
+use Rattle.modbus_frame.specs.Frame.{frame_bytes}
+use Rattle.modbus_frame.specs.Served.{reply_to, unknown_unit_pdu}
 use Rattle.site_model.specs.Readings.{AreSettings}
 use Rattle.point_writer.specs.declared.write.Write.{Write}
 use Rattle.point_writer.specs.declared.write.NoWrite.{NoWrite}
@@ -30,3 +32,10 @@ steps_of g = (g.standing.last).steps
 pub record AnswersOn (old : Gateway) (frame : Frame) (pdu : List ℕ) (new : Gateway) : Type 0 where
   pub own : frame.unit ≡ old.site.unit → Advances old (event.Client frame.pdu) (answer.Reply pdu) new
   pub other : (frame.unit ≡ old.site.unit → ⊥) → (pdu ≡ unknown_unit_pdu frame) × (new ≡ old)
+
+-- These bytes go back for a frame: a reply with its transaction and unit. More frames may always be answered.
+pub record AnswersFrame (old : Gateway) (frame : Frame) (bytes : List ℕ) (goes_on : Bool) (new : Gateway) : Type 0 where
+  pub pdu : List ℕ
+  pub answers : AnswersOn old frame pdu new
+  pub spelled : bytes ≡ frame_bytes (reply_to frame pdu)
+  pub more : goes_on ≡ true

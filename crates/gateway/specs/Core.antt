@@ -1,15 +1,16 @@
 -- What is seen of a gateway's core, and the site run of the program that it runs.
+-- IEC 61131-3 edition 2, 3.2 (one scan after another).
 use Rattle.std.specs.Prelude.{◌≡◌, ℕ, ℤ, List, Option, length, map}
 use Rattle.register_map.specs.Layout.{Layout}
 use Rattle.scan_vm.specs.Machine.{Running}
 use Rattle.site_model.specs.declared.site.Site.{Site}
-use Rattle.verifier.specs.declared.link.Link.{Link}
+use Rattle.verifier.specs.declared.tag_link.TagLink.{TagLink}
 use Rattle.verifier.specs.Verified.{Acceptance, HasLinks}
 use Rattle.point_types.specs.declared.reading.Reading.{Reading}
 use Rattle.site_model.specs.Readings.{AreSettings}
 use Rattle.gateway.specs.declared.event.Event.{Event}
 use Rattle.gateway.specs.declared.event.Answer.{Answer}
-use Rattle.gateway.specs.declared.known.Known.{Known}
+use Rattle.gateway.specs.declared.memory.Memory.{Memory}
 use Rattle.gateway.specs.declared.opening.Opening.{Opening}
 use Rattle.gateway.specs.declared.point.OwnPoint.{OwnPoint}
 use Rattle.gateway.specs.Points.{own_points, all_registers}
@@ -23,7 +24,7 @@ pub record Gateway : Type 0 where
   pub machine : Running
   pub standing : Standing
 
-abbrev pub number_of : Link → ℕ
+abbrev pub number_of : TagLink → ℕ
 number_of link = link.number
 
 -- the numbers of the site's tags that a program's tags are
@@ -52,14 +53,14 @@ RunsOn old es answers new = RunsFrom old old.standing es answers new.standing
 
 -- ---- what holds of a core's parts
 
-abbrev pub last_of : Known → Scanned
+abbrev pub last_of : Memory → Scanned
 last_of k = record { steps = k.steps; outputs = k.outputs.items; readings = k.readings.items; blocks = k.scanned.items }
 
-abbrev pub standing_of : Running → Known → Standing
+abbrev pub standing_of : Running → Memory → Standing
 standing_of m k = record { blocks = k.blocks.items; sets = k.sets.items; variables = m.variables; last = last_of k }
 
 -- an entry for each want and each tag of a site, each number in its tag's range
-pub record IsKnown (site : Site) (k : Known) : Type 0 where
+pub record IsKnown (site : Site) (k : Memory) : Type 0 where
   pub blocks : length k.blocks.items ≡ length site.wants
   pub scanned : length k.scanned.items ≡ length site.wants
   pub sets : length k.sets.items ≡ length site.tags
@@ -69,13 +70,13 @@ pub record IsKnown (site : Site) (k : Known) : Type 0 where
   pub stored : AreSettings site.tags k.outputs.items
 
 -- nothing is known or set, and there was no scan
-pub record IsOpening (site : Site) (k : Known) : Type 0 where
+pub record IsOpening (site : Site) (k : Memory) : Type 0 where
   pub blocks : k.blocks.items ≡ none_of site.wants
   pub sets : k.sets.items ≡ none_of site.tags
   pub last : last_of k ≡ unscanned site
 
 -- what a core makes for a site and a program of such links: nothing is known, and the registers are those of the served image
-pub record IsReady (site : Site) (links : List Link) (o : Opening) : Type 0 where
+pub record IsReady (site : Site) (links : List TagLink) (o : Opening) : Type 0 where
   pub own : o.points ≡ own_points site
   pub known : IsOpening site o.known
   pub served : IsServedImage site o.known.outputs.items o.known.readings.items o.known.sets.items o.image.items
@@ -84,7 +85,7 @@ pub record IsReady (site : Site) (links : List Link) (o : Opening) : Type 0 wher
   pub fed : length o.inputs.items ≡ length links
 
 -- the registers are those of the served image, and the program is one for the site
-pub record IsCore (site : Site) (maps : List (Option Layout)) (machine : Running) (points : List OwnPoint) (k : Known) (image : List ℕ) (room : List (Option ℤ)) (inputs : List Reading) : Type 0 where
+pub record IsCore (site : Site) (maps : List (Option Layout)) (machine : Running) (points : List OwnPoint) (k : Memory) (image : List ℕ) (room : List (Option ℤ)) (inputs : List Reading) : Type 0 where
   pub matched : HasLinks site.tags machine.accepted.links
   pub linked : length machine.accepted.links ≡ length machine.accepted.image.tags
   pub mapped : length maps ≡ length site.devices

@@ -1,4 +1,5 @@
 -- The words by which it is printed why there is no core.
+-- No standard says what is printed; these words are this project's.
 use Rattle.std.specs.Prelude.{ℕ, List, codes}
 use Rattle.gateway.specs.declared.fault.CoreFault.{CoreFault}
 use Rattle.gateway.specs.declared.fault.CoreFault.TheVariants as fault

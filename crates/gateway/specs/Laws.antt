@@ -1,4 +1,5 @@
 -- What is proved of the served image and of scans over a link.
+-- SunSpec Device Information Model Specification, device modbus maps; IEC 61131-3 edition 2, 3.2 (one scan after another).
 use Rattle.std.specs.Prelude.{◌≡◌, ◌<◌, ◌≤ℤ◌, ℕ, ℤ, List, [], ◌∷◌, ◌++◌, length, Option, Ok}
 use Rattle.register_map.specs.Layout.{Layout}
 use Rattle.site_model.specs.declared.tag.SiteTag.{SiteTag}

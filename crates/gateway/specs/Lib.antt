@@ -2,6 +2,7 @@ pub mod Points
 pub mod ServedImage
 pub mod SiteRun
 pub mod Core
+pub mod Driving
 pub mod Fault
 pub mod LinkRun
 pub mod Polling
@@ -10,6 +11,5 @@ pub mod Asking
 pub mod Finding
 pub mod WorkedRequests
 pub mod Cycle
-pub mod Clients
 pub mod Control
 pub mod Laws

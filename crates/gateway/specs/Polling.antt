@@ -1,6 +1,6 @@
 -- What requests over a link do to it (MODBUS Messaging on TCP/IP Implementation Guide, section 4.2).
-use Rattle.std.specs.Prelude.{◌≡◌, ◌⊎◌, ℕ, ◌≤◌, List, length, take, ⊤, Option, None, Some, Result, Ok, Err}
-use Rattle.std.specs.Io.KnownBytes.{Appends, Consumes, IsAtEnd}
+use Rattle.std.specs.Prelude.{◌≡◌, ◌⊎◌, ℕ, ◌<◌, List, length, take, Option, None, Some, Result, Ok, Err}
+use Rattle.std.specs.Io.KnownBytes.{Keeps, Appends, Consumes, IsAtEnd, prepend_known}
 use Rattle.std.specs.List.{flat_map}
 use Rattle.modbus_frame.specs.declared.frame.Frame.{Frame}
 use Rattle.modbus_frame.specs.declared.link.LinkFault.{LinkFault}
@@ -8,20 +8,26 @@ use Rattle.modbus_frame.specs.declared.link.LinkFault.TheVariants as link
 use Rattle.modbus_frame.specs.declared.message.Request.{Request}
 use Rattle.modbus_frame.specs.Exchange.{KnownIsFaulty, KnownIsCut}
 use Rattle.modbus_frame.specs.Frame.{frame_bytes}
-use Rattle.modbus_frame.specs.Link.{CountsBy}
+use Rattle.modbus_frame.specs.Link.{Failures, FailsBy, FailsWith}
+use Rattle.modbus_frame.specs.Serving.{IsInPart}
 use Rattle.gateway.specs.declared.outcome.Outcome.{Outcome}
 use Rattle.gateway.specs.LinkRun.{Asked, frame_of, next_id, IsDecided, IsOpen, Exchange, AreDecided, bytes_out, bytes_in, id_after}
 
--- What contracts see of a poller. Of its link, where it tells them: the bytes that come behind the last frame that was
--- read, the kept ones first, the bytes sent, how many calls failed and how many were made. Then the transaction of the
--- next request, and the fault that ended its work.
+-- What contracts see of a poller: the bytes that it read ahead, behind the last frame. Of its link, where that tells
+-- them: the bytes that it has still to give, the bytes sent, what went wrong and how many calls were made. Then the
+-- transaction of the next request, and the fault that ended its work.
 pub record Polling : Type 0 where
+  pub ahead : List ℕ
   pub coming : Option (List ℕ)
   pub sent : Option (List ℕ)
-  pub failures : Option ℕ
+  pub failures : Failures
   pub calls : Option ℕ
   pub id : ℕ
   pub fault : Option LinkFault
+
+-- the bytes behind the last frame: those that were read ahead, and those to come
+abbrev pub stream : Polling → Option (List ℕ)
+stream p = prepend_known p.ahead p.coming
 
 -- the next request
 abbrev pub asked_next : Polling → ℕ → Request → Asked
@@ -33,42 +39,52 @@ asked_next p unit request = record { id = p.id; unit = unit; request = request }
 pub record Decides (p : Polling) (unit : ℕ) (request : Request) (outcome : Outcome) (q : Polling) : Type 0 where
   pub frames : List Frame
   pub decided : IsDecided (asked_next p unit request) frames outcome
-  pub came : Consumes p.coming q.coming (flat_map frame_bytes frames)
+  pub came : Consumes (stream p) (stream q) (flat_map frame_bytes frames)
   pub went : Appends p.sent q.sent (frame_bytes (frame_of (asked_next p unit request)))
-  pub failures : CountsBy 0 p.failures q.failures
+  pub failures : FailsBy 0 0 0 p.failures q.failures
   pub id : q.id ≡ next_id p.id
   pub fault : q.fault ≡ None
 
--- The count of failures rises by one with `Read` and `Write`, and else it stays.
-abbrev pub CountsFailure : LinkFault → Option ℕ → Option ℕ → Type 0
-CountsFailure link.Read old new = CountsBy 1 old new
-CountsFailure link.Write old new = CountsBy 1 old new
-CountsFailure (link.Frame f) old new = CountsBy 0 old new
-CountsFailure link.End old new = CountsBy 0 old new
-CountsFailure link.Turns old new = CountsBy 0 old new
-CountsFailure link.OutOfMemory old new = ⊥
+-- A front of the request went out, not all, and nothing was read for it.
+pub record BreaksOff (p : Polling) (unit : ℕ) (request : Request) (q : Polling) : Type 0 where
+  pub len : ℕ
+  pub front : len < length (frame_bytes (frame_of (asked_next p unit request)))
+  pub went : Appends p.sent q.sent (take len (frame_bytes (frame_of (asked_next p unit request))))
+  pub ahead : q.ahead ≡ p.ahead
+  pub coming : Keeps p.coming q.coming
 
--- Why no frame more was read: what is left of the stream is no frame, or it ended inside one or before the reply.
-abbrev pub EndsWaiting : LinkFault → Option (List ℕ) → Type 0
-EndsWaiting (link.Frame f) left = KnownIsFaulty f left
-EndsWaiting link.End left = KnownIsCut left ⊎ IsAtEnd left
-EndsWaiting other left = ⊤
+-- Why no frame more was read: what is left of the stream is no frame, it ended inside one or before the reply, or what
+-- came of it is less than a frame.
+abbrev pub EndsWaiting : LinkFault → Option (List ℕ) → List ℕ → Option (List ℕ) → Type 0
+EndsWaiting (link.Frame f) left ahead coming = KnownIsFaulty f left
+EndsWaiting link.End left ahead coming = KnownIsCut left ⊎ IsAtEnd left
+EndsWaiting link.Read left ahead coming = IsInPart left ahead coming
+EndsWaiting link.Turns left ahead coming = IsInPart left ahead coming
+EndsWaiting link.Write left ahead coming = ⊥
+EndsWaiting link.OutOfMemory left ahead coming = ⊥
 
--- All of the request went out before a read failed; with a write that failed, or without a turn left, a front of it.
-abbrev pub WentOut : LinkFault → Option (List ℕ) → Option (List ℕ) → List ℕ → Type 0
-WentOut link.Write old new bytes = (n : ℕ) × (n ≤ length bytes) × Appends old new (take n bytes)
-WentOut link.Turns old new bytes = (n : ℕ) × (n ≤ length bytes) × Appends old new (take n bytes)
-WentOut other old new bytes = Appends old new bytes
-
--- A front of the request went out, frames that don't decide it came, and then the link failed. The fault is kept.
-pub record Fails (p : Polling) (unit : ℕ) (request : Request) (fault : LinkFault) (q : Polling) : Type 0 where
+-- The request went out, the frames that came don't decide it, and no other one came.
+pub record StaysOpen (p : Polling) (unit : ℕ) (request : Request) (fault : LinkFault) (q : Polling) : Type 0 where
   pub frames : List Frame
   pub left : Option (List ℕ)
   pub undecided : IsOpen (asked_next p unit request) frames
-  pub came : Consumes p.coming left (flat_map frame_bytes frames)
-  pub ends : EndsWaiting fault left
-  pub went : WentOut fault p.sent q.sent (frame_bytes (frame_of (asked_next p unit request)))
-  pub failures : CountsFailure fault p.failures q.failures
+  pub came : Consumes (stream p) left (flat_map frame_bytes frames)
+  pub went : Appends p.sent q.sent (frame_bytes (frame_of (asked_next p unit request)))
+  pub ends : EndsWaiting fault left q.ahead q.coming
+
+-- A write fails before all went out, a read behind that, and turns run out before or behind.
+abbrev pub FailsAt : LinkFault → Polling → ℕ → Request → Polling → Type 0
+FailsAt link.Write p unit request q = BreaksOff p unit request q
+FailsAt link.Turns p unit request q = BreaksOff p unit request q ⊎ StaysOpen p unit request link.Turns q
+FailsAt link.Read p unit request q = StaysOpen p unit request link.Read q
+FailsAt (link.Frame f) p unit request q = StaysOpen p unit request (link.Frame f) q
+FailsAt link.End p unit request q = StaysOpen p unit request link.End q
+FailsAt link.OutOfMemory p unit request q = ⊥
+
+-- The link failed at the request, and the fault is kept.
+pub record Fails (p : Polling) (unit : ℕ) (request : Request) (fault : LinkFault) (q : Polling) : Type 0 where
+  pub cause : FailsAt fault p unit request q
+  pub failures : FailsWith fault p.failures q.failures
   pub kept : q.fault ≡ Some fault
 
 -- the fault that a request leaves
@@ -81,13 +97,6 @@ abbrev pub Asks : Polling → ℕ → Request → Result Outcome LinkFault → P
 Asks p unit request (Ok outcome) q = Decides p unit request outcome q
 Asks p unit request (Err fault) q = Fails p unit request fault q
 
-abbrev pub most_calls : ℕ
-most_calls = 1000000
-
--- There are at most 1,000,000 reads and writes, and with `Turns` as many.
-abbrev pub CountsCalls : {T : Type 0} → Option ℕ → Option ℕ → Result T LinkFault → Type 0
-CountsCalls old new result = (calls : ℕ) × (calls ≤ most_calls) × CountsBy calls old new × (result ≡ Err link.Turns → calls ≡ most_calls)
-
 -- With `Turns` no read or write is left.
 abbrev pub UsesUp : {T : Type 0} → Result T LinkFault → ℕ → Type 0
 UsesUp result turns = result ≡ Err link.Turns → turns ≡ 0
@@ -97,8 +106,8 @@ UsesUp result turns = result ≡ Err link.Turns → turns ≡ 0
 -- These requests went out, one after another, each decided by the frames that came for it.
 pub record Talks (p : Polling) (es : List Exchange) (q : Polling) : Type 0 where
   pub decided : AreDecided p.id es
-  pub came : Consumes p.coming q.coming (bytes_in es)
+  pub came : Consumes (stream p) (stream q) (bytes_in es)
   pub went : Appends p.sent q.sent (bytes_out p.id es)
-  pub failures : CountsBy 0 p.failures q.failures
+  pub failures : FailsBy 0 0 0 p.failures q.failures
   pub id : q.id ≡ id_after p.id es
   pub fault : q.fault ≡ None

@@ -1,4 +1,5 @@
 -- Worked requests: what decides them, and what goes out for them.
+-- MODBUS Messaging on TCP/IP Implementation Guide, section 4.4.1 (MODBUS client).
 use Rattle.std.specs.Prelude.{◌≡◌, ℕ, [], ◌∷◌, replicate, None, Some, refl}
 use Rattle.modbus_frame.specs.declared.frame.Frame.{Frame}
 use Rattle.modbus_frame.specs.declared.message.Request.TheVariants.{Read, WriteOne, WriteMany}

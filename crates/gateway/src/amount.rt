@@ -3,14 +3,14 @@ ghost use Rattle.std.specs.Prelude.{◌≡◌, ◌+ℤ◌, ◌≤ℤ◌, ◌^◌
 ghost use Rattle.point_types.specs.Reading.{IsExponent};
 ghost use Rattle.gateway.specs.ServedImage.{amount_from, amount_given, amount_of_tag, in_lint, number_of_tag, own_value, sum_of, sum_with, total_of, total_over};
 
-use crate::known::Known;
+use crate::memory::Memory;
 use crate::point::Source;
 use point_types::Reading;
 use site_model::{Access, Site, SiteTag, Source as Given};
 
 /// A value: `number * 10^exponent`, to be served by a scale factor, None where that is absent.
 #[derive(Clone, Copy)]
-pub struct Amount {
+pub(crate) struct Amount {
     pub number: i64,
     /// In -10..10.
     pub exponent: i8,
@@ -21,7 +21,7 @@ pub struct Amount {
 /// program stored, or what clients set.
 pub(crate) fn amount_from(
     site: &Site,
-    known: &Known,
+    known: &Memory,
     factor: Option<i16>,
     source: Source,
 ) -> Option<Amount>
@@ -72,7 +72,10 @@ fn sum_of(
     ensures scalable { IfSome result (λ a. IsExponent a.exponent) }
 {
     match parts {
-        [first, ..] => sum_with(readings, factor, parts, tags.get(*first)?),
+        [first, ..] => match tags.get(*first) {
+            Some(tag) => sum_with(readings, factor, parts, tag),
+            None => None,
+        },
         [] => None,
     }
 }
@@ -153,7 +156,7 @@ fn in_lint(n: i128) -> Option<i64>
     }
 }
 
-fn amount_of_tag(known: &Known, factor: Option<i16>, n: usize, tag: &SiteTag) -> Option<Amount>
+fn amount_of_tag(known: &Memory, factor: Option<i16>, n: usize, tag: &SiteTag) -> Option<Amount>
     ensures value { result ≡ amount_of_tag known.now.outputs.items known.now.sets.items factor n tag.now }
     ensures scalable { IfSome result (λ a. IsExponent a.exponent) }
 {
@@ -165,7 +168,7 @@ fn amount_of_tag(known: &Known, factor: Option<i16>, n: usize, tag: &SiteTag) ->
     })
 }
 
-fn number_of_tag(known: &Known, access: Access, n: usize) -> Option<i64>
+fn number_of_tag(known: &Memory, access: Access, n: usize) -> Option<i64>
     ensures { result ≡ number_of_tag known.now.outputs.items known.now.sets.items access n }
 {
     match access {

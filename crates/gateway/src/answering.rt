@@ -1,18 +1,32 @@
 //! The core of a gateway answers clients.
-ghost use Rattle.gateway.specs.Clients.{Serves, CountsFailed};
-ghost use Rattle.gateway.specs.Control.{AnswersOn};
-ghost use Rattle.gateway.specs.Polling.{CountsCalls};
+ghost use Rattle.modbus_frame.specs.Link.{CountsCalls};
+ghost use Rattle.modbus_frame.specs.Serving.{Serves};
+ghost use Rattle.gateway.specs.Control.{AnswersOn, AnswersFrame};
 
-use crate::clients::{Server, serve};
 use crate::event_core::Core;
-use modbus_frame::{Exception, Frame, Link, LinkFault, Pdu, exception_pdu};
+use modbus_frame::{
+    Exception, Frame, FrameReply, Link, LinkFault, Pdu, Responder, exception_pdu, serve,
+};
 
-impl<const DEPTH: usize> Server for Core<DEPTH> {
-    ghost use Rattle.gateway.specs.Control.{AnswersOn};
+impl<const DEPTH: usize> Responder for Core<DEPTH> {
+    ghost use Rattle.gateway.specs.Control.{AnswersFrame};
 
-    ghost answers = { AnswersOn };
+    ghost answers = { AnswersFrame };
 
-    fn answer(&mut self, frame: &Frame) -> Pdu {
+    fn answer(&mut self, frame: &Frame) -> FrameReply {
+        FrameReply::whole(&Frame {
+            transaction: frame.transaction,
+            unit: frame.unit,
+            pdu: self.reply_to(frame),
+        })
+    }
+}
+
+impl<const DEPTH: usize> Core<DEPTH> {
+    // The reply to a frame, for whichever unit it is.
+    fn reply_to(&mut self, frame: &Frame) -> Pdu
+        ensures { AnswersOn self.old frame.now result self.new }
+    {
         if frame.unit != self.site().unit() {
             return exception_pdu(&frame.pdu, Exception::GATEWAY_TARGET_FAILED);
         }
@@ -30,9 +44,12 @@ pub fn serve_client<const DEPTH: usize, L: Link>(
     core: &mut Core<DEPTH>,
     link: &mut L,
 ) -> Result<u32, LinkFault>
-    // What went out answers the frames that came; with an Ok these are all that the link had to give.
-    ensures serves { Serves AnswersOn (L.coming link.old) (L.sent link.old) (L.sent link.new) core.old core.new result }
-    ensures failures { CountsFailed (L.failures link.old) (L.failures link.new) result }
+    // What went out answers the frames that came: with an Ok all that the link had to give; else what is left of the
+    // stream is told.
+    ensures serves { Serves AnswersFrame
+        (record { coming = L.coming link.old; sent = L.sent link.old; failures = L.failures link.old; calls = L.calls link.old })
+        (record { coming = L.coming link.new; sent = L.sent link.new; failures = L.failures link.new; calls = L.calls link.new })
+        core.old core.new result }
     ensures calls { CountsCalls (L.calls link.old) (L.calls link.new) result }
 {
     serve(core, link)

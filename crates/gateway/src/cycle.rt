@@ -19,7 +19,7 @@ use site_model::{Site, SiteDevice, Words, WriteFunction};
 
 /// A request to a unit.
 #[derive(Drop)]
-pub struct Call {
+pub(crate) struct Call {
     /// The unit that is asked.
     pub unit: u8,
     /// What it is asked.
@@ -40,7 +40,7 @@ pub struct Report {
 }
 
 /// What a scan over a line drives: it takes events, and says what is to be written after the last scan.
-pub(crate) trait Controller {
+pub(crate) trait ScanCore {
     ghost use Rattle.std.specs.Prelude.{◌≡◌, ◌≤◌, ◌<◌, ℕ, List, Option, Result, length, IfOk};
     ghost use Rattle.register_map.specs.Layout.{Layout};
     ghost use Rattle.site_model.specs.declared.site.Site.{Site};
@@ -80,7 +80,7 @@ pub(crate) trait Controller {
 }
 
 /// Asks for the wanted blocks, runs the program once, and writes what it set.
-pub(crate) fn scan<C: Controller, L: Link>(
+pub(crate) fn scan<C: ScanCore, L: Link>(
     core: &mut C,
     line: &mut Line<L>,
 ) -> Result<Report, LinkFault>
@@ -108,7 +108,7 @@ pub(crate) fn scan<C: Controller, L: Link>(
 }
 
 // Gives the core what comes of each wanted block, and counts the lost ones.
-fn take_blocks<C: Controller, L: Link>(core: &mut C, line: &mut Line<L>) -> Result<usize, LinkFault>
+fn take_blocks<C: ScanCore, L: Link>(core: &mut C, line: &mut Line<L>) -> Result<usize, LinkFault>
     requires { line.old.polling.fault ≡ None }
     ensures taken { IfOk result (λ lost. TakesBlocks C.step_of (C.site_of core.old) (C.maps_of core.old) (C.site_of core.old).wants
         line.old.polling core.old line.new.polling core.new lost) }
@@ -140,7 +140,7 @@ fn want_at(site: &Site, i: usize) -> (usize, u16)
 }
 
 // Writes what the last scan set, and counts the writes, and those that were not acknowledged.
-fn write_points<C: Controller, L: Link>(
+fn write_points<C: ScanCore, L: Link>(
     core: &C,
     line: &mut Line<L>,
 ) -> Result<(usize, usize), LinkFault>
@@ -252,18 +252,8 @@ fn event_by(want: (usize, u16), outcome: Outcome) -> Event
     ensures { result ≡ event_by want outcome }
 {
     match outcome {
-        Outcome::Words(words) => Event::Block(want.0, want.1, known_words(words.as_slice())),
+        Outcome::Words(words) => Event::Block(want.0, want.1, words),
         _ => Event::Lost(want.0, want.1),
-    }
-}
-
-fn known_words(words: &[u16]) -> Words
-    requires { length words.now ≤ 125 }
-    ensures { result ≡ words.now }
-{
-    match Words::from_slice(words) {
-        Some(words) => words,
-        None => unreachable!(),
     }
 }
 
@@ -299,11 +289,11 @@ fn write_request(function: WriteFunction, addr: u16, words: &[u16]) -> Request
     }
 }
 
-fn sent_words(words: &[u16]) -> modbus_frame::Words
+fn sent_words(words: &[u16]) -> Words
     requires { length words.now ≤ 125 }
     ensures { result ≡ words.now }
 {
-    match modbus_frame::Words::from_slice(words) {
+    match Words::from_slice(words) {
         Some(words) => words,
         None => unreachable!(),
     }

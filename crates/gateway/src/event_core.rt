@@ -6,7 +6,7 @@ ghost use Rattle.gateway.specs.SiteRun.{told, with_block};
 
 use crate::event::{Answer, Event};
 use crate::fault::CoreFault;
-use crate::known::Known;
+use crate::memory::Memory;
 use crate::opening::opening_for;
 use crate::point::OwnPoint;
 use crate::request::read;
@@ -31,7 +31,7 @@ pub struct Core<const DEPTH: usize> {
     pub(crate) maps: Vec<Option<Map>>,
     pub(crate) machine: Machine<DEPTH>,
     pub(crate) points: Items<OwnPoint>,
-    pub(crate) known: Known,
+    pub(crate) known: Memory,
     /// The served image, from the base on.
     pub(crate) image: Vec<u16>,
     /// Room for the settings that a request is about to make.
@@ -53,15 +53,17 @@ impl<const DEPTH: usize> Model for Core<DEPTH> {
 impl<const DEPTH: usize> Core<DEPTH> {
     ghost use Rattle.std.specs.Prelude.{◌≡◌, ◌<◌, ◌≤◌, length, IfOk, IfErr, OnOk};
     ghost use Rattle.verifier.specs.Verified.{HasLinks};
-    ghost use Rattle.gateway.specs.declared.fault.CoreFault.TheVariants.{Foreign};
+    ghost use Rattle.gateway.specs.declared.fault.CoreFault.TheVariants.{Foreign, OutOfMemory};
     ghost use Rattle.modbus_frame.specs.Message.{request_of, IsAnswerTo, IsRequest};
     ghost use Rattle.point_writer.specs.SetPoint.{IsPlanFor, WritesASetPoint};
     ghost use Rattle.site_model.specs.Readings.{AreSettings};
     ghost use Rattle.gateway.specs.Core.{IsSame, RunsOn, StepsOn, gateway_of, numbers_of};
+    ghost use Rattle.gateway.specs.Driving.{Drives, ScansOnce};
     ghost use Rattle.gateway.specs.SiteRun.{Does, IsScan, Replies, SaysWrote, WritesAt, after_block};
 
     /// A core on which nothing happened yet; all memory that its events need is taken here. `maps` has an entry for each
-    /// of the site's devices. Foreign: the program was accepted for tags that the site doesn't have so.
+    /// of the site's devices. Foreign: the program was accepted for tags that the site doesn't have so; that comes before
+    /// memory is asked for.
     pub fn new(
         alloc: Global,
         site: Site,
@@ -72,6 +74,7 @@ impl<const DEPTH: usize> Core<DEPTH> {
         ensures opened { IfOk result (λ core. core ≡ gateway_of site maps.items machine.entry) }
         ensures matched { OnOk result (HasLinks site.tags machine.entry.accepted.links) }
         ensures foreign { IfErr result (λ e. e ≡ Foreign → HasLinks site.tags machine.entry.accepted.links → ⊥) }
+        ensures memory { IfErr result (λ e. e ≡ OutOfMemory → HasLinks site.tags machine.entry.accepted.links) }
     {
         match opening_for(alloc, &site, machine.verified()) {
             Ok(opening) => Ok(Core {
@@ -93,6 +96,7 @@ impl<const DEPTH: usize> Core<DEPTH> {
     /// model's ID, is as a lost one.
     pub fn step(&mut self, event: Event) -> Answer
         ensures run { StepsOn self.old event result self.new }
+        ensures machine { Drives DEPTH self.old event self.new }
         ensures same { IsSame self.old self.new }
     {
         self.advance(&event)
@@ -111,6 +115,7 @@ impl<const DEPTH: usize> Core<DEPTH> {
 
     fn advance(&mut self, event: &Event) -> Answer
         ensures run { StepsOn self.old event.now result self.new }
+        ensures machine { Drives DEPTH self.old event.now self.new }
         ensures same { IsSame self.old self.new }
     {
         match event {
@@ -180,6 +185,7 @@ impl<const DEPTH: usize> Core<DEPTH> {
     /// What is known of a block from now on, where it is wanted.
     fn note(&mut self, device: usize, model: u16, entry: Option<Words>)
         ensures after { self.new.standing ≡ after_block self.old.site (device, model) entry self.old.standing }
+        ensures machine { self.new.machine ≡ self.old.machine }
         ensures same { IsSame self.old self.new }
     {
         note(
@@ -194,6 +200,7 @@ impl<const DEPTH: usize> Core<DEPTH> {
     /// The program runs once.
     fn scan(&mut self)
         ensures scan { IsScan self.old.site self.old.machine.accepted.image (numbers_of self.old.machine.accepted) self.old.machine.accepted.budget self.old.standing self.new.standing }
+        ensures machine { ScansOnce DEPTH self.old self.new }
         ensures same { IsSame self.old self.new }
     {
         scan(
@@ -213,6 +220,7 @@ impl<const DEPTH: usize> Core<DEPTH> {
     /// Answers a client's PDU, and does what it asks for.
     pub(crate) fn reply(&mut self, pdu: &Pdu) -> Pdu
         ensures reply { Replies self.old.site self.old.standing pdu.now (request_of pdu.now) result self.new.standing }
+        ensures machine { self.new.machine ≡ self.old.machine }
         ensures same { IsSame self.old self.new }
     {
         match parse_request(pdu) {
@@ -228,6 +236,7 @@ impl<const DEPTH: usize> Core<DEPTH> {
         requires { IsRequest request.now }
         ensures answer { Does self.old.site self.old.standing request.now result self.new.standing }
         ensures fits { IsAnswerTo request.now result }
+        ensures machine { self.new.machine ≡ self.old.machine }
         ensures same { IsSame self.old self.new }
     {
         match request {
@@ -241,6 +250,7 @@ impl<const DEPTH: usize> Core<DEPTH> {
     fn set(&mut self, addr: u16, words: &[u16]) -> Result<Response, Exception>
         ensures answer { WritesAt self.old.site self.old.standing addr words.now result self.new.standing }
         ensures wrote { SaysWrote result }
+        ensures machine { self.new.machine ≡ self.old.machine }
         ensures same { IsSame self.old self.new }
     {
         let answer = write(

@@ -1,5 +1,5 @@
 //! One request over a link, and the wait for what decides it.
-ghost use Rattle.std.specs.Prelude.{◌≡◌, ◌-◌, ◌≤◌, ◌==◌, ◌&&◌, None, OnOk, IfOk};
+ghost use Rattle.std.specs.Prelude.{◌≡◌, ◌-◌, ◌≤◌, ◌==◌, ◌&&◌, ◌++◌, None, OnOk, IfOk};
 ghost use Rattle.std.specs.Io.KnownBytes.{Keeps};
 ghost use Rattle.modbus_frame.specs.Exchange.{SendsFront, CountsSent, left};
 ghost use Rattle.modbus_frame.specs.Frame.{frame_bytes};
@@ -28,7 +28,8 @@ pub(crate) fn exchange<L: Link>(
     requires reads { reader.old.held.fault ≡ None }
     ensures asks { Asks
         (record {
-          coming = left reader.old (L.coming link.old);
+          ahead = reader.old.held.kept ++ reader.old.unfed;
+          coming = L.coming link.old;
           sent = L.sent link.old;
           failures = L.failures link.old;
           calls = L.calls link.old;
@@ -37,7 +38,8 @@ pub(crate) fn exchange<L: Link>(
         })
         unit request.now result
         (record {
-          coming = left reader.new (L.coming link.new);
+          ahead = reader.new.held.kept ++ reader.new.unfed;
+          coming = L.coming link.new;
           sent = L.sent link.new;
           failures = L.failures link.new;
           calls = L.calls link.new;
@@ -93,7 +95,7 @@ fn wait<L: Link>(
     turns: &mut u32,
 ) -> Result<Outcome, LinkFault>
     requires { reader.old.held.fault ≡ None }
-    ensures waits { Waits (left reader.old (L.coming link.old)) (left reader.new (L.coming link.new))
+    ensures waits { Waits (left reader.old (L.coming link.old)) (reader.new.held.kept ++ reader.new.unfed) (L.coming link.new)
         (record { id = id; unit = unit; request = request.now }) result }
     ensures suits { IfOk result (Suits request.now) }
     ensures fresh { OnOk result (reader.new.held.fault ≡ None) }

@@ -1,21 +1,20 @@
 //! The gateway of a site: its core over events, and a poller that asks the devices over a link, one request at a time.
 #![tactic(auto)]
 
-pub mod amount;
+mod amount;
 mod answering;
-mod clients;
 mod cycle;
-pub mod event;
-pub mod event_core;
+mod event;
+mod event_core;
 mod exchange;
-pub mod fault;
+mod fault;
 mod finding;
-mod known;
 pub mod laws;
 mod line;
+mod memory;
 mod opening;
 mod outcome;
-pub mod point;
+mod point;
 mod points;
 mod polled;
 mod poller;
@@ -25,11 +24,14 @@ mod served;
 mod setting;
 mod words;
 
-pub use answering::serve_client;
-pub use cycle::Report;
+// the core: what happens to a site, one event after another
 pub use event::{Answer, Event};
 pub use event_core::Core;
 pub use fault::CoreFault;
+// the devices: what is asked of them over a link, and whole scans
+pub use cycle::Report;
 pub use outcome::Outcome;
 pub use polled::run_scan;
 pub use poller::Poller;
+// the clients
+pub use answering::serve_client;

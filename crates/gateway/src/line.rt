@@ -1,7 +1,5 @@
 //! A link to the devices, and what is asked over it.
-ghost use Rattle.std.specs.Prelude.{◌≡◌, ℕ, List, None, IfOk};
-ghost use Rattle.std.specs.Io.KnownBytes.{prepend_known};
-ghost use Rattle.modbus_frame.specs.Exchange.{left};
+ghost use Rattle.std.specs.Prelude.{◌≡◌, [], None, IfOk};
 ghost use Rattle.modbus_frame.specs.Message.{HasQuantity};
 ghost use Rattle.gateway.specs.Asking.{AsksUnless};
 ghost use Rattle.gateway.specs.LinkRun.{next_id, Suits};
@@ -23,15 +21,15 @@ pub(crate) struct Line<L: Link> {
 }
 
 impl<L: Link> Model for Line<L> {
-    ghost use Rattle.std.specs.Prelude.{◌≡◌, None};
-    ghost use Rattle.modbus_frame.specs.Exchange.{left};
+    ghost use Rattle.std.specs.Prelude.{◌≡◌, ◌++◌, None};
     ghost use Rattle.gateway.specs.Asking.{Asking};
 
     ghost Value = { Asking };
 
     ghost view = { λ l. record {
       polling = record {
-        coming = left l.reader (L.coming l.link);
+        ahead = l.reader.held.kept ++ l.reader.unfed;
+        coming = L.coming l.link;
         sent = L.sent l.link;
         failures = L.failures l.link;
         calls = L.calls l.link;
@@ -50,6 +48,7 @@ impl<L: Link> Line<L> {
     pub(crate) fn beginning_at(link: L, id: u16) -> Line<L>
         ensures { result ≡ record {
           polling = record {
+            ahead = [];
             coming = L.coming link;
             sent = L.sent link;
             failures = L.failures link;
@@ -76,7 +75,7 @@ impl<L: Link> Line<L> {
         ensures sent { L.sent result.now ≡ self.now.polling.sent }
         ensures failures { L.failures result.now ≡ self.now.polling.failures }
         ensures calls { L.calls result.now ≡ self.now.polling.calls }
-        ensures coming { (ahead : List ℕ) × (self.now.polling.coming ≡ prepend_known ahead (L.coming result.now)) }
+        ensures coming { L.coming result.now ≡ self.now.polling.coming }
     {
         &self.link
     }

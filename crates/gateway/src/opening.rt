@@ -1,27 +1,27 @@
 //! What a core begins with. All memory that its events need is taken here.
 ghost use Rattle.std.specs.Prelude.{◌≡◌, ◌+◌, length, map, IfOk, IfErr, OnOk};
 ghost use Rattle.verifier.specs.Verified.{HasLinks};
-ghost use Rattle.gateway.specs.declared.fault.CoreFault.TheVariants.{Foreign};
+ghost use Rattle.gateway.specs.declared.fault.CoreFault.TheVariants.{Foreign, OutOfMemory};
 ghost use Rattle.gateway.specs.Core.{IsOpening, IsReady};
 ghost use Rattle.gateway.specs.Points.{all_registers};
 ghost use Rattle.gateway.specs.ServedImage.{AreServed};
 ghost use Rattle.gateway.specs.SiteRun.{none_of, unread};
 
 use crate::fault::CoreFault;
-use crate::known::Known;
+use crate::memory::Memory;
 use crate::point::OwnPoint;
 use crate::points::own_points;
 use crate::served::serve;
 use point_types::{Cause, Items, Reading};
 use site_model::{Site, SiteTag, Words};
 use std::alloc::{AllocError, Global};
-use verifier::{Link, Verified};
+use verifier::{TagLink, Verified};
 
 /// All that a core makes for itself.
 #[derive(Drop)]
 pub(crate) struct Opening {
     pub(crate) points: Items<OwnPoint>,
-    pub(crate) known: Known,
+    pub(crate) known: Memory,
     pub(crate) image: Vec<u16>,
     pub(crate) room: Vec<Option<i64>>,
     pub(crate) inputs: Vec<Reading>,
@@ -37,6 +37,7 @@ pub(crate) fn opening_for<const DEPTH: usize>(
     ensures ready { IfOk result (IsReady site.now verified.now.links) }
     ensures matched { OnOk result (HasLinks site.now.tags verified.now.links) }
     ensures foreign { IfErr result (λ e. e ≡ Foreign → HasLinks site.now.tags verified.now.links → ⊥) }
+    ensures memory { IfErr result (λ e. e ≡ OutOfMemory → HasLinks site.now.tags verified.now.links) }
 {
     if !verified.matches(site) {
         return Err(CoreFault::Foreign);
@@ -44,7 +45,7 @@ pub(crate) fn opening_for<const DEPTH: usize>(
     Ok(made(alloc, site, verified.links())?)
 }
 
-fn made(alloc: Global, site: &Site, links: &[Link]) -> Result<Opening, AllocError>
+fn made(alloc: Global, site: &Site, links: &[TagLink]) -> Result<Opening, AllocError>
     ensures { IfOk result (IsReady site.now links.now) }
 {
     let room = no_numbers(alloc, site.tags())?;
@@ -62,7 +63,7 @@ fn made(alloc: Global, site: &Site, links: &[Link]) -> Result<Opening, AllocErro
 }
 
 /// Nothing is known or set, and there was no scan.
-fn nothing_known(alloc: Global, site: &Site) -> Result<Known, AllocError>
+fn nothing_known(alloc: Global, site: &Site) -> Result<Memory, AllocError>
     ensures { IfOk result (IsOpening site.now) }
 {
     let blocks = no_blocks(alloc, site.wants())?;
@@ -70,7 +71,7 @@ fn nothing_known(alloc: Global, site: &Site) -> Result<Known, AllocError>
     let outputs = no_numbers(alloc, site.tags())?;
     let readings = no_readings(alloc, site.tags())?;
     let scanned = no_blocks(alloc, site.wants())?;
-    Ok(Known {
+    Ok(Memory {
         blocks,
         sets,
         outputs,
@@ -102,7 +103,7 @@ fn no_readings(alloc: Global, tags: &[SiteTag]) -> Result<Vec<Reading>, AllocErr
 }
 
 /// A place for the reading of each of a program's tags.
-fn no_inputs(alloc: Global, links: &[Link]) -> Result<Vec<Reading>, AllocError>
+fn no_inputs(alloc: Global, links: &[TagLink]) -> Result<Vec<Reading>, AllocError>
     ensures { IfOk result (λ inputs. length inputs.items ≡ length links.now) }
 {
     links
@@ -116,7 +117,7 @@ fn first_image(
     alloc: Global,
     points: &[OwnPoint],
     site: &Site,
-    known: &Known,
+    known: &Memory,
 ) -> Result<Vec<u16>, AllocError>
     ensures served { IfOk result (λ image. AreServed site.now known.now.outputs.items known.now.readings.items known.now.sets.items points.now image.items) }
     ensures sized { IfOk result (λ image. length image.items ≡ all_registers points.now) }

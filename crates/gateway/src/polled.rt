@@ -1,20 +1,20 @@
 //! One scan of a core over a link.
 ghost use Rattle.std.specs.Prelude.{◌≡◌, None, Err, IfSome, IfOk, IfErr};
+ghost use Rattle.modbus_frame.specs.Link.{CountsCalls};
 ghost use Rattle.gateway.specs.Control.{Advances, IsPlanned, steps_of};
 ghost use Rattle.gateway.specs.Core.{IsSame};
 ghost use Rattle.gateway.specs.Cycle.{Scans, StopsScan};
-ghost use Rattle.gateway.specs.Polling.{CountsCalls};
 
-use crate::cycle::{Controller, Report, scan};
+use crate::cycle::{Report, ScanCore, scan};
 use crate::event::{Answer, Event};
 use crate::event_core::Core;
-use crate::poller::{MOST_CALLS, Poller};
-use modbus_frame::{Link, LinkFault};
+use crate::poller::Poller;
+use modbus_frame::{Link, LinkFault, MOST_CALLS};
 use point_writer::{NoWrite, Write};
 use register_map::Map;
 use site_model::Site;
 
-impl<const DEPTH: usize> Controller for Core<DEPTH> {
+impl<const DEPTH: usize> ScanCore for Core<DEPTH> {
     ghost use Rattle.gateway.specs.Control.{Advances, IsPlanned, steps_of};
 
     ghost site_of = { λ core. core.site };

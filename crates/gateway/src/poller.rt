@@ -1,21 +1,18 @@
 //! The poller: the gateway's side of the link to the devices.
-ghost use Rattle.std.specs.Prelude.{◌≡◌, ℕ, List, None, Err, IfSome, IfOk, IfErr};
-ghost use Rattle.std.specs.Io.KnownBytes.{prepend_known};
+ghost use Rattle.std.specs.Prelude.{◌≡◌, [], None, Err, IfSome, IfOk, IfErr};
+ghost use Rattle.modbus_frame.specs.Link.{CountsCalls};
 ghost use Rattle.modbus_frame.specs.Message.{HasQuantity};
 ghost use Rattle.gateway.specs.Finding.{FindsAll, StopsUnless};
 ghost use Rattle.gateway.specs.LinkRun.{Suits};
-ghost use Rattle.gateway.specs.Polling.{Asks, CountsCalls};
+ghost use Rattle.gateway.specs.Polling.{Asks};
 
 use crate::line::Line;
 use crate::outcome::Outcome;
-use modbus_frame::{Link, LinkFault, Request};
+use modbus_frame::{Link, LinkFault, MOST_CALLS, Request};
 use register_map::Map;
 use site_model::Site;
 use std::alloc::Global;
 use std::marker::Model;
-
-/// The most reads and writes of one call.
-pub(crate) const MOST_CALLS: u32 = 1_000_000;
 
 /// Asks the units on a link, one request at a time. Transactions rise by one with each request, and begin again at 0.
 ///
@@ -37,6 +34,7 @@ impl<L: Link> Poller<L> {
     /// A poller of the units on a link, whose first transaction is 0.
     pub fn new(link: L) -> Poller<L>
         ensures { result ≡ record {
+          ahead = [];
           coming = L.coming link;
           sent = L.sent link;
           failures = L.failures link;
@@ -51,6 +49,7 @@ impl<L: Link> Poller<L> {
     /// A poller of the units on a link, whose first transaction is this.
     pub fn beginning_at(link: L, transaction: u16) -> Poller<L>
         ensures { result ≡ record {
+          ahead = [];
           coming = L.coming link;
           sent = L.sent link;
           failures = L.failures link;
@@ -69,7 +68,7 @@ impl<L: Link> Poller<L> {
         ensures sent { L.sent result.now ≡ self.now.sent }
         ensures failures { L.failures result.now ≡ self.now.failures }
         ensures calls { L.calls result.now ≡ self.now.calls }
-        ensures coming { (ahead : List ℕ) × (self.now.coming ≡ prepend_known ahead (L.coming result.now)) }
+        ensures coming { L.coming result.now ≡ self.now.coming }
     {
         self.line.link()
     }

@@ -2,19 +2,20 @@
 ghost use Rattle.std.specs.Prelude.{◌≡◌, length, map, slice_set};
 ghost use Rattle.gateway.specs.Core.{IsKnown, number_of, numbers_of, standing_of};
 ghost use Rattle.gateway.specs.SiteRun.{IsScan, none_of, reading_at, stored_at};
+ghost use Rattle.scan_vm.specs.Machine.{AreReadingsOf, IsRunning, Scans};
 ghost use Rattle.verifier.specs.Verified.{HasLinks};
 
-use crate::known::Known;
+use crate::memory::Memory;
 use point_types::{Cause, Reading};
 use scan_vm::Machine;
 use site_model::{Site, Words};
-use verifier::Link;
+use verifier::TagLink;
 
 /// Reads the tags, runs the program once, and keeps what it stored and read, and by which blocks. Takes no memory.
 pub(crate) fn scan<const DEPTH: usize>(
     site: &Site,
     machine: &mut Machine<DEPTH>,
-    known: &mut Known,
+    known: &mut Memory,
     inputs: &mut [Reading],
 )
     requires matched { HasLinks site.now.tags machine.old.accepted.links }
@@ -23,19 +24,30 @@ pub(crate) fn scan<const DEPTH: usize>(
     requires inputs { length inputs.old ≡ length machine.old.accepted.links }
     ensures scan { IsScan site.now machine.old.accepted.image (numbers_of machine.old.accepted) machine.old.accepted.budget
         (standing_of machine.old known.old) (standing_of machine.new known.new) }
+    ensures machine { Scans DEPTH machine.old (map (reading_at known.new.readings.items) (numbers_of machine.old.accepted)) known.new.steps machine.new }
     ensures accepted { machine.new.accepted ≡ machine.old.accepted }
     ensures known { IsKnown site.now known.new }
     ensures inputs { length inputs.new ≡ length inputs.old }
 {
     site.readings(&known.blocks, &known.sets, &mut known.readings);
     gather(machine.verified().links(), &known.readings, inputs);
-    known.steps = machine.scan(inputs).steps;
+    known.steps = run_once(machine, inputs);
     scatter(machine, &mut known.outputs);
     copy_blocks(&known.blocks, &mut known.scanned);
 }
 
+/// Runs the program once, and gives the number of its instructions.
+fn run_once<const DEPTH: usize>(machine: &mut Machine<DEPTH>, inputs: &[Reading]) -> u32
+    requires tags { length inputs.now ≡ length machine.old.accepted.image.tags }
+    requires readings { AreReadingsOf machine.old.accepted.links inputs.now }
+    ensures scan { Scans DEPTH machine.old inputs.now result machine.new }
+    ensures ranges { IsRunning DEPTH machine.new }
+{
+    machine.scan(inputs).steps
+}
+
 /// The readings of the program's tags.
-fn gather(links: &[Link], readings: &[Reading], inputs: &mut [Reading])
+fn gather(links: &[TagLink], readings: &[Reading], inputs: &mut [Reading])
     requires { length inputs.old ≡ length links.now }
     ensures inputs { inputs.new ≡ map (λ link. reading_at readings.now (number_of link)) links.now }
     ensures len { length inputs.new ≡ length inputs.old }

@@ -3,13 +3,13 @@ ghost use Rattle.std.specs.Prelude.{◌≡◌, length};
 ghost use Rattle.gateway.specs.Points.{all_registers};
 ghost use Rattle.gateway.specs.ServedImage.{AreServed};
 
-use crate::known::Known;
+use crate::memory::Memory;
 use crate::point::OwnPoint;
 use crate::words::put_point;
 use site_model::Site;
 
 /// Puts what each point reads into its registers, which stand side by side.
-pub(crate) fn serve(points: &[OwnPoint], site: &Site, known: &Known, image: &mut [u16])
+pub(crate) fn serve(points: &[OwnPoint], site: &Site, known: &Memory, image: &mut [u16])
     requires { length image.old ≡ all_registers points.now }
     ensures served { AreServed site.now known.now.outputs.items known.now.readings.items known.now.sets.items points.now image.new }
     ensures len { length image.new ≡ length image.old }

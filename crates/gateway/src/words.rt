@@ -8,7 +8,7 @@ ghost use Rattle.gateway.specs.Points.{registers_of};
 ghost use Rattle.gateway.specs.ServedImage.{ArePointWords, AreWordsOf, ReadsAs, behind_word, first_word, text_from, text_given, text_words, unimplemented};
 
 use crate::amount::{Amount, amount_from};
-use crate::known::Known;
+use crate::memory::Memory;
 use crate::point::OwnPoint;
 use point_types::Kind;
 use point_writer::plan::words_for;
@@ -38,7 +38,7 @@ fn size_of(kind: Kind) -> usize
 }
 
 /// Puts what a point reads into its registers.
-pub(crate) fn put_point(point: OwnPoint, site: &Site, known: &Known, into: &mut [u16])
+pub(crate) fn put_point(point: OwnPoint, site: &Site, known: &Memory, into: &mut [u16])
     requires { length into.old ≡ registers_of point }
     ensures words { ArePointWords site.now known.now.outputs.items known.now.readings.items known.now.sets.items point into.new }
     ensures len { length into.new ≡ registers_of point }

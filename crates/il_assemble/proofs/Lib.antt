@@ -15,3 +15,7 @@ pub mod Elaborating
 pub mod Unstored
 pub mod Working
 pub mod Rules
+pub mod TextTokens
+pub mod TextNames
+pub mod TextDeclared
+pub mod TextTrees

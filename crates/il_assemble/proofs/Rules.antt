@@ -58,11 +58,11 @@ images_are_proper t p e = let x = parts t p e in subst (λ (q : Program). IsProp
 
 -- Names.
 
-or_none : (a b : Bool) → (a || b) ≡ false → (a ≡ false) × (b ≡ false)
+pub or_none : (a b : Bool) → (a || b) ≡ false → (a ≡ false) × (b ≡ false)
 or_none true b h = cc
 or_none false b h = (refl, h)
 
-and_both : (a b : Bool) → a ≡ true → b ≡ true → (a && b) ≡ true
+pub and_both : (a b : Bool) → a ≡ true → b ≡ true → (a && b) ≡ true
 and_both a b h k = ap (λ x. x && b) h ∙ k
 
 -- what isn't among the first names isn't among the second ones

@@ -1,4 +1,5 @@
 -- What the assembler answers: the image of a program that elaborates, or the program's first static fault.
+-- IEC 61131-3 edition 2, 3.2 instruction list.
 use Rattle.std.specs.Prelude.{◌≡◌, ◌≢◌, ℕ, ◌<◌, ◌⊎◌, true, Ok, Err, Option, map, length, List, [], ◌∷◌, ◌++◌}
 use Rattle.scan_code.specs.Image.{Image, IsProper, are_new}
 use Rattle.scan_code.specs.Table.{start_of}

@@ -1,4 +1,5 @@
 -- The main theorem's statement: the machine on the code of a program does what the program means.
+-- IEC 61131-3 edition 2, 3.2 instruction list.
 use Rattle.std.specs.Prelude.{◌≡◌, ℕ, zero, suc, sum, ◌<◌, ◌≤◌, max, Bool, true, false, ◌||◌, ℤ, List, [], ◌∷◌, ◌++◌, ◌+◌, length, Option, Some, None, slice_get, nat_eq, All}
 use Rattle.point_types.specs.declared.operator.Condition.{Condition}
 use Rattle.point_types.specs.declared.reading.Reading.{Reading}

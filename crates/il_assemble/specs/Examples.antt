@@ -1,4 +1,5 @@
 -- Worked programs: what they elaborate to, what they mean, their code, and how the machine ends on it.
+-- IEC 61131-3 edition 2, 3.2 instruction list.
 use Rattle.std.specs.Prelude.{◌≡◌, ℕ, ℤ, pos, negsuc, List, [], ◌∷◌, Err, Some, None, true, false, refl, codes}
 use Rattle.point_types.specs.declared.il_type.IlType.TheVariants as il
 use Rattle.point_types.specs.declared.operator.Operator.TheVariants as op

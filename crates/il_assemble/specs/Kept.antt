@@ -1,4 +1,5 @@
--- How the code keeps what the definitions speak of.
+-- inner: how the code keeps what the definitions speak of.
+-- IEC 61131-3 edition 2, 3.2 instruction list.
 use Rattle.std.specs.Prelude.{◌≡◌, ℕ, ◌+◌, List, [], ◌∷◌, length, if◌then◌else◌, Option, Result, Ok, Err, nat_le, option_map, slice_get, unwrap_or}
 use Rattle.point_types.specs.declared.il_type.IlType.{IlType}
 use Rattle.il_reader.specs.declared.tree.Statement.{Statement}

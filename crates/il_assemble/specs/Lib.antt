@@ -11,3 +11,4 @@ pub mod StaticFault
 pub mod Typing
 pub mod Word
 pub mod Written
+pub mod Texts

@@ -1,4 +1,5 @@
 -- The words of the assembler's faults, as they are printed.
+-- IEC 61131-3 edition 2, 3.2 leaves diagnostics open; these words are this project's.
 use Rattle.std.specs.Prelude.{ℕ, List, codes}
 use Rattle.il_assemble.specs.declared.fault.AsmFault.{AsmFault}
 use Rattle.il_assemble.specs.declared.fault.AsmFaultKind.{AsmFaultKind}

@@ -4,7 +4,9 @@ ghost use Rattle.il_assemble.specs.Assembled.{IsAssembled, IsRefused};
 ghost use Rattle.il_assemble.specs.Code.{version_of};
 ghost use Rattle.il_assemble.specs.Elaboration.{declared_var, first_line, limits_of, named_apart};
 ghost use Rattle.il_reader.specs.Limit.{most_names};
-ghost use Rattle.il_assemble.specs.Names.{unused, uses_of};
+ghost use Rattle.il_assemble.specs.Names.{is_called, is_external, unused, uses_of};
+ghost use Rattle.il_assemble.specs.StaticFault.{is_labelled};
+ghost use Rattle.name_places.specs.Places.{IsPlaced};
 ghost use Rattle.scan_code.specs.Image.{names_of};
 
 use crate::check::check_lines;
@@ -12,6 +14,7 @@ use crate::emit::{count_turns, emit_lines};
 use crate::fault::AsmFault;
 use crate::limits::{check_bools, check_nesting, count_externals, count_variables, too_long};
 use crate::measure::measure;
+use crate::places::{Tables, all_places};
 use crate::scope::Scope;
 use crate::uses::{note_uses, tags};
 use il_reader::{External, Program, Statement, Variable};
@@ -32,6 +35,27 @@ pub fn assemble(alloc: Global, program: &Program) -> Result<Image, AsmFault>
     ensures assembled { IfOk result (IsAssembled program.now) }
     ensures refused { IfErr result (IsRefused program.now) }
 {
+    let tables = all_places(
+        alloc,
+        program.variables.as_slice(),
+        program.externals.as_slice(),
+        program.statements.as_slice(),
+    )?;
+    assemble_with(alloc, program, &tables)
+}
+
+/// The same, where the places of the names are known.
+fn assemble_with<'a>(
+    alloc: Global,
+    program: &'a Program,
+    tables: &Tables<'a>,
+) -> Result<Image, AsmFault>
+    requires variables_placed { IsPlaced is_called program.now.variables tables.now.variables.entries }
+    requires externals_placed { IsPlaced is_external program.now.externals tables.now.externals.entries }
+    requires labels_placed { IsPlaced is_labelled program.now.statements tables.now.labels.entries }
+    ensures assembled { IfOk result (IsAssembled program.now) }
+    ensures refused { IfErr result (IsRefused program.now) }
+{
     let variables = program.variables.as_slice();
     let externals = program.externals.as_slice();
     let statements = program.statements.as_slice();
@@ -45,6 +69,7 @@ pub fn assemble(alloc: Global, program: &Program) -> Result<Image, AsmFault>
         externals,
         uses: uses.as_slice(),
         statements,
+        tables,
     };
     let vars = declared(alloc, variables)?;
     let tags = tags(alloc, externals, uses.as_slice())?;
@@ -73,11 +98,13 @@ fn find_uses(
     ensures { IfOk result (λ uses. uses.items ≡ uses_of variables.now externals.now statements.now) }
 {
     let mut uses = unused(alloc, externals)?;
+    let tables = all_places(alloc, variables, externals, &[])?;
     let scope = Scope {
         variables,
         externals,
         uses: &[],
         statements: &[],
+        tables: &tables,
     };
     note_uses(scope, uses.as_mut_slice(), statements);
     Ok(uses)

@@ -56,7 +56,7 @@ pub(crate) fn unless(holds: bool, kind: AsmFaultKind) -> Option<AsmFaultKind>
     if holds { None } else { Some(kind) }
 }
 
-fn load_fault(scope: Scope<'_>, name: &Name) -> Option<AsmFaultKind>
+fn load_fault(scope: Scope<'_, '_, '_>, name: &Name) -> Option<AsmFaultKind>
     ensures { result ≡ load_fault (seen scope.entry) (known_as (seen scope.entry) name.now) }
 {
     match known_as(scope, name) {
@@ -71,7 +71,7 @@ fn load_fault(scope: Scope<'_>, name: &Name) -> Option<AsmFaultKind>
     }
 }
 
-fn store_fault(scope: Scope<'_>, name: &Name) -> Option<AsmFaultKind>
+fn store_fault(scope: Scope<'_, '_, '_>, name: &Name) -> Option<AsmFaultKind>
     ensures { result ≡ store_fault (seen scope.entry) (known_as (seen scope.entry) name.now) }
 {
     match known_as(scope, name) {
@@ -84,7 +84,11 @@ fn store_fault(scope: Scope<'_>, name: &Name) -> Option<AsmFaultKind>
     }
 }
 
-fn operand_fault(scope: Scope<'_>, wanted: IlType, operand: &Operand) -> Option<AsmFaultKind>
+fn operand_fault(
+    scope: Scope<'_, '_, '_>,
+    wanted: IlType,
+    operand: &Operand,
+) -> Option<AsmFaultKind>
     ensures { result ≡ operand_fault (seen scope.entry) wanted operand.now }
 {
     match operand {
@@ -99,7 +103,11 @@ fn operand_fault(scope: Scope<'_>, wanted: IlType, operand: &Operand) -> Option<
     }
 }
 
-fn first_fault(scope: Scope<'_>, wanted: IlType, first: &Option<Operand>) -> Option<AsmFaultKind>
+fn first_fault(
+    scope: Scope<'_, '_, '_>,
+    wanted: IlType,
+    first: &Option<Operand>,
+) -> Option<AsmFaultKind>
     ensures { result ≡ first_fault (seen scope.entry) wanted first.now }
 {
     match first {
@@ -127,7 +135,7 @@ fn at_line(line: u32, kind: Option<AsmFaultKind>) -> Result<(), AsmFault>
 /// The first fault of an instruction on a line and of the lines inside its parentheses.
 #[cycle(check_simple)]
 fn check_simple(
-    scope: Scope<'_>,
+    scope: Scope<'_, '_, '_>,
     line: u32,
     running: Option<IlType>,
     loaded: IlType,
@@ -174,7 +182,7 @@ fn check_simple(
 /// The first fault of the lines inside parentheses.
 #[cycle(check_simple)]
 fn check_inner(
-    scope: Scope<'_>,
+    scope: Scope<'_, '_, '_>,
     running: Option<IlType>,
     otherwise: IlType,
     inner: &[InnerLine],
@@ -196,7 +204,7 @@ fn check_inner(
 
 /// The first fault of a line of the body, where so many lines stand before it.
 fn check_line(
-    scope: Scope<'_>,
+    scope: Scope<'_, '_, '_>,
     place: usize,
     running: Option<IlType>,
     rest: &[Statement],
@@ -220,7 +228,10 @@ fn check_line(
 }
 
 /// The first static fault of a program, but for its length.
-pub(crate) fn check_lines(scope: Scope<'_>, statements: &[Statement]) -> Result<(), AsmFault>
+pub(crate) fn check_lines(
+    scope: Scope<'_, '_, '_>,
+    statements: &[Statement],
+) -> Result<(), AsmFault>
     ensures { result ≡ checked_lines (seen scope.entry) 0 None statements.now }
 {
     let mut running = None;

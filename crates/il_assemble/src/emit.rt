@@ -24,7 +24,7 @@ use scan_code::Op;
 use std::alloc::AllocError;
 
 /// Where a known name's value comes from.
-fn source_of_name(scope: Scope<'_>, name: &Name) -> Source
+fn source_of_name(scope: Scope<'_, '_, '_>, name: &Name) -> Source
     ensures { meant_source result ≡ source_known (seen scope.entry) (known_as (seen scope.entry) name.now) }
 {
     match known_as(scope, name) {
@@ -36,7 +36,7 @@ fn source_of_name(scope: Scope<'_>, name: &Name) -> Source
 }
 
 /// An operand with its name resolved, or an untyped number typed as `wanted`.
-fn source_of(scope: Scope<'_>, wanted: IlType, operand: &Operand) -> Source
+fn source_of(scope: Scope<'_, '_, '_>, wanted: IlType, operand: &Operand) -> Source
     ensures { meant_source result ≡ source_of (seen scope.entry) wanted operand.now }
 {
     match operand {
@@ -48,7 +48,7 @@ fn source_of(scope: Scope<'_>, wanted: IlType, operand: &Operand) -> Source
 }
 
 /// Where a value is stored.
-fn place_of(scope: Scope<'_>, name: &Name) -> Place
+fn place_of(scope: Scope<'_, '_, '_>, name: &Name) -> Place
     ensures { meant_place result ≡ place_known (seen scope.entry) (known_as (seen scope.entry) name.now) }
 {
     match known_as(scope, name) {
@@ -134,7 +134,7 @@ pub(crate) fn emit_not(code: &mut Vec<u8>, negated: bool) -> Result<(), AllocErr
 /// The load of an operand right behind a parenthesis, where there is one.
 pub(crate) fn emit_first(
     code: &mut Vec<u8>,
-    scope: Scope<'_>,
+    scope: Scope<'_, '_, '_>,
     wanted: IlType,
     first: &Option<Operand>,
 ) -> Result<(), AllocError>
@@ -192,7 +192,7 @@ fn emit_select(code: &mut Vec<u8>, if_false: Source, if_true: Source) -> Result<
 #[cycle(emit_simple)]
 pub(crate) fn emit_simple(
     code: &mut Vec<u8>,
-    scope: Scope<'_>,
+    scope: Scope<'_, '_, '_>,
     running: Option<IlType>,
     loaded: IlType,
     simple: &Simple,
@@ -247,7 +247,7 @@ pub(crate) fn emit_simple(
 #[cycle(emit_simple)]
 fn emit_inner(
     code: &mut Vec<u8>,
-    scope: Scope<'_>,
+    scope: Scope<'_, '_, '_>,
     running: Option<IlType>,
     otherwise: IlType,
     inner: &[InnerLine],
@@ -272,7 +272,7 @@ fn emit_inner(
 /// behind it.
 fn emit_action(
     code: &mut Vec<u8>,
-    scope: Scope<'_>,
+    scope: Scope<'_, '_, '_>,
     addresses: &[u16],
     counter: usize,
     running: Option<IlType>,
@@ -312,7 +312,7 @@ fn emit_action(
 /// Appends the code of a line.
 pub(crate) fn emit_line(
     code: &mut Vec<u8>,
-    scope: Scope<'_>,
+    scope: Scope<'_, '_, '_>,
     addresses: &[u16],
     counter: usize,
     running: Option<IlType>,
@@ -343,7 +343,7 @@ pub(crate) fn count_turns(action: &Option<Action>) -> usize
 /// The second pass: appends the code of all lines, and the END behind them.
 pub(crate) fn emit_lines(
     code: &mut Vec<u8>,
-    scope: Scope<'_>,
+    scope: Scope<'_, '_, '_>,
     addresses: &[u16],
     statements: &[Statement],
 ) -> Result<(), AllocError>

@@ -2,22 +2,13 @@
 ghost use Rattle.std.specs.Prelude.{◌≡◌};
 ghost use Rattle.il_assemble.specs.Elaboration.{target};
 ghost use Rattle.il_assemble.specs.Kept.{seen};
-ghost use Rattle.il_assemble.specs.StaticFault.{is_count, is_labelled, jump_fault, label_place};
+ghost use Rattle.il_assemble.specs.StaticFault.{is_count, jump_fault, label_place};
 
 use crate::check::{lowest, unless};
 use crate::fault::AsmFaultKind;
 use crate::scope::Scope;
-use il_reader::Statement;
+use name_places::place_of;
 use point_types::Name;
-
-fn is_labelled(name: &Name, statement: &Statement) -> bool
-    ensures { result ≡ is_labelled name.now statement.now }
-{
-    match &statement.label {
-        Some(label) => label.as_bytes() == name.as_bytes(),
-        None => false,
-    }
-}
 
 /// How often a counted jump may be taken in a scan: 1 to 255 times.
 fn is_count(turns: u8) -> bool
@@ -27,19 +18,16 @@ fn is_count(turns: u8) -> bool
 }
 
 /// The place of a label's line among the lines of the body.
-fn label_place(scope: Scope<'_>, label: &Name) -> Option<usize>
+fn label_place(scope: Scope<'_, '_, '_>, label: &Name) -> Option<usize>
     ensures { result ≡ label_place (seen scope.entry) label.now }
 {
-    scope
-        .statements
-        .iter()
-        .position(|statement| is_labelled(label, statement))
+    place_of(&scope.tables.labels, label.as_str())
 }
 
 /// The fault of a jump on a line of the body, where so many lines stand before it. A jump goes forward, a
 /// counted one to its own line or an earlier one.
 pub(crate) fn jump_fault(
-    scope: Scope<'_>,
+    scope: Scope<'_, '_, '_>,
     place: usize,
     turns: Option<u8>,
     label: &Name,
@@ -59,7 +47,7 @@ pub(crate) fn jump_fault(
 }
 
 /// The place of the line that a jump goes to.
-pub(crate) fn target(scope: Scope<'_>, label: &Name) -> usize
+pub(crate) fn target(scope: Scope<'_, '_, '_>, label: &Name) -> usize
     ensures { result ≡ target (seen scope.entry) label.now }
 {
     label_place(scope, label).unwrap_or(0)

@@ -2,6 +2,9 @@
 ghost use Rattle.il_assemble.specs.Assembled.{ImagesAreProper, NamesStayDifferent, PartsAreTheCode, StartsAreInRange, StaticFaultsWantNoMemory, WhatElaboratesIsWell};
 ghost use Rattle.il_assemble.specs.Examples.{ExamplesHold};
 ghost use Rattle.il_assemble.specs.Correct.{CodeIsOfBytes, CodeDoesWhatTheProgramMeans, EachEndIsTheMeaning, NumberedCountersFindTheirLimits, RunsThatAreOverStayOver, SizesDependOnTheFormAlone, TurnsNeverRunOut};
+ghost use Rattle.il_assemble.specs.Texts.{TextsKeepTheLimits};
+
+use il_reader::laws::reading_is_exact;
 
 /// The machine on the code of a program does what the program means: it ends with the same variables and outputs, or stops with the same fault.
 pub fn code_does_what_the_program_means()
@@ -75,3 +78,11 @@ pub fn images_are_proper()
 pub fn names_stay_different()
     ensures { NamesStayDifferent }
 {}
+
+/// A text gives no tree with too many names or parentheses, with a name twice or with a BOOL that has a range of
+/// its own: a program that was read is refused for its lines alone, or for the size of its code.
+pub fn texts_keep_the_limits()
+    ensures { TextsKeepTheLimits }
+{
+    reading_is_exact()
+}

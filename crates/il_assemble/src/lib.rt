@@ -1,16 +1,17 @@
 //! The assembler of Instruction List (IEC 61131-3 edition 2, 3.2): from the tree of a program to its image.
 #![tactic(auto)]
 
-pub mod assembler;
+mod assembler;
 mod check;
 mod emit;
-pub mod fault;
+mod fault;
 mod jumps;
 pub mod laws;
 mod limits;
 mod measure;
 mod names;
 mod passing;
+mod places;
 mod scope;
 mod source;
 mod typing;

@@ -17,7 +17,7 @@ use std::alloc::Global;
 /// code passes the limit, or that has a counted jump more than there may be.
 pub(crate) fn measure(
     alloc: Global,
-    scope: Scope<'_>,
+    scope: Scope<'_, '_, '_>,
     statements: &[Statement],
     end_line: u32,
 ) -> Result<Vec<u16>, AsmFault>

@@ -4,7 +4,8 @@ ghost use Rattle.il_assemble.specs.Kept.{seen};
 ghost use Rattle.il_assemble.specs.Names.{is_called, is_external, is_presence_of, known_as, known_type, named_type};
 
 use crate::scope::Scope;
-use il_reader::{External, Variable};
+use il_reader::External;
+use name_places::place_of;
 use point_types::{IlType, Name};
 
 /// What a name stands for: the variable at a place, the external at a place, or whether that external has
@@ -29,20 +30,16 @@ fn is_presence_of(name: &Name, external: &External) -> bool
     }
 }
 
-fn variable_place(variables: &[Variable], name: &Name) -> Option<usize>
-    ensures { result ≡ position (is_called name.now) variables.now }
+fn variable_place(scope: Scope<'_, '_, '_>, name: &Name) -> Option<usize>
+    ensures { result ≡ position (is_called name.now) scope.entry.variables.now }
 {
-    variables
-        .iter()
-        .position(|variable| variable.var.name.as_bytes() == name.as_bytes())
+    place_of(&scope.tables.variables, name.as_str())
 }
 
-fn external_place(externals: &[External], name: &Name) -> Option<usize>
-    ensures { result ≡ position (is_external name.now) externals.now }
+fn external_place(scope: Scope<'_, '_, '_>, name: &Name) -> Option<usize>
+    ensures { result ≡ position (is_external name.now) scope.entry.externals.now }
 {
-    externals
-        .iter()
-        .position(|external| external.name.as_bytes() == name.as_bytes())
+    place_of(&scope.tables.externals, name.as_str())
 }
 
 fn presence_place(externals: &[External], name: &Name) -> Option<usize>
@@ -54,13 +51,13 @@ fn presence_place(externals: &[External], name: &Name) -> Option<usize>
 }
 
 /// What a name stands for.
-pub(crate) fn known_as(scope: Scope<'_>, name: &Name) -> Option<Known>
+pub(crate) fn known_as(scope: Scope<'_, '_, '_>, name: &Name) -> Option<Known>
     ensures { result ≡ known_as (seen scope.entry) name.now }
 {
-    if let Some(place) = variable_place(scope.variables, name) {
+    if let Some(place) = variable_place(scope, name) {
         return Some(Known::Variable(place));
     }
-    if let Some(place) = external_place(scope.externals, name) {
+    if let Some(place) = external_place(scope, name) {
         return Some(Known::External(place));
     }
     match presence_place(scope.externals, name) {
@@ -70,7 +67,7 @@ pub(crate) fn known_as(scope: Scope<'_>, name: &Name) -> Option<Known>
 }
 
 /// The type of a known name.
-pub(crate) fn named_type(scope: Scope<'_>, name: &Name) -> Option<IlType>
+pub(crate) fn named_type(scope: Scope<'_, '_, '_>, name: &Name) -> Option<IlType>
     ensures { result ≡ named_type (seen scope.entry) name.now }
 {
     match known_as(scope, name)? {

@@ -21,7 +21,7 @@ use std::alloc::AllocError;
 /// parentheses that of the inner instruction.
 pub(crate) fn passing_line(
     code: &mut Vec<u8>,
-    scope: Scope<'_>,
+    scope: Scope<'_, '_, '_>,
     running: Option<IlType>,
     rest: &[Statement],
     statement: &Statement,
@@ -57,7 +57,7 @@ fn within(code: &[u8], line: u32) -> Result<(), u32>
 #[cycle(write_parts)]
 fn write_parts(
     code: &mut Vec<u8>,
-    scope: Scope<'_>,
+    scope: Scope<'_, '_, '_>,
     line: u32,
     running: Option<IlType>,
     loaded: IlType,
@@ -93,7 +93,7 @@ fn write_parts(
 /// What stands before the lines inside parentheses.
 fn write_opening(
     code: &mut Vec<u8>,
-    scope: Scope<'_>,
+    scope: Scope<'_, '_, '_>,
     line: u32,
     wanted: IlType,
     operand: &Option<Operand>,
@@ -125,7 +125,7 @@ fn write_closing(
 #[cycle(write_parts)]
 fn write_inner(
     code: &mut Vec<u8>,
-    scope: Scope<'_>,
+    scope: Scope<'_, '_, '_>,
     running: Option<IlType>,
     otherwise: IlType,
     inner: &[InnerLine],

@@ -18,7 +18,7 @@ pub(crate) fn is_literal_of(kind: IlType, number: i64) -> bool
 }
 
 /// The type of a known name or a typed literal.
-fn own_type(scope: Scope<'_>, operand: &Operand) -> Option<IlType>
+fn own_type(scope: Scope<'_, '_, '_>, operand: &Operand) -> Option<IlType>
     ensures { result ≡ own_type (seen scope.entry) operand.now }
 {
     match operand {
@@ -29,7 +29,7 @@ fn own_type(scope: Scope<'_>, operand: &Operand) -> Option<IlType>
 }
 
 /// The type of an operand, where an untyped number takes the type `wanted`.
-fn operand_type(scope: Scope<'_>, wanted: IlType, operand: &Operand) -> IlType
+fn operand_type(scope: Scope<'_, '_, '_>, wanted: IlType, operand: &Operand) -> IlType
     ensures { result ≡ operand_type (seen scope.entry) wanted operand.now }
 {
     match operand {
@@ -48,7 +48,7 @@ pub(crate) fn or_dint(kind: Option<IlType>) -> IlType
 }
 
 /// The type that a literal of SEL takes from the other operand.
-pub(crate) fn type_beside(scope: Scope<'_>, other: &Operand) -> IlType
+pub(crate) fn type_beside(scope: Scope<'_, '_, '_>, other: &Operand) -> IlType
     ensures { result ≡ type_beside (seen scope.entry) other.now }
 {
     or_dint(own_type(scope, other))
@@ -65,7 +65,7 @@ pub(crate) fn whole_type(running: Option<IlType>) -> IlType
 }
 
 /// What an instruction's first operand gives to a literal that is loaded before it.
-fn type_of_next(scope: Scope<'_>, simple: &Simple) -> Option<IlType>
+fn type_of_next(scope: Scope<'_, '_, '_>, simple: &Simple) -> Option<IlType>
     ensures { result ≡ type_of_next (seen scope.entry) (written simple.now) }
 {
     match simple {
@@ -81,7 +81,7 @@ fn type_of_next(scope: Scope<'_>, simple: &Simple) -> Option<IlType>
 }
 
 /// The same of a line of the body.
-fn type_of_action(scope: Scope<'_>, action: &Action) -> Option<IlType>
+fn type_of_action(scope: Scope<'_, '_, '_>, action: &Action) -> Option<IlType>
     ensures { result ≡ type_of_action (seen scope.entry) action.now }
 {
     match action {
@@ -92,7 +92,7 @@ fn type_of_action(scope: Scope<'_>, action: &Action) -> Option<IlType>
 }
 
 /// What the next instruction gives to a literal that is loaded before it; a label alone on its line is passed by.
-fn next_type(scope: Scope<'_>, statements: &[Statement]) -> Option<IlType>
+fn next_type(scope: Scope<'_, '_, '_>, statements: &[Statement]) -> Option<IlType>
     ensures { result ≡ next_type (seen scope.entry) statements.now }
 {
     let mut rest = statements;
@@ -106,14 +106,18 @@ fn next_type(scope: Scope<'_>, statements: &[Statement]) -> Option<IlType>
 }
 
 /// The type of a literal that is loaded before the lines `rest`.
-pub(crate) fn loaded_type(scope: Scope<'_>, rest: &[Statement]) -> IlType
+pub(crate) fn loaded_type(scope: Scope<'_, '_, '_>, rest: &[Statement]) -> IlType
     ensures { result ≡ loaded_type (seen scope.entry) rest.now }
 {
     or_dint(next_type(scope, rest))
 }
 
 /// The same inside parentheses, where it takes the type `otherwise` where no next instruction gives one.
-pub(crate) fn loaded_inner_type(scope: Scope<'_>, otherwise: IlType, rest: &[InnerLine]) -> IlType
+pub(crate) fn loaded_inner_type(
+    scope: Scope<'_, '_, '_>,
+    otherwise: IlType,
+    rest: &[InnerLine],
+) -> IlType
     ensures { result ≡ loaded_inner_type (seen scope.entry) otherwise (written_inner rest.now) }
 {
     match rest {
@@ -154,7 +158,7 @@ fn type_after_operator(running: Option<IlType>, operator: Operator) -> Option<Il
 /// The type of the result behind an instruction, as far as the text shows it, by that before it and the type
 /// of a literal that it loads.
 pub(crate) fn type_after(
-    scope: Scope<'_>,
+    scope: Scope<'_, '_, '_>,
     running: Option<IlType>,
     loaded: IlType,
     simple: &Simple,
@@ -176,7 +180,7 @@ pub(crate) fn type_after(
 
 /// The type of the result behind an opening parenthesis.
 pub(crate) fn type_inside(
-    scope: Scope<'_>,
+    scope: Scope<'_, '_, '_>,
     running: Option<IlType>,
     first: &Option<Operand>,
 ) -> Option<IlType>
@@ -199,7 +203,7 @@ fn unless_always(condition: Condition, running: Option<IlType>) -> Option<IlType
 
 /// The type of the result behind a line of the body, where the lines `rest` stand behind it.
 pub(crate) fn type_after_line(
-    scope: Scope<'_>,
+    scope: Scope<'_, '_, '_>,
     running: Option<IlType>,
     rest: &[Statement],
     action: &Option<Action>,

@@ -22,7 +22,7 @@ fn note(uses: &mut [Option<bool>], place: usize, stored: bool)
 }
 
 /// Notes that a name is loaded; where it is a presence, its external is.
-fn note_load(scope: Scope<'_>, uses: &mut [Option<bool>], name: &Name)
+fn note_load(scope: Scope<'_, '_, '_>, uses: &mut [Option<bool>], name: &Name)
     ensures { uses.new ≡ noted_load uses.old (known_as (seen scope.entry) name.now) }
 {
     match known_as(scope, name) {
@@ -33,7 +33,7 @@ fn note_load(scope: Scope<'_>, uses: &mut [Option<bool>], name: &Name)
 }
 
 /// Notes that a name is stored.
-fn note_store(scope: Scope<'_>, uses: &mut [Option<bool>], name: &Name)
+fn note_store(scope: Scope<'_, '_, '_>, uses: &mut [Option<bool>], name: &Name)
     ensures { uses.new ≡ noted_store uses.old (known_as (seen scope.entry) name.now) }
 {
     match known_as(scope, name) {
@@ -42,7 +42,7 @@ fn note_store(scope: Scope<'_>, uses: &mut [Option<bool>], name: &Name)
     }
 }
 
-fn note_operand(scope: Scope<'_>, uses: &mut [Option<bool>], operand: &Operand)
+fn note_operand(scope: Scope<'_, '_, '_>, uses: &mut [Option<bool>], operand: &Operand)
     ensures { uses.new ≡ uses_of_operand (seen scope.entry) uses.old operand.now }
 {
     match operand {
@@ -53,7 +53,7 @@ fn note_operand(scope: Scope<'_>, uses: &mut [Option<bool>], operand: &Operand)
 
 /// Notes what an instruction loads, the lines inside its parentheses among it.
 #[cycle(note_simple)]
-fn note_simple(scope: Scope<'_>, uses: &mut [Option<bool>], simple: &Simple)
+fn note_simple(scope: Scope<'_, '_, '_>, uses: &mut [Option<bool>], simple: &Simple)
     ensures { uses.new ≡ uses_of_simple (seen scope.entry) uses.old (written simple.now) }
 {
     match simple {
@@ -76,7 +76,7 @@ fn note_simple(scope: Scope<'_>, uses: &mut [Option<bool>], simple: &Simple)
     }
 }
 
-fn note_first(scope: Scope<'_>, uses: &mut [Option<bool>], first: &Option<Operand>)
+fn note_first(scope: Scope<'_, '_, '_>, uses: &mut [Option<bool>], first: &Option<Operand>)
     ensures { uses.new ≡ uses_of_first (seen scope.entry) uses.old first.now }
 {
     if let Some(operand) = first {
@@ -85,7 +85,7 @@ fn note_first(scope: Scope<'_>, uses: &mut [Option<bool>], first: &Option<Operan
 }
 
 #[cycle(note_simple)]
-fn note_inner(scope: Scope<'_>, uses: &mut [Option<bool>], inner: &[InnerLine])
+fn note_inner(scope: Scope<'_, '_, '_>, uses: &mut [Option<bool>], inner: &[InnerLine])
     ensures { uses.new ≡ uses_of_inner (seen scope.entry) uses.old (written_inner inner.now) }
 {
     for line in inner {
@@ -93,7 +93,7 @@ fn note_inner(scope: Scope<'_>, uses: &mut [Option<bool>], inner: &[InnerLine])
     }
 }
 
-fn note_action(scope: Scope<'_>, uses: &mut [Option<bool>], action: &Option<Action>)
+fn note_action(scope: Scope<'_, '_, '_>, uses: &mut [Option<bool>], action: &Option<Action>)
     ensures { uses.new ≡ uses_of_action (seen scope.entry) uses.old action.now }
 {
     match action {
@@ -105,7 +105,11 @@ fn note_action(scope: Scope<'_>, uses: &mut [Option<bool>], action: &Option<Acti
 }
 
 /// Notes, for each external, whether its first use is a store; none where it isn't used.
-pub(crate) fn note_uses(scope: Scope<'_>, uses: &mut [Option<bool>], statements: &[Statement])
+pub(crate) fn note_uses(
+    scope: Scope<'_, '_, '_>,
+    uses: &mut [Option<bool>],
+    statements: &[Statement],
+)
     ensures { uses.new ≡ uses_after (seen scope.entry) uses.old statements.now }
 {
     for statement in statements {

@@ -12,7 +12,7 @@ use Rattle.il_reader.specs.declared.tree.Statement.{Statement}
 use Rattle.il_reader.specs.declared.typing.Typing.{Typing}
 use Rattle.il_reader.specs.declared.draft.Draft.{Draft}
 use Rattle.il_reader.specs.declared.draft.Head.{Head}
-use Rattle.il_reader.specs.declared.nest.Frame.{Frame}
+use Rattle.il_reader.specs.declared.nest.OpenParenthesis.{OpenParenthesis}
 use Rattle.il_reader.specs.declared.stage.BlockStage.{BlockStage}
 use Rattle.il_reader.specs.declared.stage.BlockStage.TheVariants as block
 use Rattle.il_reader.specs.declared.stage.Stage.{Stage}
@@ -287,11 +287,11 @@ back_instruction : (h : Head) (d : Draft) (t : Token) (m : ℕ) (ts : List Place
 back_instruction h d token.LineEnd m ts p w = (None, placed token.LineEnd m ∷ ts, refl, (ts, (m, refl), w))
 back_instruction h d t m ts p w = action_labelled d h m (placed t m ∷ ts) p (back_begin d h t m ts p w)
 
-back_at_line : (nest : List Frame) (d : Draft) (t : Token) (m : ℕ) (ts : List Placed) (p : Program) → Back (at_line_step nest d t m) ts p → RestLines nest d (placed t m ∷ ts) p
+back_at_line : (nest : List OpenParenthesis) (d : Draft) (t : Token) (m : ℕ) (ts : List Placed) (p : Program) → Back (at_line_step nest d t m) ts p → RestLines nest d (placed t m ∷ ts) p
 back_at_line [] d t m ts p h = back_line d t m ts p h
 back_at_line (f ∷ nest) d t m ts p h = back_inside f nest d t m ts p h
 
-back_whole : (nest : List Frame) (d : Draft) (t : Token) (m : ℕ) (ts : List Placed) (p : Program) → Back (whole_step nest d t) ts p → RestWhole nest d (placed t m ∷ ts) p
+back_whole : (nest : List OpenParenthesis) (d : Draft) (t : Token) (m : ℕ) (ts : List Placed) (p : Program) → Back (whole_step nest d t) ts p → RestWhole nest d (placed t m ∷ ts) p
 back_whole nest d token.LineEnd m ts p h = (ts, (m, refl), h)
 back_whole nest d _ m ts p h = absurd h
 

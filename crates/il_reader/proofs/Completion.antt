@@ -19,7 +19,7 @@ use Rattle.il_reader.specs.declared.tree.Program.{Program}
 use Rattle.il_reader.specs.declared.typing.Typing.{Typing}
 use Rattle.il_reader.specs.declared.draft.Draft.{Draft}
 use Rattle.il_reader.specs.declared.draft.Head.{Head}
-use Rattle.il_reader.specs.declared.nest.Frame.{Frame}
+use Rattle.il_reader.specs.declared.nest.OpenParenthesis.{OpenParenthesis}
 use Rattle.il_reader.specs.declared.lexer.Lexed.{Lexed}
 use Rattle.il_reader.specs.declared.lexer.Mode.{Mode}
 use Rattle.il_reader.specs.declared.lexer.Mode.TheVariants as mode
@@ -243,10 +243,10 @@ led text s s' n l leads (rest, p, i, j, h) = (text ++ rest, p, i, j, leads rest 
 newline : (s s' : State) (n l : ℕ) → ((rest : List ℕ) → fed (clear n l s) (10 ∷ rest) ≡ fed (clear (suc n) n s') rest) → Ends_at (clear (suc n) n s') → Ends_at (clear n l s)
 newline s s' n l leads (rest, p, i, j, h) = (10 ∷ rest, p, i, j, leads rest ∙ h)
 
-abbrev at_line : List Frame → Draft → State
+abbrev at_line : List OpenParenthesis → Draft → State
 at_line nest d = state.Within (stage.AtLine nest) d
 
-abbrev whole_in : List Frame → Draft → State
+abbrev whole_in : List OpenParenthesis → Draft → State
 whole_in nest d = state.Within (stage.BehindInstruction nest) d
 
 body_ends : (d : Draft) (n l : ℕ) → Ends_at (clear n l (at_line [] d))
@@ -259,36 +259,36 @@ filled_line (Some x) inner l y = refl
 filled_line None form.Close l y = refl
 filled_line None (form.Then k z inner) l y = refl
 
-close_line : (f : Frame) (nest : List Frame) (d : Draft) (n l : ℕ) (rest : List ℕ) → is_filled f.operand f.inner ≡ true → fed (clear n l (at_line (f ∷ nest) d)) (41 ∷ rest) ≡ fed (clear n n (computed nest d f.head (deferred f f.inner))) rest
+close_line : (f : OpenParenthesis) (nest : List OpenParenthesis) (d : Draft) (n l : ℕ) (rest : List ℕ) → is_filled f.operand f.inner ≡ true → fed (clear n l (at_line (f ∷ nest) d)) (41 ∷ rest) ≡ fed (clear n n (computed nest d f.head (deferred f f.inner))) rest
 close_line f nest d n l rest e =
     ap (λ z. fed_on (state_read (clear n l (at_line (f ∷ nest) d)) 41 rest (record { ended = None; own = Some token.Close; mode = mode.Clear }) (with_fault token.Close (if z then Ok (computed nest d f.head (deferred f f.inner)) else Err fault.Operand))) (λ r'. fed r' rest)) e
 
-abbrev behind_close : Frame → List Frame → Draft → ℕ → State
+abbrev behind_close : OpenParenthesis → List OpenParenthesis → Draft → ℕ → State
 behind_close f nest d n = computed nest d f.head (deferred f (with_line f n form.Invert).inner)
 
-closing : (f : Frame) (nest : List Frame) (d : Draft) (n l : ℕ) → Ends_at (clear (suc n) (suc n) (behind_close f nest d n)) → Ends_at (clear n l (at_line (f ∷ nest) d))
+closing : (f : OpenParenthesis) (nest : List OpenParenthesis) (d : Draft) (n l : ℕ) → Ends_at (clear (suc n) (suc n) (behind_close f nest d n)) → Ends_at (clear n l (at_line (f ∷ nest) d))
 unfolding keyword is_reserved plain_words conversions
 closing f nest d n l (text, p, i, j, e) =
     (codes "NOT\n" ++ (41 ∷ text), p, i, j, close_line (with_line f n form.Invert) nest d (suc n) n text (filled_line f.operand f.inner n form.Invert) ∙ e)
 
-inside_ends : (nest : List Frame) (f : Frame) (d : Draft) (n l : ℕ) → Ends_at (clear n l (at_line (f ∷ nest) d))
+inside_ends : (nest : List OpenParenthesis) (f : OpenParenthesis) (d : Draft) (n l : ℕ) → Ends_at (clear n l (at_line (f ∷ nest) d))
 inside_ends [] f d n l =
     let x : Written = deferred f (with_line f n form.Invert).inner in
     let d' : Draft = with_statement d f.head (Some (action.Compute x)) in
     closing f [] d n l (newline (whole_in [] d') (at_line [] d') (suc n) (suc n) (λ rest. refl) (body_ends d' (suc (suc n)) (suc n)))
 inside_ends (g ∷ nest) f d n l =
     let x : Written = deferred f (with_line f n form.Invert).inner in
-    let f' : Frame = with_line g f.head.line x in
+    let f' : OpenParenthesis = with_line g f.head.line x in
     closing f (g ∷ nest) d n l (newline (whole_in (f' ∷ nest) d) (at_line (f' ∷ nest) d) (suc n) (suc n) (λ rest. refl) (inside_ends nest f' d (suc (suc n)) (suc n)))
 
-lines_end : (nest : List Frame) (d : Draft) (n l : ℕ) → Ends_at (clear n l (at_line nest d))
+lines_end : (nest : List OpenParenthesis) (d : Draft) (n l : ℕ) → Ends_at (clear n l (at_line nest d))
 lines_end [] d n l = body_ends d n l
 lines_end (f ∷ nest) d n l = inside_ends nest f d n l
 
-whole_ends : (nest : List Frame) (d : Draft) (n l : ℕ) → Ends_at (clear n l (whole_in nest d))
+whole_ends : (nest : List OpenParenthesis) (d : Draft) (n l : ℕ) → Ends_at (clear n l (whole_in nest d))
 whole_ends nest d n l = newline (whole_in nest d) (at_line nest d) n l (λ rest. refl) (lines_end nest d (suc n) n)
 
-computed_ends : (nest : List Frame) (d : Draft) (h : Head) (x : Written) (n l : ℕ) → Ends_at (clear n l (computed nest d h x))
+computed_ends : (nest : List OpenParenthesis) (d : Draft) (h : Head) (x : Written) (n l : ℕ) → Ends_at (clear n l (computed nest d h x))
 computed_ends [] d h x n l = whole_ends [] (with_statement d h (Some (action.Compute x))) n l
 computed_ends (f ∷ nest) d h x n l = whole_ends (with_line f h.line x ∷ nest) d n l
 
@@ -296,11 +296,11 @@ computed_ends (f ∷ nest) d h x n l = whole_ends (with_line f h.line x ∷ nest
 abbrev an_operand : Operand
 an_operand = operand.Named (codes "a")
 
-jump_ends : (s : PartStage) (c : Condition) (turns : Option ℕ) (text : List ℕ) (nest : List Frame) (g : Head) (d : Draft) (n l : ℕ) → ((rest : List ℕ) → fed (clear n l (state.Within (stage.Part nest g s) d)) (text ++ rest) ≡ fed (clear n n (acted nest d g (action.Jump c (codes "a") turns))) rest) → Ends_at (clear n l (state.Within (stage.Part nest g s) d))
+jump_ends : (s : PartStage) (c : Condition) (turns : Option ℕ) (text : List ℕ) (nest : List OpenParenthesis) (g : Head) (d : Draft) (n l : ℕ) → ((rest : List ℕ) → fed (clear n l (state.Within (stage.Part nest g s) d)) (text ++ rest) ≡ fed (clear n n (acted nest d g (action.Jump c (codes "a") turns))) rest) → Ends_at (clear n l (state.Within (stage.Part nest g s) d))
 jump_ends s c turns text nest g d n l leads =
     led text (state.Within (stage.Part nest g s) d) (acted nest d g (action.Jump c (codes "a") turns)) n l leads (whole_ends nest (with_statement d g (Some (action.Jump c (codes "a") turns))) n n)
 
-part_ends : (s : PartStage) (nest : List Frame) (g : Head) (d : Draft) (n l : ℕ) → Ends_at (clear n l (state.Within (stage.Part nest g s) d))
+part_ends : (s : PartStage) (nest : List OpenParenthesis) (g : Head) (d : Draft) (n l : ℕ) → Ends_at (clear n l (state.Within (stage.Part nest g s) d))
 unfolding keyword is_reserved plain_words conversions
 part_ends (part.BehindLoad negated) nest g d n l = led (codes "a ") _ (computed nest d g (form.Load negated an_operand)) n l (λ rest. refl) (computed_ends nest d g (form.Load negated an_operand) n n)
 part_ends (part.BehindOperator o negated) nest g d n l = led (codes "a ") _ (computed nest d g (form.Apply o negated an_operand)) n l (λ rest. refl) (computed_ends nest d g (form.Apply o negated an_operand) n n)

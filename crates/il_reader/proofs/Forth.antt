@@ -19,7 +19,7 @@ use Rattle.il_reader.specs.declared.typing.Entry.{Entry}
 use Rattle.il_reader.specs.declared.typing.Typing.{Typing}
 use Rattle.il_reader.specs.declared.draft.Draft.{Draft}
 use Rattle.il_reader.specs.declared.draft.Head.{Head}
-use Rattle.il_reader.specs.declared.nest.Frame.{Frame}
+use Rattle.il_reader.specs.declared.nest.OpenParenthesis.{OpenParenthesis}
 use Rattle.il_reader.specs.declared.stage.BlockStage.{BlockStage}
 use Rattle.il_reader.specs.declared.stage.BlockStage.TheVariants as block
 use Rattle.il_reader.specs.declared.stage.PartStage.{PartStage}
@@ -58,7 +58,7 @@ at s d = state.Within s d
 abbrev in_block : BlockStage → Draft → State
 in_block s d = state.Within (stage.Block s) d
 
-abbrev in_part : PartStage → List Frame → Draft → Head → State
+abbrev in_part : PartStage → List OpenParenthesis → Draft → Head → State
 in_part s nest d h = state.Within (stage.Part nest h s) d
 
 -- what a token does that is followed by others
@@ -70,56 +70,56 @@ moved s next t m from to e h = ap (run s) e ∙ ap (λ z. onward z (λ s'. run s
 abbrev done : Draft → Head → Action → State
 done d h x = at (stage.BehindInstruction []) (with_statement d h (Some x))
 
-operand_run : (nest : List Frame) (d : Draft) (h : Head) (f : Operand → Written) (t : Token) (x : Operand) (to : List Placed) → operand_of t ≡ Some x → onward (with_fault t (simple_step nest d h (option_map f (operand_of t)))) (λ s'. run s' to) ≡ run (computed nest d h (f x)) to
+operand_run : (nest : List OpenParenthesis) (d : Draft) (h : Head) (f : Operand → Written) (t : Token) (x : Operand) (to : List Placed) → operand_of t ≡ Some x → onward (with_fault t (simple_step nest d h (option_map f (operand_of t)))) (λ s'. run s' to) ≡ run (computed nest d h (f x)) to
 operand_run nest d h f t x to e = ap (λ z. onward (with_fault t (simple_step nest d h (option_map f z))) (λ s'. run s' to)) e
 
-pair_run : (nest : List Frame) (d : Draft) (h : Head) (o : Pair) (t u : Token) (x y : Operand) (m i n : ℕ) (to : List Placed) → operand_of t ≡ Some x → operand_of u ≡ Some y → run (in_part (part.BehindPair o) nest d h) (placed t m ∷ placed token.Comma i ∷ placed u n ∷ to) ≡ run (computed nest d h (paired o x y)) to
+pair_run : (nest : List OpenParenthesis) (d : Draft) (h : Head) (o : Pair) (t u : Token) (x y : Operand) (m i n : ℕ) (to : List Placed) → operand_of t ≡ Some x → operand_of u ≡ Some y → run (in_part (part.BehindPair o) nest d h) (placed t m ∷ placed token.Comma i ∷ placed u n ∷ to) ≡ run (computed nest d h (paired o x y)) to
 pair_run nest d h o t u x y m i n to e f =
     ap (λ z. onward (with_fault t (behind_pair_step nest h o d z)) (λ s'. run s' (placed token.Comma i ∷ placed u n ∷ to))) e ∙ operand_run nest d h (paired o x) u y to f
 
 -- an operand is neither an opening parenthesis nor a line's end
-operator_same : (nest : List Frame) (d : Draft) (h : Head) (o : Operator) (negated : Bool) (t : Token) (x : Operand) → operand_of t ≡ Some x → behind_operator_step nest h o negated d t ≡ simple_step nest d h (option_map (form.Apply o negated) (operand_of t))
+operator_same : (nest : List OpenParenthesis) (d : Draft) (h : Head) (o : Operator) (negated : Bool) (t : Token) (x : Operand) → operand_of t ≡ Some x → behind_operator_step nest h o negated d t ≡ simple_step nest d h (option_map (form.Apply o negated) (operand_of t))
 operator_same nest d h o negated token.Open x e = absurd (no e)
   where
     no : None ≡ Some x → ⊥
     no e = cc
 operator_same nest d h o negated _ x e = refl
 
-parenthesis_same : (nest : List Frame) (d : Draft) (h : Head) (o : Operator) (negated : Bool) (t : Token) (x : Operand) → operand_of t ≡ Some x → behind_parenthesis_step nest h o negated d t ≡ entered_step nest h o negated d (operand_of t)
+parenthesis_same : (nest : List OpenParenthesis) (d : Draft) (h : Head) (o : Operator) (negated : Bool) (t : Token) (x : Operand) → operand_of t ≡ Some x → behind_parenthesis_step nest h o negated d t ≡ entered_step nest h o negated d (operand_of t)
 parenthesis_same nest d h o negated token.LineEnd x e = absurd (no e)
   where
     no : None ≡ Some x → ⊥
     no e = cc
 parenthesis_same nest d h o negated _ x e = refl
 
-ended_run : (nest : List Frame) (d : Draft) (a b : List Placed) → IsEnd a b → run (at (stage.BehindInstruction nest) d) a ≡ run (at (stage.AtLine nest) d) b
+ended_run : (nest : List OpenParenthesis) (d : Draft) (a b : List Placed) → IsEnd a b → run (at (stage.BehindInstruction nest) d) a ≡ run (at (stage.AtLine nest) d) b
 ended_run nest d a b (k, e) = ap (run (at (stage.BehindInstruction nest) d)) e
 
 -- Parentheses.
 
 -- an opening one, behind an operator
-enter_run : (nest : List Frame) (d : Draft) (h : Head) (o : Operator) (negated : Bool) (to : List Placed) → takes_parentheses o ≡ true → has_depth (length nest) ≡ true → onward (with_fault token.Open (enter_step nest h o negated d)) (λ s'. run s' to) ≡ run (in_part (part.BehindParenthesis o negated) nest d h) to
+enter_run : (nest : List OpenParenthesis) (d : Draft) (h : Head) (o : Operator) (negated : Bool) (to : List Placed) → takes_parentheses o ≡ true → has_depth (length nest) ≡ true → onward (with_fault token.Open (enter_step nest h o negated d)) (λ s'. run s' to) ≡ run (in_part (part.BehindParenthesis o negated) nest d h) to
 enter_run nest d h o negated to takes deep =
     ap (λ z. onward (with_fault token.Open (if z then (if has_depth (length nest) then continues nest h (part.BehindParenthesis o negated) d else Err fault.TooLong) else Err fault.Operand)) (λ s'. run s' to)) takes ∙ ap (λ z. onward (with_fault token.Open (if z then continues nest h (part.BehindParenthesis o negated) d else Err fault.TooLong)) (λ s'. run s' to)) deep
 
-entry_run : (nest : List Frame) (d : Draft) (h : Head) (o : Operator) (negated : Bool) (first : Option Operand) (from to : List Placed) → IsEntry first from to → run (in_part (part.BehindParenthesis o negated) nest d h) from ≡ run (at (stage.AtLine (frame_of h o negated first ∷ nest)) d) to
+entry_run : (nest : List OpenParenthesis) (d : Draft) (h : Head) (o : Operator) (negated : Bool) (first : Option Operand) (from to : List Placed) → IsEntry first from to → run (in_part (part.BehindParenthesis o negated) nest d h) from ≡ run (at (stage.AtLine (frame_of h o negated first ∷ nest)) d) to
 entry_run nest d h o negated None from to (k, e) = ap (run (in_part (part.BehindParenthesis o negated) nest d h)) e
 entry_run nest d h o negated (Some x) from to (t, m, a, e, g, (k, q)) =
     ap (run (in_part (part.BehindParenthesis o negated) nest d h)) g ∙ ap (λ z. onward (with_fault t z) (λ s'. run s' a)) (parenthesis_same nest d h o negated t x e) ∙ ap (λ z. onward (with_fault t (entered_step nest h o negated d z)) (λ s'. run s' a)) e ∙ ap (run (in_part (part.BehindEntry o negated x) nest d h)) q
 
 -- the closing one
-close_run : (f : Frame) (nest : List Frame) (d : Draft) (to : List Placed) → is_filled f.operand f.inner ≡ true → onward (with_fault token.Close (close_step f nest d)) (λ s'. run s' to) ≡ run (computed nest d f.head (deferred f f.inner)) to
+close_run : (f : OpenParenthesis) (nest : List OpenParenthesis) (d : Draft) (to : List Placed) → is_filled f.operand f.inner ≡ true → onward (with_fault token.Close (close_step f nest d)) (λ s'. run s' to) ≡ run (computed nest d f.head (deferred f f.inner)) to
 close_run f nest d to e = ap (λ z. onward (with_fault token.Close (if z then Ok (computed nest d f.head (deferred f f.inner)) else Err fault.Operand)) (λ s'. run s' to)) e
 
 -- a state that begins an instruction on the result alone as the beginning of a line does
-abbrev BeginsSimple : State → List Frame → Draft → Head → ℕ → Type 0
+abbrev BeginsSimple : State → List OpenParenthesis → Draft → Head → ℕ → Type 0
 BeginsSimple s nest d h m = (k : Keyword) → is_outer k ≡ false → step s (token.Keyword k) m ≡ with_fault (token.Keyword k) (begun_step nest d h k (part_begun k))
 
-inside_begins : (f : Frame) (nest : List Frame) (d : Draft) (m : ℕ) → BeginsSimple (at (stage.AtLine (f ∷ nest)) d) (f ∷ nest) d (record { line = m; label = None }) m
+inside_begins : (f : OpenParenthesis) (nest : List OpenParenthesis) (d : Draft) (m : ℕ) → BeginsSimple (at (stage.AtLine (f ∷ nest)) d) (f ∷ nest) d (record { line = m; label = None }) m
 inside_begins f nest d m k e = ap (λ z. with_fault (token.Keyword k) (if z then Err fault.Parenthesis else begun_step (f ∷ nest) d (record { line = m; label = None }) k (part_begun k))) e
 
 mutual
-  simple_run : (x : Written) (s : State) (nest : List Frame) (d : Draft) (h : Head) (m : ℕ) → BeginsSimple s nest d h m → (from to : List Placed) → IsSimple (length nest) m x from to → run s from ≡ run (computed nest d h x) to
+  simple_run : (x : Written) (s : State) (nest : List OpenParenthesis) (d : Draft) (h : Head) (m : ℕ) → BeginsSimple s nest d h m → (from to : List Placed) → IsSimple (length nest) m x from to → run s from ≡ run (computed nest d h x) to
   simple_run (form.Load negated x) s nest d h m b from to (t, n, e, g) =
       moved s (in_part (part.BehindLoad negated) nest d h) (token.Keyword (word.Load negated)) m from (placed t n ∷ to) g (b (word.Load negated) refl) ∙ operand_run nest d h (form.Load negated) t x to e
   simple_run (form.Apply o negated x) s nest d h m b from to (t, n, e, g) =
@@ -135,7 +135,7 @@ mutual
   simple_run (form.Convert j k) s nest d h m b from to g = moved s (computed nest d h (form.Convert j k)) (token.Keyword (word.Convert j k)) m from to g (b (word.Convert j k) refl)
 
   -- the lines inside, and the closing one
-  inner_run : (inner : Inner) (f : Frame) (nest : List Frame) (d : Draft) (from to : List Placed) → is_filled f.operand (followed_by f.inner inner) ≡ true → IsInner (suc (length nest)) inner from to → run (at (stage.AtLine (f ∷ nest)) d) from ≡ run (computed nest d f.head (deferred f (followed_by f.inner inner))) to
+  inner_run : (inner : Inner) (f : OpenParenthesis) (nest : List OpenParenthesis) (d : Draft) (from to : List Placed) → is_filled f.operand (followed_by f.inner inner) ≡ true → IsInner (suc (length nest)) inner from to → run (at (stage.AtLine (f ∷ nest)) d) from ≡ run (computed nest d f.head (deferred f (followed_by f.inner inner))) to
   inner_run form.Close f nest d from to filled (k, h) =
       let none : followed_by f.inner form.Close ≡ f.inner = follow_none f.inner in
       run_next (at (stage.AtLine (f ∷ nest)) d) (λ j. refl) token.Close k from to h ∙ close_run f nest d to (subst (λ z. is_filled f.operand z ≡ true) none filled) ∙ ap (λ z. run (computed nest d f.head (deferred f z)) to) (sym none)

@@ -16,7 +16,7 @@ use Rattle.il_reader.specs.declared.tree.Program.{Program}
 use Rattle.il_reader.specs.declared.typing.Typing.{Typing}
 use Rattle.il_reader.specs.declared.draft.Draft.{Draft}
 use Rattle.il_reader.specs.declared.draft.Head.{Head}
-use Rattle.il_reader.specs.declared.nest.Frame.{Frame}
+use Rattle.il_reader.specs.declared.nest.OpenParenthesis.{OpenParenthesis}
 use Rattle.il_reader.specs.declared.lexer.Lexed.{Lexed}
 use Rattle.il_reader.specs.declared.reader.Reader.{Reader}
 use Rattle.il_reader.specs.declared.stage.BlockStage.{BlockStage}
@@ -171,35 +171,35 @@ live_block (block.BehindAssign y) d t m h = live_behind_assign y d t
 live_block (block.BehindStart y) d t m h = live_behind_start y d t
 
 -- where no declaration is open nothing is asked
-live_computed : (nest : List Frame) (d : Draft) (h : Head) (x : Written) → IsLive (computed nest d h x)
+live_computed : (nest : List OpenParenthesis) (d : Draft) (h : Head) (x : Written) → IsLive (computed nest d h x)
 live_computed [] d h x = tt
 live_computed (f ∷ nest) d h x = tt
 
-live_simple : (nest : List Frame) (d : Draft) (h : Head) (x : Option Written) → LiveMove (simple_step nest d h x)
+live_simple : (nest : List OpenParenthesis) (d : Draft) (h : Head) (x : Option Written) → LiveMove (simple_step nest d h x)
 live_simple nest d h (Some x) = live_computed nest d h x
 live_simple nest d h None = tt
 
-live_pair : (nest : List Frame) (d : Draft) (h : Head) (o : Pair) (x : Option Operand) → LiveMove (behind_pair_step nest h o d x)
+live_pair : (nest : List OpenParenthesis) (d : Draft) (h : Head) (o : Pair) (x : Option Operand) → LiveMove (behind_pair_step nest h o d x)
 live_pair nest d h o (Some x) = tt
 live_pair nest d h o None = tt
 
-live_first : (nest : List Frame) (d : Draft) (h : Head) (o : Pair) (x : Operand) (t : Token) → LiveMove (behind_first_step nest h o x d t)
+live_first : (nest : List OpenParenthesis) (d : Draft) (h : Head) (o : Pair) (x : Operand) (t : Token) → LiveMove (behind_first_step nest h o x d t)
 live_first nest d h o x token.Comma = tt
 live_first nest d h o x _ = tt
 
-live_store : (nest : List Frame) (d : Draft) (h : Head) (b : Bool) (t : Token) → LiveMove (behind_store_step nest h b d t)
+live_store : (nest : List OpenParenthesis) (d : Draft) (h : Head) (b : Bool) (t : Token) → LiveMove (behind_store_step nest h b d t)
 live_store nest d h b (token.Name n) = tt
 live_store nest d h b _ = tt
 
-live_set : (nest : List Frame) (d : Draft) (h : Head) (b : Bool) (t : Token) → LiveMove (behind_set_step nest h b d t)
+live_set : (nest : List OpenParenthesis) (d : Draft) (h : Head) (b : Bool) (t : Token) → LiveMove (behind_set_step nest h b d t)
 live_set nest d h b (token.Name n) = tt
 live_set nest d h b _ = tt
 
-live_jump : (nest : List Frame) (d : Draft) (h : Head) (c : Condition) (turns : Option ℕ) (t : Token) → LiveMove (behind_jump_step nest h c turns d t)
+live_jump : (nest : List OpenParenthesis) (d : Draft) (h : Head) (c : Condition) (turns : Option ℕ) (t : Token) → LiveMove (behind_jump_step nest h c turns d t)
 live_jump nest d h c turns (token.Name n) = tt
 live_jump nest d h c turns _ = tt
 
-live_brace : (nest : List Frame) (d : Draft) (h : Head) (t : Token) → LiveMove (behind_brace_step nest h d t)
+live_brace : (nest : List OpenParenthesis) (d : Draft) (h : Head) (t : Token) → LiveMove (behind_brace_step nest h d t)
 live_brace nest d h (token.Name w) = either (is_loop w)
   where
     either : (b : Bool) → LiveMove (if b then continues nest h part.BehindLoop d else Err fault.Word)
@@ -207,24 +207,24 @@ live_brace nest d h (token.Name w) = either (is_loop w)
     either false = tt
 live_brace nest d h _ = tt
 
-live_counted : (nest : List Frame) (d : Draft) (h : Head) (o : Option ℕ) → LiveMove (turns_step nest h d o)
+live_counted : (nest : List OpenParenthesis) (d : Draft) (h : Head) (o : Option ℕ) → LiveMove (turns_step nest h d o)
 live_counted nest d h (Some n) = tt
 live_counted nest d h None = tt
 
-live_loop : (nest : List Frame) (d : Draft) (h : Head) (t : Token) → LiveMove (behind_loop_step nest h d t)
+live_loop : (nest : List OpenParenthesis) (d : Draft) (h : Head) (t : Token) → LiveMove (behind_loop_step nest h d t)
 live_loop nest d h (token.Decimal n) = live_counted nest d h (turns_of n)
 live_loop nest d h _ = tt
 
-live_turns : (nest : List Frame) (d : Draft) (h : Head) (turns : ℕ) (t : Token) → LiveMove (behind_turns_step nest h turns d t)
+live_turns : (nest : List OpenParenthesis) (d : Draft) (h : Head) (turns : ℕ) (t : Token) → LiveMove (behind_turns_step nest h turns d t)
 live_turns nest d h turns token.CloseBrace = tt
 live_turns nest d h turns _ = tt
 
-live_pragma : (nest : List Frame) (d : Draft) (h : Head) (turns : ℕ) (t : Token) → LiveMove (behind_pragma_step nest h turns d t)
+live_pragma : (nest : List OpenParenthesis) (d : Draft) (h : Head) (turns : ℕ) (t : Token) → LiveMove (behind_pragma_step nest h turns d t)
 live_pragma nest d h turns (token.Keyword (word.Jump c)) = tt
 live_pragma nest d h turns (token.Keyword _) = tt
 live_pragma nest d h turns _ = tt
 
-live_enter : (nest : List Frame) (d : Draft) (h : Head) (o : Operator) (negated : Bool) → LiveMove (enter_step nest h o negated d)
+live_enter : (nest : List OpenParenthesis) (d : Draft) (h : Head) (o : Operator) (negated : Bool) → LiveMove (enter_step nest h o negated d)
 live_enter nest d h o negated = either (takes_parentheses o) (has_depth (length nest))
   where
     either : (a b : Bool) → LiveMove (if a then (if b then continues nest h (part.BehindParenthesis o negated) d else Err fault.TooLong) else Err fault.Operand)
@@ -232,23 +232,23 @@ live_enter nest d h o negated = either (takes_parentheses o) (has_depth (length 
     either true false = tt
     either false b = tt
 
-live_operator : (nest : List Frame) (d : Draft) (h : Head) (o : Operator) (negated : Bool) (t : Token) → LiveMove (behind_operator_step nest h o negated d t)
+live_operator : (nest : List OpenParenthesis) (d : Draft) (h : Head) (o : Operator) (negated : Bool) (t : Token) → LiveMove (behind_operator_step nest h o negated d t)
 live_operator nest d h o negated token.Open = live_enter nest d h o negated
 live_operator nest d h o negated t = live_simple nest d h (option_map (form.Apply o negated) (operand_of t))
 
-live_entered : (nest : List Frame) (d : Draft) (h : Head) (o : Operator) (negated : Bool) (x : Option Operand) → LiveMove (entered_step nest h o negated d x)
+live_entered : (nest : List OpenParenthesis) (d : Draft) (h : Head) (o : Operator) (negated : Bool) (x : Option Operand) → LiveMove (entered_step nest h o negated d x)
 live_entered nest d h o negated (Some x) = tt
 live_entered nest d h o negated None = tt
 
-live_parenthesis : (nest : List Frame) (d : Draft) (h : Head) (o : Operator) (negated : Bool) (t : Token) → LiveMove (behind_parenthesis_step nest h o negated d t)
+live_parenthesis : (nest : List OpenParenthesis) (d : Draft) (h : Head) (o : Operator) (negated : Bool) (t : Token) → LiveMove (behind_parenthesis_step nest h o negated d t)
 live_parenthesis nest d h o negated token.LineEnd = tt
 live_parenthesis nest d h o negated t = live_entered nest d h o negated (operand_of t)
 
-live_entry : (nest : List Frame) (d : Draft) (h : Head) (o : Operator) (negated : Bool) (x : Operand) (t : Token) → LiveMove (behind_entry_step nest h o negated x d t)
+live_entry : (nest : List OpenParenthesis) (d : Draft) (h : Head) (o : Operator) (negated : Bool) (x : Operand) (t : Token) → LiveMove (behind_entry_step nest h o negated x d t)
 live_entry nest d h o negated x token.LineEnd = tt
 live_entry nest d h o negated x _ = tt
 
-live_part : (s : PartStage) (nest : List Frame) (d : Draft) (h : Head) (t : Token) → LiveMove (part_step nest h s d t)
+live_part : (s : PartStage) (nest : List OpenParenthesis) (d : Draft) (h : Head) (t : Token) → LiveMove (part_step nest h s d t)
 live_part (part.BehindLoad negated) nest d h t = live_simple nest d h (option_map (form.Load negated) (operand_of t))
 live_part (part.BehindOperator o negated) nest d h t = live_operator nest d h o negated t
 live_part (part.BehindParenthesis o negated) nest d h t = live_parenthesis nest d h o negated t
@@ -264,14 +264,14 @@ live_part part.BehindLoop nest d h t = live_loop nest d h t
 live_part (part.BehindTurns turns) nest d h t = live_turns nest d h turns t
 live_part (part.BehindPragma turns) nest d h t = live_pragma nest d h turns t
 
-live_single : (nest : List Frame) (d : Draft) (h : Head) (w : Keyword) → LiveMove (single_step nest d h w)
+live_single : (nest : List OpenParenthesis) (d : Draft) (h : Head) (w : Keyword) → LiveMove (single_step nest d h w)
 live_single nest d h (word.Return c) = tt
 live_single nest d h word.Not = live_computed nest d h form.Invert
 live_single nest d h word.Absolute = live_computed nest d h form.Absolute
 live_single nest d h (word.Convert j k) = live_computed nest d h (form.Convert j k)
 live_single nest d h _ = tt
 
-live_begun : (nest : List Frame) (d : Draft) (h : Head) (w : Keyword) (s : Option PartStage) → LiveMove (begun_step nest d h w s)
+live_begun : (nest : List OpenParenthesis) (d : Draft) (h : Head) (w : Keyword) (s : Option PartStage) → LiveMove (begun_step nest d h w s)
 live_begun nest d h w (Some s) = tt
 live_begun nest d h w None = live_single nest d h w
 
@@ -292,21 +292,21 @@ live_line d (token.Name n) m = either (among n d.labels)
 live_line d (token.Keyword k) m = live_begin d (record { line = m; label = None }) (token.Keyword k)
 live_line d t m = live_begin d (record { line = m; label = None }) t
 
-live_close : (f : Frame) (nest : List Frame) (d : Draft) → LiveMove (close_step f nest d)
+live_close : (f : OpenParenthesis) (nest : List OpenParenthesis) (d : Draft) → LiveMove (close_step f nest d)
 live_close f nest d = either (is_filled f.operand f.inner)
   where
     either : (b : Bool) → LiveMove (if b then Ok (computed nest d f.head (deferred f f.inner)) else Err fault.Operand)
     either true = live_computed nest d f.head (deferred f f.inner)
     either false = tt
 
-live_inner : (f : Frame) (nest : List Frame) (d : Draft) (w : Keyword) (m : ℕ) → LiveMove (inner_step f nest d w m)
+live_inner : (f : OpenParenthesis) (nest : List OpenParenthesis) (d : Draft) (w : Keyword) (m : ℕ) → LiveMove (inner_step f nest d w m)
 live_inner f nest d w m = either (is_outer w)
   where
     either : (b : Bool) → LiveMove (if b then Err fault.Parenthesis else begun_step (f ∷ nest) d (record { line = m; label = None }) w (part_begun w))
     either true = tt
     either false = live_begun (f ∷ nest) d (record { line = m; label = None }) w (part_begun w)
 
-live_at_line : (nest : List Frame) (d : Draft) (t : Token) (m : ℕ) → LiveMove (at_line_step nest d t m)
+live_at_line : (nest : List OpenParenthesis) (d : Draft) (t : Token) (m : ℕ) → LiveMove (at_line_step nest d t m)
 live_at_line [] d t m = live_line d t m
 live_at_line (f ∷ nest) d token.LineEnd m = tt
 live_at_line (f ∷ nest) d token.Close m = live_close f nest d
@@ -328,7 +328,7 @@ live_instruction : (h : Head) (d : Draft) (t : Token) → LiveMove (at_instructi
 live_instruction h d token.LineEnd = tt
 live_instruction h d t = live_begin d h t
 
-live_whole : (nest : List Frame) (d : Draft) (t : Token) → LiveMove (whole_step nest d t)
+live_whole : (nest : List OpenParenthesis) (d : Draft) (t : Token) → LiveMove (whole_step nest d t)
 live_whole nest d token.LineEnd = tt
 live_whole nest d _ = tt
 

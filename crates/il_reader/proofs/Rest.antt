@@ -15,7 +15,7 @@ use Rattle.il_reader.specs.declared.typing.Entry.{Entry}
 use Rattle.il_reader.specs.declared.typing.Typing.{Typing}
 use Rattle.il_reader.specs.declared.draft.Draft.{Draft}
 use Rattle.il_reader.specs.declared.draft.Head.{Head}
-use Rattle.il_reader.specs.declared.nest.Frame.{Frame}
+use Rattle.il_reader.specs.declared.nest.OpenParenthesis.{OpenParenthesis}
 use Rattle.il_reader.specs.declared.stage.BlockStage.{BlockStage}
 use Rattle.il_reader.specs.declared.stage.BlockStage.TheVariants as block
 use Rattle.il_reader.specs.declared.stage.PartStage.{PartStage}
@@ -45,21 +45,21 @@ abbrev pub RestBody : Draft → List Placed → Program → Type 0
 RestBody d ts p = (body : List Statement) × (e : ℕ) × IsBody d.labels body e ts × (p ≡ finished d body e)
 
 -- at the beginning of a line inside parentheses: first those of the inmost, up to the line behind the closing one
-abbrev pub RestInside : Frame → List Frame → Draft → List Placed → Program → Type 0
+abbrev pub RestInside : OpenParenthesis → List OpenParenthesis → Draft → List Placed → Program → Type 0
 RestInside f [] d ts p =
     (rest : Inner) × (a b : List Placed) × IsInner 1 rest ts a × (is_filled f.operand (followed_by f.inner rest) ≡ true) × IsEnd a b × RestBody (with_statement d f.head (Some (action.Compute (deferred f (followed_by f.inner rest))))) b p
 RestInside f (g ∷ nest) d ts p =
     (rest : Inner) × (a b : List Placed) × IsInner (suc (suc (length nest))) rest ts a × (is_filled f.operand (followed_by f.inner rest) ≡ true) × IsEnd a b × RestInside (with_line g f.head.line (deferred f (followed_by f.inner rest))) nest d b p
 
-abbrev pub RestLines : List Frame → Draft → List Placed → Program → Type 0
+abbrev pub RestLines : List OpenParenthesis → Draft → List Placed → Program → Type 0
 RestLines [] d ts p = RestBody d ts p
 RestLines (f ∷ nest) d ts p = RestInside f nest d ts p
 
-abbrev pub RestWhole : List Frame → Draft → List Placed → Program → Type 0
+abbrev pub RestWhole : List OpenParenthesis → Draft → List Placed → Program → Type 0
 RestWhole nest d ts p = (b : List Placed) × IsEnd ts b × RestLines nest d b p
 
 -- behind an instruction on the result alone
-abbrev pub RestComputed : List Frame → Draft → Head → Written → List Placed → Program → Type 0
+abbrev pub RestComputed : List OpenParenthesis → Draft → Head → Written → List Placed → Program → Type 0
 RestComputed [] d h x ts p = RestWhole [] (with_statement d h (Some (action.Compute x))) ts p
 RestComputed (f ∷ nest) d h x ts p = RestWhole (with_line f h.line x ∷ nest) d ts p
 
@@ -68,28 +68,28 @@ abbrev pub RestAction : Draft → Head → ℕ → List Placed → Program → T
 RestAction d h m ts p = (x : Action) × (a : List Placed) × IsAction m x ts a × RestWhole [] (with_statement d h (Some x)) a p
 
 -- an instruction on the result alone whose first token stands in line m
-abbrev pub RestSimple : List Frame → Draft → Head → ℕ → List Placed → Program → Type 0
+abbrev pub RestSimple : List OpenParenthesis → Draft → Head → ℕ → List Placed → Program → Type 0
 RestSimple nest d h m ts p = (x : Written) × (a : List Placed) × IsSimple (length nest) m x ts a × RestComputed nest d h x a p
 
 abbrev pub RestLabelled : Draft → Head → List Placed → Program → Type 0
 RestLabelled d h ts p = (x : Option Action) × (a : List Placed) × IsLabelled x ts a × RestWhole [] (with_statement d h x) a p
 
-abbrev pub RestOperand : List Frame → Draft → Head → (Operand → Written) → List Placed → Program → Type 0
+abbrev pub RestOperand : List OpenParenthesis → Draft → Head → (Operand → Written) → List Placed → Program → Type 0
 RestOperand nest d h f ts p =
     (t : Token) × (x : Operand) × (m : ℕ) × (a : List Placed) × (operand_of t ≡ Some x) × (ts ≡ placed t m ∷ a) × RestComputed nest d h (f x) a p
 
-abbrev pub RestName : List Frame → Draft → Head → (List ℕ → Action) → List Placed → Program → Type 0
+abbrev pub RestName : List OpenParenthesis → Draft → Head → (List ℕ → Action) → List Placed → Program → Type 0
 RestName nest d h f ts p = (n : List ℕ) × (m : ℕ) × (a : List Placed) × (ts ≡ placed (token.Name n) m ∷ a) × RestWhole nest (with_statement d h (Some (f n))) a p
 
 -- behind an operator and an opening parenthesis
-abbrev pub RestEntry : List Frame → Draft → Head → Operator → Bool → List Placed → Program → Type 0
+abbrev pub RestEntry : List OpenParenthesis → Draft → Head → Operator → Bool → List Placed → Program → Type 0
 RestEntry nest d h o negated ts p = (first : Option Operand) × (a : List Placed) × IsEntry first ts a × RestInside (frame_of h o negated first) nest d a p
 
-abbrev pub RestOpening : List Frame → Draft → Head → Operator → Bool → List Placed → Program → Type 0
+abbrev pub RestOpening : List OpenParenthesis → Draft → Head → Operator → Bool → List Placed → Program → Type 0
 RestOpening nest d h o negated ts p =
     (m : ℕ) × (a : List Placed) × (takes_parentheses o ≡ true) × (has_depth (length nest) ≡ true) × (ts ≡ placed token.Open m ∷ a) × RestEntry nest d h o negated a p
 
-abbrev pub RestPart : PartStage → List Frame → Draft → Head → List Placed → Program → Type 0
+abbrev pub RestPart : PartStage → List OpenParenthesis → Draft → Head → List Placed → Program → Type 0
 RestPart (part.BehindLoad negated) nest d h ts p = RestOperand nest d h (form.Load negated) ts p
 RestPart (part.BehindOperator o negated) nest d h ts p = RestOperand nest d h (form.Apply o negated) ts p ⊎ RestOpening nest d h o negated ts p
 RestPart (part.BehindParenthesis o negated) nest d h ts p = RestEntry nest d h o negated ts p

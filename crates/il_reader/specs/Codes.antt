@@ -1,4 +1,5 @@
--- How the logic stores what is written, and the lines inside parentheses.
+-- inner: how the logic stores what is written, and the lines inside parentheses.
+-- IEC 61131-3 edition 2, 3.2.2 (parentheses).
 use Rattle.std.proofs.Common.{◌≡◌, ap}
 use Rattle.std.specs.Coded.{Coded, coded_ℕ, coded_bool, coded_option}
 use base.Stored.{Gv, gnil, gnum, gcons}

@@ -8,7 +8,7 @@ use Rattle.il_reader.specs.declared.tree.Action.{Action}
 use Rattle.il_reader.specs.declared.typing.Typing.{Typing}
 use Rattle.il_reader.specs.declared.draft.Draft.{Draft}
 use Rattle.il_reader.specs.declared.draft.Head.{Head}
-use Rattle.il_reader.specs.declared.nest.Frame.{Frame}
+use Rattle.il_reader.specs.declared.nest.OpenParenthesis.{OpenParenthesis}
 use Rattle.il_reader.specs.declared.stage.BlockStage.{BlockStage}
 use Rattle.il_reader.specs.declared.stage.PartStage.{PartStage}
 use Rattle.il_reader.specs.declared.stage.Stage.{Stage}
@@ -54,5 +54,5 @@ goes s d = Ok (state.Within s d)
 abbrev pub declares : BlockStage → Draft → Move
 declares s d = goes (stage.Block s) d
 
-abbrev pub continues : List Frame → Head → PartStage → Draft → Move
+abbrev pub continues : List OpenParenthesis → Head → PartStage → Draft → Move
 continues nest h s d = goes (stage.Part nest h s) d

@@ -1,4 +1,5 @@
 -- The words by which refusals of a text are named.
+-- IEC 61131-3 edition 2, 3.2 leaves diagnostics open; these words are this project's.
 use Rattle.std.specs.Prelude.{ℕ, List, codes}
 use Rattle.il_reader.specs.declared.fault.ReadFaultKind.{ReadFaultKind}
 use Rattle.il_reader.specs.declared.fault.ReadFaultKind.TheVariants as fault

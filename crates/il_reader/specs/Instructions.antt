@@ -15,7 +15,7 @@ use Rattle.il_reader.specs.declared.tree.Operand.{Operand}
 use Rattle.il_reader.specs.declared.tree.Operand.TheVariants as operand
 use Rattle.il_reader.specs.declared.draft.Draft.{Draft}
 use Rattle.il_reader.specs.declared.draft.Head.{Head}
-use Rattle.il_reader.specs.declared.nest.Frame.{Frame}
+use Rattle.il_reader.specs.declared.nest.OpenParenthesis.{OpenParenthesis}
 use Rattle.il_reader.specs.declared.stage.Pair.{Pair}
 use Rattle.il_reader.specs.declared.stage.Pair.TheVariants as pair
 use Rattle.il_reader.specs.declared.stage.BlockStage.TheVariants as block
@@ -41,27 +41,27 @@ operand_of (token.Typed k n) = Some (operand.Typed k n)
 operand_of _ = None
 
 -- on at a place of the instruction, where there is one
-abbrev pub continues_if : List Frame → Head → Draft → Result PartStage ReadFaultKind → Move
+abbrev pub continues_if : List OpenParenthesis → Head → Draft → Result PartStage ReadFaultKind → Move
 continues_if nest h d (Ok s) = continues nest h s d
 continues_if nest h d (Err k) = Err k
 
 -- a place to go on, or a fault, that gives this move whatever has been read: inside these parentheses, inside any
-abbrev pub GoesOnInside : List Frame → Result PartStage ReadFaultKind → (Head → Draft → Move) → Type 0
+abbrev pub GoesOnInside : List OpenParenthesis → Result PartStage ReadFaultKind → (Head → Draft → Move) → Type 0
 GoesOnInside nest next on = (h : Head) (d : Draft) → continues_if nest h d next ≡ on h d
 
-abbrev pub GoesOn : Result PartStage ReadFaultKind → (List Frame → Head → Draft → Move) → Type 0
-GoesOn next on = (nest : List Frame) → GoesOnInside nest next (on nest)
+abbrev pub GoesOn : Result PartStage ReadFaultKind → (List OpenParenthesis → Head → Draft → Move) → Type 0
+GoesOn next on = (nest : List OpenParenthesis) → GoesOnInside nest next (on nest)
 
 -- a whole instruction of the body
-abbrev pub acted : List Frame → Draft → Head → Action → State
+abbrev pub acted : List OpenParenthesis → Draft → Head → Action → State
 acted nest d h a = state.Within (stage.BehindInstruction nest) (with_statement d h (Some a))
 
 -- a whole instruction on the result alone: one of the body, or a line of the inmost parentheses
-abbrev pub computed : List Frame → Draft → Head → Written → State
+abbrev pub computed : List OpenParenthesis → Draft → Head → Written → State
 computed [] d h x = acted [] d h (action.Compute x)
 computed (f ∷ nest) d h x = state.Within (stage.BehindInstruction (with_line f h.line x ∷ nest)) d
 
-abbrev pub simple_step : List Frame → Draft → Head → Option Written → Move
+abbrev pub simple_step : List OpenParenthesis → Draft → Head → Option Written → Move
 simple_step nest d h (Some x) = Ok (computed nest d h x)
 simple_step nest d h None = Err fault.Operand
 
@@ -77,14 +77,14 @@ part_begun word.Select = Some (part.BehindPair pair.Select)
 part_begun _ = None
 
 -- an instruction of one word
-abbrev pub single_step : List Frame → Draft → Head → Keyword → Move
+abbrev pub single_step : List OpenParenthesis → Draft → Head → Keyword → Move
 single_step nest d h (word.Return c) = Ok (acted nest d h (action.Return c))
 single_step nest d h word.Not = Ok (computed nest d h form.Invert)
 single_step nest d h word.Absolute = Ok (computed nest d h form.Absolute)
 single_step nest d h (word.Convert j k) = Ok (computed nest d h (form.Convert j k))
 single_step nest d h _ = Err fault.Operator
 
-abbrev pub begun_step : List Frame → Draft → Head → Keyword → Option PartStage → Move
+abbrev pub begun_step : List OpenParenthesis → Draft → Head → Keyword → Option PartStage → Move
 begun_step nest d h w (Some s) = continues nest h s d
 begun_step nest d h w None = single_step nest d h w
 
@@ -121,68 +121,68 @@ abbrev pub paired : Pair → Operand → Operand → Written
 paired pair.Limit x y = form.Limit x y
 paired pair.Select x y = form.Select x y
 
-abbrev pub behind_pair_step : List Frame → Head → Pair → Draft → Option Operand → Move
+abbrev pub behind_pair_step : List OpenParenthesis → Head → Pair → Draft → Option Operand → Move
 behind_pair_step nest h o d (Some x) = continues nest h (part.BehindFirst o x) d
 behind_pair_step nest h o d None = Err fault.Operand
 
-abbrev pub behind_first_step : List Frame → Head → Pair → Operand → Draft → Token → Move
+abbrev pub behind_first_step : List OpenParenthesis → Head → Pair → Operand → Draft → Token → Move
 behind_first_step nest h o x d token.Comma = continues nest h (part.BehindFirstComma o x) d
 behind_first_step nest h o x d _ = Err fault.Operand
 
-abbrev pub behind_store_step : List Frame → Head → Bool → Draft → Token → Move
+abbrev pub behind_store_step : List OpenParenthesis → Head → Bool → Draft → Token → Move
 behind_store_step nest h negated d (token.Name n) = Ok (acted nest d h (action.Store negated n))
 behind_store_step nest h negated d _ = Err fault.Operand
 
-abbrev pub behind_set_step : List Frame → Head → Bool → Draft → Token → Move
+abbrev pub behind_set_step : List OpenParenthesis → Head → Bool → Draft → Token → Move
 behind_set_step nest h value d (token.Name n) = Ok (acted nest d h (action.Set value n))
 behind_set_step nest h value d _ = Err fault.Operand
 
-abbrev pub behind_jump_step : List Frame → Head → Condition → Option ℕ → Draft → Token → Move
+abbrev pub behind_jump_step : List OpenParenthesis → Head → Condition → Option ℕ → Draft → Token → Move
 behind_jump_step nest h c turns d (token.Name n) = Ok (acted nest d h (action.Jump c n turns))
 behind_jump_step nest h c turns d _ = Err fault.Label
 
 -- Parentheses over lines.
 
 -- behind an operator and an opening parenthesis
-abbrev pub enter_step : List Frame → Head → Operator → Bool → Draft → Move
+abbrev pub enter_step : List OpenParenthesis → Head → Operator → Bool → Draft → Move
 enter_step nest h o negated d =
     if takes_parentheses o then (if has_depth (length nest) then continues nest h (part.BehindParenthesis o negated) d else Err fault.TooLong) else Err fault.Operand
 
-abbrev pub behind_operator_step : List Frame → Head → Operator → Bool → Draft → Token → Move
+abbrev pub behind_operator_step : List OpenParenthesis → Head → Operator → Bool → Draft → Token → Move
 behind_operator_step nest h o negated d token.Open = enter_step nest h o negated d
 behind_operator_step nest h o negated d t = simple_step nest d h (option_map (form.Apply o negated) (operand_of t))
 
 -- at the first line inside
-abbrev pub opened : List Frame → Head → Operator → Bool → Option Operand → Draft → Move
+abbrev pub opened : List OpenParenthesis → Head → Operator → Bool → Option Operand → Draft → Move
 opened nest h o negated first d = goes (stage.AtLine (frame_of h o negated first ∷ nest)) d
 
-abbrev pub entered_step : List Frame → Head → Operator → Bool → Draft → Option Operand → Move
+abbrev pub entered_step : List OpenParenthesis → Head → Operator → Bool → Draft → Option Operand → Move
 entered_step nest h o negated d (Some x) = continues nest h (part.BehindEntry o negated x) d
 entered_step nest h o negated d None = Err fault.Operand
 
-abbrev pub behind_parenthesis_step : List Frame → Head → Operator → Bool → Draft → Token → Move
+abbrev pub behind_parenthesis_step : List OpenParenthesis → Head → Operator → Bool → Draft → Token → Move
 behind_parenthesis_step nest h o negated d token.LineEnd = opened nest h o negated None d
 behind_parenthesis_step nest h o negated d t = entered_step nest h o negated d (operand_of t)
 
-abbrev pub behind_entry_step : List Frame → Head → Operator → Bool → Operand → Draft → Token → Move
+abbrev pub behind_entry_step : List OpenParenthesis → Head → Operator → Bool → Operand → Draft → Token → Move
 behind_entry_step nest h o negated x d token.LineEnd = opened nest h o negated (Some x) d
 behind_entry_step nest h o negated x d _ = Err fault.Operand
 
 -- the closing parenthesis
-abbrev pub close_step : Frame → List Frame → Draft → Move
+abbrev pub close_step : OpenParenthesis → List OpenParenthesis → Draft → Move
 close_step f nest d = if is_filled f.operand f.inner then Ok (computed nest d f.head (deferred f f.inner)) else Err fault.Operand
 
-abbrev pub inner_step : Frame → List Frame → Draft → Keyword → ℕ → Move
+abbrev pub inner_step : OpenParenthesis → List OpenParenthesis → Draft → Keyword → ℕ → Move
 inner_step f nest d w m = if is_outer w then Err fault.Parenthesis else begun_step (f ∷ nest) d (record { line = m; label = None }) w (part_begun w)
 
 -- at the beginning of a line inside parentheses
-abbrev pub inside_step : Frame → List Frame → Draft → Token → ℕ → Move
+abbrev pub inside_step : OpenParenthesis → List OpenParenthesis → Draft → Token → ℕ → Move
 inside_step f nest d token.LineEnd m = goes (stage.AtLine (f ∷ nest)) d
 inside_step f nest d token.Close m = close_step f nest d
 inside_step f nest d (token.Keyword w) m = inner_step f nest d w m
 inside_step f nest d _ m = Err fault.Operator
 
-abbrev pub at_line_step : List Frame → Draft → Token → ℕ → Move
+abbrev pub at_line_step : List OpenParenthesis → Draft → Token → ℕ → Move
 at_line_step [] d t m = line_step d t m
 at_line_step (f ∷ nest) d t m = inside_step f nest d t m
 
@@ -196,42 +196,42 @@ abbrev pub turns_of : ℤ → Option ℕ
 turns_of (pos n) = if nat_le 1 n && nat_le n most_turns then Some n else None
 turns_of _ = None
 
-abbrev pub behind_brace_step : List Frame → Head → Draft → Token → Move
+abbrev pub behind_brace_step : List OpenParenthesis → Head → Draft → Token → Move
 behind_brace_step nest h d (token.Name w) = if is_loop w then continues nest h part.BehindLoop d else Err fault.Word
 behind_brace_step nest h d _ = Err fault.Word
 
-abbrev pub turns_step : List Frame → Head → Draft → Option ℕ → Move
+abbrev pub turns_step : List OpenParenthesis → Head → Draft → Option ℕ → Move
 turns_step nest h d (Some turns) = continues nest h (part.BehindTurns turns) d
 turns_step nest h d None = Err fault.Literal
 
-abbrev pub behind_loop_step : List Frame → Head → Draft → Token → Move
+abbrev pub behind_loop_step : List OpenParenthesis → Head → Draft → Token → Move
 behind_loop_step nest h d (token.Decimal n) = turns_step nest h d (turns_of n)
 behind_loop_step nest h d _ = Err fault.Literal
 
-abbrev pub behind_turns_step : List Frame → Head → ℕ → Draft → Token → Move
+abbrev pub behind_turns_step : List OpenParenthesis → Head → ℕ → Draft → Token → Move
 behind_turns_step nest h turns d token.CloseBrace = continues nest h (part.BehindPragma turns) d
 behind_turns_step nest h turns d _ = Err fault.Word
 
-abbrev pub behind_pragma_step : List Frame → Head → ℕ → Draft → Token → Move
+abbrev pub behind_pragma_step : List OpenParenthesis → Head → ℕ → Draft → Token → Move
 behind_pragma_step nest h turns d (token.Keyword (word.Jump c)) = continues nest h (part.BehindJump c (Some turns)) d
 behind_pragma_step nest h turns d _ = Err fault.Operator
 
 -- on at the next line unless there is a fault
-abbrev pub goes_unless : List Frame → Draft → Option ReadFaultKind → Move
+abbrev pub goes_unless : List OpenParenthesis → Draft → Option ReadFaultKind → Move
 goes_unless nest d None = goes (stage.AtLine nest) d
 goes_unless nest d (Some k) = Err k
 
 -- a fault, or none, that gives this move whatever has been read
-abbrev pub StopsOn : List Frame → Option ReadFaultKind → (Draft → Move) → Type 0
+abbrev pub StopsOn : List OpenParenthesis → Option ReadFaultKind → (Draft → Move) → Type 0
 StopsOn nest k on = (d : Draft) → goes_unless nest d k ≡ on d
 
 -- behind a whole instruction
-abbrev pub whole_step : List Frame → Draft → Token → Move
+abbrev pub whole_step : List OpenParenthesis → Draft → Token → Move
 whole_step nest d token.LineEnd = goes (stage.AtLine nest) d
 whole_step nest d token.Close = Err (close_fault nest)
 whole_step nest d _ = Err fault.Operand
 
-abbrev pub part_step : List Frame → Head → PartStage → Draft → Token → Move
+abbrev pub part_step : List OpenParenthesis → Head → PartStage → Draft → Token → Move
 part_step nest h (part.BehindLoad negated) d t = simple_step nest d h (option_map (form.Load negated) (operand_of t))
 part_step nest h (part.BehindOperator o negated) d t = behind_operator_step nest h o negated d t
 part_step nest h (part.BehindParenthesis o negated) d t = behind_parenthesis_step nest h o negated d t

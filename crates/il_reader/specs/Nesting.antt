@@ -9,7 +9,7 @@ use Rattle.il_reader.specs.declared.token.Keyword.{Keyword}
 use Rattle.il_reader.specs.declared.token.Keyword.TheVariants as word
 use Rattle.il_reader.specs.declared.tree.Operand.{Operand}
 use Rattle.il_reader.specs.declared.draft.Head.{Head}
-use Rattle.il_reader.specs.declared.nest.Frame.{Frame}
+use Rattle.il_reader.specs.declared.nest.OpenParenthesis.{OpenParenthesis}
 use Rattle.il_reader.specs.Limit.{most_nested}
 use Rattle.il_reader.specs.Written.{Written, Defer, Inner, Close, Then, followed_by}
 
@@ -24,7 +24,7 @@ abbrev pub has_depth : ℕ → Bool
 has_depth depth = nat_lt depth most_nested
 
 -- parentheses stand open
-abbrev pub is_open : List Frame → Bool
+abbrev pub is_open : List OpenParenthesis → Bool
 is_open [] = false
 is_open (f ∷ nest) = true
 
@@ -35,20 +35,20 @@ is_filled None Close = false
 is_filled None (Then line head tail) = true
 
 -- parentheses that are just opened, behind an operator
-abbrev pub frame_of : Head → Operator → Bool → Option Operand → Frame
+abbrev pub frame_of : Head → Operator → Bool → Option Operand → OpenParenthesis
 frame_of h o negated first = record { head = h; operator = o; negated = negated; operand = first; inner = Close }
 
 -- one more line inside
-abbrev pub with_line : Frame → ℕ → Written → Frame
+abbrev pub with_line : OpenParenthesis → ℕ → Written → OpenParenthesis
 with_line f m x = record f { inner = followed_by f.inner (Then m x Close) }
 
 -- one more line in the inmost parentheses
-abbrev pub with_inner : List Frame → ℕ → Written → List Frame
+abbrev pub with_inner : List OpenParenthesis → ℕ → Written → List OpenParenthesis
 with_inner [] m x = []
 with_inner (f ∷ nest) m x = with_line f m x ∷ nest
 
 -- what parentheses compute with these lines inside
-abbrev pub deferred : Frame → Inner → Written
+abbrev pub deferred : OpenParenthesis → Inner → Written
 deferred f inner = Defer f.operator f.negated f.operand inner
 
 -- what a body has and no parentheses: stores, jumps, returns, and its end
@@ -61,11 +61,11 @@ is_outer (word.Return c) = true
 is_outer _ = false
 
 -- the fault of a closing parenthesis behind a whole instruction: outside it closes nothing, inside it has a line of its own
-abbrev pub close_fault : List Frame → ReadFaultKind
+abbrev pub close_fault : List OpenParenthesis → ReadFaultKind
 close_fault [] = fault.Parenthesis
 close_fault (f ∷ nest) = fault.Operand
 
 -- the fault of a text that ends too soon: open parentheses, or no END_PROGRAM
-abbrev pub end_fault : List Frame → ReadFaultKind
+abbrev pub end_fault : List OpenParenthesis → ReadFaultKind
 end_fault [] = fault.Header
 end_fault (f ∷ nest) = fault.Parenthesis

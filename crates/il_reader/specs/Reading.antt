@@ -1,6 +1,6 @@
 -- Reading a text: an acceptor that is fed byte by byte, and token by token.
 -- IEC 61131-3 edition 2, 2.4.3 declarations, 2.5.3 programs, 3.2 instruction list.
-use Rattle.std.specs.Prelude.{◌≡◌, ℕ, Bool, true, false, ◌&&◌, List, [], ◌∷◌, length, if◌then◌else◌, Option, Some, None, Result, Ok, Err, ◌⊎◌, nat_lt}
+use Rattle.std.specs.Prelude.{◌≡◌, ◌≤◌, ℕ, Bool, true, false, ◌&&◌, List, [], ◌∷◌, length, if◌then◌else◌, Option, Some, None, Result, Ok, Err, ◌⊎◌, nat_lt}
 use Rattle.point_types.specs.declared.il_type.IlType.{IlType}
 use Rattle.point_types.specs.Value.{is_bool}
 use Rattle.il_reader.specs.declared.fault.ReadFault.{ReadFault}
@@ -14,7 +14,7 @@ use Rattle.il_reader.specs.declared.typing.Typing.{Typing}
 use Rattle.il_reader.specs.declared.lexer.Mode.TheVariants as mode
 use Rattle.il_reader.specs.declared.lexer.Lexed.{Lexed}
 use Rattle.il_reader.specs.declared.draft.Draft.{Draft}
-use Rattle.il_reader.specs.declared.nest.Frame.{Frame}
+use Rattle.il_reader.specs.declared.nest.OpenParenthesis.{OpenParenthesis}
 use Rattle.il_reader.specs.declared.stage.BlockStage.{BlockStage}
 use Rattle.il_reader.specs.declared.stage.BlockStage.TheVariants as block
 use Rattle.il_reader.specs.declared.stage.PartStage.{PartStage}
@@ -255,7 +255,7 @@ pub data Outcome : Type 0 where
   TooSoon : ReadFault → Outcome
 
 -- why a text that ends in a state has ended too soon: parentheses stand open, or END_PROGRAM is missing
-abbrev pub part_early : List Frame → PartStage → ReadFaultKind
+abbrev pub part_early : List OpenParenthesis → PartStage → ReadFaultKind
 part_early nest (part.BehindParenthesis o negated) = fault.Parenthesis
 part_early nest (part.BehindEntry o negated x) = fault.Parenthesis
 part_early nest _ = end_fault nest
@@ -301,7 +301,11 @@ answered (TooSoon f) = Err f
 abbrev pub reading : List ℕ → Result Program ReadFault
 reading text = if nat_lt most_bytes (length text) then Err (record { line = 1; kind = fault.TooLong }) else answered (outcome text)
 
+-- memory was refused, which it never is for a text over its size
+abbrev pub IsOutOfMemory : List ℕ → ReadFault → Type 0
+IsOutOfMemory text f = (length text ≤ most_bytes) × (f ≡ record { line = 0; kind = fault.OutOfMemory })
+
 -- an answer is that of the definition, want of memory aside
 abbrev pub IsAnswer : List ℕ → Result Program ReadFault → Type 0
 IsAnswer text (Ok p) = reading text ≡ Ok p
-IsAnswer text (Err f) = (f ≡ record { line = 0; kind = fault.OutOfMemory }) ⊎ (reading text ≡ Err f)
+IsAnswer text (Err f) = IsOutOfMemory text f ⊎ (reading text ≡ Err f)

@@ -9,14 +9,14 @@ use std::alloc::{AllocError, Global};
 
 /// The line of a statement's first token, and its label.
 #[derive(Clone, Copy)]
-pub struct Head {
+pub(crate) struct Head {
     pub line: u32,
     pub label: Option<Name>,
 }
 
 /// A program as far as it has been read.
 #[derive(Drop)]
-pub struct Draft {
+pub(crate) struct Draft {
     pub name: Name,
     /// The names that are declared, those of the declaration that is being read included.
     pub scope: Scope,
@@ -34,7 +34,7 @@ impl Draft {
     ghost use Rattle.il_reader.specs.Drafting.{program_of, titled_draft, with_entry, with_externals, with_label, with_statement, with_variables};
 
     /// A program of which the name is read.
-    pub fn titled(alloc: Global, name: Name) -> Draft
+    pub(crate) fn titled(alloc: Global, name: Name) -> Draft
         ensures { result ≡ titled_draft name }
     {
         Draft {
@@ -49,7 +49,12 @@ impl Draft {
     }
 
     /// One more name in the declaration, of a variable or an external.
-    pub fn declare(mut self, external: bool, line: u32, name: Name) -> Result<Draft, AllocError>
+    pub(crate) fn declare(
+        mut self,
+        external: bool,
+        line: u32,
+        name: Name,
+    ) -> Result<Draft, AllocError>
         ensures { IfOk result (λ d. d ≡ with_entry external self line name) }
     {
         self.scope.declare(external, name)?;
@@ -83,7 +88,7 @@ impl Draft {
     }
 
     /// The end of the declaration: its names become externals.
-    pub fn close_externals(self, alloc: Global, kind: IlType) -> Result<Draft, AllocError>
+    pub(crate) fn close_externals(self, alloc: Global, kind: IlType) -> Result<Draft, AllocError>
         ensures { IfOk result (λ d. d ≡ with_externals self kind) }
     {
         let Draft {
@@ -108,7 +113,7 @@ impl Draft {
     }
 
     /// Whether a line has this label.
-    pub fn has_label(&self, name: &Name) -> bool
+    pub(crate) fn has_label(&self, name: &Name) -> bool
         ensures { result ≡ among name.now self.now.labels }
     {
         is_listed(name.as_bytes(), self.labels.as_slice())
@@ -136,7 +141,7 @@ impl Draft {
     }
 
     /// The program, whose last line is this one.
-    pub fn finish(self, end_line: u32) -> Program
+    pub(crate) fn finish(self, end_line: u32) -> Program
         ensures { result ≡ program_of self end_line }
     {
         let Draft {

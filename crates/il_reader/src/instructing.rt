@@ -30,7 +30,12 @@ pub fn begin(alloc: Global, draft: Draft, head: Head, token: Token) -> Result<Mo
 }
 
 /// Reads the word that begins an instruction, inside these parentheses.
-pub fn begin_with(nest: Nest, draft: Draft, head: Head, word: Keyword) -> Result<Move, AllocError>
+pub(crate) fn begin_with(
+    nest: Nest,
+    draft: Draft,
+    head: Head,
+    word: Keyword,
+) -> Result<Move, AllocError>
     ensures { IfOk result (λ m. m ≡ begun_step nest draft head word (part_begun word)) }
 {
     match part_begun_by(word) {
@@ -143,7 +148,7 @@ pub fn goes_on(nest: Nest, head: Head, part: PartStage, draft: Draft) -> Move
 }
 
 /// On where there is a place to go on, with all that has been read.
-pub fn goes_on_if(
+pub(crate) fn goes_on_if(
     nest: Nest,
     head: Head,
     next: Result<PartStage, ReadFaultKind>,
@@ -235,7 +240,7 @@ fn pair_of(pair: Pair, first: Operand, second: Operand) -> Computation
 }
 
 /// A name, TRUE or FALSE, or a number.
-pub fn operand_from(token: Token) -> Option<Operand>
+pub(crate) fn operand_from(token: Token) -> Option<Operand>
     ensures { result ≡ operand_of token }
 {
     match token {

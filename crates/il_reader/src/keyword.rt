@@ -160,7 +160,7 @@ static CONVERSIONS: [(&str, Keyword); 42] = [
 ];
 
 /// The token that a word in lower case is; none where it is no name.
-pub fn token_of_word(word: &[u8]) -> Option<Token>
+pub(crate) fn token_of_word(word: &[u8]) -> Option<Token>
     ensures { result ≡ word_token word.now }
 {
     match find_keyword(word) {
@@ -173,7 +173,7 @@ pub fn token_of_word(word: &[u8]) -> Option<Token>
 }
 
 /// The meaning of a word in lower case, where it has one of its own.
-pub fn find_keyword(word: &[u8]) -> Option<Keyword>
+pub(crate) fn find_keyword(word: &[u8]) -> Option<Keyword>
     ensures { result ≡ keyword word.now }
 {
     match find_word(word, &PLAIN_WORDS) {

@@ -26,7 +26,7 @@ impl Model for Lexeme {
 
 impl Lexeme {
     /// The word of one character.
-    pub fn of_byte(byte: u8) -> Lexeme
+    pub(crate) fn of_byte(byte: u8) -> Lexeme
         ensures { result ≡ byte ∷ [] }
     {
         let mut bytes = [0; WORD_CAPACITY];

@@ -82,7 +82,7 @@ impl Mode {
     }
 
     /// Whether a colon comes next in these bytes, behind blanks; `:=` is no colon.
-    pub fn is_before_colon(self, bytes: &[u8]) -> bool
+    pub(crate) fn is_before_colon(self, bytes: &[u8]) -> bool
         ensures { result ≡ colon_comes self bytes.now }
     {
         let mut mode = self;
@@ -111,7 +111,7 @@ impl Mode {
 
     /// The token that stands open at the end of the text, or none. What could still grow to a token
     /// is Header, an open comment Word.
-    pub fn finish(self) -> Result<Option<Token>, ReadFaultKind>
+    pub(crate) fn finish(self) -> Result<Option<Token>, ReadFaultKind>
         ensures { result ≡ at_end self }
     {
         match self {

@@ -4,7 +4,7 @@
 mod computation;
 mod declaring;
 mod draft;
-pub mod fault;
+mod fault;
 mod instructing;
 mod keyword;
 pub mod laws;
@@ -19,10 +19,12 @@ mod stage;
 mod state;
 mod text;
 mod token;
-pub mod tree;
+mod tree;
 mod typing;
 
-pub use computation::Computation;
+// from a text to its tree, or the first line at fault
 pub use fault::{ReadFault, ReadFaultKind};
 pub use reader::read;
+// the tree
+pub use computation::Computation;
 pub use tree::{Action, External, InnerLine, Operand, Program, Simple, Statement, Variable};

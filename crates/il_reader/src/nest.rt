@@ -9,13 +9,13 @@ use std::marker::Model;
 
 /// The parentheses that stand open. Contracts see them as a list, the inmost first.
 #[derive(Drop)]
-pub struct Nest {
-    frames: Vec<Frame>,
+pub(crate) struct Nest {
+    parentheses: Vec<OpenParenthesis>,
 }
 
 /// Parentheses that stand open: the instruction that opened them, and the lines inside so far.
 #[derive(Drop)]
-pub struct Frame {
+pub(crate) struct OpenParenthesis {
     /// Where the instruction stands, with a label in the body alone.
     pub head: Head,
     pub operator: Operator,
@@ -27,15 +27,15 @@ pub struct Frame {
 
 impl Model for Nest {
     ghost use Rattle.std.specs.Prelude.{List, reverse};
-    ghost use Rattle.il_reader.specs.declared.nest.Frame.{Frame};
+    ghost use Rattle.il_reader.specs.declared.nest.OpenParenthesis.{OpenParenthesis};
     ghost use Rattle.std.specs.Coded.{coded_list};
-    ghost use Rattle.il_reader.specs.contracts.nest.Frame as frame;
+    ghost use Rattle.il_reader.specs.contracts.nest.OpenParenthesis as parenthesis;
 
-    ghost Value = { List Frame };
+    ghost Value = { List OpenParenthesis };
 
-    ghost coded = { coded_list frame.the_row.coded };
+    ghost coded = { coded_list parenthesis.the_row.coded };
 
-    ghost view = { λ n. reverse n.frames.items };
+    ghost view = { λ n. reverse n.parentheses.items };
 }
 
 impl Nest {
@@ -47,7 +47,7 @@ impl Nest {
         ensures { result ≡ [] }
     {
         Nest {
-            frames: Vec::new(alloc),
+            parentheses: Vec::new(alloc),
         }
     }
 
@@ -55,25 +55,25 @@ impl Nest {
     pub fn depth(&self) -> usize
         ensures { result ≡ length self.now }
     {
-        self.frames.len()
+        self.parentheses.len()
     }
 
     /// With further parentheses, inside these.
-    pub fn open(self, frame: Frame) -> Result<Nest, AllocError>
-        ensures { IfOk result (λ nest. nest ≡ frame ∷ self) }
+    pub fn open(self, parenthesis: OpenParenthesis) -> Result<Nest, AllocError>
+        ensures { IfOk result (λ nest. nest ≡ parenthesis ∷ self) }
     {
-        let Nest { mut frames } = self;
-        frames.push(frame)?;
-        Ok(Nest { frames })
+        let Nest { mut parentheses } = self;
+        parentheses.push(parenthesis)?;
+        Ok(Nest { parentheses })
     }
 
     /// The inmost parentheses, where there are any, and those around them.
-    pub fn part(self) -> (Option<Frame>, Nest)
-        ensures { MatchOption result.0 ((self ≡ []) × (result.1 ≡ [])) (λ frame. self ≡ frame ∷ result.1) }
+    pub fn part(self) -> (Option<OpenParenthesis>, Nest)
+        ensures { MatchOption result.0 ((self ≡ []) × (result.1 ≡ [])) (λ parenthesis. self ≡ parenthesis ∷ result.1) }
     {
-        let Nest { mut frames } = self;
-        let inmost = frames.pop();
-        (inmost, Nest { frames })
+        let Nest { mut parentheses } = self;
+        let inmost = parentheses.pop();
+        (inmost, Nest { parentheses })
     }
 
     /// With one more line in the inmost parentheses.
@@ -82,7 +82,7 @@ impl Nest {
     {
         let (inmost, outer) = self.part();
         match inmost {
-            Some(frame) => outer.open(frame.add(line, computation)?),
+            Some(parenthesis) => outer.open(parenthesis.add(line, computation)?),
             None => Ok(outer),
         }
     }
@@ -93,14 +93,14 @@ impl Nest {
     ghost use Rattle.il_reader.specs.Nesting.{close_fault, end_fault, is_open};
 
     /// Whether parentheses stand open.
-    pub fn is_open(&self) -> bool
+    pub(crate) fn is_open(&self) -> bool
         ensures { result ≡ is_open self.now }
     {
         self.depth() != 0
     }
 
     /// The fault of a closing parenthesis behind a whole instruction.
-    pub fn close_fault(&self) -> ReadFaultKind
+    pub(crate) fn close_fault(&self) -> ReadFaultKind
         ensures { result ≡ close_fault self.now }
     {
         if self.depth() == 0 {
@@ -111,7 +111,7 @@ impl Nest {
     }
 
     /// The fault of a text that ends too soon.
-    pub fn end_fault(&self) -> ReadFaultKind
+    pub(crate) fn end_fault(&self) -> ReadFaultKind
         ensures { result ≡ end_fault self.now }
     {
         if self.depth() == 0 {
@@ -122,7 +122,7 @@ impl Nest {
     }
 }
 
-impl Frame {
+impl OpenParenthesis {
     ghost use Rattle.std.specs.Prelude.{◌≡◌, IfOk};
     ghost use Rattle.il_reader.specs.Nesting.{is_filled, with_line};
 
@@ -137,10 +137,10 @@ impl Frame {
     }
 
     /// With one more line.
-    pub fn add(self, line: u32, computation: Computation) -> Result<Frame, AllocError>
-        ensures { IfOk result (λ frame. frame ≡ with_line self line computation) }
+    pub fn add(self, line: u32, computation: Computation) -> Result<OpenParenthesis, AllocError>
+        ensures { IfOk result (λ parenthesis. parenthesis ≡ with_line self line computation) }
     {
-        let Frame {
+        let OpenParenthesis {
             head,
             operator,
             negated,
@@ -148,7 +148,7 @@ impl Frame {
             inner,
         } = self;
         let inner = inner.add(line, computation)?;
-        Ok(Frame {
+        Ok(OpenParenthesis {
             head,
             operator,
             negated,

@@ -7,7 +7,7 @@ use crate::computation::{Computation, InnerLines};
 use crate::draft::{Draft, Head};
 use crate::fault::ReadFaultKind;
 use crate::instructing::{begin_with, goes_on_if, operand_from};
-use crate::nest::{Frame, Nest};
+use crate::nest::{Nest, OpenParenthesis};
 use crate::stage::{PartStage, Stage};
 use crate::state::{Move, State};
 use crate::token::{Keyword, Token};
@@ -19,7 +19,7 @@ use std::alloc::{AllocError, Global};
 const MOST_NESTED: usize = 100;
 
 /// A whole instruction of the body.
-pub fn act(nest: Nest, draft: Draft, head: Head, action: Action) -> Result<State, AllocError>
+pub(crate) fn act(nest: Nest, draft: Draft, head: Head, action: Action) -> Result<State, AllocError>
     ensures { IfOk result (λ s. s ≡ acted nest draft head action) }
 {
     let draft = draft.add(head, Some(action))?;
@@ -27,7 +27,7 @@ pub fn act(nest: Nest, draft: Draft, head: Head, action: Action) -> Result<State
 }
 
 /// A whole instruction on the result alone: one of the body, or a line of the inmost parentheses.
-pub fn compute(
+pub(crate) fn compute(
     nest: Nest,
     draft: Draft,
     head: Head,
@@ -43,7 +43,11 @@ pub fn compute(
 }
 
 /// An opening parenthesis behind an operator.
-pub fn enter(nest: &Nest, operator: Operator, negated: bool) -> Result<PartStage, ReadFaultKind>
+pub(crate) fn enter(
+    nest: &Nest,
+    operator: Operator,
+    negated: bool,
+) -> Result<PartStage, ReadFaultKind>
     ensures { GoesOnInside nest.now result (λ head draft. enter_step nest.now head operator negated draft) }
 {
     if !may_open(operator) {
@@ -66,7 +70,7 @@ fn may_open(operator: Operator) -> bool
 }
 
 /// Behind an operator and an opening parenthesis.
-pub fn behind_parenthesis(
+pub(crate) fn behind_parenthesis(
     nest: Nest,
     head: Head,
     operator: Operator,
@@ -100,7 +104,7 @@ fn entered(
 }
 
 /// Behind an operator, an opening parenthesis and an operand.
-pub fn behind_entry(
+pub(crate) fn behind_entry(
     nest: Nest,
     head: Head,
     operator: Operator,
@@ -130,7 +134,7 @@ fn open(
 ) -> Result<Move, AllocError>
     ensures { IfOk result (λ m. m ≡ opened nest head operator negated operand draft) }
 {
-    let nest = nest.open(Frame {
+    let nest = nest.open(OpenParenthesis {
         head,
         operator,
         negated,
@@ -141,39 +145,39 @@ fn open(
 }
 
 /// Reads the first token of a line inside parentheses.
-pub fn begin_inside(
-    frame: Frame,
+pub(crate) fn begin_inside(
+    parenthesis: OpenParenthesis,
     outer: Nest,
     draft: Draft,
     token: Token,
     line: u32,
 ) -> Result<Move, AllocError>
-    ensures { IfOk result (λ m. m ≡ inside_step frame outer draft token line) }
+    ensures { IfOk result (λ m. m ≡ inside_step parenthesis outer draft token line) }
 {
     match token {
         Token::LineEnd => {
-            let nest = outer.open(frame)?;
+            let nest = outer.open(parenthesis)?;
             Ok(Ok(State::Within(Stage::AtLine(nest), draft)))
         }
-        Token::Close => close(frame, outer, draft),
-        Token::Keyword(word) => begin_inner(frame, outer, draft, word, line),
+        Token::Close => close(parenthesis, outer, draft),
+        Token::Keyword(word) => begin_inner(parenthesis, outer, draft, word, line),
         _ => Ok(Err(ReadFaultKind::Operator)),
     }
 }
 
 fn begin_inner(
-    frame: Frame,
+    parenthesis: OpenParenthesis,
     outer: Nest,
     draft: Draft,
     word: Keyword,
     line: u32,
 ) -> Result<Move, AllocError>
-    ensures { IfOk result (λ m. m ≡ inner_step frame outer draft word line) }
+    ensures { IfOk result (λ m. m ≡ inner_step parenthesis outer draft word line) }
 {
     if is_outer_word(word) {
         return Ok(Err(ReadFaultKind::Parenthesis));
     }
-    let nest = outer.open(frame)?;
+    let nest = outer.open(parenthesis)?;
     begin_with(nest, draft, Head { line, label: None }, word)
 }
 
@@ -192,19 +196,19 @@ fn is_outer_word(word: Keyword) -> bool
 }
 
 // The closing parenthesis.
-fn close(frame: Frame, outer: Nest, draft: Draft) -> Result<Move, AllocError>
-    ensures { IfOk result (λ m. m ≡ close_step frame outer draft) }
+fn close(parenthesis: OpenParenthesis, outer: Nest, draft: Draft) -> Result<Move, AllocError>
+    ensures { IfOk result (λ m. m ≡ close_step parenthesis outer draft) }
 {
-    if !frame.is_filled() {
+    if !parenthesis.is_filled() {
         return Ok(Err(ReadFaultKind::Operand));
     }
-    let Frame {
+    let OpenParenthesis {
         head,
         operator,
         negated,
         operand,
         inner,
-    } = frame;
+    } = parenthesis;
     let computation = Computation::defer(operator, negated, operand, inner);
     let state = compute(outer, draft, head, computation)?;
     Ok(Ok(state))

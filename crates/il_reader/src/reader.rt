@@ -10,7 +10,7 @@ const MOST_BYTES: usize = 1_048_576;
 
 /// How a text stands between two of its bytes.
 #[derive(Drop)]
-pub struct Reader {
+pub(crate) struct Reader {
     /// The line of the next byte.
     pub line: u32,
     /// The line of the last byte, 1 before the first.

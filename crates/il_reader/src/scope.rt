@@ -52,7 +52,7 @@ impl Scope {
     }
 
     /// One more name.
-    pub fn declare(&mut self, external: bool, name: Name) -> Result<(), AllocError>
+    pub(crate) fn declare(&mut self, external: bool, name: Name) -> Result<(), AllocError>
         ensures ok { OnOk result (self.new ≡ with_name external self.old name) }
     {
         if external {
@@ -65,7 +65,7 @@ impl Scope {
 }
 
 /// Whether the name is one of the list.
-pub fn is_listed(name: &[u8], names: &[Name]) -> bool
+pub(crate) fn is_listed(name: &[u8], names: &[Name]) -> bool
     ensures { result ≡ among name.now names.now }
 {
     names.iter().any(|other| name == other.as_bytes())

@@ -11,7 +11,7 @@ use point_types::{Condition, IlType, Name, Operator};
 
 /// Where a text stands between its name and END_PROGRAM, inside the parentheses of a nest.
 #[derive(Drop)]
-pub enum Stage {
+pub(crate) enum Stage {
     /// Behind the name or END_VAR: a block, or the body.
     BetweenBlocks,
     Block(BlockStage),
@@ -29,7 +29,7 @@ pub enum Stage {
 /// Where a text stands in a block of declarations. The truth value tells whether the block is one of
 /// externals.
 #[derive(Clone, Copy)]
-pub enum BlockStage {
+pub(crate) enum BlockStage {
     /// A declaration, or END_VAR.
     InBlock(bool),
     BehindName(bool),
@@ -56,7 +56,7 @@ pub enum BlockStage {
 
 /// Where a text stands behind the first token of an instruction.
 #[derive(Clone, Copy)]
-pub enum PartStage {
+pub(crate) enum PartStage {
     /// Behind LD or LDN.
     BehindLoad(bool),
     BehindOperator(Operator, bool),
@@ -86,14 +86,14 @@ pub enum PartStage {
 
 /// An operator with two operands beside the result.
 #[derive(Clone, Copy)]
-pub enum Pair {
+pub(crate) enum Pair {
     Limit,
     Select,
 }
 
 impl Stage {
     /// Whether this is the beginning of a line inside parentheses.
-    pub fn is_inner_line(&self) -> bool
+    pub(crate) fn is_inner_line(&self) -> bool
         ensures { result ≡ is_inner_line self.now }
     {
         match self {
@@ -103,7 +103,7 @@ impl Stage {
     }
 
     /// Why a text that ends here has ended too soon.
-    pub fn end_fault(&self) -> ReadFaultKind
+    pub(crate) fn end_fault(&self) -> ReadFaultKind
         ensures { result ≡ stage_early self.now }
     {
         match self {

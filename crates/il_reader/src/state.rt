@@ -29,7 +29,7 @@ pub enum State {
 }
 
 /// The next state, or why the token can't follow.
-pub type Move = Result<State, ReadFaultKind>;
+pub(crate) type Move = Result<State, ReadFaultKind>;
 
 impl State {
     /// Reads the tokens that a byte of this line has made.
@@ -43,7 +43,12 @@ impl State {
     }
 
     /// Reads a token, where there is one.
-    pub fn step_if(self, alloc: Global, token: Option<Token>, line: u32) -> Result<Move, AllocError>
+    pub(crate) fn step_if(
+        self,
+        alloc: Global,
+        token: Option<Token>,
+        line: u32,
+    ) -> Result<Move, AllocError>
         ensures { IfOk result (λ m. m ≡ stepped self token line) }
     {
         match token {
@@ -53,7 +58,7 @@ impl State {
     }
 
     /// Whether this is the beginning of a line inside parentheses.
-    pub fn is_at_inner_line(&self) -> bool
+    pub(crate) fn is_at_inner_line(&self) -> bool
         ensures { result ≡ is_at_inner_line self.now }
     {
         match self {
@@ -63,7 +68,7 @@ impl State {
     }
 
     /// Why a text that ends here has ended too soon.
-    pub fn end_fault(&self) -> ReadFaultKind
+    pub(crate) fn end_fault(&self) -> ReadFaultKind
         ensures { result ≡ early self.now }
     {
         match self {
@@ -188,7 +193,7 @@ fn at_line_in(
 {
     let (inmost, outer) = nest.part();
     match inmost {
-        Some(frame) => begin_inside(frame, outer, draft, token, line),
+        Some(parenthesis) => begin_inside(parenthesis, outer, draft, token, line),
         None => at_line(alloc, draft, token, line),
     }
 }

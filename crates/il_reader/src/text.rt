@@ -14,7 +14,7 @@ pub fn lower_case(byte: u8) -> u8
 }
 
 /// Whether this is a letter in lower case, or the underscore.
-pub fn is_word_letter(byte: u8) -> bool
+pub(crate) fn is_word_letter(byte: u8) -> bool
     ensures { result ≡ is_letter byte }
 {
     (byte >= b'a' && byte <= b'z') || byte == b'_'

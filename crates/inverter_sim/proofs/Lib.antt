@@ -1,7 +1,6 @@
 pub mod Upcoming
 pub mod Powers
 pub mod Lists
-pub mod Sending
 pub mod Answering
 pub mod Entries
 pub mod Devices

@@ -1,4 +1,5 @@
 -- The words by which the faults of a plant file are printed.
+-- No standard says what a plant file is; these words are this project's.
 use Rattle.std.specs.Prelude.{ℕ, List, codes}
 use Rattle.inverter_sim.specs.declared.fault.PlantFault.{PlantFault}
 use Rattle.inverter_sim.specs.declared.fault.PlantFault.TheVariants as fault

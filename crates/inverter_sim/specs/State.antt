@@ -1,4 +1,5 @@
 -- The state of a simulated plant: its devices with their registers, and what it does wrong at which frame.
+-- SunSpec Device Information Model Specification, device modbus maps.
 use Rattle.std.specs.Prelude.{ℕ, List}
 use Rattle.inverter_sim.specs.declared.misbehaviour.Fault.{Fault}
 use Rattle.inverter_sim.specs.declared.place.Place.{Place}

@@ -2,18 +2,21 @@
 #![tactic(auto)]
 
 mod device;
-pub mod fault;
-pub mod misbehaviour;
-pub mod place;
+mod fault;
+mod misbehaviour;
+mod place;
 mod plant;
-pub mod points;
+mod points;
 mod reader;
 mod serving;
 mod tick;
 
+// a plant of inverters, and what one of its devices does wrong
 pub use fault::PlantFault;
 pub use misbehaviour::{Fault, Misbehaviour};
-pub use place::Place;
 pub use plant::Plant;
-pub use points::{Scale, TickPoints};
+// a plant on a link
 pub use serving::serve_link;
+// where a device's points lie, and which of them its ticks set
+pub use place::Place;
+pub use points::{Scale, TickPoints};

@@ -1,21 +1,19 @@
 //! A plant behind a link: frames are read, and answered right or as the plant's faults say.
-ghost use Rattle.std.specs.Prelude.{◌≡◌, ◌+◌, ◌-◌, ◌<◌, ◌≤◌, ◌==◌, ◌&&◌, [], length, take, true, false, map, Some, None, IfOk, MatchResult};
+ghost use Rattle.std.specs.Prelude.{◌≡◌, ◌+◌, ◌≤◌, ◌==◌, ◌&&◌, [], length, take, false, map};
 ghost use Rattle.modbus_frame.specs.Bytes.{words_of};
 ghost use Rattle.std.specs.Option.{option_map_or};
-ghost use Rattle.modbus_frame.specs.Frame.{frame_bytes};
+ghost use Rattle.modbus_frame.specs.Link.{CountsCalls};
 ghost use Rattle.modbus_frame.specs.Message.{request_of, words_reply};
-ghost use Rattle.inverter_sim.specs.Link.{told, parsed_begins_scan, one_frame_more, next_fault, begins_scan, ticks_before, done, right_reply, done_by, garbled, reply_by, earlier, copies_by, copies, spelled_by, sent_by, sent_for, after_frame, goes_on_by, Serves, CountsFailed, CountsCalls, Sends};
+ghost use Rattle.modbus_frame.specs.Serving.{Serves};
+ghost use Rattle.inverter_sim.specs.Link.{AnswersFrame, parsed_begins_scan, one_frame_more, next_fault, ticks_before, done, right_reply, done_by, garbled, reply_by, earlier, copies_by, spelled_by, sent_by, goes_on_by};
 
 use crate::device::Device;
 use crate::misbehaviour::Misbehaviour;
 use crate::plant::Plant;
 use modbus_frame::{
-    Exception, Frame, FrameReader, Link, LinkFault, Pdu, Request, Response, Words, exception_pdu,
-    parse_request, response_pdu, send, write_frame,
+    Exception, Frame, FrameReply, Link, LinkFault, Pdu, Request, Responder, Response, Words,
+    exception_pdu, parse_request, response_pdu, serve, write_frame,
 };
-
-/// The most reads and writes of one call.
-const MOST_CALLS: u32 = 1_000_000;
 
 /// Answers the frames that come over a link, to its end between two frames or to a reply that the plant's faults cut
 /// off, and gives their number. Each reply has its frame's transaction and unit; an unknown unit is answered by
@@ -25,44 +23,31 @@ const MOST_CALLS: u32 = 1_000_000;
 /// [`LinkFault`]: Read and Write where the link failed, Frame where the bytes that came are no frame, End where they end
 /// inside one, Turns after 1,000,000 reads and writes. The frames before stay answered, and what they changed stands.
 pub fn serve_link<L: Link>(link: &mut L, plant: &mut Plant) -> Result<u32, LinkFault>
-    ensures serves { Serves (L.coming link.old) (L.sent link.old) (L.sent link.new) plant.old plant.new result }
-    ensures failures { CountsFailed (L.failures link.old) (L.failures link.new) result }
+    // What went out answers the frames that came: with an Ok all that the link had to give, or those up to a reply that
+    // was cut; else what is left of the stream is told.
+    ensures serves { Serves AnswersFrame
+        (record { coming = L.coming link.old; sent = L.sent link.old; failures = L.failures link.old; calls = L.calls link.old })
+        (record { coming = L.coming link.new; sent = L.sent link.new; failures = L.failures link.new; calls = L.calls link.new })
+        plant.old plant.new result }
     ensures calls { CountsCalls (L.calls link.old) (L.calls link.new) result }
 {
-    let mut reader = FrameReader::new();
-    let mut turns = MOST_CALLS;
-    let mut served = 0;
-    while let Some(frame) = reader.next_frame(link, &mut turns)? {
-        let goes_on = answer(link, plant, &frame, &mut turns)?;
-        served += 1;
-        if !goes_on {
-            break;
-        }
-    }
-    Ok(served)
+    serve(plant, link)
 }
 
-// Answers a frame, and tells whether more may be answered.
-fn answer<L: Link>(
-    link: &mut L,
-    plant: &mut Plant,
-    frame: &Frame,
-    turns: &mut u32,
-) -> Result<bool, LinkFault>
-    ensures sends { Sends (L.sent link.old) (L.sent link.new) (L.coming link.old) (L.coming link.new)
-        (L.failures link.old) (L.failures link.new) (L.calls link.old) (L.calls link.new)
-        (told result) (sent_for plant.old frame.now) turns.old turns.new }
-    ensures after { plant.new ≡ after_frame plant.old frame.now }
-    ensures goes_on { IfOk result (λ b. b ≡ goes_on_by (next_fault plant.old)) }
-{
-    let fault = plant.next_fault();
-    let reply = Frame {
-        transaction: frame.transaction,
-        unit: frame.unit,
-        pdu: plant.answer(frame, fault),
-    };
-    send_reply(link, reply, fault, turns)?;
-    Ok(goes_on(fault))
+impl Responder for Plant {
+    ghost use Rattle.inverter_sim.specs.Link.{AnswersFrame};
+
+    ghost answers = { AnswersFrame };
+
+    fn answer(&mut self, frame: &Frame) -> FrameReply {
+        let fault = self.next_fault();
+        let reply = Frame {
+            transaction: frame.transaction,
+            unit: frame.unit,
+            pdu: self.answer_by(fault, frame),
+        };
+        sent_by(fault, reply)
+    }
 }
 
 impl Plant {
@@ -80,7 +65,7 @@ impl Plant {
     }
 
     // Does a request, unless the fault says that it isn't done, and gives the reply.
-    fn answer(&mut self, frame: &Frame, fault: Option<Misbehaviour>) -> Pdu
+    fn answer_by(&mut self, fault: Option<Misbehaviour>, frame: &Frame) -> Pdu
         ensures after { self.new ≡ done_by fault self.old frame.now }
         ensures reply { result ≡ reply_by fault self.old frame.now }
     {
@@ -178,16 +163,9 @@ fn words_pdu(words: Words) -> Pdu
     response_pdu(&Request::Read { addr: 0, qty }, &Ok(Response::Words(words)))
 }
 
-// Sends a reply with what the fault makes of it.
-fn send_reply<L: Link>(
-    link: &mut L,
-    reply: Frame,
-    fault: Option<Misbehaviour>,
-    turns: &mut u32,
-) -> Result<(), LinkFault>
-    ensures { Sends (L.sent link.old) (L.sent link.new) (L.coming link.old) (L.coming link.new)
-        (L.failures link.old) (L.failures link.new) (L.calls link.old) (L.calls link.new)
-        result (sent_by fault reply) turns.old turns.new }
+// What the fault makes of a reply.
+fn sent_by(fault: Option<Misbehaviour>, reply: Frame) -> FrameReply
+    ensures { result ≡ record { bytes = sent_by fault reply; goes_on = goes_on_by fault } }
 {
     let mut buffer = [0; Frame::MAX_LEN];
     let len = spell(&reply, fault, &mut buffer);
@@ -202,10 +180,7 @@ fn send_reply<L: Link>(
         pdu,
     };
     let (bytes, _) = buffer.split_at(len);
-    match send_copies(link, &stale, copies_by(fault), turns) {
-        Ok(()) => send(link, bytes, turns),
-        Err(fault) => Err(fault),
-    }
+    FrameReply::new(&stale, copies_by(fault), bytes, goes_on(fault))
 }
 
 fn earlier(transaction: u16) -> u16
@@ -238,27 +213,4 @@ fn spell(reply: &Frame, fault: Option<Misbehaviour>, buffer: &mut [u8; 260]) -> 
         Some(Misbehaviour::Cut(bytes)) => len.min(bytes as usize),
         _ => len,
     }
-}
-
-fn send_copies<L: Link>(
-    link: &mut L,
-    frame: &Frame,
-    count: u8,
-    turns: &mut u32,
-) -> Result<(), LinkFault>
-    ensures { Sends (L.sent link.old) (L.sent link.new) (L.coming link.old) (L.coming link.new)
-        (L.failures link.old) (L.failures link.new) (L.calls link.old) (L.calls link.new)
-        result (copies count (frame_bytes frame.now)) turns.old turns.new }
-{
-    let mut buffer = [0; Frame::MAX_LEN];
-    let len = write_frame(frame, &mut buffer);
-    let (bytes, _) = buffer.split_at(len);
-    let mut left = count;
-    while left > 0 {
-        match send(link, bytes, turns) {
-            Ok(()) => left -= 1,
-            Err(fault) => return Err(fault),
-        }
-    }
-    Ok(())
 }

@@ -7,4 +7,5 @@ pub mod Responses
 pub mod Answering
 pub mod Rests
 pub mod Sending
+pub mod Copies
 pub mod Receiving

@@ -1,4 +1,5 @@
 -- The words that programs print for faults.
+-- No standard says what is printed; these words are this project's.
 use Rattle.std.specs.Prelude.{ℕ, List, codes}
 use Rattle.modbus_frame.specs.declared.fault.FrameFault.{FrameFault}
 use Rattle.modbus_frame.specs.declared.fault.FrameFault.TheVariants.{BadProtocol, BadLength}

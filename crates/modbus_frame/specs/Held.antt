@@ -1,4 +1,5 @@
 -- What a framer holds between two pieces of a stream.
+-- MODBUS Messaging on TCP/IP Implementation Guide, section 3.1.2.
 use Rattle.std.specs.Prelude.{ℕ, List, Option}
 use Rattle.modbus_frame.specs.declared.fault.FrameFault.{FrameFault}
 

@@ -9,3 +9,4 @@ pub mod InMemory
 pub mod Served
 pub mod Reading
 pub mod Exchange
+pub mod Serving

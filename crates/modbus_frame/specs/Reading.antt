@@ -1,4 +1,5 @@
 -- What a reader of frames holds between two frames.
+-- MODBUS Messaging on TCP/IP Implementation Guide, section 3.1.2.
 use Rattle.std.specs.Prelude.{ℕ, List}
 use Rattle.modbus_frame.specs.Held.{Held}
 

@@ -3,7 +3,6 @@
 use Rattle.std.specs.Prelude.{◌≡◌, ℕ, List, [], ◌∷◌, ◌++◌}
 use Rattle.modbus_frame.specs.declared.frame.Frame.{Frame}
 use Rattle.modbus_frame.specs.declared.message.Exception.{Exception}
-use Rattle.modbus_frame.specs.Frame.{Splits}
 use Rattle.modbus_frame.specs.Message.{refusal_bytes}
 
 -- A reply has the transaction and the unit of its frame.
@@ -23,7 +22,3 @@ module _ {S : Type 0} (Answers : S → Frame → List ℕ → S → Type 0) wher
   abbrev pub Answered : S → List Frame → List ℕ → S → Type 0
   Answered state [] sent end = (sent ≡ []) × (end ≡ state)
   Answered state (frame ∷ frames) sent end = (bytes : List ℕ) × (more : List ℕ) × (next : S) × Answers state frame bytes next × (sent ≡ bytes ++ more) × Answered next frames more end
-
--- The frames are all that the link had to give.
-abbrev pub IsAllOf : List ℕ → List Frame → Type 0
-IsAllOf stream frames = Splits stream frames []

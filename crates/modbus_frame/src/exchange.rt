@@ -3,7 +3,7 @@ ghost use Rattle.std.specs.Prelude.{◌≡◌, ◌-◌, ◌<◌, ◌≤◌, [], 
 ghost use Rattle.std.specs.Io.KnownBytes.{Keeps};
 ghost use Rattle.modbus_frame.specs.declared.link.LinkFault.TheVariants.{Frame as FrameFaulty};
 ghost use Rattle.modbus_frame.specs.Framing.{empty};
-ghost use Rattle.modbus_frame.specs.Link.{CountsBy, CountsDown};
+ghost use Rattle.modbus_frame.specs.Link.{CountsBy, CountsRead};
 ghost use Rattle.modbus_frame.specs.Exchange.{SendsFront, CountsSent, FeedsUnfed, Refills, ReadsNext, CountsReceived, left};
 
 use crate::fault::FrameFault;
@@ -58,7 +58,7 @@ impl FrameReader {
         ensures stands { IfSome self.old.held.fault (λ fault. (result ≡ Err (FrameFaulty fault))
             × (self.new ≡ self.old) × (link.new ≡ link.old) × (turns.new ≡ turns.old)) }
         ensures reads { self.old.held.fault ≡ None → ReadsNext (left self.old (L.coming link.old))
-            (left self.new (L.coming link.new)) result self.new.held }
+            (left self.new (L.coming link.new)) result self.new }
         ensures keeps { Keeps (L.sent link.old) (L.sent link.new) }
         ensures failures { CountsReceived (L.failures link.old) (L.failures link.new) result turns.new }
         ensures calls { CountsBy (turns.old - turns.new) (L.calls link.old) (L.calls link.new) }
@@ -77,7 +77,7 @@ impl FrameReader {
     ) -> Result<Option<Frame>, LinkFault>
         requires { self.old.held.fault ≡ None }
         ensures reads { ReadsNext (left self.old (L.coming link.old))
-            (left self.new (L.coming link.new)) result self.new.held }
+            (left self.new (L.coming link.new)) result self.new }
         ensures keeps { Keeps (L.sent link.old) (L.sent link.new) }
         ensures failures { CountsReceived (L.failures link.old) (L.failures link.new) result turns.new }
         ensures calls { CountsBy (turns.old - turns.new) (L.calls link.old) (L.calls link.new) }
@@ -117,7 +117,7 @@ impl FrameReader {
         ensures reads { Refills (L.coming link.old) (L.coming link.new) result self.new.unfed }
         ensures held { self.new.held ≡ self.old.held }
         ensures keeps { Keeps (L.sent link.old) (L.sent link.new) }
-        ensures failures { CountsDown (L.failures link.old) (L.failures link.new) result }
+        ensures failures { CountsRead (L.failures link.old) (L.failures link.new) result }
         ensures calls { CountsBy 1 (L.calls link.old) (L.calls link.new) }
     {
         self.start = 0;

@@ -18,7 +18,7 @@ pub struct Frame {
 
 impl Frame {
     /// The bytes before the PDU: transaction, protocol, length and unit.
-    pub const HEADER_LEN: usize = 7;
+    pub(crate) const HEADER_LEN: usize = 7;
 
     /// The most bytes that a frame has.
     pub const MAX_LEN: usize = 260;

@@ -10,18 +10,26 @@ mod link;
 mod mem_link;
 mod message;
 mod pdu;
+mod reply;
 mod request;
 mod response;
+mod serving;
 mod words;
 
-pub use exchange::{FrameReader, send};
+// frames in a stream
 pub use fault::FrameFault;
 pub use frame::{Frame, write_frame};
 pub use framer::{Fed, Framer};
-pub use link::{Down, Link, LinkFault};
-pub use mem_link::MemLink;
+// the messages in them
 pub use message::{Exception, ReplyFault, Request, Response};
 pub use pdu::Pdu;
 pub use request::{parse_request, request_pdu};
 pub use response::{exception_pdu, parse_response, response_pdu};
 pub use words::Words;
+// links that carry them
+pub use exchange::{FrameReader, send};
+pub use link::{Down, Link, LinkFault};
+pub use mem_link::MemLink;
+// a served link
+pub use reply::FrameReply;
+pub use serving::{MOST_CALLS, Responder, serve};

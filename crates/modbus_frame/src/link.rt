@@ -8,17 +8,17 @@ use thiserror::Error;
 
 /// What carries the bytes of frames both ways, as a connection does.
 ///
-/// A contract sees, where a link tells them, its calls and failures so far, the bytes to come and the bytes sent.
+/// A contract sees, where a link tells them, its calls so far and what went wrong, the bytes to come and the bytes sent.
 pub trait Link {
     ghost use Rattle.std.specs.Prelude.{ℕ, List, Option, ◌<◌, ◌≤◌, length, IfOk};
     ghost use Rattle.std.specs.Io.KnownBytes.{Keeps, ReadConsumes, WriteAppends};
-    ghost use Rattle.modbus_frame.specs.Link.{CountsBy, CountsDown};
+    ghost use Rattle.modbus_frame.specs.Link.{Failures, CountsBy, CountsRead, CountsWritten};
 
     /// How many reads and writes were made.
     ghost calls: { Self → Option ℕ };
 
-    /// How many of them answered [`Down`].
-    ghost failures: { Self → Option ℕ };
+    /// How many reads and how many writes answered [`Down`], and how many reads gave nothing.
+    ghost failures: { Self → Failures };
 
     /// The bytes that reads will give.
     ghost coming: { Self → Option (List ℕ) };
@@ -33,7 +33,7 @@ pub trait Link {
         ensures fits { IfOk result (λ n. n ≤ length into.old) }
         ensures reads { ReadConsumes (coming self.old) (coming self.new) result into.new }
         ensures keeps { Keeps (sent self.old) (sent self.new) }
-        ensures failures { CountsDown (failures self.old) (failures self.new) result }
+        ensures failures { CountsRead (failures self.old) (failures self.new) result }
         ensures calls { CountsBy 1 (calls self.old) (calls self.new) };
 
     /// Sends bytes of the front of the buffer, and gives their number. [`Down`] sends nothing.
@@ -42,7 +42,7 @@ pub trait Link {
         ensures fits { IfOk result (λ n. n ≤ length from.now) }
         ensures writes { WriteAppends (sent self.old) (sent self.new) result from.now }
         ensures keeps { Keeps (coming self.old) (coming self.new) }
-        ensures failures { CountsDown (failures self.old) (failures self.new) result }
+        ensures failures { CountsWritten (failures self.old) (failures self.new) result }
         ensures calls { CountsBy 1 (calls self.old) (calls self.new) };
 }
 

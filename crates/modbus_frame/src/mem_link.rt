@@ -1,8 +1,8 @@
 //! A link in memory, for tests.
 ghost use Rattle.std.specs.Prelude.{◌≡◌, ◌<◌, ◌≤◌, ◌++◌, ◌↔◌, [], length, take, drop, None, Some, IfOk, OnOk, OnErr, IsErr, IsTrue};
 ghost use Rattle.std.specs.Io.KnownBytes.{Keeps, ReadConsumes, WriteAppends};
-ghost use Rattle.modbus_frame.specs.Link.{CountsBy, CountsDown};
-ghost use Rattle.modbus_frame.specs.InMemory.{is_now, one_less, read_len, write_len, FailsInMemory, GoesOnInMemory, CallsInMemory};
+ghost use Rattle.modbus_frame.specs.Link.{CountsBy, CountsRead, CountsWritten};
+ghost use Rattle.modbus_frame.specs.InMemory.{is_now, one_less, read_len, write_len, read_of, failed_read, failed_write, FailsInMemory, GoesOnInMemory, CallsInMemory};
 
 use crate::link::{Down, Link};
 use std::alloc::{AllocError, Global};
@@ -18,7 +18,9 @@ pub struct MemLink {
     largest: usize,
     down: Option<usize>,
     calls: u64,
-    failures: u64,
+    failed_reads: u64,
+    failed_writes: u64,
+    empty_reads: u64,
 }
 
 impl Model for MemLink {
@@ -33,7 +35,11 @@ impl Model for MemLink {
       largest = l.largest;
       down = l.down;
       calls = counted l.calls;
-      failures = counted l.failures;
+      failures = record {
+        reads = counted l.failed_reads;
+        writes = counted l.failed_writes;
+        ends = counted l.empty_reads;
+      };
     } };
 
     ghost invariant = { λ l. (l.position ≤ vec_len l.coming) × (0 < l.largest) };
@@ -55,7 +61,7 @@ impl MemLink {
           largest = largest;
           down = down;
           calls = Some 0;
-          failures = Some 0;
+          failures = record { reads = Some 0; writes = Some 0; ends = Some 0 };
         }) }
     {
         Ok(MemLink {
@@ -65,7 +71,9 @@ impl MemLink {
             largest,
             down,
             calls: 0,
-            failures: 0,
+            failed_reads: 0,
+            failed_writes: 0,
+            empty_reads: 0,
         })
     }
 
@@ -98,26 +106,30 @@ impl Link for MemLink {
         ensures fits { IfOk result (λ n. n ≤ length into.old) }
         ensures reads { ReadConsumes (Some self.old.coming) (Some self.new.coming) result into.new }
         ensures keeps { Keeps (Some self.old.sent) (Some self.new.sent) }
-        ensures failures { CountsDown self.old.failures self.new.failures result }
+        ensures failures { CountsRead self.old.failures self.new.failures result }
         ensures calls { CountsBy 1 self.old.calls self.new.calls }
 
         // It fails at the call that was named, and else gives as much as it may.
         ensures down { IsErr result ↔ IsTrue (is_now self.old.down) }
         ensures len { IfOk result (λ n. n ≡ read_len self.old (length into.old)) }
         ensures ok { OnOk result (GoesOnInMemory self.old self.new
-            (drop (read_len self.old (length into.old)) self.old.coming) self.old.sent) }
-        ensures err { OnErr result (FailsInMemory self.old self.new) }
+            (drop (read_len self.old (length into.old)) self.old.coming) self.old.sent
+            (read_of (read_len self.old (length into.old)) self.old.failures)) }
+        ensures err { OnErr result (FailsInMemory self.old self.new (failed_read self.old.failures)) }
         ensures called { CallsInMemory self.old self.new }
     {
         self.calls = self.calls.saturating_add(1);
         if is_call(&mut self.down) {
-            self.failures = self.failures.saturating_add(1);
+            self.failed_reads = self.failed_reads.saturating_add(1);
             return Err(Down);
         }
         let (_, coming) = self.coming.split_at(self.position);
         let n = self.largest.min(into.len()).min(coming.len());
         into[..n].copy_from_slice(coming.split_at(n).0);
         self.position += n;
+        if n == 0 {
+            self.empty_reads = self.empty_reads.saturating_add(1);
+        }
         Ok(n)
     }
 
@@ -127,21 +139,21 @@ impl Link for MemLink {
         ensures fits { IfOk result (λ n. n ≤ length from.now) }
         ensures writes { WriteAppends (Some self.old.sent) (Some self.new.sent) result from.now }
         ensures keeps { Keeps (Some self.old.coming) (Some self.new.coming) }
-        ensures failures { CountsDown self.old.failures self.new.failures result }
+        ensures failures { CountsWritten self.old.failures self.new.failures result }
         ensures calls { CountsBy 1 self.old.calls self.new.calls }
 
         // It fails at the call that was named, and else takes as much as it may.
         ensures down { IsTrue (is_now self.old.down) → IsErr result }
         ensures len { IfOk result (λ n. n ≡ write_len self.old (length from.now)) }
         ensures ok { OnOk result (GoesOnInMemory self.old self.new self.old.coming
-            (self.old.sent ++ take (write_len self.old (length from.now)) from.now)) }
-        ensures err { OnErr result (FailsInMemory self.old self.new) }
+            (self.old.sent ++ take (write_len self.old (length from.now)) from.now) self.old.failures) }
+        ensures err { OnErr result (FailsInMemory self.old self.new (failed_write self.old.failures)) }
         ensures called { CallsInMemory self.old self.new }
     {
         self.calls = self.calls.saturating_add(1);
         let n = self.largest.min(from.len());
         if is_call(&mut self.down) || self.sent.extend_from_slice(from.split_at(n).0).is_err() {
-            self.failures = self.failures.saturating_add(1);
+            self.failed_writes = self.failed_writes.saturating_add(1);
             return Err(Down);
         }
         Ok(n)

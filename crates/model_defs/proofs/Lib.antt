@@ -3,3 +3,4 @@ pub mod Placed
 pub mod Whole
 pub mod Trees
 pub mod Lookup
+pub mod Uniqueness

@@ -18,7 +18,7 @@ use Rattle.model_defs.proofs.Entries.{Entries, names_apart}
 told_at : (ds : List Description) (ps : List Point) (i : ℕ) (p : Point) → ArePoints ds ps → slice_get ps i ≡ Some p → slice_get ds i ≡ Some (description_told ds p)
 told_at ds ps i p are at = ap (λ xs. slice_get xs i) (sym are) ∙ slice_get-map (description_told ds) ps i ∙ ap (option_map (description_told ds)) at
 
-sums : (ds : List Description) (ps : List Point) → all_registers (map (description_told ds) ps) ≡ registers_of ps
+pub sums : (ds : List Description) (ps : List Point) → all_registers (map (description_told ds) ps) ≡ registers_of ps
 sums ds [] = refl
 sums ds (p ∷ ps) = omega (arith, sums ds ps, sum_by-cons (λ d. d.size) (description_told ds p) (map (description_told ds) ps), sum_by-cons (λ q. q.size) p ps)
 

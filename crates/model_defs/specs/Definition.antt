@@ -248,3 +248,7 @@ HasFactorsAmong ds points = (i j : ℕ) (p : Point) → slice_get points i ≡ S
 -- The model has the tree's id and points. Where its points lie, and that its parts fit, is what each `ModelDef` says of itself.
 abbrev pub StandsFor : Data → ModelDef → Type 0
 StandsFor tree model = (o : Outline) × (outline_of tree ≡ Some o) × (o.id ≡ pos model.id) × ArePoints (descriptions_of o.points) model.points
+
+-- a text that is a definition: its tree breaks no rule, and the model is the tree's
+abbrev pub IsRead : List ℕ → ModelDef → Type 0
+IsRead text model = (tree : Data) × IsTree text tree × (first_broken tree ≡ None) × StandsFor tree model

@@ -1,4 +1,5 @@
--- What the reader's own values stand for: a point's keys, and a point by itself.
+-- inner: what the reader's own values stand for: a point's keys, and a point by itself.
+-- SunSpec Device Information Model Specification, model definitions in JSON.
 use Rattle.std.specs.Prelude.{ℕ, List, map}
 use denote.Ref.{Bor}
 use Rattle.serde_json.specs.View.{view, items_view}

@@ -1,4 +1,5 @@
 -- The words by which the faults of a model definition are printed.
+-- No standard says what is printed; these words are this project's.
 use Rattle.std.specs.Prelude.{ℕ, List, codes}
 use Rattle.model_defs.specs.declared.fault.DefFault.{DefFault}
 use Rattle.model_defs.specs.declared.fault.DefFault.TheVariants as fault

@@ -2,5 +2,6 @@ pub mod Definition
 pub mod Descriptions
 pub mod Fault
 pub mod Layout
+pub mod Laws
 pub mod Shipped
 pub mod Examples

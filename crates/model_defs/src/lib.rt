@@ -2,16 +2,19 @@
 #![tactic(auto)]
 
 mod description;
-pub mod fault;
-pub mod model;
+mod fault;
+pub mod laws;
+mod model;
 mod models;
 mod placing;
-pub mod point;
+mod point;
 mod point_object;
 mod reader;
 
+// a definition, read or shipped
 pub use fault::DefFault;
-pub use model::ModelDef;
-pub use models::shipped;
-pub use point::{Point, PointName, Points, Sf};
+pub use models::{shipped, shipped_models};
 pub use reader::read;
+// what it says
+pub use model::ModelDef;
+pub use point::{Point, PointName, Points, Sf};

@@ -2,7 +2,7 @@
 ghost use Rattle.std.specs.Prelude.{◌≡◌, ◌≢◌, ◌≤◌, ℕ, pos, [], Some, None, true, false, option_map, IfOk, IfErr, OnOk, MatchOption};
 ghost use Rattle.serde_json.specs.Data.{Data};
 ghost use Rattle.serde_json.specs.View.{view, items_view};
-ghost use Rattle.model_defs.specs.Definition.{IsTree, Breaks, StandsFor, first_broken, outline_of, is_model_id, repeats, broken_among, descriptions_of};
+ghost use Rattle.model_defs.specs.Definition.{IsRead, Breaks, StandsFor, first_broken, outline_of, is_model_id, repeats, broken_among, descriptions_of};
 ghost use Rattle.model_defs.specs.Descriptions.{outline_view, descriptions_view};
 ghost use Rattle.model_defs.specs.declared.fault.DefFault.{DefFault};
 ghost use Rattle.model_defs.specs.declared.fault.DefFault.TheVariants as fault;
@@ -22,8 +22,7 @@ use std::alloc::Global;
 /// `RW`, R where it is missing). Other keys aren't looked at, but for the group's `groups`, which has to be
 /// empty. The first rule that the text breaks, in the order of [`DefFault`], is the fault.
 pub fn read(alloc: Global, text: &[u8]) -> Result<ModelDef, DefFault>
-    ensures ok { IfOk result
-        (λ model. (tree : Data) × IsTree text.now tree × StandsFor tree model) }
+    ensures ok { IfOk result (IsRead text.now) }
     ensures unbroken { OnOk result ((e : DefFault) → ¬ Breaks text.now e) }
     ensures refused { IfErr result (λ e. e ≢ fault.OutOfMemory → Breaks text.now e) }
 {

@@ -1,4 +1,5 @@
--- A number at another power of ten, as far as 128 bits hold it: what the readings and the encoding stand on.
+-- inner: a number at another power of ten, as far as 128 bits hold it: what the readings and the encoding stand on.
+-- SunSpec Device Information Model Specification, scale factors.
 use Rattle.std.specs.Prelude.{◌≡◌, ◌^◌, ◌⊎◌, ℤ, pos, neg_ℤ, ◌+ℤ◌, ◌*ℤ◌, ◌≤ℤ◌, ◌<ℤ◌}
 use Rattle.point_types.specs.declared.scaling.Rescaled.{Rescaled}
 use Rattle.point_types.specs.declared.scaling.Rescaled.TheVariants as rescaled

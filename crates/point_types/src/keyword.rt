@@ -104,7 +104,7 @@ static CONVERSIONS: [&str; 42] = [
 ];
 
 /// Whether a word in lower case is reserved, so that it is no name (IEC 61131-3 edition 2, 2.1.3).
-pub fn is_reserved_word(word: &[u8]) -> bool
+pub(crate) fn is_reserved_word(word: &[u8]) -> bool
     ensures { result ≡ is_reserved word.now }
 {
     is_among(word, &PLAIN_WORDS) || is_among(word, &CONVERSIONS)

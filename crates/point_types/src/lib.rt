@@ -1,27 +1,30 @@
 //! What every crate of the gateway shares: the types of Instruction List, the kinds of SunSpec points, and readings.
 #![tactic(auto)]
 
-pub mod encoding;
+mod encoding;
 mod form;
-pub mod il_type;
-pub mod items;
-pub mod keyword;
-pub mod kind;
+mod il_type;
+mod items;
+mod keyword;
+mod kind;
 pub mod laws;
-pub mod name;
-pub mod operator;
-pub mod reading;
-pub mod scaling;
-pub mod variable;
-pub mod words;
+mod name;
+mod operator;
+mod reading;
+mod scaling;
+mod variable;
+mod words;
 
+// a point: its kind, its words, its value, and what it reads as
 pub use encoding::{Unencodable, encode};
-pub use il_type::IlType;
-pub use items::Items;
 pub use kind::Kind;
-pub use name::Name;
-pub use operator::{Condition, Operator};
 pub use reading::{Cause, Reading};
 pub use scaling::{scaled, scaled_down};
-pub use variable::Var;
 pub use words::{number, value};
+// a variable of Instruction List, its type and its name
+pub use il_type::IlType;
+pub use name::Name;
+pub use operator::{Condition, Operator};
+pub use variable::Var;
+// lists of what has a name
+pub use items::Items;

@@ -1,6 +1,7 @@
 -- What is written of a tag is a set point, the only one, and what isn't has none.
+use Rattle.site_model.specs.declared.access.Access.{Access}
 use Rattle.site_model.specs.declared.access.Access.TheVariants as access
-use Rattle.std.proofs.Common.{◌≡◌, ℕ, List, ℤ, ◌≤ℤ◌, Option, Some, None, Result, Ok, Err, refl, sym, ap, subst, ◌∙◌}
+use Rattle.std.proofs.Common.{◌≡◌, ℕ, Bool, true, false, IsTrue, List, ℤ, ◌≤ℤ◌, Option, Some, None, Result, Ok, Err, refl, sym, ap, subst, ◌∙◌}
 use Rattle.point_types.specs.declared.kind.Kind.{Kind}
 use Rattle.point_types.specs.declared.reading.Reading.TheVariants as reading
 use Rattle.point_types.specs.declared.encoding.Unencodable.{Unencodable}
@@ -11,6 +12,7 @@ use Rattle.point_types.specs.Encoding.{EncodesBy, IsEncoding}
 use Rattle.point_types.proofs.RoundTrips.{at_most_one_encoding}
 use Rattle.register_map.specs.Layout.{Layout}
 use Rattle.site_model.specs.declared.tag.SiteTag.{SiteTag}
+use Rattle.site_model.specs.Tag.{may_write}
 use Rattle.site_model.specs.Wants.{Want}
 use Rattle.point_writer.specs.declared.write.Write.{Write}
 use Rattle.point_writer.specs.declared.write.NoWrite.{NoWrite}
@@ -86,6 +88,14 @@ refused_has_none maps wants blocks t v e w h s = go e (subst (λ (p : Option Pla
     go refusal.Inexact k = not_both t.point v t.exponent s.place.factor w.words unencodable.Inexact (words-encode s.place t v w s.sets) k
     go refusal.OutOfType k = not_both t.point v t.exponent s.place.factor w.words unencodable.OutOfType (words-encode s.place t v w s.sets) k
 
+-- the point of a tag that is written to a device can be written
+writes_writable : (a : Access) (w : Bool) → IsTrue (may_write a w) → a ≡ access.Output → w ≡ true
+writes_writable a true h e = refl
+writes_writable access.Output false h e = cc
+writes_writable access.Input false h e = cc
+writes_writable access.Setting false h e = cc
+writes_writable access.Shown false h e = cc
+
 -- what is written is a set point
 pub writes-set_point : (maps : List (Option Layout)) (wants : List Want) (blocks : List (Option (List ℕ))) (t : SiteTag) (o : Option ℤ) (w : Write) → t.access ≡ access.Output →
     IsPlan maps wants blocks t o (Ok w) → (v : ℤ) × (o ≡ Some v) × IsSetPoint maps wants blocks t v w
@@ -94,4 +104,4 @@ writes-set_point maps wants blocks t (Some v) w a h = (v, refl, go (place_of map
   where
     go : (p : Option Place) → place_of maps wants blocks t ≡ p → IsPlanAt p t v (Ok w) → IsSetPoint maps wants blocks t v w
     go None e k = cc
-    go (Some place) e k = record { output = a; place = place; placed = e; sets = k }
+    go (Some place) e k = record { output = a; writable = writes_writable t.access t.writable t.writes a; place = place; placed = e; sets = k }

@@ -1,4 +1,5 @@
 -- The words by which it is printed why a tag isn't written, and the causes that a number has no words.
+-- No standard says what is printed; these words are this project's.
 use Rattle.std.specs.Prelude.{ℕ, List, codes}
 use Rattle.point_types.specs.declared.encoding.Unencodable.{Unencodable}
 use Rattle.point_types.specs.declared.encoding.Unencodable.TheVariants as unencodable

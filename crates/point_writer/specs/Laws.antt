@@ -1,4 +1,5 @@
 -- What is proved of set points: a tag has one for a number at most, and none where it isn't written.
+-- SunSpec Device Information Model Specification, points and scale factors.
 use Rattle.std.specs.Prelude.{◌≡◌, ℤ, ◌≤ℤ◌, List, ℕ, Option, Some, Err}
 use Rattle.register_map.specs.Layout.{Layout}
 use Rattle.site_model.specs.declared.tag.SiteTag.{SiteTag}

@@ -1,4 +1,5 @@
--- What the planner's own values stand for: a place.
+-- inner: what the planner's own values stand for: a place.
+-- SunSpec Device Information Model Specification, device modbus maps.
 use Rattle.point_writer.specs.declared.place.Place.{Place}
 use Rattle.point_writer.specs.SetPoint as told
 

@@ -1,6 +1,6 @@
 -- Set points: which words, at which address of which device, set a tag to a number, and why there are none.
 -- SunSpec Device Information Model Specification, points and scale factors.
-use Rattle.std.specs.Prelude.{◌≡◌, ℕ, ◌+◌, List, length, take, slice_get, ℤ, Option, Some, None, option_map, option_and_then, Result, Ok, Err}
+use Rattle.std.specs.Prelude.{◌≡◌, ℕ, ◌+◌, true, List, length, take, slice_get, ℤ, Option, Some, None, option_map, option_and_then, Result, Ok, Err}
 use Rattle.point_types.specs.declared.reading.Reading.TheVariants as reading
 use Rattle.point_types.specs.declared.encoding.Unencodable.TheVariants as unencodable
 use Rattle.point_types.specs.Point.{size_of, StandsFor}
@@ -49,9 +49,10 @@ pub record SetsAt (place : Place) (t : SiteTag) (v : ℤ) (w : Write) : Type 0 w
   pub stands : StandsFor t.point w.words raw
   pub reads : IsReading raw place.factor t.exponent t.low t.high (reading.Value v)
 
--- the words set a tag that is written to a device to the number
+-- the words set a tag that is written to a device to the number; its point is one that can be written
 pub record IsSetPoint (maps : List (Option Layout)) (wants : List Want) (blocks : List (Option (List ℕ))) (t : SiteTag) (v : ℤ) (w : Write) : Type 0 where
   pub output : t.access ≡ access.Output
+  pub writable : t.writable ≡ true
   pub place : Place
   pub placed : place_of maps wants blocks t ≡ Some place
   pub sets : SetsAt place t v w

@@ -4,6 +4,6 @@
 pub mod laws;
 mod place;
 pub mod plan;
-pub mod write;
+mod write;
 
 pub use write::{NoWrite, Write};

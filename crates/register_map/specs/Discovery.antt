@@ -1,4 +1,5 @@
--- What the steps of the search give, and which results count as a fault of a read.
+-- inner: what the steps of the search give, and which results count as a fault of a read.
+-- SunSpec Device Information Model Specification, the base addresses of Modbus devices.
 use Rattle.std.specs.Prelude.{◌≡◌, ℕ, ◌<◌, ◌≤◌, Bool, true, false, Result, Ok, Err, Option, Some, None}
 use Rattle.register_map.specs.declared.layout.MapFault.{MapFault}
 use Rattle.register_map.specs.declared.layout.MapFault.TheVariants.{NoMark, NotCommon, PastEnd, TooMany, Read}

@@ -1,4 +1,5 @@
 -- The words by which the faults of reads and of maps are named.
+-- No standard says what is printed; these words are this project's.
 use Rattle.std.specs.Prelude.{ℕ, List, codes}
 use Rattle.register_map.specs.declared.access.ReadFault.{ReadFault}
 use Rattle.register_map.specs.declared.access.ReadFault.TheVariants.{Refused, Failed}

@@ -1,4 +1,5 @@
 -- What makes the definition of a map believable: words that are laid out as a map are read as it, and nothing is read in two ways.
+-- SunSpec Device Information Model Specification, device modbus maps.
 use Rattle.std.specs.Prelude.{◌≡◌, ◌≢◌, ℕ, ◌+◌, ◌<◌, List, [], ◌∷◌, ◌++◌, length, All, Result, Ok}
 use Rattle.register_map.specs.declared.layout.Block.{Block}
 use Rattle.register_map.specs.declared.layout.MapFault.{MapFault}

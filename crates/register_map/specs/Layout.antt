@@ -1,4 +1,5 @@
 -- What a caller sees of a map: the blocks of its models in order, and the address of the end model's ID.
+-- SunSpec Device Information Model Specification, device modbus maps.
 use Rattle.std.specs.Prelude.{ℕ, ◌+◌, ◌≤◌, List, Option, find, nat_eq}
 use Rattle.register_map.specs.declared.layout.Block.{Block}
 

@@ -1,4 +1,5 @@
 -- Registers in memory, one read of which may be planned to give no words.
+-- Modbus Application Protocol V1.1b3, section 6.3 Read Holding Registers.
 use Rattle.std.specs.Prelude.{◌≡◌, ℕ, zero, suc, ◌+◌, ◌-◌, List, Bool, Err, Option, Some, None, nat_lt, min, if◌then◌else◌}
 use Rattle.register_map.specs.declared.access.ReadFault.{ReadFault}
 use Rattle.register_map.specs.declared.access.ReadFault.TheVariants.{Refused}

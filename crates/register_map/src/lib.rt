@@ -10,7 +10,9 @@ mod layout;
 mod memory;
 mod words;
 
-pub use access::{ReadFault, Registers};
+// the search for a map, over registers or over a list of words
 pub use discovery::{chain, discover};
 pub use layout::{Block, MOST_MODELS, Map, MapFault};
+// registers that can be read, and those of a test
+pub use access::{ReadFault, Registers};
 pub use memory::{MemRegisters, PlannedFault};

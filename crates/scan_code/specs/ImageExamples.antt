@@ -1,4 +1,5 @@
 -- Worked bytes of images, computed by the checker.
+-- IEC 61131-3 edition 2, 3.2 leaves the form of compiled code open; images are this project's.
 use Rattle.std.specs.Prelude.{◌≡◌, ℕ, List, [], ◌∷◌, ◌++◌, take, Ok, Err}
 use Rattle.scan_code.specs.declared.image_fault.ImageFault.TheVariants as fault
 use Rattle.scan_code.specs.Image.{Image}

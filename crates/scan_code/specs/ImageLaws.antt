@@ -1,4 +1,5 @@
 -- What holds of the bytes of images.
+-- IEC 61131-3 edition 2, 3.2 leaves the form of compiled code open; images are this project's.
 use Rattle.std.specs.Prelude.{◌≡◌, ℕ, ◌<◌, List, [], ◌∷◌, ◌++◌, Ok, Err}
 use Rattle.scan_code.specs.declared.image_fault.ImageFault.TheVariants as fault
 use Rattle.scan_code.specs.Image.{Image, IsProper}

@@ -1,4 +1,5 @@
 -- Reading an image from bytes: each part is judged from left to right as soon as it is whole, and the first fault is given.
+-- IEC 61131-3 edition 2, 3.2 leaves the form of compiled code open; images are this project's.
 use Rattle.std.specs.Prelude.{◌≡◌, ℕ, zero, suc, Bool, true, false, ◌&&◌, ℤ, List, [], ◌∷◌, ◌++◌, length, take, drop, if◌then◌else◌, Option, Some, None, Result, Ok, Err, MatchResult, ◌⊎◌, slice_get, nat_le, nat_eq, int_le, refl}
 use Rattle.point_types.specs.Name.{most_characters}
 use Rattle.point_types.specs.Value.{low_of, high_of, is_bool, int_eq, is_within, is_ranged}

@@ -1,4 +1,5 @@
 -- The words of the faults of an image, as they are printed.
+-- IEC 61131-3 edition 2, 3.2 leaves diagnostics open; these words are this project's.
 use Rattle.std.specs.Prelude.{ℕ, List, codes}
 use Rattle.scan_code.specs.declared.image_fault.ImageFault.{ImageFault}
 use Rattle.scan_code.specs.declared.image_fault.ImageFault.TheVariants as fault

@@ -93,7 +93,8 @@ fn first(bytes: &[u8]) -> Option<(Op, usize)>
 }
 
 /// The number of a place, or an address: big-endian.
-pub(crate) fn place_from(high: u8, low: u8) -> u16
+#[inline(always)]
+pub fn place_from(high: u8, low: u8) -> u16
     ensures { result ≡ high * 256 + low }
 {
     u16::from_be_bytes([high, low])
@@ -120,7 +121,8 @@ fn number_at(arguments: &[u8]) -> Option<(Op, usize)>
 }
 
 /// A number in two's complement, big-endian.
-pub(crate) fn number_from(bytes: [u8; 8]) -> i64
+#[inline(always)]
+pub fn number_from(bytes: [u8; 8]) -> i64
     ensures { result ≡ signed_from bytes }
 {
     i64::from_be_bytes(bytes)

@@ -3,6 +3,7 @@ pub mod BareSteps
 pub mod BareRun
 pub mod BareWords
 pub mod Accepted
+pub mod Dispatch
 pub mod Possible
 pub mod Progress
 pub mod Reached

@@ -1,6 +1,7 @@
 pub mod Bare
 pub mod Machine
 pub mod Outcome
+pub mod Parts
 pub mod Progress
 pub mod Step
 pub mod Trap

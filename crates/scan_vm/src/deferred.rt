@@ -36,7 +36,7 @@ impl Deferred {
     }
 
     #[tactic(auto, using(crate::proofs::Stack::stack_length))]
-    pub fn is_full(&self) -> bool
+    pub(crate) fn is_full(&self) -> bool
         ensures full { result ≡ not (nat_lt (length self.now) 128) }
         ensures room { result ≡ false → length self.now < 128 }
     {

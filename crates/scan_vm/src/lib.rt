@@ -5,14 +5,18 @@ mod arithmetic;
 mod deferred;
 mod deferred_words;
 mod execution;
+mod inputs;
 pub mod laws;
-pub mod machine;
+mod machine;
 mod operators;
-pub mod trap;
-pub mod trial;
+mod registers;
+mod trap;
+mod trial;
 mod value;
-mod words;
+mod word_machine;
 
-pub use machine::Machine;
+// a scan of any program, with each step tested
 pub use trap::{Trap, TrapKind};
 pub use trial::{Scan, Trial};
+// the scans of an accepted one
+pub use machine::Machine;

@@ -1,4 +1,5 @@
 -- Which devices the entries of the section `device` of a site file stand for.
+-- SunSpec Device Information Model Specification, device modbus maps.
 use Rattle.std.specs.Prelude.{ℕ, ℤ, pos, nat_eq, Bool, ◌||◌, List, [], ◌∷◌, ◌++◌, Option, None, Some, option_map, option_and_then, if◌then◌else◌, Result, Ok, Err, codes}
 use Rattle.std.specs.List.{list_any}
 use Rattle.std.specs.Option.{ok_or, option_map_or}

@@ -1,4 +1,5 @@
 -- Worked trees: what they stand for, and which rule they break first.
+-- TOML 1.0; no standard says what a site file is: it is this project's.
 use Rattle.std.specs.Prelude.{◌≡◌, ℕ, ℤ, pos, neg_ℤ, true, false, List, [], ◌∷◌, None, Some, Ok, Err, refl, codes}
 use Rattle.toml.specs.Data.{Data, Items, no_items, item, Members, no_members, member, string, integer, boolean, array, table}
 use Rattle.point_types.specs.declared.il_type.IlType.TheVariants as il

@@ -1,4 +1,5 @@
 -- The words by which the faults of a site file are printed.
+-- No standard says what is printed; these words are this project's.
 use Rattle.std.specs.Prelude.{ℕ, List, codes}
 use Rattle.site_model.specs.declared.fault.SiteFault.{SiteFault}
 use Rattle.site_model.specs.declared.fault.SiteFault.TheVariants as fault

@@ -1,4 +1,5 @@
 -- Which site a site file stands for, over given model definitions.
+-- SunSpec Device Information Model Specification, device modbus maps; site files are this project's.
 use Rattle.std.specs.Prelude.{ℕ, nat_lt, Bool, false, ◌||◌, List, [], suc, zero, Option, None, Some, option_map, option_and_then, if◌then◌else◌, Result, Ok, Err, codes}
 use Rattle.std.specs.Option.{ok_or, option_map_or}
 use Rattle.toml.specs.Data.{Data, table, Items, no_items, item, get, as_array}

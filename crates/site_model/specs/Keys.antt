@@ -1,4 +1,5 @@
 -- What the keys of a TOML table give: texts, whole numbers and lists, where they are there and of that kind.
+-- TOML 1.0.
 use Rattle.std.specs.Prelude.{ℕ, ℤ, pos, negsuc, nat_le, Bool, true, false, ◌&&◌, is_some, List, Option, None, Some, option_map, option_and_then, if◌then◌else◌, Result, Ok, Err, codes}
 use Rattle.std.specs.Option.{option_map_or}
 use Rattle.toml.specs.Data.{Data, Items, no_items, item, get, as_str, as_integer, as_array}

@@ -1,4 +1,5 @@
--- Devices by their names, in the order of the site file.
+-- inner: devices by their names, in the order of the site file.
+-- No standard says what a site file is; it is this project's.
 use Rattle.std.specs.Prelude.{◌≡◌, ℕ, List}
 use Rattle.std.specs.Borrow.{Bor}
 use Rattle.std.specs.Map.{lookup}

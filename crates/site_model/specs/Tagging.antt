@@ -17,7 +17,7 @@ use Rattle.model_defs.specs.declared.point.Sf.TheVariants as scales
 use Rattle.model_defs.specs.declared.model.ModelDef.{ModelDef}
 use Rattle.site_model.specs.Keys.{text_at, number_at, optional_text_at, optional_number_at, natural_within}
 use Rattle.site_model.specs.Gateway.{has_id, definition_of}
-use Rattle.site_model.specs.Tag.{start_of}
+use Rattle.site_model.specs.Tag.{may_write, start_of}
 use Rattle.site_model.specs.declared.access.Access.{Access}
 use Rattle.site_model.specs.declared.access.Access.TheVariants as access
 use Rattle.site_model.specs.declared.tag.Sf.{Sf}
@@ -127,12 +127,6 @@ abbrev pub is_input : Access → Bool
 is_input access.Input = true
 is_input other = false
 
--- its point is written: by the gateway, or by clients
-abbrev pub is_written : Access → Bool
-is_written access.Output = true
-is_written access.Setting = true
-is_written other = false
-
 -- ---- where the point is
 
 -- the number of the device of a name, where the first one has number n
@@ -164,7 +158,7 @@ point_for name model = option_and_then (slice_get model.points) (point_number na
 
 abbrev pub may_be_written : Option Access → Bool → Bool
 may_be_written None writable = true
-may_be_written (Some a) writable = not (is_written a) || writable
+may_be_written (Some a) writable = may_write a writable
 
 -- ---- the ranges
 
@@ -242,6 +236,7 @@ pub record Tag : Type 0 where
   pub device : Option ℕ
   pub model : ℕ
   pub point : Kind
+  pub writable : Bool
   pub offset : ℕ
   pub sf : Sf
 
@@ -270,6 +265,7 @@ tag_over keys unit device model p name a kind = record {
   device = device;
   model = model.id;
   point = p.kind;
+  writable = p.writable;
   offset = p.offset;
   sf = factor_in model p.sf;
 }

@@ -1,4 +1,5 @@
 -- What the reader's own values stand for: the keys of an entry, the gateway, a tag, and the whole site.
+-- No standard says what a site file is; it is this project's, written in TOML 1.0.
 use Rattle.std.specs.Prelude.{ℕ, List, Option, option_map, map}
 use Rattle.toml.specs.View.{items_view}
 use Rattle.site_model.specs.Gateway as told
@@ -62,6 +63,7 @@ tag_view t = record {
   device = t.device;
   model = t.model;
   point = t.point;
+  writable = t.writable;
   offset = t.offset;
   sf = t.sf;
 }

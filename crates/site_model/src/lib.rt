@@ -1,36 +1,40 @@
 //! A site: the gateway, its devices, its tags, and what it serves, as the site file says.
 #![tactic(auto)]
 
-pub mod access;
-pub mod device;
+mod access;
+mod device;
 mod device_numbers;
 mod devices;
-pub mod fault;
+mod fault;
 mod file;
 mod gateway;
 mod keys;
 mod lengths;
-pub mod lookups;
+mod lookups;
 pub mod readings;
 pub mod registers;
-pub mod served;
+mod served;
 mod serving;
-pub mod site;
+mod site;
 mod sums;
-pub mod tag;
+mod tag;
 mod tag_keys;
 mod tag_rules;
 mod tags;
-pub mod text;
+mod text;
 mod unit;
 pub mod wants;
-pub mod words;
 
-pub use access::Access;
-pub use device::{SiteDevice, WriteFunction};
+// a site, read from its file
 pub use fault::SiteFault;
-pub use served::{Served, Source};
 pub use site::Site;
+// its devices
+pub use device::{SiteDevice, WriteFunction};
+// its tags
+pub use access::Access;
 pub use tag::{Sf, SiteTag};
+// what it serves to clients
+pub use served::{Served, Source};
+// a text of the file, and the words of a block
+pub use modbus_frame::Words;
 pub use text::Text;
-pub use words::Words;

@@ -8,7 +8,7 @@ ghost use Rattle.site_model.specs.Wants.{AreOutputs, length_of, outs_of, wants_o
 use crate::readings::readings;
 use crate::site::Site;
 use crate::wants::{length_of, place_of};
-use crate::words::Words;
+use modbus_frame::Words;
 use point_types::Reading;
 
 impl Site {

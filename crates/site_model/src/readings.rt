@@ -6,7 +6,7 @@ use crate::access::Access;
 use crate::registers::{registers_at, scale_for};
 use crate::tag::SiteTag;
 use crate::wants::{place_of_want, want_of};
-use crate::words::Words;
+use modbus_frame::Words;
 use point_types::{Cause, Reading, scaled, scaled_down, value};
 
 /// Reads all tags, one entry of `into` each: `in` tags by the known words of their blocks, `set` tags by the numbers that

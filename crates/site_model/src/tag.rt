@@ -3,7 +3,7 @@ ghost use Rattle.std.specs.Prelude.{◌≢◌, IsTrue};
 ghost use Rattle.point_types.specs.Reading.{IsExponent};
 ghost use Rattle.point_types.specs.Value.{is_ranged};
 ghost use Rattle.point_types.specs.declared.kind.Kind.TheVariants as kinds;
-ghost use Rattle.site_model.specs.Tag.{start_of};
+ghost use Rattle.site_model.specs.Tag.{may_write, start_of};
 
 use crate::access::Access;
 use point_types::{IlType, Kind, Name};
@@ -44,10 +44,13 @@ pub struct SiteTag {
     pub model: u16,
     /// The kind of its point.
     pub point: Kind,
+    /// Whether its point can be written, by the model's definition.
+    pub writable: bool,
     /// Registers between the model's ID and the point's first register.
     pub offset: u16,
     pub sf: Sf,
     ghost ranged: { IsTrue (is_ranged kind low high (start_of low default)) },
     ghost scaled: { IsExponent exponent },
     ghost numeric: { point ≢ kinds.String },
+    ghost writes: { IsTrue (may_write access writable) },
 }

@@ -2,9 +2,9 @@
 ghost use Rattle.std.specs.Prelude.{◌≡◌, pos, neg_ℤ, option_map, IfSome, Some, true};
 ghost use Rattle.point_types.specs.Reading.{IsExponent};
 ghost use Rattle.point_types.specs.Value.{is_ranged, is_within};
-ghost use Rattle.site_model.specs.Tag.{start_of};
+ghost use Rattle.site_model.specs.Tag.{is_written, start_of};
 ghost use Rattle.site_model.specs.Keys.{natural_within};
-ghost use Rattle.site_model.specs.Tagging.{bit_of, exponent_of, factor_in, goes_together, has_range, is_bit_place, is_input, is_numeric, is_own, is_place, is_polled, is_rounding, is_sunssf, is_written, last_bit, may_be_written, offset_at, tag_over, tag_typed, type_of, unit_of, unit_within};
+ghost use Rattle.site_model.specs.Tagging.{access_of, bit_of, exponent_of, factor_in, goes_together, has_range, is_bit_place, is_input, is_numeric, is_own, is_place, is_polled, is_rounding, is_sunssf, last_bit, may_be_written, offset_at, tag_over, tag_typed, type_of, unit_of, unit_within};
 ghost use Rattle.site_model.specs.Views.{numbers_view, tag_keys_view, tag_view, unit_view};
 
 use crate::access::Access;
@@ -47,7 +47,7 @@ pub(crate) fn may_be_written(access: Option<Access>, writable: bool) -> bool
 {
     match access {
         None => true,
-        Some(access) => !is_written(access) || writable,
+        Some(access) => writable || !is_written(access),
     }
 }
 
@@ -196,7 +196,8 @@ pub(crate) fn tag_typed(
     model: &ModelDef,
     point: &Point,
 ) -> Option<SiteTag>
-    requires { has_range (type_of keys.kind.now) keys.numbers.low keys.numbers.high (start_of keys.numbers.low keys.numbers.default) ≡ true }
+    requires range { has_range (type_of keys.kind.now) keys.numbers.low keys.numbers.high (start_of keys.numbers.low keys.numbers.default) ≡ true }
+    requires writable { may_be_written (access_of keys.access.now) point.now.writable ≡ true }
     ensures { option_map tag_view result ≡ tag_typed (tag_keys_view keys.entry) (unit_view unit) device model.now point.now }
 {
     let name = tag_name(keys.name)?;
@@ -218,6 +219,7 @@ pub(crate) fn tag_typed(
         device,
         model: model.id,
         point: point.kind,
+        writable: point.writable,
         offset: point.offset,
         sf: factor_in(model, point.sf),
     })

@@ -6,7 +6,7 @@ use Rattle.point_types.specs.declared.variable.Var.{Var}
 use Rattle.facts.specs.Span.{Between}
 use Rattle.facts.specs.declared.fact.Fact.{Fact}
 use Rattle.facts.specs.declared.refusal.RefusalKind.TheVariants.{Stack}
-use Rattle.facts.specs.Flow.{Frame, Way, Flow, TagRange}
+use Rattle.facts.specs.Flow.{Context, Way, Flow, TagRange}
 use Rattle.scan_code.specs.Machine.{State}
 use Rattle.facts.specs.Fit.{FitsDeferred, LiesIn, Fits, IfListed, HasOwnValue, reading_number}
 use Rattle.facts.specs.Slots.{Slot, Unreached, Holds, Clash, meets, arriving, flow_of, ways_of, gathered, entry_fact, is_loop_head, address_of, head_slot, slots}
@@ -57,7 +57,7 @@ arriving_covers rs n [] slot s h = absurd h
 arriving_covers rs n (w ∷ ways) slot s (inl h) = let e = same_yes w.0 n h.0 in rw e (arriving_keeps rs n ways (meets slot w.1) s (meets_covers rs slot w.1 s h.1))
 arriving_covers rs n (w ∷ ways) slot s (inr h) = arriving_covers rs n ways _ s h
 
-module _ (c : Frame) (rs : List Reading) where
+module _ (c : Context) (rs : List Reading) where
   pub gathered_keeps : (n at : ℕ) (ss : List Slot) (slot : Slot) (s : State) → Covers rs slot s → Covers rs (gathered c n at ss slot) s
   gathered_keeps n at [] slot s h = h
   gathered_keeps n at (x ∷ ss) slot s h = gathered_keeps n (at + 1) ss _ s (arriving_keeps rs n (ways_of (flow_of c at x (slice_get c.listing at))) slot s h)

@@ -1,4 +1,4 @@
--- An image and the tags of a site make a frame that the proofs know.
+-- An image and the tags of a site make a context that the proofs know.
 use Rattle.std.proofs.Common.{◌≡◌, ℕ, zero, suc, ◌+◌, ◌<◌, List, [], ◌∷◌, length, map, drop, Result, Ok, Err, Option, Some, None, option_map, option_and_then, slice_get, Bool, true, false, not, ◌&&◌, IsTrue, ℤ, ◌≤ℤ◌, int_le, nat_eq, nat_le, nat_lt, refl, sym, ap, subst, ◌∙◌, arith, if◌then◌else◌}
 use Rattle.point_types.specs.declared.il_type.IlType.{IlType}
 use Rattle.point_types.specs.Value.{low_of, high_of, is_within, is_ranged, code_of, ◌>>=◌}
@@ -13,9 +13,9 @@ use Rattle.facts.specs.declared.refusal.RefusalKind.TheVariants.{TagType, TagAcc
 use Rattle.facts.specs.Span.{Between}
 use Rattle.facts.specs.Fact.{same_bool}
 use Rattle.facts.specs.Fit.{IsIn}
-use Rattle.facts.specs.Flow.{Frame, TagRange}
+use Rattle.facts.specs.Flow.{Context, TagRange}
 use Rattle.facts.specs.declared.refusal.Refusal.{Refusal}
-use Rattle.verifier.specs.declared.link.Link.{Link}
+use Rattle.verifier.specs.declared.tag_link.TagLink.{TagLink}
 use Rattle.verifier.specs.Links.{is_stored, allowed, found, number_of, there, link_of, refused_at, links_from}
 use Rattle.verifier.specs.Listing.{Entry, is_tag, is_placed, jumps_after, is_end, listed_with, listed_from, listing_of, wrong_at}
 use Rattle.verifier.specs.Verdict.{range_of, frame_of}
@@ -185,7 +185,7 @@ listed_is image zero at n jumps ended es e = go (ended && nat_le (length image.c
 listed_is image (suc most) at n jumps ended es e = listed_past image most at n jumps ended es (nat_le (length image.code) at) e (λ next i rest. listed_is image most next (n + 1) (jumps_after jumps i) (is_end i) rest)
 
 -- the links of an image's tags
-abbrev pub IsLinked : Tag → Link → Type 0
+abbrev pub IsLinked : Tag → TagLink → Type 0
 IsLinked tag link = (tag.output ≡ is_stored link.site.access) × (tag.kind ≡ link.site.kind)
 
 same_bool_is : (a b : Bool) → same_bool a b ≡ true → a ≡ b
@@ -193,18 +193,18 @@ same_bool_is true b e = sym e
 same_bool_is false true e = absurd (cc)
 same_bool_is false false e = refl
 
-allowed_is : (tag : Tag) (link l : Link) → allowed tag link ≡ Ok l → IsLinked tag l
+allowed_is : (tag : Tag) (link l : TagLink) → allowed tag link ≡ Ok l → IsLinked tag l
 allowed_is tag link l e = kinds (nat_eq (code_of tag.kind) (code_of link.site.kind)) refl e
   where
-    access : (t : Bool) → same_bool tag.output (is_stored link.site.access) ≡ t → tag.kind ≡ link.site.kind → ◌≡◌ {A = Result Link RefusalKind} (if not t then Err TagAccess else Ok link) (Ok l) → IsLinked tag l
-    access true p k f = subst (λ (x : Link). IsLinked tag x) (ok_is link l f) (same_bool_is _ _ p, k)
+    access : (t : Bool) → same_bool tag.output (is_stored link.site.access) ≡ t → tag.kind ≡ link.site.kind → ◌≡◌ {A = Result TagLink RefusalKind} (if not t then Err TagAccess else Ok link) (Ok l) → IsLinked tag l
+    access true p k f = subst (λ (x : TagLink). IsLinked tag x) (ok_is link l f) (same_bool_is _ _ p, k)
     access false p k f = absurd (cc)
 
-    kinds : (t : Bool) → nat_eq (code_of tag.kind) (code_of link.site.kind) ≡ t → ◌≡◌ {A = Result Link RefusalKind} (if not t then Err TagType else (if not (same_bool tag.output (is_stored link.site.access)) then Err TagAccess else Ok link)) (Ok l) → IsLinked tag l
+    kinds : (t : Bool) → nat_eq (code_of tag.kind) (code_of link.site.kind) ≡ t → ◌≡◌ {A = Result TagLink RefusalKind} (if not t then Err TagType else (if not (same_bool tag.output (is_stored link.site.access)) then Err TagAccess else Ok link)) (Ok l) → IsLinked tag l
     kinds true p f = access (same_bool tag.output (is_stored link.site.access)) refl (same_code tag.kind link.site.kind p) f
     kinds false p f = absurd (cc)
 
-found_is : (site : List SiteTag) (tag : Tag) (o : Option ℕ) (l : Link) → found site tag o ≡ Ok l → IsLinked tag l
+found_is : (site : List SiteTag) (tag : Tag) (o : Option ℕ) (l : TagLink) → found site tag o ≡ Ok l → IsLinked tag l
 found_is site tag None l e = absurd (cc)
 found_is site tag (Some n) l e = in_site (slice_get site n) e
   where
@@ -216,20 +216,20 @@ refused_is : {A : Type 0} (n : ℕ) (r : Result A RefusalKind) (a : A) → refus
 refused_is n (Ok b) a e = ap Ok (ok_is b a e)
 refused_is n (Err x) a e = absurd (cc)
 
-abbrev pub AreLinked : List Tag → List Link → Type 0
+abbrev pub AreLinked : List Tag → List TagLink → Type 0
 AreLinked [] [] = Unit {0}
 AreLinked [] (l ∷ ls) = ⊥
 AreLinked (t ∷ ts) [] = ⊥
 AreLinked (t ∷ ts) (l ∷ ls) = IsLinked t l × AreLinked ts ls
 
-pub links_are : (site : List SiteTag) (n : ℕ) (tags : List Tag) (links : List Link) → links_from site n tags ≡ Ok links → AreLinked tags links
+pub links_are : (site : List SiteTag) (n : ℕ) (tags : List Tag) (links : List TagLink) → links_from site n tags ≡ Ok links → AreLinked tags links
 links_are site n [] [] e = tt
 links_are site n [] (l ∷ ls) e = absurd (cc)
 links_are site n (t ∷ ts) links e = by_both (refused_at n (link_of site t)) (λ link. links_from site (n + 1) ts >>= λ others. Ok (link ∷ others)) links e
     (λ link p f. by_both (links_from site (n + 1) ts) (λ others. Ok (link ∷ others)) links f
-    (λ others q g. subst (λ (ls : List Link). AreLinked (t ∷ ts) ls) (ok_is (link ∷ others) links g) (found_is site t (number_of site t.name) link (refused_is n (link_of site t) link p), links_are site (n + 1) ts others q)))
+    (λ others q g. subst (λ (ls : List TagLink). AreLinked (t ∷ ts) ls) (ok_is (link ∷ others) links g) (found_is site t (number_of site t.name) link (refused_is n (link_of site t) link p), links_are site (n + 1) ts others q)))
 
-same_tags : (tags : List Tag) (links : List Link) (t : ℕ) → AreLinked tags links → SameTag (slice_get tags t) (slice_get (map range_of links) t)
+same_tags : (tags : List Tag) (links : List TagLink) (t : ℕ) → AreLinked tags links → SameTag (slice_get tags t) (slice_get (map range_of links) t)
 same_tags [] [] t h = tt
 same_tags [] (l ∷ ls) t h = absurd h
 same_tags (x ∷ ts) [] t h = absurd h
@@ -248,7 +248,7 @@ nat_is m n e = grind arith
 less_is : (m n : ℕ) → nat_lt m n ≡ true → m < n
 less_is m n e = grind arith
 
-placed_is : (image : Image) (c : Frame) (jumps : ℕ) (i : Op) → ((t : ℕ) → SameTag (slice_get image.tags t) (slice_get c.tags t)) → IsNumber i → is_placed image jumps i ≡ true → IsPlaced image c 256 i
+placed_is : (image : Image) (c : Context) (jumps : ℕ) (i : Op) → ((t : ℕ) → SameTag (slice_get image.tags t) (slice_get c.tags t)) → IsNumber i → is_placed image jumps i ≡ true → IsPlaced image c 256 i
 placed_is image c jumps (does.LoadInput t) s n e = tag_there false (slice_get image.tags t) (slice_get c.tags t) (s t) e
 placed_is image c jumps (does.LoadPresence t) s n e = tag_there false (slice_get image.tags t) (slice_get c.tags t) (s t) e
 placed_is image c jumps (does.StoreOutput t) s n e = tag_there true (slice_get image.tags t) (slice_get c.tags t) (s t) e
@@ -272,18 +272,18 @@ ranged_is k low high start h =
       true_le high (high_of k) (and_right (int_le (low_of k) low && is_within low high start) (int_le high (high_of k)) f),
     )
 
-link_ranged : (links : List Link) (t : ℕ) (r : TagRange) → slice_get (map range_of links) t ≡ Some r → (low_of r.kind ≤ℤ r.low) × (r.high ≤ℤ high_of r.kind)
+link_ranged : (links : List TagLink) (t : ℕ) (r : TagRange) → slice_get (map range_of links) t ≡ Some r → (low_of r.kind ≤ℤ r.low) × (r.high ≤ℤ high_of r.kind)
 link_ranged [] t r e = absurd (cc)
 link_ranged (l ∷ ls) zero r e = subst (λ (x : TagRange). (low_of x.kind ≤ℤ x.low) × (x.high ≤ℤ high_of x.kind)) (head_is (range_of l) r e) (ranged_is l.site.kind l.site.low l.site.high _ l.site.ranged)
 link_ranged (l ∷ ls) (suc t) r e = link_ranged ls t r e
 
-pub made_from : (image : Image) (site : List SiteTag) (depth : ℕ) (c : Frame) → IsProper image → frame_of image site depth ≡ Ok c → IsMadeFrom image 256 c
+pub made_from : (image : Image) (site : List SiteTag) (depth : ℕ) (c : Context) → IsProper image → frame_of image site depth ≡ Ok c → IsMadeFrom image 256 c
 made_from image site depth c proper e = by_both (links_from site 0 image.tags) (λ links. listing_of image >>= λ listing. Ok (record { variables = image.vars; tags = map range_of links; depth = depth; listing = listing })) c e
     (λ links p f. by_both (listing_of image) (λ listing. Ok (record { variables = image.vars; tags = map range_of links; depth = depth; listing = listing })) c f
-    (λ listing q g. subst (λ (x : Frame). IsMadeFrom image 256 x) (ok_is (record { variables = image.vars; tags = map range_of links; depth = depth; listing = listing }) c g)
+    (λ listing q g. subst (λ (x : Context). IsMadeFrom image 256 x) (ok_is (record { variables = image.vars; tags = map range_of links; depth = depth; listing = listing }) c g)
     (framed links listing (links_are site 0 image.tags links p) (listed_is image (length image.code) 0 0 0 false listing q))))
   where
-    framed : (links : List Link) (listing : List Entry) → AreLinked image.tags links → IsListed image 0 false listing → IsMadeFrom image 256 (record { variables = image.vars; tags = map range_of links; depth = depth; listing = listing })
+    framed : (links : List TagLink) (listing : List Entry) → AreLinked image.tags links → IsListed image 0 false listing → IsMadeFrom image 256 (record { variables = image.vars; tags = map range_of links; depth = depth; listing = listing })
     framed links listing h l = record {
       variables = refl;
       tags = tags;

@@ -1,4 +1,4 @@
--- What the proofs know of a frame that is made from an image and the tags of a site.
+-- What the proofs know of a context that is made from an image and the tags of a site.
 use Rattle.std.specs.Prelude.{◌≡◌, ℕ, ◌<◌, ◌≤◌, Bool, true, false, pos, ◌≤ℤ◌, List, [], ◌∷◌, length, Option, Some, None, slice_get}
 use Rattle.scan_code.specs.declared.op.Op.{Op}
 use Rattle.scan_code.specs.declared.op.Op.TheVariants as does
@@ -9,7 +9,7 @@ use Rattle.point_types.specs.declared.reading.Reading.TheVariants as reading
 use Rattle.scan_code.specs.Instruction.{decoded_at}
 use Rattle.scan_code.specs.Machine.{State}
 use Rattle.facts.specs.Span.{Between}
-use Rattle.facts.specs.Flow.{Frame, TagRange}
+use Rattle.facts.specs.Flow.{Context, TagRange}
 use Rattle.facts.specs.Fit.{IsIn}
 use Rattle.verifier.specs.Sound.{AreInRanges, OutputInRange}
 use Rattle.scan_code.specs.Image.{Image}
@@ -26,7 +26,7 @@ IsTag output None = ⊥
 IsTag output (Some t) = t.output ≡ output
 
 -- each place is of the right direction, each counter is there, each number is one of its type
-abbrev pub IsPlaced : Image → Frame → ℕ → Op → Type 0
+abbrev pub IsPlaced : Image → Context → ℕ → Op → Type 0
 IsPlaced image c counters (does.LoadInput t) = IsTag false (slice_get c.tags t)
 IsPlaced image c counters (does.LoadPresence t) = IsTag false (slice_get c.tags t)
 IsPlaced image c counters (does.StoreOutput t) = IsTag true (slice_get c.tags t)
@@ -43,8 +43,8 @@ SameTag None (Some r) = ⊥
 SameTag (Some g) None = ⊥
 SameTag (Some g) (Some r) = (g.output ≡ r.output) × (g.kind ≡ r.kind)
 
--- a frame is made from an image and the ranges of its tags
-pub record IsMadeFrom (image : Image) (counters : ℕ) (c : Frame) : Type 0 where
+-- a context is made from an image and the ranges of its tags
+pub record IsMadeFrom (image : Image) (counters : ℕ) (c : Context) : Type 0 where
   pub variables : image.vars ≡ c.variables
   pub tags : (t : ℕ) → SameTag (slice_get image.tags t) (slice_get c.tags t)
   pub whole : IsWhole image.code 0 c.listing
@@ -56,7 +56,7 @@ pub record IsMadeFrom (image : Image) (counters : ℕ) (c : Frame) : Type 0 wher
   pub of_bools : (i : ℕ) (d : Var) → slice_get c.variables i ≡ Some d → is_bool d.kind ≡ true → (d.low ≡ pos 0) × (d.high ≡ pos 1)
 
 -- a state in its ranges, with so many counters
-pub record Within (c : Frame) (counters : ℕ) (s : State) : Type 0 where
+pub record Within (c : Context) (counters : ℕ) (s : State) : Type 0 where
   pub variables : AreInRanges c.variables s.variables
   pub outputs : (t : ℕ) → OutputInRange (slice_get c.tags t) (slice_get s.outputs t)
   pub deferred : length s.deferred ≤ c.depth
@@ -70,5 +70,5 @@ IsLoaded (Some t) (Some (reading.Value n)) = IsIn (Between t.low t.high) n
 IsLoaded (Some t) (Some (reading.Default n c)) = IsIn (Between t.low t.high) n
 IsLoaded (Some t) (Some (reading.Absent c)) = t.output ≡ false → t.has_default ≡ false
 
-abbrev pub AreLoaded : Frame → List Reading → Type 0
+abbrev pub AreLoaded : Context → List Reading → Type 0
 AreLoaded c rs = (t : ℕ) → IsLoaded (slice_get c.tags t) (slice_get rs t)

@@ -3,7 +3,7 @@ use Rattle.std.proofs.Common.{◌≡◌, ℕ, zero, suc, ◌+◌, ◌-◌, ◌<�
 use Rattle.facts.specs.declared.refusal.Refusal.{Refusal}
 use Rattle.facts.specs.declared.refusal.RefusalKind.{RefusalKind}
 use Rattle.facts.specs.declared.fact.Fact.{Fact}
-use Rattle.facts.specs.Flow.{Frame, Way, Flow}
+use Rattle.facts.specs.Flow.{Context, Way, Flow}
 use Rattle.facts.specs.Slots.{Slot, Unreached, meets, arriving, flow_of, ways_of, gathered, slots, is_reached}
 use Rattle.verifier.specs.Budget.{reached}
 use Rattle.verifier.specs.Verdict.{first_refusal, refusal_of}
@@ -78,10 +78,10 @@ stood_long stands [] = refl
 stood_long stands (p ∷ pending) = ap suc (stood_long stands pending)
 
 -- each slot that is pending is at its opening
-abbrev pub AreOpen : Frame → List Slot → Type 0
+abbrev pub AreOpen : Context → List Slot → Type 0
 AreOpen c ss = (n : ℕ) (s : Slot) → slice_get ss n ≡ Some s → s ≡ opening c n
 
-pub one_open : {F : Type 0} (stands : F → Fact) (c : Frame) (pending : List (Arrived F)) (a : Arrived F) → AreOpen c (all_stood stands pending) → stood stands a ≡ opening c (length pending) → AreOpen c (all_stood stands (pending ++ a ∷ []))
+pub one_open : {F : Type 0} (stands : F → Fact) (c : Context) (pending : List (Arrived F)) (a : Arrived F) → AreOpen c (all_stood stands pending) → stood stands a ≡ opening c (length pending) → AreOpen c (all_stood stands (pending ++ a ∷ []))
 one_open {F = F} stands c pending a h e n s p =
     let first : 0 + n ≡ n = omega arith in
     let last : length pending ≡ 0 + length pending = omega arith in
@@ -104,7 +104,7 @@ abbrev or_else : Option Refusal → Option Refusal → Option Refusal
 or_else None o = o
 or_else (Some r) o = Some r
 
-module _ (c : Frame) where
+module _ (c : Context) where
   -- before anything more flows there
   abbrev pub open_slot : ℕ → Slot
   open_slot n = gathered c n 0 (slots c n) (opening c n)

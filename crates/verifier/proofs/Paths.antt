@@ -10,7 +10,7 @@ use Rattle.scan_code.specs.Image.{Image}
 use Rattle.scan_code.specs.declared.op.Op.{Op}
 use Rattle.scan_code.specs.declared.op.Op.TheVariants as does
 use Rattle.scan_code.specs.Machine.{State, Step, Goes, Ends, Traps, step, after_step, run}
-use Rattle.facts.specs.Flow.{Frame, Way, number_at}
+use Rattle.facts.specs.Flow.{Context, Way, number_at}
 use Rattle.facts.specs.Slots.{Slot, slots, is_reached, is_loop_head}
 use Rattle.verifier.specs.Verdict.{refusal_of}
 use Rattle.verifier.specs.Budget.{Length, longer, one_more, length_at, length_of, length_from, lengths_from, count_of, is_start, greatest_from, total_count, reached, path_lengths, longest_path, budget, IsLast, Follows, IsReachedAs, IsPath, NoPathIsLonger, longest_of}
@@ -51,7 +51,7 @@ length_there c at (suc n) (x ∷ ss) (y ∷ es) e p q =
     )
 
 -- the longest path from an instruction
-abbrev pub path : Frame → ℕ → Length
+abbrev pub path : Context → ℕ → Length
 path c m = length_at (path_lengths c) m
 
 abbrev pub path_in : List (ℕ × Op) → List Bool → ℕ → Length
@@ -111,7 +111,7 @@ module _ (es : List (ℕ × Op)) (rs : List Bool) where
   path_on n m other later those l = more (path_in es rs m) _ (next_path n m later those l)
 
 -- where flow leads, an instruction follows
-leads_follow : (c : Frame) (n m : ℕ) (i : Op) → n < m → Leads c n i m → Follows c.listing n i m
+leads_follow : (c : Context) (n m : ℕ) (i : Op) → n < m → Leads c n i m → Follows c.listing n i m
 leads_follow c n m does.End h l = absurd l
 leads_follow c n m (does.Return when.Always) h l = absurd l
 leads_follow c n m (does.Jump when.Always to) h l = (h, l)
@@ -274,7 +274,7 @@ no_path_is_longer es rs path h from =
     let long : length path ≡ length (from.number ∷ from.rest) = ap (λ (ns : List ℕ). length ns) from.begins in
     omega (arith, most, long, p.2, ap count_of p.1)
 
-module _ (image : Image) (counters : ℕ) (c : Frame) (made : IsMadeFrom image counters c) (accepted : refusal_of c ≡ None) (rs : List Reading) (readings : AreLoaded c rs) where
+module _ (image : Image) (counters : ℕ) (c : Context) (made : IsMadeFrom image counters c) (accepted : refusal_of c ≡ None) (rs : List Reading) (readings : AreLoaded c rs) where
   -- the path at a state's instruction
   path_at : (n : ℕ) (s : State) (a : At image counters c made accepted rs readings n s) → (later : List Length) × (path c n ≡ length_from c.listing n a.instruction later) × ((j : ℕ) → length_at later j ≡ length_at (path_lengths c) (suc n + j))
   path_at n s a =

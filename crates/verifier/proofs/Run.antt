@@ -5,7 +5,7 @@ use Rattle.scan_code.specs.declared.op.Op.{Op}
 use Rattle.scan_code.specs.declared.op.Op.TheVariants as does
 use Rattle.point_types.specs.declared.reading.Reading.{Reading}
 use Rattle.point_types.specs.declared.operator.Condition.{Condition}
-use Rattle.facts.specs.Flow.{Frame, Way, flow}
+use Rattle.facts.specs.Flow.{Context, Way, flow}
 use Rattle.scan_code.specs.Image.{Image}
 use Rattle.scan_code.specs.Machine.{State, Step, Goes, Ends, Traps, Ending, Ended, Trapped, Unfinished, step, after_step, run}
 use Rattle.scan_code.specs.Table.{no_turns}
@@ -43,7 +43,7 @@ any_picked [] P h k = absurd h
 any_picked (w ∷ ways) P (inl h) k = k w h (λ Q q. inl q)
 any_picked (w ∷ ways) P (inr h) k = any_picked ways P h (λ v p up. k v p (λ Q q. inr (up Q q)))
 
-module _ (image : Image) (counters : ℕ) (c : Frame) (made : IsMadeFrom image counters c) (accepted : refusal_of c ≡ None) (rs : List Reading) (readings : AreLoaded c rs) where
+module _ (image : Image) (counters : ℕ) (c : Context) (made : IsMadeFrom image counters c) (accepted : refusal_of c ≡ None) (rs : List Reading) (readings : AreLoaded c rs) where
   -- a state before instruction number m, covered by its slot
   pub record At (m : ℕ) (s : State) : Type 0 where
     pub instruction : Op
@@ -130,7 +130,7 @@ length-no_turns : length no_turns ≡ 256
 unfolding no_turns
 length-no_turns = length-replicate {A = ℕ} 256 0
 
-pub opening_within : (image : Image) (c : Frame) (variables : List ℤ) → AreInRanges c.variables variables → Within c 256 (opening image variables)
+pub opening_within : (image : Image) (c : Context) (variables : List ℤ) → AreInRanges c.variables variables → Within c 256 (opening image variables)
 opening_within image c variables h = record {
   variables = h;
   counted = length-no_turns;

@@ -9,7 +9,7 @@ use Rattle.scan_code.specs.Machine.{State, Ending, Ended, Trapped, Unfinished, r
 use Rattle.scan_code.specs.Table.{no_turns}
 use Rattle.site_model.specs.declared.tag.SiteTag.{SiteTag}
 use Rattle.facts.specs.Fact.{zipped}
-use Rattle.facts.specs.Flow.{Frame, TagRange}
+use Rattle.facts.specs.Flow.{Context, TagRange}
 use Rattle.verifier.specs.Budget.{budget}
 use Rattle.verifier.specs.Sound.{IsAccepted, AreReadings, IsReadingOf, loaded_of, inputs_of, AreInRanges, InRanges, IsCovered, IsFine, EndsWithin, EndsAndThen, ScansEnd, RunsWell, RunsOut, EveryScanEnds, IsYes, YesIsAccepted}
 use Rattle.facts.proofs.Lists.{get_within}
@@ -58,7 +58,7 @@ turned : no_turns ≡ replicate 256 0
 unfolding no_turns
 turned = refl
 
-module _ (image : Image) (site : List SiteTag) (depth : ℕ) (c : Frame) (accepted : IsAccepted image site depth c) (rs : List Reading) (readings : AreReadings c rs) where
+module _ (image : Image) (site : List SiteTag) (depth : ℕ) (c : Context) (accepted : IsAccepted image site depth c) (rs : List Reading) (readings : AreReadings c rs) where
   made : IsMadeFrom image 256 c
   made = made_from image site depth c accepted.proper accepted.framed
 
@@ -123,7 +123,7 @@ runs_well image site depth c accepted rs readings variables h n = runs image sit
 pub runs_out : RunsOut
 runs_out image site depth c accepted rs readings variables h = ends image site depth c accepted rs readings variables h
 
-both : (c : Frame) (e : Ending) (P : List ℤ → Type 0) (rs : List Reading) → EndsWithin (budget c) e → IsFine c rs e → ((variables : List ℤ) → AreInRanges c.variables variables → P variables) → EndsAndThen c e P
+both : (c : Context) (e : Ending) (P : List ℤ → Type 0) (rs : List Reading) → EndsWithin (budget c) e → IsFine c rs e → ((variables : List ℤ) → AreInRanges c.variables variables → P variables) → EndsAndThen c e P
 both c (Ended steps t) P rs h k on = (h, k, on t.variables k.variables)
 both c (Trapped at e) P rs h k on = h
 both c (Unfinished t) P rs h k on = h
@@ -137,10 +137,10 @@ every_scan_ends image site depth c accepted (rs ∷ rows) all variables h =
 pub yes_is_accepted : YesIsAccepted
 yes_is_accepted image site depth steps proper e = by_both (frame_of image site depth) (λ c. budgeted c (refusal_of c)) steps e (λ c p f. unrefused c p (refusal_of c) refl f)
   where
-    bounded : (c : Frame) → frame_of image site depth ≡ Ok c → refusal_of c ≡ None → (t : Bool) → nat_le (budget c) most_steps ≡ t → ◌≡◌ {A = Result ℕ Refusal} (if t then Ok (budget c) else Err (record { at = 0; kind = OverBudget })) (Ok steps) → IsYes image site depth steps
+    bounded : (c : Context) → frame_of image site depth ≡ Ok c → refusal_of c ≡ None → (t : Bool) → nat_le (budget c) most_steps ≡ t → ◌≡◌ {A = Result ℕ Refusal} (if t then Ok (budget c) else Err (record { at = 0; kind = OverBudget })) (Ok steps) → IsYes image site depth steps
     bounded c p q false t f = absurd (cc)
-    bounded c p q true t f = let s = ok_is (budget c) steps f in record { frame = c; accepted = record { proper = proper; framed = p; unrefused = q }; budgeted = sym s; bounded = subst (λ (k : ℕ). k ≤ most_steps) s (at_most (budget c) most_steps t) }
+    bounded c p q true t f = let s = ok_is (budget c) steps f in record { context = c; accepted = record { proper = proper; framed = p; unrefused = q }; budgeted = sym s; bounded = subst (λ (k : ℕ). k ≤ most_steps) s (at_most (budget c) most_steps t) }
 
-    unrefused : (c : Frame) → frame_of image site depth ≡ Ok c → (o : Option Refusal) → refusal_of c ≡ o → budgeted c o ≡ Ok steps → IsYes image site depth steps
+    unrefused : (c : Context) → frame_of image site depth ≡ Ok c → (o : Option Refusal) → refusal_of c ≡ o → budgeted c o ≡ Ok steps → IsYes image site depth steps
     unrefused c p (Some refusal) q f = absurd (cc)
     unrefused c p None q f = bounded c p q (nat_le (budget c) most_steps) refl f

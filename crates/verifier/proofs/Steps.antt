@@ -14,11 +14,11 @@ use Rattle.point_types.specs.declared.variable.Var.{Var}
 use Rattle.scan_code.specs.Table.{read_value, is_present, or_wrong, acts, absolute_of, converted, selected}
 use Rattle.facts.specs.Span.{Span, Between, joined, only, has_member, lies_in}
 use Rattle.facts.specs.declared.fact.Fact.{Fact}
-use Rattle.facts.specs.declared.known.Known.{Known}
-use Rattle.facts.specs.declared.known.Consequences.{Consequences}
-use Rattle.facts.specs.declared.known.Origin.TheVariants.{OfVariable, OfInput}
+use Rattle.facts.specs.declared.abstract_value.AbstractValue.{AbstractValue}
+use Rattle.facts.specs.declared.abstract_value.Consequences.{Consequences}
+use Rattle.facts.specs.declared.abstract_value.Origin.TheVariants.{OfVariable, OfInput}
 use Rattle.facts.specs.Fact.{under, any_empty}
-use Rattle.facts.specs.Flow.{on_result as flow_result, way_to, way_where, later, earlier, tested, number_at, inverted_known, absolute_known, converted_known, applied_known, selected_known, Frame, bool_result, stored_fact, widened, Way, flow, need, check, goes_on, with_value, source_value, presence_value, TagRange}
+use Rattle.facts.specs.Flow.{on_result as flow_result, way_to, way_where, later, earlier, tested, number_at, inverted_known, absolute_known, converted_known, applied_known, selected_known, Context, bool_result, stored_fact, widened, Way, flow, need, check, goes_on, with_value, source_value, presence_value, TagRange}
 use Rattle.facts.specs.declared.refusal.RefusalKind.TheVariants.{Jump, NoResult, WrongType, StoreRange}
 use Rattle.facts.specs.declared.refusal.RefusalKind.{RefusalKind}
 use Rattle.scan_code.specs.Image.{Image}
@@ -40,19 +40,19 @@ use Rattle.verifier.proofs.Listings.{rising, number_found, lt_yes, le_yes, first
 use Rattle.facts.proofs.Values.{bit_test, bit_zero, bool_kind, presence_fits, number_in, applied_good, inverted_good, selected_good, absolute_good, converted_good, Yields, by_ok, by_need, by_check, by_then, by_first, Good, plain_fits, source_fits, bit_value}
 use Rattle.facts.proofs.Covering.{joined_lies_left, stored_fits, widened_fits, under_fits, none_empty, lies_of, in_of, code_same}
 
-abbrev pub IsAt : Frame → ℕ → ℕ → Type 0
+abbrev pub IsAt : Context → ℕ → ℕ → Type 0
 IsAt c n address = (i : Op) × (slice_get c.listing n ≡ Some (address, i))
 
 abbrev pub AnyWay : List Way → (Way → Type 0) → Type 0
 AnyWay [] P = ⊥
 AnyWay (w ∷ ws) P = P w ⊎ AnyWay ws P
 
-pub none_wait : (c : Frame) (rs : List Reading) (ks : List (Option Known)) (ws : List Value) (vs : List ℤ) → nat_eq (length ks) 0 ≡ true → FitsDeferred vs rs ks ws → ws ≡ []
+pub none_wait : (c : Context) (rs : List Reading) (ks : List (Option AbstractValue)) (ws : List Value) (vs : List ℤ) → nat_eq (length ks) 0 ≡ true → FitsDeferred vs rs ks ws → ws ≡ []
 none_wait c rs [] [] vs e h = refl
 none_wait c rs [] (w ∷ ws) vs e h = absurd h
 none_wait c rs (k ∷ ks) ws vs e h = absurd (grind arith)
 
-module _ (image : Image) (c : Frame) (rs : List Reading) (counters : ℕ) where
+module _ (image : Image) (c : Context) (rs : List Reading) (counters : ℕ) where
   -- a counted jump to an instruction, that was taken once more; the counters before it
   pub record IsHead (taken : List ℕ) (t : State) : Type 0 where
     pub at : ℕ
@@ -123,23 +123,23 @@ module _ (image : Image) (c : Frame) (rs : List Reading) (counters : ℕ) where
     in_type low high k n b h = (omega (arith, ints, b.0, h.0), omega (arith, ints, b.1, h.1))
 
     -- a state that goes on with a new result
-    value_goes : (at next : ℕ) (f : Fact) (s : State) (k : Known) (v : Value) → IsAt c (at + 1) next → Within c counters s → Fits rs f s → FitsValue s.variables rs k v → Lands at s.taken ((at + 1, with_value f k) ∷ []) (with_result next s v)
+    value_goes : (at next : ℕ) (f : Fact) (s : State) (k : AbstractValue) (v : Value) → IsAt c (at + 1) next → Within c counters s → Fits rs f s → FitsValue s.variables rs k v → Lands at s.taken ((at + 1, with_value f k) ∷ []) (with_result next s v)
     value_goes at next f s k v follows ranges fits h = (
       record { variables = ranges.variables; outputs = ranges.outputs; deferred = ranges.deferred; counted = ranges.counted },
       inl (inl (record { forward = omega arith; kept = refl; is_at = follows; fits = record { variables = fits.variables; inputs = fits.inputs; present = fits.present; deferred = fits.deferred; result = h } })),
     )
 
-    good_goes : (at next : ℕ) (f : Fact) (s : State) (k : Known) (r : Result Value Fault) → IsAt c (at + 1) next → Within c counters s → Fits rs f s → Good s.variables rs r k → Lands at s.taken ((at + 1, with_value f k) ∷ []) (then_goes r (with_result next s))
+    good_goes : (at next : ℕ) (f : Fact) (s : State) (k : AbstractValue) (r : Result Value Fault) → IsAt c (at + 1) next → Within c counters s → Fits rs f s → Good s.variables rs r k → Lands at s.taken ((at + 1, with_value f k) ∷ []) (then_goes r (with_result next s))
     good_goes at next f s k (Ok v) follows ranges fits h = value_goes at next f s k v follows ranges fits h
     good_goes at next f s k (Err e) follows ranges fits h = absurd h
 
-    result_value : (vs : List ℤ) (o : Option Known) (r : Option Value) (k : Known) → o ≡ Some k → FitsResult vs rs o r → (v : Value) × (r ≡ Some v) × FitsValue vs rs k v
-    result_value vs o None k e h = absurd (subst (λ (p : Option Known). FitsResult vs rs p None) e h)
-    result_value vs o (Some v) k e h = (v, refl, subst (λ (p : Option Known). FitsResult vs rs p (Some v)) e h)
+    result_value : (vs : List ℤ) (o : Option AbstractValue) (r : Option Value) (k : AbstractValue) → o ≡ Some k → FitsResult vs rs o r → (v : Value) × (r ≡ Some v) × FitsValue vs rs k v
+    result_value vs o None k e h = absurd (subst (λ (p : Option AbstractValue). FitsResult vs rs p None) e h)
+    result_value vs o (Some v) k e h = (v, refl, subst (λ (p : Option AbstractValue). FitsResult vs rs p (Some v)) e h)
 
-    deferred_value : (vs : List ℤ) (ds rest : List (Option Known)) (ws : List Value) (d : Option Known) → ds ≡ d ∷ rest → FitsDeferred vs rs ds ws → (w : Value) × (ws' : List Value) × (ws ≡ w ∷ ws') × FitsResult vs rs d (Some w) × FitsDeferred vs rs rest ws'
-    deferred_value vs ds rest [] d e h = absurd (subst (λ (p : List (Option Known)). FitsDeferred vs rs p []) e h)
-    deferred_value vs ds rest (w ∷ ws) d e h = let g = subst (λ (p : List (Option Known)). FitsDeferred vs rs p (w ∷ ws)) e h in (w, ws, refl, g.0, g.1)
+    deferred_value : (vs : List ℤ) (ds rest : List (Option AbstractValue)) (ws : List Value) (d : Option AbstractValue) → ds ≡ d ∷ rest → FitsDeferred vs rs ds ws → (w : Value) × (ws' : List Value) × (ws ≡ w ∷ ws') × FitsResult vs rs d (Some w) × FitsDeferred vs rs rest ws'
+    deferred_value vs ds rest [] d e h = absurd (subst (λ (p : List (Option AbstractValue)). FitsDeferred vs rs p []) e h)
+    deferred_value vs ds rest (w ∷ ws) d e h = let g = subst (λ (p : List (Option AbstractValue)). FitsDeferred vs rs p (w ∷ ws)) e h in (w, ws, refl, g.0, g.1)
 
     -- a fact says nothing of the address, the outputs and the counters
     moved_fits : (f : Fact) (s : State) (a : ℕ) (outputs : List (Option ℤ)) (taken : List ℕ) → Fits rs f s → Fits rs f (record s { address = a; outputs = outputs; taken = taken })
@@ -186,7 +186,7 @@ module _ (image : Image) (c : Frame) (rs : List Reading) (counters : ℕ) where
     load_number at next k n f s follows placed ranges fits = by_ok _ _ (value_goes at next f s _ (record { kind = k; number = n }) follows ranges fits (plain_fits c s.variables rs k (only n) _ refl (≤ℤ_refl n, ≤ℤ_refl n) placed))
 
     -- stores
-    same_kinds : (k : IlType) (r : Known) (v : Value) → v.kind ≡ r.kind → nat_eq (code_of k) (code_of r.kind) ≡ true → nat_eq (code_of k) (code_of v.kind) ≡ true
+    same_kinds : (k : IlType) (r : AbstractValue) (v : Value) → v.kind ≡ r.kind → nat_eq (code_of k) (code_of r.kind) ≡ true → nat_eq (code_of k) (code_of v.kind) ≡ true
     same_kinds k r v e h = rw e h
 
     ranges_written : (d : Var) (v : ℕ) (n : ℤ) (s : State) (a : ℕ) → slice_get c.variables v ≡ Some d → IsIn (Between d.low d.high) n → Within c counters s → Within c counters (record s { address = a; variables = slice_set s.variables v n })
@@ -245,19 +245,19 @@ module _ (image : Image) (c : Frame) (rs : List Reading) (counters : ℕ) where
         )))))))
 
     -- set and reset
-    by_bool : {B : Type 0} (f : Fact) (k : Known → Result B RefusalKind) (P : B → Type 0) → ((r : Known) → f.result ≡ Some r → is_bool r.kind ≡ true → Yields (k r) P) → Yields (bool_result f >>= k) P
+    by_bool : {B : Type 0} (f : Fact) (k : AbstractValue → Result B RefusalKind) (P : B → Type 0) → ((r : AbstractValue) → f.result ≡ Some r → is_bool r.kind ≡ true → Yields (k r) P) → Yields (bool_result f >>= k) P
     by_bool {B} f k P h = go f.result refl
       where
-        tested : (r : Known) (t : Bool) → is_bool r.kind ≡ t → f.result ≡ Some r → Yields ((check WrongType t >>= λ x. Ok r) >>= k) P
+        tested : (r : AbstractValue) (t : Bool) → is_bool r.kind ≡ t → f.result ≡ Some r → Yields ((check WrongType t >>= λ x. Ok r) >>= k) P
         tested r true e g = h r g e
         tested r false e g = record { yields = λ b e. absurd (cc) }
 
-        go : (o : Option Known) → f.result ≡ o → Yields ((need NoResult o >>= λ r. check WrongType (is_bool r.kind) >>= λ x. Ok r) >>= k) P
+        go : (o : Option AbstractValue) → f.result ≡ o → Yields ((need NoResult o >>= λ r. check WrongType (is_bool r.kind) >>= λ x. Ok r) >>= k) P
         go None e = record { yields = λ b e. absurd (cc) }
         go (Some r) e = tested r (is_bool r.kind) refl e
 
     -- what a condition's test says of a BOOL
-    bool_tested : (k : IlType) (x : Option Value) (r : Known) (w : Value) → is_bool k ≡ true → is_bool r.kind ≡ true → x ≡ Some w → w.kind ≡ r.kind → (or_wrong x >>= λ y. if is_bool y.kind && is_bool k then Ok (int_eq y.number (pos 1)) else Err Fault.WrongType) ≡ Ok (int_eq w.number (pos 1))
+    bool_tested : (k : IlType) (x : Option Value) (r : AbstractValue) (w : Value) → is_bool k ≡ true → is_bool r.kind ≡ true → x ≡ Some w → w.kind ≡ r.kind → (or_wrong x >>= λ y. if is_bool y.kind && is_bool k then Ok (int_eq y.number (pos 1)) else Err Fault.WrongType) ≡ Ok (int_eq w.number (pos 1))
     bool_tested k x r w e g is h =
         let t : is_bool w.kind ≡ true = rw h g in
         rw (is, t, e) refl
@@ -345,7 +345,7 @@ module _ (image : Image) (c : Frame) (rs : List Reading) (counters : ℕ) where
         (rw test (output_lands at next t false (int_eq w.0.number (pos 1)) f s d follows e (direction true t d e placed) k m ranges fits)))))))
 
     -- values that wait
-    deferred_long : (vs : List ℤ) (ks : List (Option Known)) (ws : List Value) → FitsDeferred vs rs ks ws → length ws ≡ length ks
+    deferred_long : (vs : List ℤ) (ks : List (Option AbstractValue)) (ws : List Value) → FitsDeferred vs rs ks ws → length ws ≡ length ks
     deferred_long vs [] [] h = refl
     deferred_long vs [] (w ∷ ws) h = absurd h
     deferred_long vs (k ∷ ks) [] h = absurd h
@@ -366,7 +366,7 @@ module _ (image : Image) (c : Frame) (rs : List Reading) (counters : ℕ) where
         ))))
 
     -- operations
-    one_lands : (at next : ℕ) (f : Fact) (s : State) (make : Known → Result Known RefusalKind) (act : Value → Result Value Fault) → IsAt c (at + 1) next → Within c counters s → Fits rs f s → ((k : Known) (v : Value) → FitsValue s.variables rs k v → Yields (make k) (Good s.variables rs (act v))) → Yields (flow_result f make (at + 1)) (λ ways. Lands at s.taken ways (step_result s act next))
+    one_lands : (at next : ℕ) (f : Fact) (s : State) (make : AbstractValue → Result AbstractValue RefusalKind) (act : Value → Result Value Fault) → IsAt c (at + 1) next → Within c counters s → Fits rs f s → ((k : AbstractValue) (v : Value) → FitsValue s.variables rs k v → Yields (make k) (Good s.variables rs (act v))) → Yields (flow_result f make (at + 1)) (λ ways. Lands at s.taken ways (step_result s act next))
     one_lands at next f s make act follows ranges fits h = by_then (need NoResult f.result >>= make) _ (Good s.variables rs (or_wrong s.result >>= act)) _
         (by_need _ f.result make _ (λ r g.
         let w = result_value s.variables f.result s.result r g fits.result in
@@ -384,7 +384,7 @@ module _ (image : Image) (c : Frame) (rs : List Reading) (counters : ℕ) where
     convert_lands : (at next : ℕ) (from to : IlType) (f : Fact) (s : State) → IsAt c (at + 1) next → Within c counters s → Fits rs f s → Yields (flow c at (does.Convert from to) f) (λ ways. Lands at s.taken ways (done image rs s.address next (does.Convert from to) s))
     convert_lands at next from to f s follows ranges fits = one_lands at next f s (converted_known c from to) (converted from to) follows ranges fits (converted_good c s.variables rs from to)
 
-    operands_go : (at next : ℕ) (f : Fact) (s : State) (k : Known) (rest : List (Option Known)) (ws : List Value) (r : Result Value Fault) → IsAt c (at + 1) next → Within c counters s → length ws ≤ c.depth → Fits rs f s → FitsDeferred s.variables rs rest ws → Good s.variables rs r k → Lands at s.taken ((at + 1, record f { result = Some k; deferred = rest }) ∷ []) (then_goes r (λ v. Goes (record s { address = next; result = Some v; deferred = ws })))
+    operands_go : (at next : ℕ) (f : Fact) (s : State) (k : AbstractValue) (rest : List (Option AbstractValue)) (ws : List Value) (r : Result Value Fault) → IsAt c (at + 1) next → Within c counters s → length ws ≤ c.depth → Fits rs f s → FitsDeferred s.variables rs rest ws → Good s.variables rs r k → Lands at s.taken ((at + 1, record f { result = Some k; deferred = rest }) ∷ []) (then_goes r (λ v. Goes (record s { address = next; result = Some v; deferred = ws })))
     operands_go at next f s k rest ws (Ok v) follows ranges short fits waits h = (
       record { variables = ranges.variables; outputs = ranges.outputs; deferred = short; counted = ranges.counted },
       inl (inl (record { forward = omega arith; kept = refl; is_at = follows; fits = record { variables = fits.variables; inputs = fits.inputs; present = fits.present; deferred = waits; result = h } })),
@@ -397,7 +397,7 @@ module _ (image : Image) (c : Frame) (rs : List Reading) (counters : ℕ) where
         let is = w.1 in
         let x = deferred_value s.variables f.deferred rest s.deferred top e fits.deferred in
         let waits = x.2 in
-        let y : FitsValue s.variables rs d x.0 = subst (λ (o : Option Known). FitsResult s.variables rs o (Some x.0)) g x.3 in
+        let y : FitsValue s.variables rs d x.0 = subst (λ (o : Option AbstractValue). FitsResult s.variables rs o (Some x.0)) g x.3 in
         let short : length x.1 ≤ c.depth = omega (arith, ap length waits, ranges.deferred) in
         by_then (applied_known c o d r) _ (Good s.variables rs (applied o x.0 w.0)) _ (applied_good c s.variables rs o d r x.0 w.0 y w.2)
         (λ k good. by_ok _ _ (rw (waits, is) (operands_go at next f s k rest x.1 (applied o x.0 w.0) follows ranges short fits x.4 good))))))
@@ -409,8 +409,8 @@ module _ (image : Image) (c : Frame) (rs : List Reading) (counters : ℕ) where
         let x = deferred_value s.variables f.deferred under' s.deferred top e fits.deferred in
         let z = deferred_value s.variables under' rest x.1 below e' x.4 in
         let waits = x.2 ∙ ap (λ (us : List Value). x.0 ∷ us) z.2 in
-        let y : FitsValue s.variables rs a x.0 = subst (λ (o : Option Known). FitsResult s.variables rs o (Some x.0)) g x.3 in
-        let y' : FitsValue s.variables rs chooser z.0 = subst (λ (o : Option Known). FitsResult s.variables rs o (Some z.0)) p z.3 in
+        let y : FitsValue s.variables rs a x.0 = subst (λ (o : Option AbstractValue). FitsResult s.variables rs o (Some x.0)) g x.3 in
+        let y' : FitsValue s.variables rs chooser z.0 = subst (λ (o : Option AbstractValue). FitsResult s.variables rs o (Some z.0)) p z.3 in
         let short : length z.1 ≤ c.depth = omega (arith, ap length waits, ranges.deferred) in
         by_then (selected_known c chooser a b) _ (Good s.variables rs (selected z.0 x.0 w.0)) _ (selected_good c s.variables rs chooser a b z.0 x.0 w.0 y' y w.2)
         (λ k good. by_ok _ _ (rw (waits, is) (operands_go at next f s k rest z.1 (selected z.0 x.0 w.0) follows ranges short fits z.4 good))))))))
@@ -426,7 +426,7 @@ module _ (image : Image) (c : Frame) (rs : List Reading) (counters : ℕ) where
     any_right (a ∷ as') bs P h = inr (any_right as' bs P h)
 
     -- the way on which the result is its truth is there
-    way_lands : (at m a : ℕ) (x : Bool) (r : Known) (w : Value) (f : Fact) (s : State) → at < m → IsAt c m a → s.result ≡ Some w → FitsValue s.variables rs r w → w.number ≡ number_of x → Fits rs f s → AnyWay (way_to m (way_where x r f)) (λ way. Arrives at s.taken way (record s { address = a }))
+    way_lands : (at m a : ℕ) (x : Bool) (r : AbstractValue) (w : Value) (f : Fact) (s : State) → at < m → IsAt c m a → s.result ≡ Some w → FitsValue s.variables rs r w → w.number ≡ number_of x → Fits rs f s → AnyWay (way_to m (way_where x r f)) (λ way. Arrives at s.taken way (record s { address = a }))
     way_lands at m a x r w f s forward is_at is value bit fits = go
       where
         set : Consequences
@@ -488,13 +488,13 @@ module _ (image : Image) (c : Frame) (rs : List Reading) (counters : ℕ) where
           inl (inl (record { forward = h; kept = refl; is_at = is_at; fits = moved_fits f s to s.outputs s.taken fits })),
         )))
 
-    acts_true : (o : Option Value) (r : Known) (w : Value) (x : Bool) → o ≡ Some w → is_bool r.kind ≡ true → w.kind ≡ r.kind → w.number ≡ number_of x → acts when.IfTrue o ≡ Ok x
+    acts_true : (o : Option Value) (r : AbstractValue) (w : Value) (x : Bool) → o ≡ Some w → is_bool r.kind ≡ true → w.kind ≡ r.kind → w.number ≡ number_of x → acts when.IfTrue o ≡ Ok x
     acts_true o r w x is q e bit =
         let t : is_bool w.kind ≡ true = rw e q in
         let y : int_eq w.number (pos 1) ≡ x = ap (λ (n : ℤ). int_eq n (pos 1)) bit ∙ bit_test x in
         rw (is, t, y) refl
 
-    acts_false : (o : Option Value) (r : Known) (w : Value) (x : Bool) → o ≡ Some w → is_bool r.kind ≡ true → w.kind ≡ r.kind → w.number ≡ number_of x → acts when.IfFalse o ≡ Ok (not x)
+    acts_false : (o : Option Value) (r : AbstractValue) (w : Value) (x : Bool) → o ≡ Some w → is_bool r.kind ≡ true → w.kind ≡ r.kind → w.number ≡ number_of x → acts when.IfFalse o ≡ Ok (not x)
     acts_false o r w x is q e bit =
         let t : is_bool w.kind ≡ true = rw e q in
         let y : int_eq w.number (pos 0) ≡ not x = ap (λ (n : ℤ). int_eq n (pos 0)) bit ∙ bit_zero x in
@@ -512,7 +512,7 @@ module _ (image : Image) (c : Frame) (rs : List Reading) (counters : ℕ) where
         let test = acts_true s.result r w.0 b.0 w.1 q w.2.kind b.1 in
         rw (less, test) (lands r w.0 w.1 w.2 n h is_at b.0 b.1))))
       where
-        lands : (r : Known) (w : Value) → s.result ≡ Some w → FitsValue s.variables rs r w → (n : ℕ) → at < n → IsAt c n to → (x : Bool) → w.number ≡ number_of x → Lands at s.taken (way_to (at + 1) (way_where false r f) ++ way_to n (way_where true r f)) (Goes (record s { address = if x then to else next }))
+        lands : (r : AbstractValue) (w : Value) → s.result ≡ Some w → FitsValue s.variables rs r w → (n : ℕ) → at < n → IsAt c n to → (x : Bool) → w.number ≡ number_of x → Lands at s.taken (way_to (at + 1) (way_where false r f) ++ way_to n (way_where true r f)) (Goes (record s { address = if x then to else next }))
         lands r w is value n h is_at true bit = (stays_in s to ranges, inl (any_right (way_to (at + 1) (way_where false r f)) (way_to n (way_where true r f)) _ (way_lands at n to true r w f s h is_at is value bit fits)))
         lands r w is value n h is_at false bit = (stays_in s next ranges, inl (any_left (way_to (at + 1) (way_where false r f)) (way_to n (way_where true r f)) _ (way_lands at (at + 1) next false r w f s (omega arith) follows is value bit fits)))
 
@@ -525,7 +525,7 @@ module _ (image : Image) (c : Frame) (rs : List Reading) (counters : ℕ) where
         let test = acts_false s.result r w.0 b.0 w.1 q w.2.kind b.1 in
         rw (less, test) (lands r w.0 w.1 w.2 n h is_at b.0 b.1))))
       where
-        lands : (r : Known) (w : Value) → s.result ≡ Some w → FitsValue s.variables rs r w → (n : ℕ) → at < n → IsAt c n to → (x : Bool) → w.number ≡ number_of x → Lands at s.taken (way_to (at + 1) (way_where true r f) ++ way_to n (way_where false r f)) (Goes (record s { address = if not x then to else next }))
+        lands : (r : AbstractValue) (w : Value) → s.result ≡ Some w → FitsValue s.variables rs r w → (n : ℕ) → at < n → IsAt c n to → (x : Bool) → w.number ≡ number_of x → Lands at s.taken (way_to (at + 1) (way_where true r f) ++ way_to n (way_where false r f)) (Goes (record s { address = if not x then to else next }))
         lands r w is value n h is_at false bit = (stays_in s to ranges, inl (any_right (way_to (at + 1) (way_where true r f)) (way_to n (way_where false r f)) _ (way_lands at n to false r w f s h is_at is value bit fits)))
         lands r w is value n h is_at true bit = (stays_in s next ranges, inl (any_left (way_to (at + 1) (way_where true r f)) (way_to n (way_where false r f)) _ (way_lands at (at + 1) next true r w f s (omega arith) follows is value bit fits)))
 
@@ -536,7 +536,7 @@ module _ (image : Image) (c : Frame) (rs : List Reading) (counters : ℕ) where
         let test = acts_true s.result r w.0 b.0 w.1 q w.2.kind b.1 in
         rw test (lands r w.0 w.1 w.2 b.0 b.1)))
       where
-        lands : (r : Known) (w : Value) → s.result ≡ Some w → FitsValue s.variables rs r w → (x : Bool) → w.number ≡ number_of x → Lands at s.taken (way_to (at + 1) (way_where false r f)) (if x then Ends s else Goes (record s { address = next }))
+        lands : (r : AbstractValue) (w : Value) → s.result ≡ Some w → FitsValue s.variables rs r w → (x : Bool) → w.number ≡ number_of x → Lands at s.taken (way_to (at + 1) (way_where false r f)) (if x then Ends s else Goes (record s { address = next }))
         lands r w is value true bit = ranges
         lands r w is value false bit = (stays_in s next ranges, inl (way_lands at (at + 1) next false r w f s (omega arith) follows is value bit fits))
 
@@ -547,7 +547,7 @@ module _ (image : Image) (c : Frame) (rs : List Reading) (counters : ℕ) where
         let test = acts_false s.result r w.0 b.0 w.1 q w.2.kind b.1 in
         rw test (lands r w.0 w.1 w.2 b.0 b.1)))
       where
-        lands : (r : Known) (w : Value) → s.result ≡ Some w → FitsValue s.variables rs r w → (x : Bool) → w.number ≡ number_of x → Lands at s.taken (way_to (at + 1) (way_where true r f)) (if not x then Ends s else Goes (record s { address = next }))
+        lands : (r : AbstractValue) (w : Value) → s.result ≡ Some w → FitsValue s.variables rs r w → (x : Bool) → w.number ≡ number_of x → Lands at s.taken (way_to (at + 1) (way_where true r f)) (if not x then Ends s else Goes (record s { address = next }))
         lands r w is value false bit = ranges
         lands r w is value true bit = (stays_in s next ranges, inl (way_lands at (at + 1) next true r w f s (omega arith) follows is value bit fits))
 

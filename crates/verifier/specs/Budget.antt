@@ -4,7 +4,7 @@ use Rattle.std.specs.Prelude.{ℕ, zero, suc, ◌+◌, ◌*◌, ◌-◌, max, Bo
 use Rattle.point_types.specs.declared.operator.Condition.TheVariants as when
 use Rattle.scan_code.specs.declared.op.Op.{Op}
 use Rattle.scan_code.specs.declared.op.Op.TheVariants as does
-use Rattle.facts.specs.Flow.{Frame, number_at}
+use Rattle.facts.specs.Flow.{Context, number_at}
 use Rattle.facts.specs.Slots.{slots, is_reached, is_loop_head}
 
 -- the number of instructions on the longest path from an instruction to an end, END, RETC or RETCN,
@@ -75,16 +75,16 @@ abbrev pub budget_of : List (ℕ × Op) → List Bool → ℕ
 budget_of listing reached = longest_of listing reached * (1 + total_count listing)
 
 -- which instructions a fact reaches
-abbrev pub reached : Frame → List Bool
+abbrev pub reached : Context → List Bool
 reached c = map is_reached (slots c (length c.listing))
 
-abbrev pub path_lengths : Frame → List Length
+abbrev pub path_lengths : Context → List Length
 path_lengths c = lengths_from c.listing 0 (reached c) c.listing
 
-abbrev pub longest_path : Frame → ℕ
+abbrev pub longest_path : Context → ℕ
 longest_path c = longest_of c.listing (reached c)
 
-abbrev pub budget : Frame → ℕ
+abbrev pub budget : Context → ℕ
 budget c = budget_of c.listing (reached c)
 
 -- What the lengths are of: paths as lists of the numbers of instructions.

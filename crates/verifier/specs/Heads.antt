@@ -1,4 +1,4 @@
--- Where the counted jumps of a program lead.
+-- inner: where the counted jumps of a program lead.
 -- IEC 61131-3 edition 2, 3.2.1 (instructions are done in order, or go on at a label).
 use Rattle.std.specs.Prelude.{ℕ, Bool, false, ◌||◌, List, [], ◌∷◌, nat_eq}
 use Rattle.scan_code.specs.declared.op.Op.{Op}

@@ -9,7 +9,7 @@ use Rattle.site_model.specs.declared.access.Access.{Access}
 use Rattle.site_model.specs.declared.access.Access.TheVariants as access
 use Rattle.site_model.specs.declared.tag.SiteTag.{SiteTag}
 use Rattle.facts.specs.Fact.{same_bool}
-use Rattle.verifier.specs.declared.link.Link.{Link}
+use Rattle.verifier.specs.declared.tag_link.TagLink.{TagLink}
 use Rattle.facts.specs.declared.refusal.Refusal.{Refusal}
 use Rattle.facts.specs.declared.refusal.RefusalKind.{RefusalKind}
 use Rattle.facts.specs.declared.refusal.RefusalKind.TheVariants.{TagUnknown, TagType, TagAccess}
@@ -21,18 +21,18 @@ is_stored access.Output = true
 is_stored access.Setting = false
 is_stored access.Shown = true
 
-abbrev pub allowed : Tag → Link → Result Link RefusalKind
+abbrev pub allowed : Tag → TagLink → Result TagLink RefusalKind
 allowed tag link =
     if not (nat_eq (code_of tag.kind) (code_of link.site.kind)) then Err TagType
     else if not (same_bool tag.output (is_stored link.site.access)) then Err TagAccess
     else Ok link
 
 -- a tag of the site, if it is there
-abbrev pub there : Tag → ℕ → Option SiteTag → Result Link RefusalKind
+abbrev pub there : Tag → ℕ → Option SiteTag → Result TagLink RefusalKind
 there tag n None = Err TagUnknown
 there tag n (Some s) = allowed tag (record { number = n; site = s })
 
-abbrev pub found : List SiteTag → Tag → Option ℕ → Result Link RefusalKind
+abbrev pub found : List SiteTag → Tag → Option ℕ → Result TagLink RefusalKind
 found site tag None = Err TagUnknown
 found site tag (Some n) = there tag n (slice_get site n)
 
@@ -43,7 +43,7 @@ is_called name s = bytes_eq s.name name
 abbrev pub number_of : List SiteTag → List ℕ → Option ℕ
 number_of site name = position (is_called name) site
 
-abbrev pub link_of : List SiteTag → Tag → Result Link RefusalKind
+abbrev pub link_of : List SiteTag → Tag → Result TagLink RefusalKind
 link_of site tag = found site tag (number_of site tag.name)
 
 abbrev pub refused_at : {A : Type 0} → ℕ → Result A RefusalKind → Result A Refusal
@@ -51,6 +51,6 @@ refused_at n (Ok a) = Ok a
 refused_at n (Err kind) = Err (record { at = n; kind = kind })
 
 -- of tags that are numbered from n on: the link of each, or the first refusal
-abbrev pub links_from : List SiteTag → ℕ → List Tag → Result (List Link) Refusal
+abbrev pub links_from : List SiteTag → ℕ → List Tag → Result (List TagLink) Refusal
 links_from site n [] = Ok []
 links_from site n (tag ∷ tags) = refused_at n (link_of site tag) >>= λ link. links_from site (n + 1) tags >>= λ links. Ok (link ∷ links)

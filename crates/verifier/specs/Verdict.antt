@@ -5,7 +5,7 @@ use Rattle.point_types.specs.Value.{◌>>=◌}
 use Rattle.scan_code.specs.Image.{Image}
 use Rattle.site_model.specs.declared.tag.SiteTag.{SiteTag}
 use Rattle.facts.specs.declared.refusal.RefusalKind.TheVariants.{OverBudget}
-use Rattle.facts.specs.Flow.{Frame}
+use Rattle.facts.specs.Flow.{Context}
 use Rattle.facts.specs.declared.refusal.Refusal.{Refusal}
 use Rattle.verifier.specs.Links.{links_from}
 use Rattle.verifier.specs.Listing.{listing_of}
@@ -14,22 +14,22 @@ use Rattle.facts.specs.Slots.{Slot, flow_of, slots}
 use Rattle.verifier.specs.Budget.{budget}
 
 -- first the tags are looked at, then the code
-abbrev pub frame_of : Image → List SiteTag → ℕ → Result Frame Refusal
+abbrev pub frame_of : Image → List SiteTag → ℕ → Result Context Refusal
 frame_of image site depth = links_from site 0 image.tags >>= λ links. listing_of image >>= λ listing.
     Ok (record { variables = image.vars; tags = map range_of links; depth = depth; listing = listing })
 
 -- of the instructions from number at on, the first that a fact reaches and that refuses
-abbrev pub first_refusal : Frame → ℕ → List Slot → Option Refusal
+abbrev pub first_refusal : Context → ℕ → List Slot → Option Refusal
 first_refusal c at [] = None
 first_refusal c at (s ∷ rest) = elim (flow_of c at s (slice_get c.listing at)) [ Err e ↦ Some (record { at = at; kind = e }) | Ok ways ↦ first_refusal c (at + 1) rest ]
 
-abbrev pub refusal_of : Frame → Option Refusal
+abbrev pub refusal_of : Context → Option Refusal
 refusal_of c = first_refusal c 0 (slots c (length c.listing))
 
 abbrev pub most_steps : ℕ
 most_steps = 1000000
 
-abbrev pub budgeted : Frame → Option Refusal → Result ℕ Refusal
+abbrev pub budgeted : Context → Option Refusal → Result ℕ Refusal
 budgeted c (Some refusal) = Err refusal
 budgeted c None = if nat_le (budget c) most_steps then Ok (budget c) else Err (record { at = 0; kind = OverBudget })
 

@@ -3,14 +3,14 @@
 use Rattle.std.specs.Prelude.{◌≡◌, ℕ, List, [], ◌∷◌, Option, Some, None, Ok, slice_get}
 use Rattle.scan_code.specs.Image.{Image, IsProper}
 use Rattle.site_model.specs.declared.tag.SiteTag.{SiteTag}
-use Rattle.verifier.specs.declared.link.Link.{Link}
+use Rattle.verifier.specs.declared.tag_link.TagLink.{TagLink}
 use Rattle.verifier.specs.Links.{links_from}
 use Rattle.verifier.specs.Verdict.{judged}
 
 -- an image, the site's tag of each of its tags, and the greatest number of steps of a scan
 pub record Acceptance : Type 0 where
   pub image : Image
-  pub links : List Link
+  pub links : List TagLink
   pub budget : ℕ
 
 -- it is an image, and for some site these are the links, and the verdict with so many deferred values is this budget
@@ -34,6 +34,6 @@ HasAlike None s = ⊥
 HasAlike (Some t) s = IsAlike t s
 
 -- each link's number is that of such a tag
-abbrev pub HasLinks : List SiteTag → List Link → Type 0
+abbrev pub HasLinks : List SiteTag → List TagLink → Type 0
 HasLinks site [] = Unit {0}
 HasLinks site (link ∷ links) = HasAlike (slice_get site link.number) link.site × HasLinks site links

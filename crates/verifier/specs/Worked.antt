@@ -10,7 +10,7 @@ use Rattle.scan_code.specs.declared.op.Op.{Op}
 use Rattle.scan_code.specs.declared.op.Op.TheVariants as does
 use Rattle.facts.specs.declared.refusal.RefusalKind.{RefusalKind}
 use Rattle.facts.specs.declared.refusal.RefusalKind.TheVariants as refused
-use Rattle.facts.specs.Flow.{Frame, TagRange}
+use Rattle.facts.specs.Flow.{Context, TagRange}
 use Rattle.facts.specs.declared.refusal.Refusal.{Refusal}
 use Rattle.verifier.specs.Verdict.{refusal_of, budgeted, judged}
 
@@ -28,7 +28,7 @@ numbered n (i ∷ is) = (n, i) ∷ numbered (n + 1) is
 -- the verdict on instructions that were listed, with 32 deferred values at most
 abbrev pub said_of : List Var → List TagRange → List Op → Result ℕ Refusal
 said_of vars tags ops =
-    let c : Frame = record { variables = vars; tags = tags; depth = 32; listing = numbered 0 ops } in budgeted c (refusal_of c)
+    let c : Context = record { variables = vars; tags = tags; depth = 32; listing = numbered 0 ops } in budgeted c (refusal_of c)
 
 -- the names a and b
 abbrev pub any_int : Var

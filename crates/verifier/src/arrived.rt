@@ -2,8 +2,8 @@
 
 /// What has come to an instruction from earlier ones: nothing, what is known, or facts that don't meet.
 #[derive(Drop)]
-pub enum Arrived<F> {
+pub(crate) enum Arrived<F> {
     Nothing,
-    Known(F),
+    AbstractValue(F),
     Clash,
 }

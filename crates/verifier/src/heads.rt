@@ -6,7 +6,7 @@ use scan_code::Op;
 use std::alloc::{AllocError, Global};
 
 /// The addresses that counted jumps lead to.
-pub fn loop_heads(alloc: Global, listing: &[(usize, Op)]) -> Result<Vec<usize>, AllocError>
+pub(crate) fn loop_heads(alloc: Global, listing: &[(usize, Op)]) -> Result<Vec<usize>, AllocError>
     ensures { IfOk result (λ heads. heads.items ≡ heads_of listing.now) }
 {
     let mut heads = Vec::new(alloc);
@@ -21,7 +21,7 @@ pub fn loop_heads(alloc: Global, listing: &[(usize, Op)]) -> Result<Vec<usize>, 
 }
 
 /// Whether an address is one of them.
-pub fn is_head(heads: &[usize], address: usize) -> bool
+pub(crate) fn is_head(heads: &[usize], address: usize) -> bool
     ensures { result ≡ is_among heads.now address }
 {
     let mut rest = heads;

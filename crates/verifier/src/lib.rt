@@ -6,22 +6,22 @@
 //! [`Fact`]: fact::Fact
 #![tactic(auto)]
 
-pub mod arrived;
-pub mod as_fact;
+mod arrived;
 pub mod budget;
-pub mod heads;
+pub mod fact_domain;
+mod heads;
 pub mod laws;
-pub mod link;
 pub mod listing;
 pub mod pass;
 pub mod refused;
+pub mod tag_link;
 pub mod verified;
 pub mod verify;
 
 pub use facts::{
-    Refusal, RefusalKind, changes, consequences, fact, flow, frame, known, operand, presence,
-    refusal, span, sparse, tag_range,
+    Refusal, RefusalKind, abstract_value, changed_spans, context, fact, operand, present_inputs,
+    refusal, span,
 };
-pub use link::{Link, links};
 pub use refused::Refused;
+pub use tag_link::{TagLink, links};
 pub use verified::Verified;

@@ -6,9 +6,9 @@ ghost use Rattle.facts.specs.Slots.{Holds, Slot, Unreached, address_of, flow_of,
 ghost use Rattle.facts.specs.Word.{AnswersOrWantsMemory};
 
 use crate::arrived::Arrived;
-use crate::as_fact::{AsFact, Ways};
+use crate::fact_domain::{FactDomain, Ways};
 use crate::heads::{is_head, loop_heads};
-use facts::frame::Frame;
+use facts::context::Context;
 use facts::refusal::{Refusal, RefusalKind};
 use point_types::Items;
 use std::alloc::{AllocError, Global};
@@ -16,34 +16,34 @@ use std::mem;
 
 /// Which instructions a fact reaches, where none of them refuses; else the first refusal. Facts flow to
 /// later instructions alone, so that one pass forward finds them all (IEC 61131-3 edition 2, 3.2.1).
-pub fn pass<F: AsFact>(alloc: Global, frame: &Frame) -> Result<Items<bool>, Refusal>
-    requires { length frame.now.listing < 2 ^ 63 }
-    ensures { AnswersOrWantsMemory (λ reached. reached) (passed frame.now) result }
+pub fn pass<F: FactDomain>(alloc: Global, context: &Context) -> Result<Items<bool>, Refusal>
+    requires { length context.now.listing < 2 ^ 63 }
+    ensures { AnswersOrWantsMemory (λ reached. reached) (passed context.now) result }
 {
-    let heads = loop_heads(alloc, frame.instructions())?;
-    let mut pending = opened::<F>(alloc, frame)?;
-    pass_over(alloc, frame, &heads, &mut pending)
+    let heads = loop_heads(alloc, context.instructions())?;
+    let mut pending = opened::<F>(alloc, context)?;
+    pass_over(alloc, context, &heads, &mut pending)
 }
 
-fn pass_over<F: AsFact>(
+fn pass_over<F: FactDomain>(
     alloc: Global,
-    frame: &Frame,
+    context: &Context,
     heads: &[usize],
     pending: &mut [Arrived<F>],
 ) -> Result<Items<bool>, Refusal>
-    requires few { length frame.now.listing < 2 ^ 63 }
-    requires heads { heads.now ≡ heads_of frame.now.listing }
-    requires long { length pending.old ≡ length frame.now.listing }
-    requires opened { (n : ℕ) (slot : Slot) → slice_get (all_stood F.stands pending.old) n ≡ Some slot → slot ≡ opening frame.now n }
-    ensures { AnswersOrWantsMemory (λ reached. reached) (passed frame.now) result }
+    requires few { length context.now.listing < 2 ^ 63 }
+    requires heads { heads.now ≡ heads_of context.now.listing }
+    requires long { length pending.old ≡ length context.now.listing }
+    requires opened { (n : ℕ) (slot : Slot) → slice_get (all_stood F.stands pending.old) n ≡ Some slot → slot ≡ opening context.now n }
+    ensures { AnswersOrWantsMemory (λ reached. reached) (passed context.now) result }
 {
     let mut reached = Items::new(alloc);
     let mut at = 0;
-    while at < frame.size() {
+    while at < context.size() {
         let arrived = taken(pending, at);
-        let slot = close(alloc, frame, heads, at, arrived)?;
+        let slot = close(alloc, context, heads, at, arrived)?;
         reached.push(has_fact(&slot))?;
-        match flow_of(alloc, frame, at, slot)? {
+        match flow_of(alloc, context, at, slot)? {
             Ok(ways) => deliver_all(alloc, pending, ways)?,
             Err(kind) => return Err(Refusal { at, kind }),
         }
@@ -53,31 +53,31 @@ fn pass_over<F: AsFact>(
 }
 
 /// What stands at each instruction before anything flows there.
-fn opened<F: AsFact>(alloc: Global, frame: &Frame) -> Result<Vec<Arrived<F>>, AllocError>
-    ensures long { IfOk result (λ pending. length pending.items ≡ length frame.now.listing) }
-    ensures each { IfOk result (λ pending. (n : ℕ) (slot : Slot) → slice_get (all_stood F.stands pending.items) n ≡ Some slot → slot ≡ opening frame.now n) }
+fn opened<F: FactDomain>(alloc: Global, context: &Context) -> Result<Vec<Arrived<F>>, AllocError>
+    ensures long { IfOk result (λ pending. length pending.items ≡ length context.now.listing) }
+    ensures each { IfOk result (λ pending. (n : ℕ) (slot : Slot) → slice_get (all_stood F.stands pending.items) n ≡ Some slot → slot ≡ opening context.now n) }
 {
     let mut pending = Vec::new(alloc);
     let mut n = 0;
-    while n < frame.size() {
-        pending.push(open(alloc, frame, n)?)?;
+    while n < context.size() {
+        pending.push(open(alloc, context, n)?)?;
         n += 1;
     }
     Ok(pending)
 }
 
-fn open<F: AsFact>(alloc: Global, frame: &Frame, n: usize) -> Result<Arrived<F>, AllocError>
-    ensures { IfOk result (λ slot. stood F.stands slot ≡ opening frame.now n) }
+fn open<F: FactDomain>(alloc: Global, context: &Context, n: usize) -> Result<Arrived<F>, AllocError>
+    ensures { IfOk result (λ slot. stood F.stands slot ≡ opening context.now n) }
 {
     if n == 0 {
-        Ok(Arrived::Known(F::entry(alloc, frame)?))
+        Ok(Arrived::AbstractValue(F::entry(alloc, context)?))
     } else {
         Ok(Arrived::Nothing)
     }
 }
 
 /// Takes what has come to an instruction.
-fn taken<F: AsFact>(pending: &mut [Arrived<F>], at: usize) -> Arrived<F>
+fn taken<F: FactDomain>(pending: &mut [Arrived<F>], at: usize) -> Arrived<F>
     requires { at < length pending.old }
     ensures taken { slice_get pending.old at ≡ Some result }
     ensures left { all_stood F.stands pending.new ≡ slice_set (all_stood F.stands pending.old) at Unreached }
@@ -87,79 +87,81 @@ fn taken<F: AsFact>(pending: &mut [Arrived<F>], at: usize) -> Arrived<F>
 
 /// What is known before an instruction to which all has come. At the label of a counted jump what comes
 /// is forgotten.
-fn close<F: AsFact>(
+fn close<F: FactDomain>(
     alloc: Global,
-    frame: &Frame,
+    context: &Context,
     heads: &[usize],
     at: usize,
     arrived: Arrived<F>,
 ) -> Result<Arrived<F>, AllocError>
-    requires heads { heads.now ≡ heads_of frame.now.listing }
-    requires within { at < length frame.now.listing }
-    ensures { IfOk result (λ slot. stood F.stands slot ≡ closed frame.now at (stood F.stands arrived)) }
+    requires heads { heads.now ≡ heads_of context.now.listing }
+    requires within { at < length context.now.listing }
+    ensures { IfOk result (λ slot. stood F.stands slot ≡ closed context.now at (stood F.stands arrived)) }
 {
-    if is_label(frame, heads, at) {
-        head_slot(alloc, frame, arrived)
+    if is_label(context, heads, at) {
+        head_slot(alloc, context, arrived)
     } else {
         Ok(arrived)
     }
 }
 
 /// Whether an instruction is one that counted jumps lead to.
-fn is_label(frame: &Frame, heads: &[usize], at: usize) -> bool
-    requires heads { heads.now ≡ heads_of frame.now.listing }
-    requires within { at < length frame.now.listing }
-    ensures { result ≡ is_loop_head (address_of (slice_get frame.now.listing at)) frame.now.listing }
+fn is_label(context: &Context, heads: &[usize], at: usize) -> bool
+    requires heads { heads.now ≡ heads_of context.now.listing }
+    requires within { at < length context.now.listing }
+    ensures { result ≡ is_loop_head (address_of (slice_get context.now.listing at)) context.now.listing }
 {
-    let (address, _) = frame.instruction(at);
+    let (address, _) = context.instruction(at);
     is_head(heads, address)
 }
 
 /// What is known at the label of a counted jump; deferred values may not come there.
-fn head_slot<F: AsFact>(
+fn head_slot<F: FactDomain>(
     alloc: Global,
-    frame: &Frame,
+    context: &Context,
     arrived: Arrived<F>,
 ) -> Result<Arrived<F>, AllocError>
-    ensures { IfOk result (λ slot. stood F.stands slot ≡ head_slot frame.now (stood F.stands arrived)) }
+    ensures { IfOk result (λ slot. stood F.stands slot ≡ head_slot context.now (stood F.stands arrived)) }
 {
     match arrived {
-        Arrived::Nothing => Ok(Arrived::Known(F::entry(alloc, frame)?)),
-        Arrived::Known(fact) if fact.depth() == 0 => Ok(Arrived::Known(F::entry(alloc, frame)?)),
+        Arrived::Nothing => Ok(Arrived::AbstractValue(F::entry(alloc, context)?)),
+        Arrived::AbstractValue(fact) if fact.depth() == 0 => Ok(Arrived::AbstractValue(F::entry(
+            alloc, context,
+        )?)),
         _ => Ok(Arrived::Clash),
     }
 }
 
-fn has_fact<F: AsFact>(slot: &Arrived<F>) -> bool
+fn has_fact<F: FactDomain>(slot: &Arrived<F>) -> bool
     ensures { result ≡ is_reached (stood F.stands slot.now) }
 {
     !matches!(slot, Arrived::Nothing)
 }
 
 /// What flows on from an instruction.
-fn flow_of<F: AsFact>(alloc: Global, frame: &Frame, at: usize, slot: Arrived<F>) -> Ways<F>
-    requires within { at < length frame.now.listing }
+fn flow_of<F: FactDomain>(alloc: Global, context: &Context, at: usize, slot: Arrived<F>) -> Ways<F>
+    requires within { at < length context.now.listing }
     requires few { at + 1 < 2 ^ 64 }
-    ensures { IfOk result (λ ways. flow_stood F.stands ways ≡ flow_of frame.now at (stood F.stands slot) (slice_get frame.now.listing at)) }
+    ensures { IfOk result (λ ways. flow_stood F.stands ways ≡ flow_of context.now at (stood F.stands slot) (slice_get context.now.listing at)) }
 {
     match slot {
         Arrived::Nothing => Ok(Ok(Items::new(alloc))),
-        Arrived::Known(fact) => flow_known(alloc, frame, at, fact),
+        Arrived::AbstractValue(fact) => flow_known(alloc, context, at, fact),
         Arrived::Clash => Ok(Err(RefusalKind::Stack)),
     }
 }
 
-fn flow_known<F: AsFact>(alloc: Global, frame: &Frame, at: usize, fact: F) -> Ways<F>
-    requires within { at < length frame.now.listing }
+fn flow_known<F: FactDomain>(alloc: Global, context: &Context, at: usize, fact: F) -> Ways<F>
+    requires within { at < length context.now.listing }
     requires few { at + 1 < 2 ^ 64 }
-    ensures { IfOk result (λ ways. flow_stood F.stands ways ≡ flow_of frame.now at (Holds (F.stands fact)) (slice_get frame.now.listing at)) }
+    ensures { IfOk result (λ ways. flow_stood F.stands ways ≡ flow_of context.now at (Holds (F.stands fact)) (slice_get context.now.listing at)) }
 {
-    let (_, op) = frame.instruction(at);
-    fact.flow(alloc, frame, at, op)
+    let (_, op) = context.instruction(at);
+    fact.flow(alloc, context, at, op)
 }
 
 /// Brings each fact to its instruction, if there is such a one.
-fn deliver_all<F: AsFact>(
+fn deliver_all<F: FactDomain>(
     alloc: Global,
     pending: &mut [Arrived<F>],
     ways: Items<(usize, F)>,
@@ -174,7 +176,7 @@ fn deliver_all<F: AsFact>(
     Ok(())
 }
 
-fn deliver<F: AsFact>(
+fn deliver<F: FactDomain>(
     alloc: Global,
     pending: &mut [Arrived<F>],
     to: usize,
@@ -190,13 +192,17 @@ fn deliver<F: AsFact>(
 }
 
 /// What has come once one more fact has.
-fn meeting<F: AsFact>(alloc: Global, before: Arrived<F>, fact: F) -> Result<Arrived<F>, AllocError>
+fn meeting<F: FactDomain>(
+    alloc: Global,
+    before: Arrived<F>,
+    fact: F,
+) -> Result<Arrived<F>, AllocError>
     ensures { IfOk result (λ slot. stood F.stands slot ≡ meets (stood F.stands before) (F.stands fact)) }
 {
     match before {
-        Arrived::Nothing => Ok(Arrived::Known(fact)),
-        Arrived::Known(other) => match other.meet(alloc, fact)? {
-            Some(both) => Ok(Arrived::Known(both)),
+        Arrived::Nothing => Ok(Arrived::AbstractValue(fact)),
+        Arrived::AbstractValue(other) => match other.meet(alloc, fact)? {
+            Some(both) => Ok(Arrived::AbstractValue(both)),
             None => Ok(Arrived::Clash),
         },
         Arrived::Clash => Ok(Arrived::Clash),

@@ -2,7 +2,7 @@
 ghost use Rattle.std.specs.Prelude.{◌≡◌, ◌↔◌, true, slice_get};
 ghost use Rattle.verifier.specs.Verified.{HasAlike, HasLinks, IsAlike};
 
-use crate::link::Link;
+use crate::tag_link::TagLink;
 use point_types::{IlType, Items, Name};
 use scan_code::Image;
 use site_model::{Access, Site, SiteTag};
@@ -12,7 +12,7 @@ use std::marker::Model;
 #[derive(Drop)]
 pub struct Verified<const DEPTH: usize> {
     pub(crate) image: Image,
-    pub(crate) links: Items<Link>,
+    pub(crate) links: Items<TagLink>,
     pub(crate) budget: u32,
 }
 
@@ -47,7 +47,7 @@ impl<const DEPTH: usize> Verified<DEPTH> {
     }
 
     /// The site's tag of each tag of the image.
-    pub fn links(&self) -> &[Link]
+    pub fn links(&self) -> &[TagLink]
         ensures { result.now ≡ self.now.links }
     {
         self.links.as_slice()
@@ -70,7 +70,7 @@ impl<const DEPTH: usize> Verified<DEPTH> {
     }
 }
 
-fn has_links(site: &[SiteTag], links: &[Link]) -> bool
+fn has_links(site: &[SiteTag], links: &[TagLink]) -> bool
     ensures { (result ≡ true) ↔ HasLinks site.now links.now }
 {
     let mut rest = links;
@@ -83,7 +83,7 @@ fn has_links(site: &[SiteTag], links: &[Link]) -> bool
     true
 }
 
-fn has_link(site: &[SiteTag], link: &Link) -> bool
+fn has_link(site: &[SiteTag], link: &TagLink) -> bool
     ensures { (result ≡ true) ↔ HasAlike (slice_get site.now link.now.number) link.now.site }
 {
     match site.get(link.number) {

@@ -6,13 +6,13 @@ ghost use Rattle.verifier.specs.Promise.{KeepsPromise};
 ghost use Rattle.facts.specs.Word.{AnswersOrWantsMemory};
 
 use crate::budget::most_steps;
-use crate::link::{Link, links, ranges};
 use crate::listing::listing;
 use crate::pass::pass;
 use crate::refused::Refused;
+use crate::tag_link::{TagLink, links, ranges};
 use crate::verified::Verified;
+use facts::context::Context;
 use facts::fact::Fact;
-use facts::frame::Frame;
 use facts::refusal::{Refusal, RefusalKind};
 use point_types::Items;
 use scan_code::{Image, Op};
@@ -53,15 +53,15 @@ pub fn verify<const DEPTH: usize>(
 }
 
 /// The budget of a program whose tags are linked.
-fn judge(alloc: Global, image: &Image, links: &[Link], depth: usize) -> Result<u32, Refusal>
+fn judge(alloc: Global, image: &Image, links: &[TagLink], depth: usize) -> Result<u32, Refusal>
     ensures { AnswersOrWantsMemory (λ budget. budget) (judged_with image.now links.now depth) result }
 {
     let listing = match listed(alloc, image) {
         Ok(listing) => listing,
         Err(refusal) => return Err(refusal),
     };
-    let frame = frame_of(alloc, image, links, depth, listing)?;
-    judge_frame(alloc, &frame)
+    let context = frame_of(alloc, image, links, depth, listing)?;
+    judge_frame(alloc, &context)
 }
 
 /// The instructions of an image; they are few, since each has a byte.
@@ -76,13 +76,13 @@ fn listed(alloc: Global, image: &Image) -> Result<Items<(usize, Op)>, Refusal>
 fn frame_of(
     alloc: Global,
     image: &Image,
-    links: &[Link],
+    links: &[TagLink],
     depth: usize,
     listing: Items<(usize, Op)>,
-) -> Result<Frame, AllocError>
-    ensures { IfOk result (λ frame. frame ≡ linked_frame image.now links.now depth listing) }
+) -> Result<Context, AllocError>
+    ensures { IfOk result (λ context. context ≡ linked_frame image.now links.now depth listing) }
 {
-    Ok(Frame {
+    Ok(Context {
         variables: Items::from_vec(Vec::from_slice(alloc, image.vars.as_slice())?),
         tags: ranges(alloc, links)?,
         depth,
@@ -91,15 +91,15 @@ fn frame_of(
 }
 
 /// The budget, where no instruction refuses.
-fn judge_frame(alloc: Global, frame: &Frame) -> Result<u32, Refusal>
-    requires { length frame.now.listing < 65536 }
-    ensures { AnswersOrWantsMemory (λ budget. budget) (judged_of frame.now) result }
+fn judge_frame(alloc: Global, context: &Context) -> Result<u32, Refusal>
+    requires { length context.now.listing < 65536 }
+    ensures { AnswersOrWantsMemory (λ budget. budget) (judged_of context.now) result }
 {
-    let reached = match pass::<Fact>(alloc, frame) {
+    let reached = match pass::<Fact>(alloc, context) {
         Ok(reached) => reached,
         Err(refusal) => return Err(refusal),
     };
-    let steps = most_steps(alloc, frame.instructions(), reached.as_slice())?;
+    let steps = most_steps(alloc, context.instructions(), reached.as_slice())?;
     within_budget(steps)
 }
 

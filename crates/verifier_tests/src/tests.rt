@@ -15,8 +15,8 @@ use site_model::Access;
 use std::alloc::Global;
 use std::fmt::Debug;
 use std::process::Abort;
-use verifier::frame::Frame;
-use verifier::link::{Link, ranges};
+use verifier::context::Context;
+use verifier::tag_link::{TagLink, ranges};
 use worked_texts::images::variables;
 use worked_texts::programs::DeclaredVariable;
 use worked_texts::tags::power;
@@ -35,11 +35,11 @@ pub(crate) fn name(rt: &impl Abort, text: &str) -> Name {
     Name::from_bytes(text.as_bytes()).expect(rt, "a name")
 }
 
-/// A frame of these variables and one input, with room for one deferred value.
-pub(crate) fn frame_of(rt: &impl Abort, alloc: Global, rows: &[DeclaredVariable]) -> Frame {
+/// A context of these variables and one input, with room for one deferred value.
+pub(crate) fn frame_of(rt: &impl Abort, alloc: Global, rows: &[DeclaredVariable]) -> Context {
     let variables = variables(alloc, rows, &[0, 0]).expect(rt, "variables");
     let tags = ranges(alloc, one_link(rt, alloc).as_slice()).expect(rt, "ranges");
-    Frame {
+    Context {
         variables,
         tags,
         depth: 1,
@@ -47,9 +47,9 @@ pub(crate) fn frame_of(rt: &impl Abort, alloc: Global, rows: &[DeclaredVariable]
     }
 }
 
-fn one_link(rt: &impl Abort, alloc: Global) -> Items<Link> {
+fn one_link(rt: &impl Abort, alloc: Global) -> Items<TagLink> {
     let mut links = Items::new(alloc);
     let site = power(name(rt, "inv1_w"), Access::Input);
-    links.push(Link { number: 0, site }).expect(rt, "memory");
+    links.push(TagLink { number: 0, site }).expect(rt, "memory");
     links
 }

@@ -5,7 +5,8 @@ ghost use Rattle.std.specs.Prelude.{◌≡◌, pos, neg_ℤ};
 use point_types::{IlType, Kind, Name};
 use site_model::{Access, Sf, SiteTag};
 
-/// The power of an inverter in watts: an int16 at offset 14, scaled by the factor at offset 15.
+/// The power of an inverter in watts: an int16 at offset 14, scaled by the factor at offset 15. That it
+/// can be written is said here alone, so that tests may take it as an output.
 pub fn power(name: Name, access: Access) -> SiteTag
     ensures low { result.low ≡ neg_ℤ (pos 100000) }
     ensures high { result.high ≡ pos 100000 }
@@ -23,6 +24,7 @@ pub fn power(name: Name, access: Access) -> SiteTag
         device: Some(0),
         model: 103,
         point: Kind::Int16,
+        writable: true,
         offset: 14,
         sf: Sf::At(15),
     }
@@ -46,6 +48,7 @@ pub fn limit(name: Name, access: Access) -> SiteTag
         device: Some(0),
         model: 123,
         point: Kind::Uint16,
+        writable: true,
         offset: 5,
         sf: Sf::At(23),
     }

@@ -62,10 +62,11 @@ impl<A: Answers> AnsweredLink<A> {
 
 impl<A: Answers> Link for AnsweredLink<A> {
     ghost use Rattle.std.specs.Prelude.{None};
+    ghost use Rattle.modbus_frame.specs.Link.{untold};
 
     ghost calls = { λ _. None };
 
-    ghost failures = { λ _. None };
+    ghost failures = { λ _. untold };
 
     ghost coming = { λ _. None };
 
@@ -115,10 +116,11 @@ impl<L: Link> FailingLink<L> {
 
 impl<L: Link> Link for FailingLink<L> {
     ghost use Rattle.std.specs.Prelude.{None};
+    ghost use Rattle.modbus_frame.specs.Link.{untold};
 
     ghost calls = { λ _. None };
 
-    ghost failures = { λ _. None };
+    ghost failures = { λ _. untold };
 
     ghost coming = { λ _. None };
 

@@ -29,6 +29,7 @@ fn limit(rt: &impl Abort) -> SiteTag
         device: Some(0),
         model: 123,
         point: Kind::Uint16,
+        writable: true,
         offset: 5,
         sf: Sf::At(23),
     }
@@ -51,6 +52,7 @@ fn wide_limit(rt: &impl Abort) -> SiteTag
         device: Some(0),
         model: 123,
         point: Kind::Uint16,
+        writable: true,
         offset: 5,
         sf: Sf::At(23),
     }

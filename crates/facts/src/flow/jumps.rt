@@ -4,11 +4,11 @@ ghost use Rattle.scan_code.specs.declared.op.Op.TheVariants as does;
 ghost use Rattle.facts.specs.Branches.{jumps_where, refused_or, stays_where, stepped};
 ghost use Rattle.facts.specs.Flow.{bool_result, earlier, flow, goes_on, later, tested};
 
+use crate::abstract_value::AbstractValue;
 use crate::address::number_at;
+use crate::context::Context;
 use crate::fact::Fact;
 use crate::flow::{Step, add_way, unless};
-use crate::frame::Frame;
-use crate::known::Known;
 use crate::refusal::RefusalKind;
 use point_types::{Condition, IlType, Items};
 use std::alloc::{AllocError, Global};
@@ -18,15 +18,15 @@ impl Fact {
     pub(crate) fn jump(
         &self,
         alloc: Global,
-        frame: &Frame,
+        context: &Context,
         at: usize,
         condition: Condition,
         to: usize,
     ) -> Step
         requires { at + 1 < 2 ^ 64 }
-        ensures { IfOk result (λ step. flow frame.now at (does.Jump condition to) self.now ≡ stepped at self.now step) }
+        ensures { IfOk result (λ step. flow context.now at (does.Jump condition to) self.now ≡ stepped at self.now step) }
     {
-        let target = later(at, number_at(frame.instructions(), to));
+        let target = later(at, number_at(context.instructions(), to));
         match condition {
             Condition::Always => match target {
                 Ok(number) => self.goes_to(alloc, number),
@@ -75,12 +75,12 @@ impl Fact {
     pub(crate) fn leave(
         &self,
         alloc: Global,
-        frame: &Frame,
+        context: &Context,
         at: usize,
         condition: Condition,
     ) -> Step
         requires { at + 1 < 2 ^ 64 }
-        ensures { IfOk result (λ step. flow frame.now at (does.Return condition) self.now ≡ stepped at self.now step) }
+        ensures { IfOk result (λ step. flow context.now at (does.Return condition) self.now ≡ stepped at self.now step) }
     {
         match condition {
             Condition::Always => Ok(Ok(Some(Items::new(alloc)))),
@@ -107,7 +107,7 @@ impl Fact {
     /// doesn't hang on this way.
     pub(crate) fn repeat(
         &self,
-        frame: &Frame,
+        context: &Context,
         at: usize,
         condition: Condition,
         counter: u8,
@@ -115,15 +115,15 @@ impl Fact {
         to: usize,
     ) -> Step
         requires { at + 1 < 2 ^ 64 }
-        ensures { IfOk result (λ step. flow frame.now at (does.Repeat condition counter count to) self.now ≡ stepped at self.now step) }
+        ensures { IfOk result (λ step. flow context.now at (does.Repeat condition counter count to) self.now ≡ stepped at self.now step) }
     {
-        Ok(unless(self.repeat_refusal(frame, at, condition, counter, count, to)))
+        Ok(unless(self.repeat_refusal(context, at, condition, counter, count, to)))
     }
 
     /// Why a counted jump is refused, if it is.
     fn repeat_refusal(
         &self,
-        frame: &Frame,
+        context: &Context,
         at: usize,
         condition: Condition,
         counter: u8,
@@ -131,7 +131,7 @@ impl Fact {
         to: usize,
     ) -> Option<RefusalKind>
         requires { at + 1 < 2 ^ 64 }
-        ensures { flow frame.now at (does.Repeat condition counter count to) self.now ≡ refused_or result (goes_on (at + 1) self.now) }
+        ensures { flow context.now at (does.Repeat condition counter count to) self.now ≡ refused_or result (goes_on (at + 1) self.now) }
     {
         if self.depth() != 0 {
             return Some(RefusalKind::Stack);
@@ -139,14 +139,14 @@ impl Fact {
         if let Err(kind) = self.tested(condition) {
             return Some(kind);
         }
-        match earlier(at, number_at(frame.listing.as_slice(), to)) {
+        match earlier(at, number_at(context.listing.as_slice(), to)) {
             Ok(_) => None,
             Err(kind) => Some(kind),
         }
     }
 
     /// The result, which is a BOOL.
-    pub(crate) fn bool_result(&self) -> Result<&Known, RefusalKind>
+    pub(crate) fn bool_result(&self) -> Result<&AbstractValue, RefusalKind>
         ensures { MatchResult result (λ known. bool_result self.now ≡ Ok known.now) (λ kind. bool_result self.now ≡ Err kind) }
     {
         match &self.result {

@@ -4,10 +4,10 @@ ghost use Rattle.scan_code.specs.declared.op.Op.TheVariants as does;
 ghost use Rattle.facts.specs.Branches.{stepped, with_made};
 ghost use Rattle.facts.specs.Flow.{flow};
 
+use crate::abstract_value::{AbstractValue, Origin};
+use crate::context::Context;
 use crate::fact::Fact;
 use crate::flow::Step;
-use crate::frame::Frame;
-use crate::known::{Known, Origin};
 use crate::operand::Made;
 use crate::refusal::RefusalKind;
 use crate::span::Span;
@@ -20,47 +20,53 @@ impl Fact {
     pub(crate) fn load_variable(
         &mut self,
         alloc: Global,
-        frame: &Frame,
+        context: &Context,
         at: usize,
         v: usize,
     ) -> Step
         requires { at + 1 < 2 ^ 64 }
-        ensures { IfOk result (λ step. flow frame.now at (does.LoadVariable v) self.old ≡ stepped at self.new step) }
+        ensures { IfOk result (λ step. flow context.now at (does.LoadVariable v) self.old ≡ stepped at self.new step) }
     {
-        let made = self.variable_value(alloc, frame, at, v)?;
+        let made = self.variable_value(alloc, context, at, v)?;
         Ok(self.take_made(made))
     }
 
     /// What is known of a variable that is loaded.
-    fn variable_value(&self, alloc: Global, frame: &Frame, at: usize, v: usize) -> Made
+    fn variable_value(&self, alloc: Global, context: &Context, at: usize, v: usize) -> Made
         requires { at + 1 < 2 ^ 64 }
-        ensures { IfOk result (λ made. flow frame.now at (does.LoadVariable v) self.now ≡ with_made at self.now made) }
+        ensures { IfOk result (λ made. flow context.now at (does.LoadVariable v) self.now ≡ with_made at self.now made) }
     {
-        let Some(variable) = frame.variables.as_slice().get(v) else {
+        let Some(variable) = context.variables.as_slice().get(v) else {
             return Ok(Err(RefusalKind::Code));
         };
         let Some(span) = self.variables.get(v) else {
             return Ok(Err(RefusalKind::Code));
         };
         let origin = Origin::OfVariable(v);
-        Ok(Ok(Known::source(alloc, frame, variable.kind, span, origin)?))
+        Ok(Ok(AbstractValue::source(alloc, context, variable.kind, span, origin)?))
     }
 
     /// LDT: the result is an input, which has a default or is known to be present.
-    pub(crate) fn load_input(&mut self, alloc: Global, frame: &Frame, at: usize, t: usize) -> Step
+    pub(crate) fn load_input(
+        &mut self,
+        alloc: Global,
+        context: &Context,
+        at: usize,
+        t: usize,
+    ) -> Step
         requires { at + 1 < 2 ^ 64 }
-        ensures { IfOk result (λ step. flow frame.now at (does.LoadInput t) self.old ≡ stepped at self.new step) }
+        ensures { IfOk result (λ step. flow context.now at (does.LoadInput t) self.old ≡ stepped at self.new step) }
     {
-        let made = self.input_value(alloc, frame, at, t)?;
+        let made = self.input_value(alloc, context, at, t)?;
         Ok(self.take_made(made))
     }
 
     /// What is known of an input that is loaded.
-    fn input_value(&self, alloc: Global, frame: &Frame, at: usize, t: usize) -> Made
+    fn input_value(&self, alloc: Global, context: &Context, at: usize, t: usize) -> Made
         requires { at + 1 < 2 ^ 64 }
-        ensures { IfOk result (λ made. flow frame.now at (does.LoadInput t) self.now ≡ with_made at self.now made) }
+        ensures { IfOk result (λ made. flow context.now at (does.LoadInput t) self.now ≡ with_made at self.now made) }
     {
-        let Some(tag) = frame.tag(t) else {
+        let Some(tag) = context.tag(t) else {
             return Ok(Err(RefusalKind::Code));
         };
         let Some(span) = self.inputs.get(t) else {
@@ -73,32 +79,38 @@ impl Fact {
             return Ok(Err(RefusalKind::MayBeMissing));
         }
         let origin = Origin::OfInput(t);
-        Ok(Ok(Known::source(alloc, frame, tag.kind, span, origin)?))
+        Ok(Ok(AbstractValue::source(alloc, context, tag.kind, span, origin)?))
     }
 
     /// LDP: the result says whether an input is present.
     pub(crate) fn load_presence(
         &mut self,
         alloc: Global,
-        frame: &Frame,
+        context: &Context,
         at: usize,
         t: usize,
     ) -> Step
         requires { at + 1 < 2 ^ 64 }
-        ensures { IfOk result (λ step. flow frame.now at (does.LoadPresence t) self.old ≡ stepped at self.new step) }
+        ensures { IfOk result (λ step. flow context.now at (does.LoadPresence t) self.old ≡ stepped at self.new step) }
     {
-        let known = Known::presence(alloc, frame, t)?;
+        let known = AbstractValue::presence(alloc, context, t)?;
         self.result = Some(known);
         Ok(Ok(None))
     }
 
     /// LDB: the result is a truth.
-    pub(crate) fn load_bool(&mut self, alloc: Global, frame: &Frame, at: usize, truth: bool) -> Step
+    pub(crate) fn load_bool(
+        &mut self,
+        alloc: Global,
+        context: &Context,
+        at: usize,
+        truth: bool,
+    ) -> Step
         requires { at + 1 < 2 ^ 64 }
-        ensures { IfOk result (λ step. flow frame.now at (does.LoadBool truth) self.old ≡ stepped at self.new step) }
+        ensures { IfOk result (λ step. flow context.now at (does.LoadBool truth) self.old ≡ stepped at self.new step) }
     {
         let span = Span::only(if truth { 1 } else { 0 });
-        let known = Known::plain(alloc, frame, IlType::Bool, span);
+        let known = AbstractValue::plain(alloc, context, IlType::Bool, span);
         self.result = Some(known);
         Ok(Ok(None))
     }
@@ -107,15 +119,15 @@ impl Fact {
     pub(crate) fn load_number(
         &mut self,
         alloc: Global,
-        frame: &Frame,
+        context: &Context,
         at: usize,
         kind: IlType,
         number: i64,
     ) -> Step
         requires { at + 1 < 2 ^ 64 }
-        ensures { IfOk result (λ step. flow frame.now at (does.LoadNumber kind number) self.old ≡ stepped at self.new step) }
+        ensures { IfOk result (λ step. flow context.now at (does.LoadNumber kind number) self.old ≡ stepped at self.new step) }
     {
-        let known = Known::plain(alloc, frame, kind, Span::only(number));
+        let known = AbstractValue::plain(alloc, context, kind, Span::only(number));
         self.result = Some(known);
         Ok(Ok(None))
     }

@@ -4,10 +4,10 @@ ghost use Rattle.scan_code.specs.declared.op.Op.TheVariants as does;
 ghost use Rattle.facts.specs.Branches.{popped, pushed, refused_or, stepped, with_made};
 ghost use Rattle.facts.specs.Flow.{flow, goes_on};
 
+use crate::context::Context;
 use crate::deferred::{deferring, without_last};
 use crate::fact::Fact;
 use crate::flow::Step;
-use crate::frame::Frame;
 use crate::operand::{Made, absolute, applied, converted, selected};
 use crate::refusal::RefusalKind;
 use point_types::{IlType, Items, Operator};
@@ -19,11 +19,11 @@ const CAPACITY: usize = 128;
 
 impl Fact {
     /// PUSH: the result is deferred.
-    pub(crate) fn push(&mut self, alloc: Global, frame: &Frame, at: usize) -> Step
+    pub(crate) fn push(&mut self, alloc: Global, context: &Context, at: usize) -> Step
         requires { at + 1 < 2 ^ 64 }
-        ensures { IfOk result (λ step. flow frame.now at does.Push self.old ≡ stepped at self.new step) }
+        ensures { IfOk result (λ step. flow context.now at does.Push self.old ≡ stepped at self.new step) }
     {
-        match self.push_refusal(frame, at) {
+        match self.push_refusal(context, at) {
             Some(kind) => Ok(Err(kind)),
             None => {
                 self.defer_result(alloc)?;
@@ -33,12 +33,12 @@ impl Fact {
     }
 
     /// Why the result can't be deferred, if so.
-    fn push_refusal(&self, frame: &Frame, at: usize) -> Option<RefusalKind>
+    fn push_refusal(&self, context: &Context, at: usize) -> Option<RefusalKind>
         requires { at + 1 < 2 ^ 64 }
-        ensures { flow frame.now at does.Push self.now ≡ refused_or result (goes_on (at + 1) (pushed self.now)) }
+        ensures { flow context.now at does.Push self.now ≡ refused_or result (goes_on (at + 1) (pushed self.now)) }
     {
         let depth = self.depth();
-        if depth >= frame.depth || depth >= CAPACITY {
+        if depth >= context.depth || depth >= CAPACITY {
             return Some(RefusalKind::Stack);
         }
         match &self.result {
@@ -66,18 +66,18 @@ impl Fact {
     }
 
     /// NOT
-    pub(crate) fn not(&mut self, alloc: Global, frame: &Frame, at: usize) -> Step
+    pub(crate) fn not(&mut self, alloc: Global, context: &Context, at: usize) -> Step
         requires { at + 1 < 2 ^ 64 }
-        ensures { IfOk result (λ step. flow frame.now at does.Not self.old ≡ stepped at self.new step) }
+        ensures { IfOk result (λ step. flow context.now at does.Not self.old ≡ stepped at self.new step) }
     {
-        let made = self.inversion(alloc, frame, at)?;
+        let made = self.inversion(alloc, context, at)?;
         Ok(self.take_made(made))
     }
 
     /// What NOT makes of the result.
-    fn inversion(&self, alloc: Global, frame: &Frame, at: usize) -> Made
+    fn inversion(&self, alloc: Global, context: &Context, at: usize) -> Made
         requires { at + 1 < 2 ^ 64 }
-        ensures { IfOk result (λ made. flow frame.now at does.Not self.now ≡ with_made at self.now made) }
+        ensures { IfOk result (λ made. flow context.now at does.Not self.now ≡ with_made at self.now made) }
     {
         match self.bool_result() {
             Ok(value) => Ok(Ok(value.copied(alloc)?.inverted())),
@@ -86,47 +86,47 @@ impl Fact {
     }
 
     /// An operator on the last deferred value and the result.
-    pub(crate) fn apply(&mut self, alloc: Global, frame: &Frame, at: usize, o: Operator) -> Step
+    pub(crate) fn apply(&mut self, alloc: Global, context: &Context, at: usize, o: Operator) -> Step
         requires { at + 1 < 2 ^ 64 }
-        ensures { IfOk result (λ step. flow frame.now at (does.Apply o) self.old ≡ stepped at self.new step) }
+        ensures { IfOk result (λ step. flow context.now at (does.Apply o) self.old ≡ stepped at self.new step) }
     {
-        let made = self.application(alloc, frame, at, o)?;
+        let made = self.application(alloc, context, at, o)?;
         self.pop(alloc);
         Ok(self.take_made(made))
     }
 
     /// What the operator makes of the two values.
-    fn application(&self, alloc: Global, frame: &Frame, at: usize, o: Operator) -> Made
+    fn application(&self, alloc: Global, context: &Context, at: usize, o: Operator) -> Made
         requires { at + 1 < 2 ^ 64 }
-        ensures { IfOk result (λ made. flow frame.now at (does.Apply o) self.now ≡ with_made at (popped self.now) made) }
+        ensures { IfOk result (λ made. flow context.now at (does.Apply o) self.now ≡ with_made at (popped self.now) made) }
     {
         match (self.deferred.as_slice(), &self.result) {
-            ([Some(first), ..], Some(second)) => applied(alloc, frame, o, first, second),
+            ([Some(first), ..], Some(second)) => applied(alloc, context, o, first, second),
             ([], _) => Ok(Err(RefusalKind::Stack)),
             _ => Ok(Err(RefusalKind::NoResult)),
         }
     }
 
     /// SEL: one of the last deferred value and the result, as the one before chooses.
-    pub(crate) fn select(&mut self, alloc: Global, frame: &Frame, at: usize) -> Step
+    pub(crate) fn select(&mut self, alloc: Global, context: &Context, at: usize) -> Step
         requires { at + 1 < 2 ^ 64 }
-        ensures { IfOk result (λ step. flow frame.now at does.Select self.old ≡ stepped at self.new step) }
+        ensures { IfOk result (λ step. flow context.now at does.Select self.old ≡ stepped at self.new step) }
     {
-        let made = self.selection(alloc, frame, at)?;
+        let made = self.selection(alloc, context, at)?;
         self.pop(alloc);
         self.pop(alloc);
         Ok(self.take_made(made))
     }
 
     /// What the three values make.
-    fn selection(&self, alloc: Global, frame: &Frame, at: usize) -> Made
+    fn selection(&self, alloc: Global, context: &Context, at: usize) -> Made
         requires { at + 1 < 2 ^ 64 }
-        ensures { IfOk result (λ made. flow frame.now at does.Select self.now ≡ with_made at (popped (popped self.now)) made) }
+        ensures { IfOk result (λ made. flow context.now at does.Select self.now ≡ with_made at (popped (popped self.now)) made) }
     {
         match self.deferred.as_slice() {
             [first, chooser, ..] => match (chooser, first, &self.result) {
                 (Some(chooser), Some(first), Some(second)) => {
-                    selected(alloc, frame, chooser, first, second)
+                    selected(alloc, context, chooser, first, second)
                 }
                 _ => Ok(Err(RefusalKind::NoResult)),
             },
@@ -135,21 +135,21 @@ impl Fact {
     }
 
     /// ABS
-    pub(crate) fn absolute(&mut self, alloc: Global, frame: &Frame, at: usize) -> Step
+    pub(crate) fn absolute(&mut self, alloc: Global, context: &Context, at: usize) -> Step
         requires { at + 1 < 2 ^ 64 }
-        ensures { IfOk result (λ step. flow frame.now at does.Absolute self.old ≡ stepped at self.new step) }
+        ensures { IfOk result (λ step. flow context.now at does.Absolute self.old ≡ stepped at self.new step) }
     {
-        let made = self.size(alloc, frame, at)?;
+        let made = self.size(alloc, context, at)?;
         Ok(self.take_made(made))
     }
 
     /// What ABS makes of the result.
-    fn size(&self, alloc: Global, frame: &Frame, at: usize) -> Made
+    fn size(&self, alloc: Global, context: &Context, at: usize) -> Made
         requires { at + 1 < 2 ^ 64 }
-        ensures { IfOk result (λ made. flow frame.now at does.Absolute self.now ≡ with_made at self.now made) }
+        ensures { IfOk result (λ made. flow context.now at does.Absolute self.now ≡ with_made at self.now made) }
     {
         match &self.result {
-            Some(value) => absolute(alloc, frame, value),
+            Some(value) => absolute(alloc, context, value),
             None => Ok(Err(RefusalKind::NoResult)),
         }
     }
@@ -158,25 +158,32 @@ impl Fact {
     pub(crate) fn convert(
         &mut self,
         alloc: Global,
-        frame: &Frame,
+        context: &Context,
         at: usize,
         from: IlType,
         to: IlType,
     ) -> Step
         requires { at + 1 < 2 ^ 64 }
-        ensures { IfOk result (λ step. flow frame.now at (does.Convert from to) self.old ≡ stepped at self.new step) }
+        ensures { IfOk result (λ step. flow context.now at (does.Convert from to) self.old ≡ stepped at self.new step) }
     {
-        let made = self.conversion(alloc, frame, at, from, to)?;
+        let made = self.conversion(alloc, context, at, from, to)?;
         Ok(self.take_made(made))
     }
 
     /// What a conversion makes of the result.
-    fn conversion(&self, alloc: Global, frame: &Frame, at: usize, from: IlType, to: IlType) -> Made
+    fn conversion(
+        &self,
+        alloc: Global,
+        context: &Context,
+        at: usize,
+        from: IlType,
+        to: IlType,
+    ) -> Made
         requires { at + 1 < 2 ^ 64 }
-        ensures { IfOk result (λ made. flow frame.now at (does.Convert from to) self.now ≡ with_made at self.now made) }
+        ensures { IfOk result (λ made. flow context.now at (does.Convert from to) self.now ≡ with_made at self.now made) }
     {
         match &self.result {
-            Some(value) => converted(alloc, frame, from, to, value),
+            Some(value) => converted(alloc, context, from, to, value),
             None => Ok(Err(RefusalKind::NoResult)),
         }
     }

@@ -6,10 +6,10 @@ ghost use Rattle.facts.specs.Branches.{refused_or, set_variable_flow, set_output
 ghost use Rattle.facts.specs.Flow.{flow, goes_on, widened};
 ghost use Rattle.facts.specs.Span.{Between, has_member, lies_in};
 
+use crate::abstract_value::AbstractValue;
+use crate::context::Context;
 use crate::fact::Fact;
 use crate::flow::{Step, unless};
-use crate::frame::Frame;
-use crate::known::Known;
 use crate::refusal::RefusalKind;
 use crate::tag_range::TagRange;
 use point_types::{IlType, Var};
@@ -20,14 +20,14 @@ impl Fact {
     pub(crate) fn store_variable(
         &mut self,
         alloc: Global,
-        frame: &Frame,
+        context: &Context,
         at: usize,
         v: usize,
     ) -> Step
         requires { at + 1 < 2 ^ 64 }
-        ensures { IfOk result (λ step. flow frame.now at (does.StoreVariable v) self.old ≡ stepped at self.new step) }
+        ensures { IfOk result (λ step. flow context.now at (does.StoreVariable v) self.old ≡ stepped at self.new step) }
     {
-        match self.store_refusal(frame, at, v) {
+        match self.store_refusal(context, at, v) {
             Some(kind) => Ok(Err(kind)),
             None => {
                 self.store_result(alloc, v)?;
@@ -37,11 +37,11 @@ impl Fact {
     }
 
     /// Why a variable can't get the result, if so.
-    fn store_refusal(&self, frame: &Frame, at: usize, v: usize) -> Option<RefusalKind>
+    fn store_refusal(&self, context: &Context, at: usize, v: usize) -> Option<RefusalKind>
         requires { at + 1 < 2 ^ 64 }
-        ensures { flow frame.now at (does.StoreVariable v) self.now ≡ refused_or result (goes_on (at + 1) (stored_result v self.now.result self.now)) }
+        ensures { flow context.now at (does.StoreVariable v) self.now ≡ refused_or result (goes_on (at + 1) (stored_result v self.now.result self.now)) }
     {
-        let Some(variable) = frame.variables.as_slice().get(v) else {
+        let Some(variable) = context.variables.as_slice().get(v) else {
             return Some(RefusalKind::Code);
         };
         let Some(value) = &self.result else {
@@ -57,19 +57,19 @@ impl Fact {
     }
 
     /// STT: an output gets the result, which lies in its tag's range.
-    pub(crate) fn store_output(&self, frame: &Frame, at: usize, t: usize) -> Step
+    pub(crate) fn store_output(&self, context: &Context, at: usize, t: usize) -> Step
         requires { at + 1 < 2 ^ 64 }
-        ensures { IfOk result (λ step. flow frame.now at (does.StoreOutput t) self.now ≡ stepped at self.now step) }
+        ensures { IfOk result (λ step. flow context.now at (does.StoreOutput t) self.now ≡ stepped at self.now step) }
     {
-        Ok(unless(self.output_refusal(frame, at, t)))
+        Ok(unless(self.output_refusal(context, at, t)))
     }
 
     /// Why an output can't get the result, if so.
-    fn output_refusal(&self, frame: &Frame, at: usize, t: usize) -> Option<RefusalKind>
+    fn output_refusal(&self, context: &Context, at: usize, t: usize) -> Option<RefusalKind>
         requires { at + 1 < 2 ^ 64 }
-        ensures { flow frame.now at (does.StoreOutput t) self.now ≡ refused_or result (goes_on (at + 1) self.now) }
+        ensures { flow context.now at (does.StoreOutput t) self.now ≡ refused_or result (goes_on (at + 1) self.now) }
     {
-        let Some(tag) = frame.tag(t) else {
+        let Some(tag) = context.tag(t) else {
             return Some(RefusalKind::Code);
         };
         let Some(value) = &self.result else {
@@ -85,40 +85,46 @@ impl Fact {
     }
 
     /// SETV: a variable is TRUE where the result is.
-    pub(crate) fn set_variable(&mut self, alloc: Global, frame: &Frame, at: usize, v: usize) -> Step
+    pub(crate) fn set_variable(
+        &mut self,
+        alloc: Global,
+        context: &Context,
+        at: usize,
+        v: usize,
+    ) -> Step
         requires { at + 1 < 2 ^ 64 }
-        ensures { IfOk result (λ step. flow frame.now at (does.SetVariable v) self.old ≡ stepped at self.new step) }
+        ensures { IfOk result (λ step. flow context.now at (does.SetVariable v) self.old ≡ stepped at self.new step) }
     {
-        self.setting_variable(alloc, frame, at, v, 1)
+        self.setting_variable(alloc, context, at, v, 1)
     }
 
     /// RSTV: a variable is FALSE where the result is TRUE.
     pub(crate) fn reset_variable(
         &mut self,
         alloc: Global,
-        frame: &Frame,
+        context: &Context,
         at: usize,
         v: usize,
     ) -> Step
         requires { at + 1 < 2 ^ 64 }
-        ensures { IfOk result (λ step. flow frame.now at (does.ResetVariable v) self.old ≡ stepped at self.new step) }
+        ensures { IfOk result (λ step. flow context.now at (does.ResetVariable v) self.old ≡ stepped at self.new step) }
     {
-        self.setting_variable(alloc, frame, at, v, 0)
+        self.setting_variable(alloc, context, at, v, 0)
     }
 
     /// A variable may have got this truth.
     fn setting_variable(
         &mut self,
         alloc: Global,
-        frame: &Frame,
+        context: &Context,
         at: usize,
         v: usize,
         truth: i64,
     ) -> Step
         requires { at + 1 < 2 ^ 64 }
-        ensures { IfOk result (λ step. set_variable_flow frame.now at v truth self.old ≡ stepped at self.new step) }
+        ensures { IfOk result (λ step. set_variable_flow context.now at v truth self.old ≡ stepped at self.new step) }
     {
-        match self.set_variable_refusal(frame, at, v) {
+        match self.set_variable_refusal(context, at, v) {
             Some(kind) => Ok(Err(kind)),
             None => {
                 self.widen(alloc, v, truth)?;
@@ -128,11 +134,11 @@ impl Fact {
     }
 
     /// Why a variable can't get a truth, if so; each truth lies in the range of a BOOL.
-    fn set_variable_refusal(&self, frame: &Frame, at: usize, v: usize) -> Option<RefusalKind>
+    fn set_variable_refusal(&self, context: &Context, at: usize, v: usize) -> Option<RefusalKind>
         requires { at + 1 < 2 ^ 64 }
-        ensures { (n : ℤ) → set_variable_flow frame.now at v n self.now ≡ refused_or result (goes_on (at + 1) (widened v n (slice_get self.now.variables v) self.now)) }
+        ensures { (n : ℤ) → set_variable_flow context.now at v n self.now ≡ refused_or result (goes_on (at + 1) (widened v n (slice_get self.now.variables v) self.now)) }
     {
-        let Some(variable) = frame.variables.as_slice().get(v) else {
+        let Some(variable) = context.variables.as_slice().get(v) else {
             return Some(RefusalKind::Code);
         };
         if let Err(kind) = self.bool_result() {
@@ -145,33 +151,33 @@ impl Fact {
     }
 
     /// SETT: an output is TRUE where the result is.
-    pub(crate) fn set_output(&self, frame: &Frame, at: usize, t: usize) -> Step
+    pub(crate) fn set_output(&self, context: &Context, at: usize, t: usize) -> Step
         requires { at + 1 < 2 ^ 64 }
-        ensures { IfOk result (λ step. flow frame.now at (does.SetOutput t) self.now ≡ stepped at self.now step) }
+        ensures { IfOk result (λ step. flow context.now at (does.SetOutput t) self.now ≡ stepped at self.now step) }
     {
-        Ok(unless(self.set_output_refusal(frame, at, t, 1)))
+        Ok(unless(self.set_output_refusal(context, at, t, 1)))
     }
 
     /// RSTT: an output is FALSE where the result is TRUE.
-    pub(crate) fn reset_output(&self, frame: &Frame, at: usize, t: usize) -> Step
+    pub(crate) fn reset_output(&self, context: &Context, at: usize, t: usize) -> Step
         requires { at + 1 < 2 ^ 64 }
-        ensures { IfOk result (λ step. flow frame.now at (does.ResetOutput t) self.now ≡ stepped at self.now step) }
+        ensures { IfOk result (λ step. flow context.now at (does.ResetOutput t) self.now ≡ stepped at self.now step) }
     {
-        Ok(unless(self.set_output_refusal(frame, at, t, 0)))
+        Ok(unless(self.set_output_refusal(context, at, t, 0)))
     }
 
     /// Why an output can't be set to this truth, if so.
     fn set_output_refusal(
         &self,
-        frame: &Frame,
+        context: &Context,
         at: usize,
         t: usize,
         truth: i64,
     ) -> Option<RefusalKind>
         requires { at + 1 < 2 ^ 64 }
-        ensures { set_output_flow frame.now at t truth self.now ≡ refused_or result (goes_on (at + 1) self.now) }
+        ensures { set_output_flow context.now at t truth self.now ≡ refused_or result (goes_on (at + 1) self.now) }
     {
-        let Some(tag) = frame.tag(t) else {
+        let Some(tag) = context.tag(t) else {
             return Some(RefusalKind::Code);
         };
         if let Err(kind) = self.bool_result() {
@@ -194,14 +200,14 @@ fn same_kind(one: IlType, other: IlType) -> bool
 }
 
 /// Whether each number of a value lies in a variable's range.
-fn fits_variable(value: &Known, variable: &Var) -> bool
+fn fits_variable(value: &AbstractValue, variable: &Var) -> bool
     ensures { result ≡ lies_in value.now.span variable.now.low variable.now.high }
 {
     value.span.lies_in(variable.low, variable.high)
 }
 
 /// Whether each number of a value lies in a tag's range.
-fn fits_tag(value: &Known, tag: &TagRange) -> bool
+fn fits_tag(value: &AbstractValue, tag: &TagRange) -> bool
     ensures { result ≡ lies_in value.now.span tag.now.low tag.now.high }
 {
     value.span.lies_in(tag.low, tag.high)

@@ -1,7 +1,7 @@
 //! Events of devices and clients in one list.
 
 use crate::tests::running::registers;
-use crate::tests::sites::{IDLE, LIMITER, WIDE_SITE, core_of, edited_site, limiter_core};
+use crate::tests::sites::{IDLE, LIMITER, WIDE_SITE, core_of, edited_site};
 use crate::tests::{assert_same, pdu};
 use gateway::{Answer, Core, CoreFault, Event};
 use point_writer::{NoWrite, Write};
@@ -10,38 +10,56 @@ use std::alloc::Global;
 use std::process::Abort;
 use worked_texts::sites::SITE;
 
-/// An event and its answer.
+/// An event and its answer, or what is looked at between two events.
 #[derive(Clone, Copy)]
 enum Step {
     /// A device answers model 103 with this power and its scale factor.
     Power(usize, u16, u16),
+    /// The first device answers model 123 with the factor -1 of the limit.
+    Controls,
     /// A device doesn't answer for model 103.
     Lost(usize),
     /// The program runs, and two points may have to be written.
     Scan,
     /// A client's request has this reply.
     Asks(&'static [u8], &'static [u8]),
+    /// A lost block and a scan have their answers in one list.
+    Replay,
+    /// The program has this budget.
+    Budget(u32),
+    /// The first output isn't written, for this reason.
+    Unwritten(NoWrite),
+    /// Seven percent is to be written to the first device.
+    SevenPercent,
 }
 
-impl Step {
-    fn event(&self, rt: &impl Abort) -> Event {
-        match self {
-            Step::Power(device, watts, factor) => {
-                Event::Block(*device, 103, power(rt, *watts, *factor))
-            }
-            Step::Lost(device) => Event::Lost(*device, 103),
-            Step::Scan => Event::Scan,
-            Step::Asks(request, _) => Event::Client(pdu(rt, request)),
+fn assert_step(rt: &impl Abort, core: &mut Core<32>, step: &Step) {
+    match step {
+        Step::Power(device, watts, factor) => {
+            let block = Event::Block(*device, 103, power(rt, *watts, *factor));
+            assert_answer(rt, core, block, &Answer::None);
         }
+        Step::Controls => {
+            let block = Event::Block(0, 123, controls(rt));
+            assert_answer(rt, core, block, &Answer::None);
+        }
+        Step::Lost(device) => assert_answer(rt, core, Event::Lost(*device, 103), &Answer::None),
+        Step::Scan => assert_answer(rt, core, Event::Scan, &Answer::Writes(2)),
+        Step::Asks(request, reply) => assert_reply(rt, core, request, reply),
+        Step::Replay => assert_replayed(rt, core),
+        Step::Budget(budget) => assert_same(rt, &core.machine().verified().budget(), budget),
+        Step::Unwritten(reason) => assert_same(rt, &first_write(rt, core), &Err(*reason)),
+        Step::SevenPercent => assert_same(rt, &first_write(rt, core), &Ok(seven_percent(rt))),
     }
+}
 
-    fn answer(&self, rt: &impl Abort) -> Answer {
-        match self {
-            Step::Power(_, _, _) | Step::Lost(_) => Answer::None,
-            Step::Scan => Answer::Writes(2),
-            Step::Asks(_, reply) => Answer::Reply(pdu(rt, reply)),
-        }
-    }
+fn assert_answer(rt: &impl Abort, core: &mut Core<32>, event: Event, answer: &Answer) {
+    assert_same(rt, &core.step(event), answer);
+}
+
+fn assert_reply(rt: &impl Abort, core: &mut Core<32>, request: &[u8], reply: &[u8]) {
+    let answer = Answer::Reply(pdu(rt, reply));
+    assert_answer(rt, core, Event::Client(pdu(rt, request)), &answer);
 }
 
 /// A block of model 103 with this power and its scale factor.
@@ -54,12 +72,24 @@ fn power(rt: &impl Abort, watts: u16, factor: u16) -> Words {
     Words::from_slice(&words).expect(rt, "few words")
 }
 
-/// Each event has its answer.
 fn assert_steps(rt: &impl Abort, core: &mut Core<32>, steps: &[Step]) {
     for step in steps {
-        let answer = core.step(step.event(rt));
-        assert_same(rt, &answer, &step.answer(rt));
+        assert_step(rt, core, step);
     }
+}
+
+/// These steps of a core of a site, with a program and the registers of its devices. It is the one function here that
+/// owns a core.
+fn assert_on(
+    rt: &impl Abort,
+    alloc: Global,
+    program: &[u8],
+    text: &str,
+    registers: &[u16],
+    steps: &[Step],
+) {
+    let core = core_of(rt, alloc, program, text, text, registers);
+    assert_steps(rt, &mut core.expect(rt, "a core"), steps);
 }
 
 const READ_POWER: &[u8] = &[0x03, 0x9C, 0x94, 0x00, 0x01];
@@ -80,7 +110,7 @@ const POWER_5500: &[u8] = &[0x03, 0x02, 0x15, 0x7C];
 
 const POWER_3500: &[u8] = &[0x03, 0x02, 0x0D, 0xAC];
 
-static INTERLEAVED: [Step; 20] = [
+static INTERLEAVED: [Step; 21] = [
     Step::Power(0, 3000, 0),
     Step::Asks(READ_POWER, ABSENT),
     Step::Power(1, 2500, 0),
@@ -103,16 +133,12 @@ static INTERLEAVED: [Step; 20] = [
     Step::Asks(READ_POWER, POWER_3500),
     Step::Scan,
     Step::Asks(READ_POWER, ABSENT),
+    Step::Budget(18),
 ];
-
-fn assert_interleaved(rt: &impl Abort, core: &mut Core<32>) {
-    assert_steps(rt, core, &INTERLEAVED);
-    assert_same(rt, &core.machine().verified().budget(), &18);
-}
 
 #[test]
 fn blocks_clients_and_scans_come_in_one_list(rt: HostRuntime) {
-    assert_interleaved(&rt, &mut limiter_core(&rt, rt.alloc(), SITE));
+    assert_on(&rt, rt.alloc(), &LIMITER, SITE, &[], &INTERLEAVED);
 }
 
 /// A point of two registers is written as a whole or not at all.
@@ -128,8 +154,7 @@ static WIDE: [Step; 4] = [
 
 #[test]
 fn half_a_point_is_refused(rt: HostRuntime) {
-    let core = core_of(&rt, rt.alloc(), &IDLE, WIDE_SITE, WIDE_SITE, &[]);
-    assert_steps(&rt, &mut core.expect(&rt, "a core"), &WIDE);
+    assert_on(&rt, rt.alloc(), &IDLE, WIDE_SITE, &[], &WIDE);
 }
 
 #[test]
@@ -140,25 +165,28 @@ fn a_program_for_another_range_is_foreign(rt: HostRuntime) {
     assert_same(&rt, &core.err(), &Some(CoreFault::Foreign));
 }
 
-/// 3000.5 and 2500 watts.
-static HALF_A_WATT: [Step; 3] = [
+/// 3000.5 and 2500 watts, of which the first is rounded down.
+static ROUNDED: [Step; 4] = [
     Step::Power(0, 30005, 0xFFFF),
     Step::Power(1, 2500, 0),
     Step::Scan,
+    Step::Asks(READ_POWER, POWER_5500),
 ];
 
-/// A sum of those has this reply in the site of this text.
-fn assert_sum(rt: &impl Abort, alloc: Global, text: &str, reply: &'static [u8]) {
-    let [first, second, scan] = HALF_A_WATT;
-    let steps = [first, second, scan, Step::Asks(READ_POWER, reply)];
-    assert_steps(rt, &mut limiter_core(rt, alloc, text), &steps);
-}
+/// The same, of which the first isn't rounded.
+static INEXACT: [Step; 4] = [
+    Step::Power(0, 30005, 0xFFFF),
+    Step::Power(1, 2500, 0),
+    Step::Scan,
+    Step::Asks(READ_POWER, ABSENT),
+];
 
 #[test]
 fn a_reading_rounded_down_is_part_of_a_sum(rt: HostRuntime) {
     let rounded = edited_site(&rt, rt.alloc(), "\"DINT\"", "\"DINT\"\nround = \"down\"");
-    assert_sum(&rt, rt.alloc(), rounded.as_str(), POWER_5500);
-    assert_sum(&rt, rt.alloc(), SITE, ABSENT);
+    let rounded = rounded.as_str();
+    assert_on(&rt, rt.alloc(), &LIMITER, rounded, &[], &ROUNDED);
+    assert_on(&rt, rt.alloc(), &LIMITER, SITE, &[], &INEXACT);
 }
 
 fn assert_replayed(rt: &impl Abort, core: &mut Core<32>) {
@@ -169,7 +197,7 @@ fn assert_replayed(rt: &impl Abort, core: &mut Core<32>) {
 
 #[test]
 fn a_list_of_events_has_its_answers(rt: HostRuntime) {
-    assert_replayed(&rt, &mut limiter_core(&rt, rt.alloc(), SITE));
+    assert_on(&rt, rt.alloc(), &LIMITER, SITE, &[], &[Step::Replay]);
 }
 
 fn first_write(rt: &impl Abort, core: &Core<32>) -> Result<Write, NoWrite> {
@@ -177,15 +205,15 @@ fn first_write(rt: &impl Abort, core: &Core<32>) -> Result<Write, NoWrite> {
     core.write(0)
 }
 
-fn assert_unwritten(rt: &impl Abort, core: &mut Core<32>) {
-    assert_same(rt, &first_write(rt, core), &Err(NoWrite::NotSet));
-    core.step(Event::Scan);
-    assert_same(rt, &first_write(rt, core), &Err(NoWrite::NoBlock));
-}
+static UNWRITTEN: [Step; 3] = [
+    Step::Unwritten(NoWrite::NotSet),
+    Step::Scan,
+    Step::Unwritten(NoWrite::NoBlock),
+];
 
 #[test]
 fn nothing_is_written_before_a_scan(rt: HostRuntime) {
-    assert_unwritten(&rt, &mut limiter_core(&rt, rt.alloc(), SITE));
+    assert_on(&rt, rt.alloc(), &LIMITER, SITE, &[], &UNWRITTEN);
 }
 
 /// `LD inv1_w_OK / JMPCN e / LD 7 / ST lim1 / e:`
@@ -215,21 +243,26 @@ fn seven_percent(rt: &impl Abort) -> Write {
     }
 }
 
-static PRESENT: [Step; 2] = [Step::Power(0, 3000, 0), Step::Scan];
-
-static ABSENT_NOW: [Step; 2] = [Step::Lost(0), Step::Scan];
-
-fn assert_unset_again(rt: &impl Abort, core: &mut Core<32>) {
-    core.step(Event::Block(0, 123, controls(rt)));
-    assert_steps(rt, core, &PRESENT);
-    assert_same(rt, &first_write(rt, core), &Ok(seven_percent(rt)));
-    assert_steps(rt, core, &ABSENT_NOW);
-    assert_same(rt, &first_write(rt, core), &Err(NoWrite::NotSet));
-}
+static SET_AND_UNSET: [Step; 7] = [
+    Step::Controls,
+    Step::Power(0, 3000, 0),
+    Step::Scan,
+    Step::SevenPercent,
+    Step::Lost(0),
+    Step::Scan,
+    Step::Unwritten(NoWrite::NotSet),
+];
 
 #[test]
 fn what_a_scan_does_not_store_is_not_written(rt: HostRuntime) {
     let registers = registers(&rt, rt.alloc());
-    let core = core_of(&rt, rt.alloc(), &WHERE_PRESENT, SITE, SITE, &registers);
-    assert_unset_again(&rt, &mut core.expect(&rt, "a core"));
+    let registers = registers.as_slice();
+    assert_on(
+        &rt,
+        rt.alloc(),
+        &WHERE_PRESENT,
+        SITE,
+        registers,
+        &SET_AND_UNSET,
+    );
 }

@@ -236,11 +236,14 @@ fn failing(rt: &impl Abort, alloc: Global, site: &Site, whole: &[u8]) -> usize {
     1000
 }
 
+fn assert_fails(rt: &impl Abort, alloc: Global, site: &Site) {
+    let mut whole = poller_to(rt, alloc, &MAP, 5, None);
+    assert_both(rt, &whole.find(alloc, site));
+    let failing = failing(rt, alloc, site, whole.link().sent());
+    assert_true(rt, failing > 65 && failing < 1000);
+}
+
 #[test]
 fn each_call_of_the_link_fails(rt: HostRuntime) {
-    let site = site_of_both(&rt, rt.alloc());
-    let mut whole = poller_to(&rt, rt.alloc(), &MAP, 5, None);
-    assert_both(&rt, &whole.find(rt.alloc(), &site));
-    let failing = failing(&rt, rt.alloc(), &site, whole.link().sent());
-    assert_true(&rt, failing > 65 && failing < 1000);
+    assert_fails(&rt, rt.alloc(), &site_of_both(&rt, rt.alloc()));
 }

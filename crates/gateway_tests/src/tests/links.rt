@@ -19,10 +19,11 @@ struct Repeating {
 
 impl Link for Repeating {
     ghost use Rattle.std.specs.Prelude.{None};
+    ghost use Rattle.modbus_frame.specs.Link.{untold};
 
     ghost calls = { λ _. None };
 
-    ghost failures = { λ _. None };
+    ghost failures = { λ _. untold };
 
     ghost coming = { λ _. None };
 
@@ -65,10 +66,11 @@ struct Deaf {
 
 impl Link for Deaf {
     ghost use Rattle.std.specs.Prelude.{None};
+    ghost use Rattle.modbus_frame.specs.Link.{untold};
 
     ghost calls = { λ _. None };
 
-    ghost failures = { λ _. None };
+    ghost failures = { λ _. untold };
 
     ghost coming = { λ _. None };
 

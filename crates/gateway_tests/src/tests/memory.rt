@@ -2,7 +2,7 @@
 //! ends where it gets no memory for what it begins with.
 
 use crate::tests::finding::{BOTH, MAP, assert_both};
-use crate::tests::sites::LIMITER;
+use crate::tests::sites::{LIMITER, core_with};
 use crate::tests::{append_frames, assert_same};
 use gateway::{Core, CoreFault, Poller};
 use modbus_frame::{LinkFault, MemLink};
@@ -35,23 +35,16 @@ fn no_maps(alloc: Global) -> Option<Vec<Option<Map>>> {
     Some(maps)
 }
 
-fn assert_opens(
-    rt: &impl Abort,
-    alloc: Global,
-    site: Site,
-    machine: Machine<32>,
-    maps: Vec<Option<Map>>,
-) {
-    assert!(rt; maps.len() == site.devices().len());
-    match Core::new(alloc, site, machine, maps) {
+fn assert_opened(rt: &impl Abort, opened: &Result<Core<32>, CoreFault>) {
+    match opened {
         Ok(core) => assert_same(rt, &core.machine().verified().budget(), &18),
-        Err(fault) => assert_same(rt, &fault, &CoreFault::OutOfMemory),
+        Err(fault) => assert_same(rt, fault, &CoreFault::OutOfMemory),
     }
 }
 
 fn assert_core(rt: &impl Abort, alloc: Global, site: Site, machine: Machine<32>) {
     if let Some(maps) = no_maps(alloc) {
-        assert_opens(rt, alloc, site, machine, maps);
+        assert_opened(rt, &core_with(rt, alloc, site, machine, maps));
     }
 }
 

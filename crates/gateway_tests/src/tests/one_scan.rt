@@ -85,13 +85,25 @@ const REPORT: Result<Report, LinkFault> = Ok(Report {
     lost: 2,
 });
 
+/// A poller on a link over which they come.
+fn poller(rt: &impl Abort, alloc: Global) -> Poller<MemLink> {
+    let coming = replies(rt, alloc);
+    poller_on(rt, alloc, 0, &coming, 100, None)
+}
+
+fn assert_reported(rt: &impl Abort, alloc: Global, poller: &mut Poller<MemLink>) {
+    let mut core = found_core(rt, alloc, poller);
+    assert_same(rt, &run_scan(&mut core, poller), &REPORT);
+}
+
+fn assert_asked(rt: &impl Abort, sent: &[u8]) {
+    assert_same(rt, &sent.len(), &255);
+    assert_true(rt, sent.ends_with(&ASKED));
+}
+
 #[test]
 fn one_scan(rt: HostRuntime) {
-    let coming = replies(&rt, rt.alloc());
-    let mut poller = poller_on(&rt, rt.alloc(), 0, &coming, 100, None);
-    let mut core = found_core(&rt, rt.alloc(), &mut poller);
-    assert_same(&rt, &run_scan(&mut core, &mut poller), &REPORT);
-    let sent = poller.link().sent();
-    assert_same(&rt, &sent.len(), &255);
-    assert_true(&rt, sent.ends_with(&ASKED));
+    let mut poller = poller(&rt, rt.alloc());
+    assert_reported(&rt, rt.alloc(), &mut poller);
+    assert_asked(&rt, poller.link().sent());
 }

@@ -129,42 +129,45 @@ struct Scan {
     sent: &'static [u8],
 }
 
-static SCANS: [Scan; 4] = [
-    // limits go out by both functions
-    Scan {
-        device: DEVICE_BY_16,
-        older: 0,
-        lost: 0,
-        replies: &BY_16,
-        counts: (18, 0, 0),
-        sent: &SENT_BY_16,
-    },
-    Scan {
-        device: DEVICE_BY_6,
-        older: 0,
-        lost: 0,
-        replies: &BY_6,
-        counts: (18, 1, 0),
-        sent: &SENT_BY_6,
-    },
-    // an older frame is dropped; behind 17 of them the block is lost
-    Scan {
-        device: DEVICE_BY_16,
-        older: 1,
-        lost: 0,
-        replies: &BY_16,
-        counts: (18, 0, 0),
-        sent: &SENT_BY_16,
-    },
-    Scan {
-        device: DEVICE_BY_16,
-        older: 17,
-        lost: 1,
-        replies: &BY_16,
-        counts: (10, 0, 1),
-        sent: &SENT_BY_16,
-    },
-];
+/// A limit goes out by function 16.
+const SCAN_BY_16: &Scan = &Scan {
+    device: DEVICE_BY_16,
+    older: 0,
+    lost: 0,
+    replies: &BY_16,
+    counts: (18, 0, 0),
+    sent: &SENT_BY_16,
+};
+
+/// It goes out by function 6.
+const SCAN_BY_6: &Scan = &Scan {
+    device: DEVICE_BY_6,
+    older: 0,
+    lost: 0,
+    replies: &BY_6,
+    counts: (18, 1, 0),
+    sent: &SENT_BY_6,
+};
+
+/// An older frame is dropped.
+const SCAN_BEHIND_ONE: &Scan = &Scan {
+    device: DEVICE_BY_16,
+    older: 1,
+    lost: 0,
+    replies: &BY_16,
+    counts: (18, 0, 0),
+    sent: &SENT_BY_16,
+};
+
+/// Behind 17 older frames the block is lost.
+const SCAN_BEHIND_17: &Scan = &Scan {
+    device: DEVICE_BY_16,
+    older: 17,
+    lost: 1,
+    replies: &BY_16,
+    counts: (10, 0, 1),
+    sent: &SENT_BY_16,
+};
 
 /// One scan has this report, and these bytes went out.
 fn assert_scan(
@@ -186,18 +189,27 @@ fn assert_scan(
     assert_same(rt, &poller.link().sent(), &sent);
 }
 
-fn assert_scanned(rt: &impl Abort, alloc: Global, scan: &Scan) {
+/// A poller on a link over which the replies of a scan come.
+fn poller_of(rt: &impl Abort, alloc: Global, scan: &Scan) -> Poller<MemLink> {
     let bytes = coming(rt, alloc, scan.older, scan.lost, scan.replies);
-    let mut poller = poller_on(rt, alloc, 7, &bytes, 5, None);
+    poller_on(rt, alloc, 7, &bytes, 5, None)
+}
+
+fn assert_scan_on(rt: &impl Abort, alloc: Global, poller: &mut Poller<MemLink>, scan: &Scan) {
     let mut core = mapped_core(rt, alloc, scan.device);
-    assert_scan(rt, &mut core, &mut poller, scan.counts, scan.sent);
+    assert_scan(rt, &mut core, poller, scan.counts, scan.sent);
+}
+
+fn assert_scanned(rt: &impl Abort, alloc: Global, scan: &Scan) {
+    assert_scan_on(rt, alloc, &mut poller_of(rt, alloc, scan), scan);
 }
 
 #[test]
 fn scans_over_a_link(rt: HostRuntime) {
-    for scan in &SCANS {
-        assert_scanned(&rt, rt.alloc(), scan);
-    }
+    assert_scanned(&rt, rt.alloc(), SCAN_BY_16);
+    assert_scanned(&rt, rt.alloc(), SCAN_BY_6);
+    assert_scanned(&rt, rt.alloc(), SCAN_BEHIND_ONE);
+    assert_scanned(&rt, rt.alloc(), SCAN_BEHIND_17);
 }
 
 /// The next scan answers the same fault and touches nothing.
@@ -224,9 +236,15 @@ fn fails(rt: &impl Abort, core: &mut Core<32>, poller: &mut Poller<MemLink>) -> 
 
 /// Whether a scan fails whose link fails at this call.
 fn fails_at(rt: &impl Abort, alloc: Global, coming: &[u8], call: usize) -> bool {
-    let mut poller = poller_on(rt, alloc, 7, coming, 5, Some(call));
-    let mut core = mapped_core(rt, alloc, DEVICE_BY_16);
-    fails(rt, &mut core, &mut poller)
+    fails_on(
+        rt,
+        alloc,
+        &mut poller_on(rt, alloc, 7, coming, 5, Some(call)),
+    )
+}
+
+fn fails_on(rt: &impl Abort, alloc: Global, poller: &mut Poller<MemLink>) -> bool {
+    fails(rt, &mut mapped_core(rt, alloc, DEVICE_BY_16), poller)
 }
 
 /// How many calls of a link fail in a scan that succeeds where none does.
@@ -266,12 +284,13 @@ static CLIENTS: [(usize, Result<u32, LinkFault>, usize); 2] = [
 
 fn assert_client(
     rt: &impl Abort,
+    alloc: Global,
     link: &mut MemLink,
-    core: &mut Core<32>,
     told: Result<u32, LinkFault>,
     sent: &[u8],
 ) {
-    assert_same(rt, &serve_client(core, link), &told);
+    let mut core = limiter_core(rt, alloc, SITE);
+    assert_same(rt, &serve_client(&mut core, link), &told);
     assert_same(rt, &link.sent(), &sent);
 }
 
@@ -284,10 +303,9 @@ fn client(rt: &impl Abort, alloc: Global, bytes: usize) -> MemLink {
 #[test]
 fn clients_over_a_link(rt: HostRuntime) {
     for (bytes, told, sent) in &CLIENTS {
-        let mut core = limiter_core(&rt, rt.alloc(), SITE);
         let mut link = client(&rt, rt.alloc(), *bytes);
         let sent = &REPLIES[..(*sent).min(32)];
-        assert_client(&rt, &mut link, &mut core, *told, sent);
+        assert_client(&rt, rt.alloc(), &mut link, *told, sent);
     }
 }
 
@@ -332,9 +350,12 @@ fn ends(rt: &impl Abort, core: &mut Core<32>, link: &mut MemLink) -> bool {
 
 /// Whether the work ends where this call of the link fails.
 fn ends_at(rt: &impl Abort, alloc: Global, call: usize) -> bool {
-    let mut core = limiter_core(rt, alloc, SITE);
     let link = MemLink::new(alloc, &TARGETS, 5, Some(call));
-    ends(rt, &mut core, &mut link.expect(rt, "memory"))
+    ends_on(rt, alloc, &mut link.expect(rt, "memory"))
+}
+
+fn ends_on(rt: &impl Abort, alloc: Global, link: &mut MemLink) -> bool {
+    ends(rt, &mut limiter_core(rt, alloc, SITE), link)
 }
 
 /// Eight reads of five bytes at most and one at the end, and three writes for each reply.

@@ -42,30 +42,48 @@ fn holds(rt: &impl Abort, inner: &[InnerLine], wanted: &[(u32, Spelled)]) {
     }
 }
 
-#[test]
-fn reads_parentheses(rt: HostRuntime) {
-    let program = program_of(&rt, rt.alloc(), NESTED);
-    has_lines(&rt, &program, &LINES);
-    assert_same(&rt, &program.end_line, &17);
-    let sum = simple_at(&rt, &program, 1);
-    opens(&rt, sum, ("ADD", "("), Want::Number(2));
+fn assert_sum(rt: &impl Abort, sum: &Simple) {
+    opens(rt, sum, ("ADD", "("), Want::Number(2));
     holds(
-        &rt,
+        rt,
         inner_of(sum),
         &[(5, ("GT", "(")), (9, ("AND", "N(")), (11, ("MIN", ""))],
     );
 }
 
+fn assert_nested(rt: &impl Abort, program: &Program) {
+    has_lines(rt, program, &LINES);
+    assert_same(rt, &program.end_line, &17);
+    assert_sum(rt, simple_at(rt, program, 1));
+}
+
+#[test]
+fn reads_parentheses(rt: HostRuntime) {
+    assert_nested(&rt, &program_of(&rt, rt.alloc(), NESTED));
+}
+
+fn assert_compared(rt: &impl Abort, compared: &Simple) {
+    opens(rt, compared, ("GT", "("), Want::Nothing);
+    holds(rt, inner_of(compared), &[(6, ("NOT", ""))]);
+}
+
+fn assert_conjoined(rt: &impl Abort, conjoined: &Simple) {
+    opens(rt, conjoined, ("AND", "N("), Want::Truth(true));
+    holds(rt, inner_of(conjoined), &[]);
+}
+
+fn assert_inner(rt: &impl Abort, inner: &[InnerLine]) {
+    let [compared, conjoined, ..] = inner else {
+        panic!(rt; "fewer lines")
+    };
+    assert_compared(rt, &compared.simple);
+    assert_conjoined(rt, &conjoined.simple);
+}
+
 #[test]
 fn reads_inner_parentheses(rt: HostRuntime) {
     let program = program_of(&rt, rt.alloc(), NESTED);
-    let [compared, conjoined, ..] = inner_of(simple_at(&rt, &program, 1)) else {
-        panic!(rt; "fewer lines")
-    };
-    opens(&rt, &compared.simple, ("GT", "("), Want::Nothing);
-    holds(&rt, inner_of(&compared.simple), &[(6, ("NOT", ""))]);
-    opens(&rt, &conjoined.simple, ("AND", "N("), Want::Truth(true));
-    holds(&rt, inner_of(&conjoined.simple), &[]);
+    assert_inner(&rt, inner_of(simple_at(&rt, &program, 1)));
 }
 
 /// LD 1 in line 2, and this many parentheses that stand open.

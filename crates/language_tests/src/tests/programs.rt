@@ -172,50 +172,56 @@ struct Whole {
     end_line: u32,
 }
 
-static WHOLES: [Whole; 4] = [
-    Whole {
-        text: WHOLE,
-        variables: WHOLE_VARIABLES,
-        externals: &[],
-        lines: WHOLE_LINES,
-        end_line: 12,
-    },
-    Whole {
-        text: DECLARED,
-        variables: DECLARED_VARIABLES,
-        externals: DECLARED_EXTERNALS,
-        lines: &[],
-        end_line: 5,
-    },
-    Whole {
-        text: INSTRUCTED,
-        variables: &[],
-        externals: &[],
-        lines: INSTRUCTED_LINES,
-        end_line: 20,
-    },
-    Whole {
-        text: PRESENCES,
-        variables: PRESENCE_VARIABLES,
-        externals: PRESENCE_EXTERNALS,
-        lines: &[],
-        end_line: 1,
-    },
-];
+const WHOLE_PROGRAM: &Whole = &Whole {
+    text: WHOLE,
+    variables: WHOLE_VARIABLES,
+    externals: &[],
+    lines: WHOLE_LINES,
+    end_line: 12,
+};
+
+const DECLARED_PROGRAM: &Whole = &Whole {
+    text: DECLARED,
+    variables: DECLARED_VARIABLES,
+    externals: DECLARED_EXTERNALS,
+    lines: &[],
+    end_line: 5,
+};
+
+const INSTRUCTED_PROGRAM: &Whole = &Whole {
+    text: INSTRUCTED,
+    variables: &[],
+    externals: &[],
+    lines: INSTRUCTED_LINES,
+    end_line: 20,
+};
+
+const PRESENCES_PROGRAM: &Whole = &Whole {
+    text: PRESENCES,
+    variables: PRESENCE_VARIABLES,
+    externals: PRESENCE_EXTERNALS,
+    lines: &[],
+    end_line: 1,
+};
 
 fn assert_whole(rt: &impl Abort, program: &Program, wanted: &Whole) {
-    let found = (program.name.as_str(), program.end_line);
-    assert_same(rt, &found, &("p", wanted.end_line));
+    assert_same(rt, &program.name.as_str(), &"p");
+    assert_same(rt, &program.end_line, &wanted.end_line);
     declares(rt, program, wanted.variables);
     names(rt, program, wanted.externals);
     has_lines(rt, program, wanted.lines);
 }
 
+fn reads_whole(rt: &impl Abort, alloc: Global, whole: &Whole) {
+    assert_whole(rt, &program_of(rt, alloc, whole.text), whole);
+}
+
 #[test]
 fn reads_whole_programs(rt: HostRuntime) {
-    for whole in &WHOLES {
-        assert_whole(&rt, &program_of(&rt, rt.alloc(), whole.text), whole);
-    }
+    reads_whole(&rt, rt.alloc(), WHOLE_PROGRAM);
+    reads_whole(&rt, rt.alloc(), DECLARED_PROGRAM);
+    reads_whole(&rt, rt.alloc(), INSTRUCTED_PROGRAM);
+    reads_whole(&rt, rt.alloc(), PRESENCES_PROGRAM);
 }
 
 static OPERANDS: [Instruction; 4] = [

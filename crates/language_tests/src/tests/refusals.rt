@@ -189,23 +189,17 @@ const STAY_OPEN: &[(&str, &str, u32)] = &[
     ("ADD", "Header", 3),
 ];
 
-/// How the texts of each list begin.
-static REFUSED: [(&str, &[(&str, &str, u32)]); 10] = [
-    (HEAD, LINES),
-    (HEAD, PRAGMAS),
-    (HEAD, WORDS),
-    ("PROGRAM p\n", DECLARATIONS),
-    ("PROGRAM p\n", NAMES),
-    ("", HEADERS),
-    (HEAD, PARENTHESES),
-    (HEAD, NAMES_INSIDE),
-    ("PROGRAM p\nADD( 1\n\nMUL(\n", OF_THE_BODY),
-    (HEAD, STAY_OPEN),
-];
-
+// Each list is passed on its own: a table of these tables took the prover twenty seconds more.
 #[test]
 fn refuses_each_text(rt: HostRuntime) {
-    for (head, texts) in &REFUSED {
-        refuses(&rt, rt.alloc(), head, texts);
-    }
+    refuses(&rt, rt.alloc(), HEAD, LINES);
+    refuses(&rt, rt.alloc(), HEAD, PRAGMAS);
+    refuses(&rt, rt.alloc(), HEAD, WORDS);
+    refuses(&rt, rt.alloc(), "PROGRAM p\n", DECLARATIONS);
+    refuses(&rt, rt.alloc(), "PROGRAM p\n", NAMES);
+    refuses(&rt, rt.alloc(), "", HEADERS);
+    refuses(&rt, rt.alloc(), HEAD, PARENTHESES);
+    refuses(&rt, rt.alloc(), HEAD, NAMES_INSIDE);
+    refuses(&rt, rt.alloc(), "PROGRAM p\nADD( 1\n\nMUL(\n", OF_THE_BODY);
+    refuses(&rt, rt.alloc(), HEAD, STAY_OPEN);
 }

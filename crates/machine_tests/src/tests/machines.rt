@@ -6,7 +6,11 @@ ghost use Rattle.verifier.specs.Links.{is_stored};
 ghost use Rattle.verifier.specs.Ranges.{range_of};
 ghost use Rattle.verifier.specs.Sound.{IsInputOf, IsReadingOf};
 
-use crate::tests::worked::{CASES, Case, OF_POWERS, POWERS, QUOTIENTS, Worked};
+use crate::tests::worked::{
+    BRANCHES_CASE, Case, DEFERRED_CASE, GUARDED_CASE, LIMITED_CASE, MOST_TURNS_CASE,
+    NINE_TURNS_CASE, NO_REST_CASE, OF_POWERS, OTHER_BRANCHES_CASE, POWERS, QUOTIENTS, SUM_CASE,
+    TOWARD_ZERO_CASE, Worked,
+};
 use crate::tests::{assert_same, image_of, sixty_two_jumps, trial, tried_output, tried_value};
 use point_types::Reading;
 use scan_code::Image;
@@ -14,7 +18,7 @@ use scan_vm::{Machine, Scan, Trial};
 use site_model::{Access, Site};
 use std::alloc::Global;
 use std::process::Abort;
-use verifier::Link;
+use verifier::TagLink;
 use verifier::verify::verify;
 use worked_texts::programs::{Program, QUOTIENT};
 use worked_texts::sites::{SITE, site_of};
@@ -40,7 +44,7 @@ fn accepted(
 }
 
 /// Whether an input may have a reading.
-fn is_reading(link: &Link, reading: &Reading) -> bool
+fn is_reading(link: &TagLink, reading: &Reading) -> bool
     ensures { result ≡ true → IsInputOf (range_of link.now) reading.now }
 {
     match reading {
@@ -60,7 +64,7 @@ fn is_stored(access: Access) -> bool
 }
 
 /// The same, where those of outputs aren't looked at.
-fn fits(link: &Link, reading: &Reading) -> bool
+fn fits(link: &TagLink, reading: &Reading) -> bool
     ensures { result ≡ true → IsReadingOf (Some (range_of link.now)) (Some reading.now) }
 {
     is_stored(link.site.access) || is_reading(link, reading)
@@ -68,7 +72,7 @@ fn fits(link: &Link, reading: &Reading) -> bool
 
 /// Whether there is such a reading for each tag.
 #[tactic(auto, using(crate::proofs::Readings::none_wanted, crate::proofs::Readings::one_more_given))]
-fn are_readings(links: &[Link], readings: &[Reading]) -> bool
+fn are_readings(links: &[TagLink], readings: &[Reading]) -> bool
     ensures { result ≡ true → AreReadingsOf links.now readings.now }
 {
     match (links, readings) {
@@ -156,12 +160,20 @@ fn run_case(rt: &impl Abort, alloc: Global, site: &Site, case: &Case) {
     run_beside(rt, alloc, &mut machine, case);
 }
 
+// Each case is passed on its own: in one table they take the prover much longer.
 #[test]
 fn runs_accepted_programs(rt: HostRuntime) {
     let site = site(&rt, rt.alloc());
-    for case in &CASES {
-        run_case(&rt, rt.alloc(), &site, case);
-    }
+    run_case(&rt, rt.alloc(), &site, SUM_CASE);
+    run_case(&rt, rt.alloc(), &site, BRANCHES_CASE);
+    run_case(&rt, rt.alloc(), &site, OTHER_BRANCHES_CASE);
+    run_case(&rt, rt.alloc(), &site, NINE_TURNS_CASE);
+    run_case(&rt, rt.alloc(), &site, MOST_TURNS_CASE);
+    run_case(&rt, rt.alloc(), &site, GUARDED_CASE);
+    run_case(&rt, rt.alloc(), &site, LIMITED_CASE);
+    run_case(&rt, rt.alloc(), &site, TOWARD_ZERO_CASE);
+    run_case(&rt, rt.alloc(), &site, DEFERRED_CASE);
+    run_case(&rt, rt.alloc(), &site, NO_REST_CASE);
 }
 
 /// 100 by a divisor, on this machine and on a trial beside it: the steps and the quotient.

@@ -91,206 +91,217 @@ struct Case {
     scans: &'static [Tried],
 }
 
-static CASES: [Case; 14] = [
-    Case {
-        program: DIVIDED,
-        starts: &[7, 0],
-        scans: &[Tried {
-            readings: &[],
-            outcome: Ok(Scan { steps: 9 }),
-            variables: &[7, 9],
-            outputs: &[],
-        }],
-    },
-    Case {
-        program: ONE_MORE,
-        starts: &[32767],
-        scans: &[Tried {
-            readings: &[],
-            outcome: Err(Trap {
-                at: 3,
-                kind: TrapKind::Overflow,
-            }),
-            variables: &[32767],
-            outputs: &[],
-        }],
-    },
-    Case {
-        program: ONE_PERCENT_MORE,
-        starts: &[100],
-        scans: &[Tried {
-            readings: &[],
-            outcome: Err(Trap {
-                at: 4,
-                kind: TrapKind::StoreRange,
-            }),
-            variables: &[100],
-            outputs: &[],
-        }],
-    },
-    Case {
-        program: BY_ZERO,
-        starts: &[0],
-        scans: &[Tried {
-            readings: &[],
-            outcome: Err(Trap {
-                at: 3,
-                kind: TrapKind::ZeroDivisor,
-            }),
+const DIVIDED_CASE: &Case = &Case {
+    program: DIVIDED,
+    starts: &[7, 0],
+    scans: &[Tried {
+        readings: &[],
+        outcome: Ok(Scan { steps: 9 }),
+        variables: &[7, 9],
+        outputs: &[],
+    }],
+};
+
+const ONE_MORE_CASE: &Case = &Case {
+    program: ONE_MORE,
+    starts: &[32767],
+    scans: &[Tried {
+        readings: &[],
+        outcome: Err(Trap {
+            at: 3,
+            kind: TrapKind::Overflow,
+        }),
+        variables: &[32767],
+        outputs: &[],
+    }],
+};
+
+const ONE_PERCENT_MORE_CASE: &Case = &Case {
+    program: ONE_PERCENT_MORE,
+    starts: &[100],
+    scans: &[Tried {
+        readings: &[],
+        outcome: Err(Trap {
+            at: 4,
+            kind: TrapKind::StoreRange,
+        }),
+        variables: &[100],
+        outputs: &[],
+    }],
+};
+
+const BY_ZERO_CASE: &Case = &Case {
+    program: BY_ZERO,
+    starts: &[0],
+    scans: &[Tried {
+        readings: &[],
+        outcome: Err(Trap {
+            at: 3,
+            kind: TrapKind::ZeroDivisor,
+        }),
+        variables: &[0],
+        outputs: &[],
+    }],
+};
+
+const BY_MINUS_ONE_CASE: &Case = &Case {
+    program: BY_MINUS_ONE,
+    starts: &[i64::MIN],
+    scans: &[Tried {
+        readings: &[],
+        outcome: Err(Trap {
+            at: 3,
+            kind: TrapKind::Overflow,
+        }),
+        variables: &[i64::MIN],
+        outputs: &[],
+    }],
+};
+
+const NO_REST_CASE: &Case = &Case {
+    program: NO_REST,
+    starts: &[i64::MIN],
+    scans: &[Tried {
+        readings: &[],
+        outcome: Ok(Scan { steps: 6 }),
+        variables: &[0],
+        outputs: &[],
+    }],
+};
+
+const WITHOUT_SIGN_CASE: &Case = &Case {
+    program: WITHOUT_SIGN,
+    starts: &[i64::MIN],
+    scans: &[Tried {
+        readings: &[],
+        outcome: Err(Trap {
+            at: 1,
+            kind: TrapKind::Overflow,
+        }),
+        variables: &[i64::MIN],
+        outputs: &[],
+    }],
+};
+
+const BACKWARD_CASE: &Case = &Case {
+    program: BACKWARD,
+    starts: &[],
+    scans: &[Tried {
+        readings: &[],
+        outcome: Err(Trap {
+            at: 0,
+            kind: TrapKind::Code,
+        }),
+        variables: &[],
+        outputs: &[],
+    }],
+};
+
+const UNDEFERRED_CASE: &Case = &Case {
+    program: UNDEFERRED,
+    starts: &[],
+    scans: &[Tried {
+        readings: &[],
+        outcome: Err(Trap {
+            at: 0,
+            kind: TrapKind::Stack,
+        }),
+        variables: &[],
+        outputs: &[],
+    }],
+};
+
+const NO_RESULT_CASE: &Case = &Case {
+    program: NO_RESULT,
+    starts: &[0],
+    scans: &[Tried {
+        readings: &[],
+        outcome: Err(Trap {
+            at: 0,
+            kind: TrapKind::WrongType,
+        }),
+        variables: &[0],
+        outputs: &[],
+    }],
+};
+
+const PASSED_ON_CASE: &Case = &Case {
+    program: PASSED_ON,
+    starts: &[1],
+    scans: &[
+        Tried {
+            readings: &[
+                Reading::Absent(Cause::NoBlock),
+                Reading::Default(5, Cause::NoBlock),
+            ],
+            outcome: Ok(Scan { steps: 5 }),
             variables: &[0],
-            outputs: &[],
-        }],
-    },
-    Case {
-        program: BY_MINUS_ONE,
-        starts: &[i64::MIN],
-        scans: &[Tried {
-            readings: &[],
-            outcome: Err(Trap {
-                at: 3,
-                kind: TrapKind::Overflow,
-            }),
-            variables: &[i64::MIN],
-            outputs: &[],
-        }],
-    },
-    Case {
-        program: NO_REST,
-        starts: &[i64::MIN],
-        scans: &[Tried {
-            readings: &[],
-            outcome: Ok(Scan { steps: 6 }),
-            variables: &[0],
-            outputs: &[],
-        }],
-    },
-    Case {
-        program: WITHOUT_SIGN,
-        starts: &[i64::MIN],
-        scans: &[Tried {
-            readings: &[],
-            outcome: Err(Trap {
-                at: 1,
-                kind: TrapKind::Overflow,
-            }),
-            variables: &[i64::MIN],
-            outputs: &[],
-        }],
-    },
-    Case {
-        program: BACKWARD,
-        starts: &[],
-        scans: &[Tried {
-            readings: &[],
+            outputs: &[Some(5)],
+        },
+        Tried {
+            readings: &[Reading::Absent(Cause::NoBlock), Reading::Value(6)],
+            outcome: Ok(Scan { steps: 5 }),
+            variables: &[1],
+            outputs: &[Some(6)],
+        },
+        Tried {
+            readings: &[
+                Reading::Absent(Cause::NoBlock),
+                Reading::Absent(Cause::Inexact),
+            ],
             outcome: Err(Trap {
                 at: 0,
-                kind: TrapKind::Code,
+                kind: TrapKind::MissingPoint,
             }),
-            variables: &[],
-            outputs: &[],
-        }],
-    },
-    Case {
-        program: UNDEFERRED,
-        starts: &[],
-        scans: &[Tried {
+            variables: &[1],
+            outputs: &[None],
+        },
+    ],
+};
+
+const NINE_TURNS_CASE: &Case = &Case {
+    program: NINE_TURNS,
+    starts: &[100],
+    scans: &[
+        Tried {
             readings: &[],
-            outcome: Err(Trap {
-                at: 0,
-                kind: TrapKind::Stack,
-            }),
-            variables: &[],
+            outcome: Ok(Scan { steps: 93 }),
+            variables: &[70],
             outputs: &[],
-        }],
-    },
-    Case {
-        program: NO_RESULT,
-        starts: &[0],
-        scans: &[Tried {
+        },
+        Tried {
             readings: &[],
-            outcome: Err(Trap {
-                at: 0,
-                kind: TrapKind::WrongType,
-            }),
-            variables: &[0],
+            outcome: Ok(Scan { steps: 93 }),
+            variables: &[70],
             outputs: &[],
-        }],
-    },
-    Case {
-        program: PASSED_ON,
-        starts: &[1],
-        scans: &[
-            Tried {
-                readings: &[
-                    Reading::Absent(Cause::NoBlock),
-                    Reading::Default(5, Cause::NoBlock),
-                ],
-                outcome: Ok(Scan { steps: 5 }),
-                variables: &[0],
-                outputs: &[Some(5)],
-            },
-            Tried {
-                readings: &[Reading::Absent(Cause::NoBlock), Reading::Value(6)],
-                outcome: Ok(Scan { steps: 5 }),
-                variables: &[1],
-                outputs: &[Some(6)],
-            },
-            Tried {
-                readings: &[
-                    Reading::Absent(Cause::NoBlock),
-                    Reading::Absent(Cause::Inexact),
-                ],
-                outcome: Err(Trap {
-                    at: 0,
-                    kind: TrapKind::MissingPoint,
-                }),
-                variables: &[1],
-                outputs: &[None],
-            },
-        ],
-    },
-    Case {
-        program: NINE_TURNS,
-        starts: &[100],
-        scans: &[
-            Tried {
-                readings: &[],
-                outcome: Ok(Scan { steps: 93 }),
-                variables: &[70],
-                outputs: &[],
-            },
-            Tried {
-                readings: &[],
-                outcome: Ok(Scan { steps: 93 }),
-                variables: &[70],
-                outputs: &[],
-            },
-        ],
-    },
-    Case {
-        program: MOST_TURNS,
-        starts: &[100],
-        scans: &[Tried {
-            readings: &[],
-            outcome: Ok(Scan { steps: 2307 }),
-            variables: &[100],
-            outputs: &[],
-        }],
-    },
-    Case {
-        program: OLD_TURNS,
-        starts: &[100],
-        scans: &[Tried {
-            readings: &[],
-            outcome: Err(Trap {
-                at: 10,
-                kind: TrapKind::Code,
-            }),
-            variables: &[100],
-            outputs: &[],
-        }],
-    },
-];
+        },
+    ],
+};
+
+const MOST_TURNS_CASE: &Case = &Case {
+    program: MOST_TURNS,
+    starts: &[100],
+    scans: &[Tried {
+        readings: &[],
+        outcome: Ok(Scan { steps: 2307 }),
+        variables: &[100],
+        outputs: &[],
+    }],
+};
+
+const OLD_TURNS_CASE: &Case = &Case {
+    program: OLD_TURNS,
+    starts: &[100],
+    scans: &[Tried {
+        readings: &[],
+        outcome: Err(Trap {
+            at: 10,
+            kind: TrapKind::Code,
+        }),
+        variables: &[100],
+        outputs: &[],
+    }],
+};
 
 /// The variables and outputs of a trial, as far as there are two of them.
 fn stands(rt: &impl Abort, trial: &Trial, variables: &[i64], outputs: &[Option<i64>]) {
@@ -308,13 +319,29 @@ fn assert_scans(rt: &impl Abort, trial: &mut Trial, scans: &[Tried]) {
     }
 }
 
+fn assert_case(rt: &impl Abort, alloc: Global, case: &Case) {
+    let mut trial = trial(rt, alloc, &case.program, case.starts);
+    stands(rt, &trial, case.starts, &[]);
+    assert_scans(rt, &mut trial, case.scans);
+}
+
+// Each case is passed on its own: in one table they take the prover much longer.
 #[test]
 fn ends_or_traps_where_it_should(rt: HostRuntime) {
-    for case in &CASES {
-        let mut trial = trial(&rt, rt.alloc(), &case.program, case.starts);
-        stands(&rt, &trial, case.starts, &[]);
-        assert_scans(&rt, &mut trial, case.scans);
-    }
+    assert_case(&rt, rt.alloc(), DIVIDED_CASE);
+    assert_case(&rt, rt.alloc(), ONE_MORE_CASE);
+    assert_case(&rt, rt.alloc(), ONE_PERCENT_MORE_CASE);
+    assert_case(&rt, rt.alloc(), BY_ZERO_CASE);
+    assert_case(&rt, rt.alloc(), BY_MINUS_ONE_CASE);
+    assert_case(&rt, rt.alloc(), NO_REST_CASE);
+    assert_case(&rt, rt.alloc(), WITHOUT_SIGN_CASE);
+    assert_case(&rt, rt.alloc(), BACKWARD_CASE);
+    assert_case(&rt, rt.alloc(), UNDEFERRED_CASE);
+    assert_case(&rt, rt.alloc(), NO_RESULT_CASE);
+    assert_case(&rt, rt.alloc(), PASSED_ON_CASE);
+    assert_case(&rt, rt.alloc(), NINE_TURNS_CASE);
+    assert_case(&rt, rt.alloc(), MOST_TURNS_CASE);
+    assert_case(&rt, rt.alloc(), OLD_TURNS_CASE);
 }
 
 /// One, so many times deferred, and added up again.

@@ -20,153 +20,160 @@ pub struct Case {
     pub scans: &'static [Worked],
 }
 
-pub static CASES: [Case; 10] = [
-    Case {
-        program: SUM,
-        budget: 11,
-        starts: &[0],
-        scans: &[
-            Worked {
-                readings: &[Reading::Value(3000), Reading::Value(2500)],
-                steps: 11,
-                variables: &[5500],
-                outputs: &[None, None],
-            },
-            Worked {
-                readings: &[Reading::Value(1), Reading::Absent(Cause::NoBlock)],
-                steps: 6,
-                variables: &[5500],
-                outputs: &[None, None],
-            },
-        ],
-    },
-    Case {
-        program: BRANCHES,
-        budget: 17,
-        starts: &[1, 0],
-        scans: &[Worked {
-            readings: &[],
-            steps: 6,
-            variables: &[1, 1],
-            outputs: &[],
-        }],
-    },
-    Case {
-        program: BRANCHES,
-        budget: 17,
-        starts: &[0, 0],
-        scans: &[Worked {
-            readings: &[],
-            steps: 17,
-            variables: &[0, 4],
-            outputs: &[],
-        }],
-    },
-    Case {
-        program: NINE_TURNS,
-        budget: 120,
-        starts: &[0],
-        scans: &[
-            Worked {
-                readings: &[],
-                steps: 93,
-                variables: &[70],
-                outputs: &[],
-            },
-            Worked {
-                readings: &[],
-                steps: 93,
-                variables: &[70],
-                outputs: &[],
-            },
-        ],
-    },
-    Case {
-        program: MOST_TURNS,
-        budget: 3072,
-        starts: &[0],
-        scans: &[Worked {
-            readings: &[],
-            steps: 2307,
-            variables: &[100],
-            outputs: &[],
-        }],
-    },
-    Case {
-        program: GUARDED,
-        budget: 18,
-        starts: &[0],
-        scans: &[
-            Worked {
-                readings: &[Reading::Value(5), Reading::Absent(Cause::NoBlock)],
-                steps: 16,
-                variables: &[5],
-                outputs: &[None, None],
-            },
-            Worked {
-                readings: &[Reading::Absent(Cause::NoBlock), Reading::Value(5)],
-                steps: 3,
-                variables: &[5],
-                outputs: &[None, None],
-            },
-        ],
-    },
-    Case {
-        program: LIMITED,
-        budget: 5,
-        starts: &[],
-        scans: &[
-            Worked {
-                readings: &[Reading::Value(1), Reading::Absent(Cause::NoBlock)],
-                steps: 5,
-                variables: &[],
-                outputs: &[None, Some(7)],
-            },
-            Worked {
-                readings: &[
-                    Reading::Absent(Cause::NoBlock),
-                    Reading::Absent(Cause::NoBlock),
-                ],
-                steps: 3,
-                variables: &[],
-                outputs: &[None, None],
-            },
-        ],
-    },
-    Case {
-        program: TOWARD_ZERO,
-        budget: 11,
-        starts: &[0, 0],
-        scans: &[Worked {
-            readings: &[],
+pub const SUM_CASE: &Case = &Case {
+    program: SUM,
+    budget: 11,
+    starts: &[0],
+    scans: &[
+        Worked {
+            readings: &[Reading::Value(3000), Reading::Value(2500)],
             steps: 11,
-            variables: &[-2, -1],
-            outputs: &[],
-        }],
-    },
-    Case {
-        program: DEFERRED,
-        budget: 9,
-        starts: &[0],
-        scans: &[Worked {
-            readings: &[],
-            steps: 9,
-            variables: &[14],
-            outputs: &[],
-        }],
-    },
-    Case {
-        program: NO_REST,
-        budget: 6,
-        starts: &[i64::MIN],
-        scans: &[Worked {
-            readings: &[],
+            variables: &[5500],
+            outputs: &[None, None],
+        },
+        Worked {
+            readings: &[Reading::Value(1), Reading::Absent(Cause::NoBlock)],
             steps: 6,
-            variables: &[0],
+            variables: &[5500],
+            outputs: &[None, None],
+        },
+    ],
+};
+
+pub const BRANCHES_CASE: &Case = &Case {
+    program: BRANCHES,
+    budget: 17,
+    starts: &[1, 0],
+    scans: &[Worked {
+        readings: &[],
+        steps: 6,
+        variables: &[1, 1],
+        outputs: &[],
+    }],
+};
+
+pub const OTHER_BRANCHES_CASE: &Case = &Case {
+    program: BRANCHES,
+    budget: 17,
+    starts: &[0, 0],
+    scans: &[Worked {
+        readings: &[],
+        steps: 17,
+        variables: &[0, 4],
+        outputs: &[],
+    }],
+};
+
+pub const NINE_TURNS_CASE: &Case = &Case {
+    program: NINE_TURNS,
+    budget: 120,
+    starts: &[0],
+    scans: &[
+        Worked {
+            readings: &[],
+            steps: 93,
+            variables: &[70],
             outputs: &[],
-        }],
-    },
-];
+        },
+        Worked {
+            readings: &[],
+            steps: 93,
+            variables: &[70],
+            outputs: &[],
+        },
+    ],
+};
+
+pub const MOST_TURNS_CASE: &Case = &Case {
+    program: MOST_TURNS,
+    budget: 3072,
+    starts: &[0],
+    scans: &[Worked {
+        readings: &[],
+        steps: 2307,
+        variables: &[100],
+        outputs: &[],
+    }],
+};
+
+pub const GUARDED_CASE: &Case = &Case {
+    program: GUARDED,
+    budget: 18,
+    starts: &[0],
+    scans: &[
+        Worked {
+            readings: &[Reading::Value(5), Reading::Absent(Cause::NoBlock)],
+            steps: 16,
+            variables: &[5],
+            outputs: &[None, None],
+        },
+        Worked {
+            readings: &[Reading::Absent(Cause::NoBlock), Reading::Value(5)],
+            steps: 3,
+            variables: &[5],
+            outputs: &[None, None],
+        },
+    ],
+};
+
+pub const LIMITED_CASE: &Case = &Case {
+    program: LIMITED,
+    budget: 5,
+    starts: &[],
+    scans: &[
+        Worked {
+            readings: &[Reading::Value(1), Reading::Absent(Cause::NoBlock)],
+            steps: 5,
+            variables: &[],
+            outputs: &[None, Some(7)],
+        },
+        Worked {
+            readings: &[
+                Reading::Absent(Cause::NoBlock),
+                Reading::Absent(Cause::NoBlock),
+            ],
+            steps: 3,
+            variables: &[],
+            outputs: &[None, None],
+        },
+    ],
+};
+
+pub const TOWARD_ZERO_CASE: &Case = &Case {
+    program: TOWARD_ZERO,
+    budget: 11,
+    starts: &[0, 0],
+    scans: &[Worked {
+        readings: &[],
+        steps: 11,
+        variables: &[-2, -1],
+        outputs: &[],
+    }],
+};
+
+pub const DEFERRED_CASE: &Case = &Case {
+    program: DEFERRED,
+    budget: 9,
+    starts: &[0],
+    scans: &[Worked {
+        readings: &[],
+        steps: 9,
+        variables: &[14],
+        outputs: &[],
+    }],
+};
+
+pub const NO_REST_CASE: &Case = &Case {
+    program: NO_REST,
+    budget: 6,
+    starts: &[i64::MIN],
+    scans: &[Worked {
+        readings: &[],
+        steps: 6,
+        variables: &[0],
+        outputs: &[],
+    }],
+};
 
 /// A divisor, and the steps and the quotient of 100 by it.
 pub static QUOTIENTS: [(i64, u32, i64); 11] = [

@@ -226,16 +226,19 @@ const SECOND: &str =
 /// A second tag on a point.
 const TAGS: &[(&str, &str, SiteFault)] = &[("[[served]]", SECOND, SiteFault::Duplicate)];
 
-static RULES: [&[(&str, &str, SiteFault)]; 9] = [
-    GATEWAYS, DEVICES, PLACES, RANGES, WORDS, SUMS, ENTRIES, TEXTS, TAGS,
-];
-
+// Each list is passed on its own: a table of these tables took the prover twenty seconds more.
 #[test]
 fn each_rule_has_its_fault(rt: HostRuntime) {
     let defs = definitions(&rt, rt.alloc());
-    for edits in &RULES {
-        assert_faults(&rt, rt.alloc(), &defs, edits);
-    }
+    assert_faults(&rt, rt.alloc(), &defs, GATEWAYS);
+    assert_faults(&rt, rt.alloc(), &defs, DEVICES);
+    assert_faults(&rt, rt.alloc(), &defs, PLACES);
+    assert_faults(&rt, rt.alloc(), &defs, RANGES);
+    assert_faults(&rt, rt.alloc(), &defs, WORDS);
+    assert_faults(&rt, rt.alloc(), &defs, SUMS);
+    assert_faults(&rt, rt.alloc(), &defs, ENTRIES);
+    assert_faults(&rt, rt.alloc(), &defs, TEXTS);
+    assert_faults(&rt, rt.alloc(), &defs, TAGS);
 }
 
 #[test]

@@ -2,27 +2,31 @@
 //! ends where it gets no memory for what it begins with.
 
 use crate::tests::files::SITE;
-use crate::tests::{assert_same, given_definitions};
+use crate::tests::{assert_same, assert_true, given_definitions};
+use model_defs::ModelDef;
 use site_model::{Site, SiteFault};
+use std::alloc::Global;
 use std::process::Abort;
 
 /// The site has its devices, tags, wanted blocks and outputs, and what it serves.
 fn assert_site(rt: &impl Abort, site: &Site) {
-    let devices = site.devices().len();
-    let tags = site.tags().len();
-    assert_same(rt, &(devices, tags), &(2, 5));
-    let wants = site.wants().len();
-    assert_same(rt, &(wants, site.outs()), &(3, &[3, 4][..]));
+    assert_same(rt, &site.devices().len(), &2);
+    assert_same(rt, &site.tags().len(), &5);
+    assert_same(rt, &site.wants().len(), &3);
+    assert_true(rt, site.outs() == [3, 4].as_slice());
     assert_same(rt, &site.served().len(), &3);
+}
+
+fn assert_reads(rt: &impl Abort, alloc: Global, defs: &[ModelDef]) {
+    match Site::read(alloc, SITE, defs) {
+        Ok(site) => assert_site(rt, &site),
+        Err(fault) => assert_same(rt, &fault, &SiteFault::OutOfMemory),
+    }
 }
 
 #[test]
 fn a_site_reads(rt: HostRuntime) {
-    let Some(defs) = given_definitions(rt.alloc()) else {
-        return;
-    };
-    match Site::read(rt.alloc(), SITE, &defs) {
-        Ok(site) => assert_site(&rt, &site),
-        Err(fault) => assert_same(&rt, &fault, &SiteFault::OutOfMemory),
+    if let Some(defs) = given_definitions(rt.alloc()) {
+        assert_reads(&rt, rt.alloc(), &defs);
     }
 }

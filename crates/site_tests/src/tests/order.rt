@@ -98,19 +98,12 @@ const OTHER_KINDS: &[(&str, &str, SiteFault)] = &[
 
 const SECTIONS: &str = "device = 0\n[gateway]\nunit = 1\nmodels = [1]\n";
 
-static ORDERS: [(&str, &[(&str, &str, SiteFault)]); 3] = [
-    (TAGS, WITHIN_A_TAG),
-    (SITE, BETWEEN_SECTIONS),
-    (SECTIONS, OTHER_KINDS),
-];
-
 #[test]
 fn the_first_broken_rule_is_told(rt: HostRuntime) {
     let defs = definitions(&rt, rt.alloc());
-    for order in &ORDERS {
-        let (start, edits) = *order;
-        assert_in_turn(&rt, rt.alloc(), &defs, start, edits);
-    }
+    assert_in_turn(&rt, rt.alloc(), &defs, TAGS, WITHIN_A_TAG);
+    assert_in_turn(&rt, rt.alloc(), &defs, SITE, BETWEEN_SECTIONS);
+    assert_in_turn(&rt, rt.alloc(), &defs, SECTIONS, OTHER_KINDS);
 }
 
 /// Devices with so many units, and a text behind them.

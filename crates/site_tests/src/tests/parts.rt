@@ -62,24 +62,36 @@ fn push(rt: &impl Abort, lines: &mut String, line: Result<String, AllocError>) {
     lines.push_str(line.as_str()).expect(rt, "memory");
 }
 
+fn push_gateway(rt: &impl Abort, alloc: Global, lines: &mut String, site: &Site) {
+    let gateway = format!(in alloc; "gateway {} {}\n", site.unit(), site.base());
+    push(rt, lines, gateway);
+    for model in site.models() {
+        let line = format!(in alloc; "model {} {}\n", model.id, model.length);
+        push(rt, lines, line);
+    }
+}
+
+fn push_tags(rt: &impl Abort, alloc: Global, lines: &mut String, site: &Site) {
+    for tag in site.tags() {
+        push(rt, lines, tag_line(rt, alloc, tag));
+    }
+}
+
+fn push_served(rt: &impl Abort, alloc: Global, lines: &mut String, site: &Site) {
+    for served in site.served() {
+        push(rt, lines, served_line(rt, alloc, served));
+    }
+}
+
 /// What was read, a line for each part.
 fn lines_of(rt: &impl Abort, alloc: Global, site: &Site) -> String {
     let mut lines = String::new(alloc);
-    let gateway = format!(in alloc; "gateway {} {}\n", site.unit(), site.base());
-    push(rt, &mut lines, gateway);
-    for model in site.models() {
-        let line = format!(in alloc; "model {} {}\n", model.id, model.length);
-        push(rt, &mut lines, line);
-    }
+    push_gateway(rt, alloc, &mut lines, site);
     for device in site.devices() {
         push(rt, &mut lines, device_line(alloc, device));
     }
-    for tag in site.tags() {
-        push(rt, &mut lines, tag_line(rt, alloc, tag));
-    }
-    for served in site.served() {
-        push(rt, &mut lines, served_line(rt, alloc, served));
-    }
+    push_tags(rt, alloc, &mut lines, site);
+    push_served(rt, alloc, &mut lines, site);
     lines
 }
 

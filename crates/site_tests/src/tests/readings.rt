@@ -29,6 +29,7 @@ fn power(rt: &impl Abort) -> SiteTag
         device: Some(0),
         model: 103,
         point: Kind::Int16,
+        writable: false,
         offset: 14,
         sf: Sf::At(15),
     }
@@ -51,6 +52,7 @@ fn flag(rt: &impl Abort, bit: u8) -> SiteTag
         device: Some(0),
         model: 103,
         point: Kind::Bitfield32,
+        writable: false,
         offset: 14,
         sf: Sf::At(200),
     }
@@ -73,6 +75,7 @@ fn target(rt: &impl Abort) -> SiteTag
         device: None,
         model: 123,
         point: Kind::Uint16,
+        writable: true,
         offset: 5,
         sf: Sf::At(23),
     }

@@ -22,6 +22,7 @@ fn tag(rt: &impl Abort, name: &str, access: Access, device: Option<usize>, model
         device,
         model,
         point: Kind::Uint16,
+        writable: true,
         offset: 5,
         sf: Sf::None,
     }

@@ -4,39 +4,39 @@ use crate::tests::assert_same;
 use point_types::{IlType, Items};
 use std::alloc::Global;
 use std::process::Abort;
-use verifier::changes::Changes;
+use verifier::abstract_value::AbstractValue;
+use verifier::changed_spans::ChangedSpans;
+use verifier::context::Context;
 use verifier::fact::Fact;
-use verifier::frame::Frame;
-use verifier::known::Known;
-use verifier::presence::Presence;
+use verifier::present_inputs::PresentInputs;
 use verifier::span::Span;
 
 /// Four spans from 0 to 9.
-fn four(rt: &impl Abort, alloc: Global) -> Changes {
+fn four(rt: &impl Abort, alloc: Global) -> ChangedSpans {
     let mut spans = Items::new(alloc);
     for _ in 0..4 {
         spans.push(Span::between(0, 9)).expect(rt, "memory");
     }
-    Changes::at_entry(alloc, spans).expect(rt, "memory")
+    ChangedSpans::at_entry(alloc, spans).expect(rt, "memory")
 }
 
-fn assert_span(rt: &impl Abort, spans: &Changes, number: usize, wanted: Span) {
+fn assert_span(rt: &impl Abort, spans: &ChangedSpans, number: usize, wanted: Span) {
     assert_same(rt, &spans.get(number), &Some(wanted));
 }
 
 /// With the third span 5 to 5.
-fn changed(rt: &impl Abort, alloc: Global, entry: &Changes) -> Changes {
+fn changed(rt: &impl Abort, alloc: Global, entry: &ChangedSpans) -> ChangedSpans {
     entry.with(alloc, 2, Span::only(5)).expect(rt, "memory")
 }
 
-fn assert_changed(rt: &impl Abort, spans: &Changes) {
+fn assert_changed(rt: &impl Abort, spans: &ChangedSpans) {
     assert_span(rt, spans, 2, Span::only(5));
     assert_span(rt, spans, 3, Span::between(0, 9));
     assert_same(rt, &spans.get(4), &None);
 }
 
 /// Joined with the spans at entry, they are those again.
-fn assert_joined(rt: &impl Abort, alloc: Global, spans: &Changes, entry: &Changes) {
+fn assert_joined(rt: &impl Abort, alloc: Global, spans: &ChangedSpans, entry: &ChangedSpans) {
     let both = spans.joined(alloc, entry).expect(rt, "memory");
     assert_span(rt, &both, 2, Span::between(0, 9));
 }
@@ -50,9 +50,9 @@ fn a_span_is_that_at_entry_where_nothing_changed_it(rt: HostRuntime) {
     assert_joined(&rt, rt.alloc(), &one, &entry);
 }
 
-/// A frame of nothing.
-fn empty_frame(alloc: Global) -> Frame {
-    Frame {
+/// A context of nothing.
+fn empty_frame(alloc: Global) -> Context {
+    Context {
         variables: Items::new(alloc),
         tags: Items::new(alloc),
         depth: 0,
@@ -67,7 +67,7 @@ fn fact(rt: &impl Abort, alloc: Global) -> Fact {
     Fact {
         variables,
         inputs,
-        present: Presence::none(alloc, 4),
+        present: PresentInputs::none(alloc, 4),
         deferred: Items::new(alloc),
         result: None,
     }
@@ -75,8 +75,8 @@ fn fact(rt: &impl Abort, alloc: Global) -> Fact {
 
 /// The same, where 5 is stored in the second variable.
 fn stored(rt: &impl Abort, alloc: Global) -> Fact {
-    let frame = empty_frame(alloc);
-    let five = Known::plain(alloc, &frame, IlType::Int, Span::only(5));
+    let context = empty_frame(alloc);
+    let five = AbstractValue::plain(alloc, &context, IlType::Int, Span::only(5));
     let stored = fact(rt, alloc).stored(alloc, 1, five);
     stored.expect(rt, "memory")
 }

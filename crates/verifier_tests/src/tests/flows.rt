@@ -7,8 +7,8 @@ use point_types::{Condition, IlType, Items, Operator};
 use scan_code::Op;
 use std::alloc::Global;
 use std::process::Abort;
+use verifier::context::Context;
 use verifier::fact::Fact;
-use verifier::frame::Frame;
 use verifier::refusal::RefusalKind;
 use worked_texts::programs::DeclaredVariable;
 
@@ -18,25 +18,25 @@ static VARIABLES: [DeclaredVariable; 2] = [
 ];
 
 /// Those variables, and an input that may be missing.
-fn frame(rt: &impl Abort, alloc: Global) -> Frame {
+fn context(rt: &impl Abort, alloc: Global) -> Context {
     frame_of(rt, alloc, &VARIABLES)
 }
 
-fn entry(rt: &impl Abort, alloc: Global, frame: &Frame) -> Fact {
-    Fact::entry(alloc, frame).expect(rt, "memory")
+fn entry(rt: &impl Abort, alloc: Global, context: &Context) -> Fact {
+    Fact::entry(alloc, context).expect(rt, "memory")
 }
 
 /// The first refusal on the way through instructions in their order.
 fn refusal(
     rt: &impl Abort,
     alloc: Global,
-    frame: &Frame,
+    context: &Context,
     ops: &[Op],
 ) -> Option<(usize, RefusalKind)> {
     let mut facts = Vec::new(alloc);
-    facts.push(entry(rt, alloc, frame)).expect(rt, "memory");
+    facts.push(entry(rt, alloc, context)).expect(rt, "memory");
     for (at, op) in ops.iter().enumerate() {
-        if let Some(kind) = refused(rt, alloc, frame, &mut facts, at, *op) {
+        if let Some(kind) = refused(rt, alloc, context, &mut facts, at, *op) {
             return Some((at, kind));
         }
     }
@@ -47,7 +47,7 @@ fn refusal(
 fn refused(
     rt: &impl Abort,
     alloc: Global,
-    frame: &Frame,
+    context: &Context,
     facts: &mut Vec<Fact>,
     at: usize,
     op: Op,
@@ -55,7 +55,7 @@ fn refused(
     requires { at + 1 < 2 ^ 64 }
 {
     let fact = facts.pop()?;
-    match fact.flow(alloc, frame, at, op).expect(rt, "memory") {
+    match fact.flow(alloc, context, at, op).expect(rt, "memory") {
         Ok(ways) => {
             keep_last(rt, facts, ways);
             None
@@ -76,106 +76,150 @@ const NOUGHT: Op = Op::LoadNumber(IlType::Int, 0);
 
 const HUNDRED: Op = Op::LoadNumber(IlType::Int, 100);
 
-/// Instructions, and what is refused of them.
-static ROWS: [(&[Op], Option<(usize, RefusalKind)>); 9] = [
-    (
-        &[
-            Op::LoadVariable(1),
-            Op::Push,
-            ONE,
-            Op::Apply(Operator::Add),
-            Op::StoreVariable(1),
-            Op::End,
-        ],
-        Some((3, RefusalKind::Overflow)),
-    ),
-    (
-        &[
-            Op::LoadVariable(0),
-            Op::Push,
-            ONE,
-            Op::Apply(Operator::Add),
-            Op::StoreVariable(0),
-            Op::End,
-        ],
-        Some((4, RefusalKind::StoreRange)),
-    ),
-    (
-        &[Op::LoadInput(0), Op::End],
-        Some((0, RefusalKind::MayBeMissing)),
-    ),
-    (
-        &[
-            Op::LoadPresence(0),
-            Op::Return(Condition::IfFalse),
-            Op::LoadInput(0),
-            Op::End,
-        ],
-        None,
-    ),
-    (
-        &[
-            HUNDRED,
-            Op::Push,
-            Op::LoadVariable(0),
-            Op::Apply(Operator::Div),
-            Op::End,
-        ],
-        Some((3, RefusalKind::ZeroDivisor)),
-    ),
-    (
-        &[
-            Op::LoadVariable(0),
-            Op::Push,
-            NOUGHT,
-            Op::Apply(Operator::Ne),
-            Op::Return(Condition::IfFalse),
-            HUNDRED,
-            Op::Push,
-            Op::LoadVariable(0),
-            Op::Apply(Operator::Div),
-            Op::StoreVariable(0),
-            Op::End,
-        ],
-        None,
-    ),
-    (
-        &[
-            Op::LoadVariable(0),
-            Op::Push,
-            NOUGHT,
-            Op::Apply(Operator::Ne),
-            Op::Push,
-            NOUGHT,
-            Op::StoreVariable(0),
-            Op::LoadBool(true),
-            Op::Apply(Operator::And),
-            Op::Return(Condition::IfFalse),
-            HUNDRED,
-            Op::Push,
-            Op::LoadVariable(0),
-            Op::Apply(Operator::Div),
-            Op::End,
-        ],
-        Some((13, RefusalKind::ZeroDivisor)),
-    ),
-    (
-        &[ONE, Op::Push, ONE, Op::Push],
-        Some((3, RefusalKind::Stack)),
-    ),
-    (
-        &[Op::Jump(Condition::Always, 0)],
-        Some((0, RefusalKind::Jump)),
-    ),
+fn assert_refusal(
+    rt: &impl Abort,
+    alloc: Global,
+    context: &Context,
+    ops: &[Op],
+    wanted: Option<(usize, RefusalKind)>,
+) {
+    assert_same(rt, &refusal(rt, alloc, context, ops), &wanted);
+}
+
+const OVER_ITS_TYPE: &[Op] = &[
+    Op::LoadVariable(1),
+    Op::Push,
+    ONE,
+    Op::Apply(Operator::Add),
+    Op::StoreVariable(1),
+    Op::End,
 ];
+
+const OVER_ITS_RANGE: &[Op] = &[
+    Op::LoadVariable(0),
+    Op::Push,
+    ONE,
+    Op::Apply(Operator::Add),
+    Op::StoreVariable(0),
+    Op::End,
+];
+
+const UNTESTED_INPUT: &[Op] = &[Op::LoadInput(0), Op::End];
+
+const TESTED_INPUT: &[Op] = &[
+    Op::LoadPresence(0),
+    Op::Return(Condition::IfFalse),
+    Op::LoadInput(0),
+    Op::End,
+];
+
+const BY_A_VARIABLE: &[Op] = &[
+    HUNDRED,
+    Op::Push,
+    Op::LoadVariable(0),
+    Op::Apply(Operator::Div),
+    Op::End,
+];
+
+const BY_A_TESTED_VARIABLE: &[Op] = &[
+    Op::LoadVariable(0),
+    Op::Push,
+    NOUGHT,
+    Op::Apply(Operator::Ne),
+    Op::Return(Condition::IfFalse),
+    HUNDRED,
+    Op::Push,
+    Op::LoadVariable(0),
+    Op::Apply(Operator::Div),
+    Op::StoreVariable(0),
+    Op::End,
+];
+
+const BY_A_VARIABLE_STORED_BEHIND_ITS_TEST: &[Op] = &[
+    Op::LoadVariable(0),
+    Op::Push,
+    NOUGHT,
+    Op::Apply(Operator::Ne),
+    Op::Push,
+    NOUGHT,
+    Op::StoreVariable(0),
+    Op::LoadBool(true),
+    Op::Apply(Operator::And),
+    Op::Return(Condition::IfFalse),
+    HUNDRED,
+    Op::Push,
+    Op::LoadVariable(0),
+    Op::Apply(Operator::Div),
+    Op::End,
+];
+
+const DEFERRED_TWICE: &[Op] = &[ONE, Op::Push, ONE, Op::Push];
+
+const BACK_TO_ITSELF: &[Op] = &[Op::Jump(Condition::Always, 0)];
+
+// Each list of instructions is passed on its own: in one table they take the prover much longer.
+fn assert_stores_and_presences(rt: &impl Abort, alloc: Global, context: &Context) {
+    assert_refusal(
+        rt,
+        alloc,
+        context,
+        OVER_ITS_TYPE,
+        Some((3, RefusalKind::Overflow)),
+    );
+    assert_refusal(
+        rt,
+        alloc,
+        context,
+        OVER_ITS_RANGE,
+        Some((4, RefusalKind::StoreRange)),
+    );
+    assert_refusal(
+        rt,
+        alloc,
+        context,
+        UNTESTED_INPUT,
+        Some((0, RefusalKind::MayBeMissing)),
+    );
+    assert_refusal(rt, alloc, context, TESTED_INPUT, None);
+}
+
+fn assert_divisors_and_deferred(rt: &impl Abort, alloc: Global, context: &Context) {
+    assert_refusal(
+        rt,
+        alloc,
+        context,
+        BY_A_VARIABLE,
+        Some((3, RefusalKind::ZeroDivisor)),
+    );
+    assert_refusal(rt, alloc, context, BY_A_TESTED_VARIABLE, None);
+    assert_refusal(
+        rt,
+        alloc,
+        context,
+        BY_A_VARIABLE_STORED_BEHIND_ITS_TEST,
+        Some((13, RefusalKind::ZeroDivisor)),
+    );
+    assert_refusal(
+        rt,
+        alloc,
+        context,
+        DEFERRED_TWICE,
+        Some((3, RefusalKind::Stack)),
+    );
+    assert_refusal(
+        rt,
+        alloc,
+        context,
+        BACK_TO_ITSELF,
+        Some((0, RefusalKind::Jump)),
+    );
+}
 
 #[test]
 fn refuses_the_first_wrong_instruction(rt: HostRuntime) {
-    let frame = frame(&rt, rt.alloc());
-    for (ops, wanted) in &ROWS {
-        let found = refusal(&rt, rt.alloc(), &frame, ops);
-        assert_same(&rt, &found, wanted);
-    }
+    let context = context(&rt, rt.alloc());
+    assert_stores_and_presences(&rt, rt.alloc(), &context);
+    assert_divisors_and_deferred(&rt, rt.alloc(), &context);
 }
 
 fn copy(rt: &impl Abort, alloc: Global, fact: &Fact) -> Fact {
@@ -194,6 +238,6 @@ fn assert_meets_itself(rt: &impl Abort, alloc: Global, fact: Fact) {
 
 #[test]
 fn meets_facts(rt: HostRuntime) {
-    let frame = frame(&rt, rt.alloc());
-    assert_meets_itself(&rt, rt.alloc(), entry(&rt, rt.alloc(), &frame));
+    let context = context(&rt, rt.alloc());
+    assert_meets_itself(&rt, rt.alloc(), entry(&rt, rt.alloc(), &context));
 }

@@ -8,12 +8,12 @@ use point_types::Items;
 use scan_code::Op;
 use std::alloc::{AllocError, Global};
 use std::marker::Model;
-use verifier::as_fact::{AsFact, Ways};
-use verifier::changes::Changes;
+use verifier::abstract_value::AbstractValue;
+use verifier::changed_spans::ChangedSpans;
+use verifier::context::Context;
 use verifier::fact::Fact;
-use verifier::frame::Frame;
-use verifier::known::Known;
-use verifier::presence::Presence;
+use verifier::fact_domain::{FactDomain, Ways};
+use verifier::present_inputs::PresentInputs;
 use verifier::span::Span;
 
 /// Full lists: a span for each variable and each tag, and of each tag whether its input is present.
@@ -28,8 +28,8 @@ struct Lists {
 #[derive(Drop)]
 pub struct FullFact {
     lists: Lists,
-    deferred: Items<Option<Known>>,
-    result: Option<Known>,
+    deferred: Items<Option<AbstractValue>>,
+    result: Option<AbstractValue>,
 }
 
 impl Model for FullFact {
@@ -92,15 +92,15 @@ fn over(lists: Lists, fact: Fact) -> FullFact
     }
 }
 
-impl AsFact for FullFact {
+impl FactDomain for FullFact {
     ghost stands = { λ fact. fact };
 
-    fn entry(alloc: Global, frame: &Frame) -> Result<Self, AllocError> {
-        FullFact::listed(alloc, Fact::entry(alloc, frame)?)
+    fn entry(alloc: Global, context: &Context) -> Result<Self, AllocError> {
+        FullFact::listed(alloc, Fact::entry(alloc, context)?)
     }
 
-    fn flow(self, alloc: Global, frame: &Frame, at: usize, op: Op) -> Ways<Self> {
-        match self.changes(alloc)?.flow(alloc, frame, at, op)? {
+    fn flow(self, alloc: Global, context: &Context, at: usize, op: Op) -> Ways<Self> {
+        match self.changes(alloc)?.flow(alloc, context, at, op)? {
             Ok(ways) => Ok(Ok(listed_ways(alloc, ways)?)),
             Err(kind) => Ok(Err(kind)),
         }
@@ -153,9 +153,9 @@ fn lists_of(alloc: Global, fact: &Fact) -> Result<Lists, AllocError>
 /// The same as changes.
 #[derive(Drop)]
 struct ByChanges {
-    variables: Changes,
-    inputs: Changes,
-    present: Presence,
+    variables: ChangedSpans,
+    inputs: ChangedSpans,
+    present: PresentInputs,
 }
 
 fn changes_of(alloc: Global, lists: &Lists) -> Result<ByChanges, AllocError>
@@ -172,14 +172,14 @@ fn changes_of(alloc: Global, lists: &Lists) -> Result<ByChanges, AllocError>
 }
 
 /// These spans, of which none is changed.
-fn entry_of(alloc: Global, spans: &[Span]) -> Result<Changes, AllocError>
+fn entry_of(alloc: Global, spans: &[Span]) -> Result<ChangedSpans, AllocError>
     ensures { IfOk result (λ changes. changes ≡ spans.now) }
 {
-    Changes::at_entry(alloc, Items::from_vec(Vec::from_slice(alloc, spans)?))
+    ChangedSpans::at_entry(alloc, Items::from_vec(Vec::from_slice(alloc, spans)?))
 }
 
 /// The span of each number.
-fn listed_spans(alloc: Global, changes: &Changes) -> Result<Items<Span>, AllocError>
+fn listed_spans(alloc: Global, changes: &ChangedSpans) -> Result<Items<Span>, AllocError>
     ensures { IfOk result (λ spans. spans ≡ changes.now) }
 {
     let mut spans = Items::new(alloc);
@@ -190,7 +190,7 @@ fn listed_spans(alloc: Global, changes: &Changes) -> Result<Items<Span>, AllocEr
 }
 
 /// Of each input whether it is present.
-fn listed_truths(alloc: Global, presence: &Presence) -> Result<Items<bool>, AllocError>
+fn listed_truths(alloc: Global, presence: &PresentInputs) -> Result<Items<bool>, AllocError>
     ensures { IfOk result (λ truths. truths ≡ presence.now) }
 {
     let mut truths = Items::new(alloc);
@@ -201,10 +201,10 @@ fn listed_truths(alloc: Global, presence: &Presence) -> Result<Items<bool>, Allo
 }
 
 /// The presence of those inputs that are present.
-fn presence(alloc: Global, truths: &[bool]) -> Result<Presence, AllocError>
+fn presence(alloc: Global, truths: &[bool]) -> Result<PresentInputs, AllocError>
     ensures { IfOk result (λ present. present ≡ truths.now) }
 {
-    let mut present = Presence::none(alloc, truths.len());
+    let mut present = PresentInputs::none(alloc, truths.len());
     let mut number = 0;
     while let Some(truth) = truths.get(number) {
         if *truth {

@@ -1,7 +1,10 @@
 //! Programs and their verdicts against the site of two inverters, by 32 deferred values at most.
 
-use crate::tests::verdicts::Verdict;
+use crate::tests::verdicts::judge;
 use point_types::IlType;
+use site_model::Site;
+use std::alloc::Global;
+use std::process::Abort;
 use verifier::refusal::RefusalKind;
 use worked_texts::programs::{
     BRANCHES, GUARDED, MOST_TURNS, NINE_TURNS, NO_RESULT, ONE_MORE, ONE_PERCENT_MORE, Program,
@@ -41,6 +44,20 @@ const AROUND_ZERO: Program = Program {
     code: &[
         1, 0, 0, 12, 5, 2, 0, 0, 0, 0, 0, 0, 0, 0, 24, 34, 0, 36, 5, 2, 0, 0, 0, 0, 0, 0, 0, 100,
         12, 1, 0, 0, 20, 6, 0, 1, 0,
+    ],
+};
+
+/// `LD x / EQ 0 / JMPC e / LD 0 / ST x / LD 100 / DIV x / ST y / e:`, where x is stored behind its test.
+const STORED_ZERO: Program = Program {
+    version: 2,
+    vars: &[
+        ("x", IlType::Int, 0, 10),
+        ("y", IlType::Int, -32_768, 32_767),
+    ],
+    tags: &[],
+    code: &[
+        1, 0, 0, 12, 5, 2, 0, 0, 0, 0, 0, 0, 0, 0, 24, 34, 0, 49, 5, 2, 0, 0, 0, 0, 0, 0, 0, 0, 6,
+        0, 0, 5, 2, 0, 0, 0, 0, 0, 0, 0, 100, 12, 1, 0, 0, 20, 6, 0, 1, 0,
     ],
 };
 
@@ -155,30 +172,113 @@ const BEHIND_THE_END: Program = Program {
     code: &[0, 255],
 };
 
-pub(crate) static ROWS: [(Program, Verdict); 25] = [
-    (ONE_MORE, Err((RefusalKind::Overflow, 3))),
-    (ONE_PERCENT_MORE, Err((RefusalKind::StoreRange, 4))),
-    (UNGUARDED, Err((RefusalKind::MayBeMissing, 0))),
-    (SUM, Ok(11)),
-    (QUOTIENT, Ok(11)),
-    (UNTESTED, Err((RefusalKind::ZeroDivisor, 3))),
-    (AROUND_ZERO, Err((RefusalKind::ZeroDivisor, 8))),
-    (INTO_ARGUMENTS, Err((RefusalKind::Jump, 0))),
-    (TO_THE_END, Ok(2)),
-    (BRANCHES, Ok(17)),
-    (NINE_TURNS, Ok(120)),
-    (MOST_TURNS, Ok(3072)),
-    (UNBOUNDED, Err((RefusalKind::StoreRange, 6))),
-    (BEHIND_THE_TEST, Err((RefusalKind::MayBeMissing, 2))),
-    (GUARDED, Ok(18)),
-    (NO_TAG, Err((RefusalKind::TagUnknown, 0))),
-    (WIDER_TAG, Err((RefusalKind::TagType, 0))),
-    (STORED_INPUT, Err((RefusalKind::TagAccess, 0))),
-    (NARROW_TAG, Err((RefusalKind::TagType, 1))),
-    (LOADED_OUTPUT, Err((RefusalKind::TagAccess, 0))),
-    (NO_RESULT, Err((RefusalKind::NoResult, 0))),
-    (WRONG_TYPE, Err((RefusalKind::WrongType, 1))),
-    (NO_CODE, Err((RefusalKind::Code, 0))),
-    (NO_END, Err((RefusalKind::Code, 1))),
-    (BEHIND_THE_END, Err((RefusalKind::Code, 1))),
-];
+// Each program is passed on its own: in one table they take the prover much longer.
+/// Results, their ranges and their divisors.
+pub(crate) fn judge_results(rt: &impl Abort, alloc: Global, site: &Site) {
+    judge(rt, alloc, site, &ONE_MORE, Err((RefusalKind::Overflow, 3)));
+    judge(
+        rt,
+        alloc,
+        site,
+        &ONE_PERCENT_MORE,
+        Err((RefusalKind::StoreRange, 4)),
+    );
+    judge(
+        rt,
+        alloc,
+        site,
+        &UNGUARDED,
+        Err((RefusalKind::MayBeMissing, 0)),
+    );
+    judge(rt, alloc, site, &SUM, Ok(11));
+    judge(rt, alloc, site, &QUOTIENT, Ok(11));
+    judge(
+        rt,
+        alloc,
+        site,
+        &UNTESTED,
+        Err((RefusalKind::ZeroDivisor, 3)),
+    );
+    judge(
+        rt,
+        alloc,
+        site,
+        &AROUND_ZERO,
+        Err((RefusalKind::ZeroDivisor, 8)),
+    );
+    judge(
+        rt,
+        alloc,
+        site,
+        &STORED_ZERO,
+        Err((RefusalKind::ZeroDivisor, 10)),
+    );
+}
+
+/// Jumps, turns and what is known behind a test.
+pub(crate) fn judge_ways(rt: &impl Abort, alloc: Global, site: &Site) {
+    judge(
+        rt,
+        alloc,
+        site,
+        &INTO_ARGUMENTS,
+        Err((RefusalKind::Jump, 0)),
+    );
+    judge(rt, alloc, site, &TO_THE_END, Ok(2));
+    judge(rt, alloc, site, &BRANCHES, Ok(17));
+    judge(rt, alloc, site, &NINE_TURNS, Ok(120));
+    judge(rt, alloc, site, &MOST_TURNS, Ok(3072));
+    judge(
+        rt,
+        alloc,
+        site,
+        &UNBOUNDED,
+        Err((RefusalKind::StoreRange, 6)),
+    );
+    judge(
+        rt,
+        alloc,
+        site,
+        &BEHIND_THE_TEST,
+        Err((RefusalKind::MayBeMissing, 2)),
+    );
+    judge(rt, alloc, site, &GUARDED, Ok(18));
+}
+
+/// Tags, types and code.
+pub(crate) fn judge_tags_and_code(rt: &impl Abort, alloc: Global, site: &Site) {
+    judge(rt, alloc, site, &NO_TAG, Err((RefusalKind::TagUnknown, 0)));
+    judge(rt, alloc, site, &WIDER_TAG, Err((RefusalKind::TagType, 0)));
+    judge(
+        rt,
+        alloc,
+        site,
+        &STORED_INPUT,
+        Err((RefusalKind::TagAccess, 0)),
+    );
+    judge(rt, alloc, site, &NARROW_TAG, Err((RefusalKind::TagType, 1)));
+    judge(
+        rt,
+        alloc,
+        site,
+        &LOADED_OUTPUT,
+        Err((RefusalKind::TagAccess, 0)),
+    );
+    judge(rt, alloc, site, &NO_RESULT, Err((RefusalKind::NoResult, 0)));
+    judge(
+        rt,
+        alloc,
+        site,
+        &WRONG_TYPE,
+        Err((RefusalKind::WrongType, 1)),
+    );
+    judge(rt, alloc, site, &NO_CODE, Err((RefusalKind::Code, 0)));
+    judge(rt, alloc, site, &NO_END, Err((RefusalKind::Code, 1)));
+    judge(
+        rt,
+        alloc,
+        site,
+        &BEHIND_THE_END,
+        Err((RefusalKind::Code, 1)),
+    );
+}

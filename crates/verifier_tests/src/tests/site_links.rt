@@ -6,8 +6,8 @@ use scan_code::Tag;
 use site_model::{Access, SiteTag};
 use std::alloc::Global;
 use std::process::Abort;
-use verifier::link::{Link, links};
 use verifier::refusal::{Refusal, RefusalKind};
+use verifier::tag_link::{TagLink, links};
 use worked_texts::images::tags;
 use worked_texts::programs::DeclaredTag;
 use worked_texts::tags::power;
@@ -43,7 +43,7 @@ const LINKED: &[DeclaredTag] = &[
 /// Their numbers in the site.
 static NUMBERS: [usize; 4] = [3, 0, 2, 1];
 
-fn assert_numbers(rt: &impl Abort, found: &[Link]) {
+fn assert_numbers(rt: &impl Abort, found: &[TagLink]) {
     assert_same(rt, &found.len(), &4);
     for (link, number) in found.iter().zip(&NUMBERS) {
         assert_same(rt, &link.number, number);

@@ -5,8 +5,8 @@ use intervals::Relation;
 use point_types::{IlType, Operator};
 use std::alloc::Global;
 use std::process::Abort;
-use verifier::frame::Frame;
-use verifier::known::{Consequences, Known, Origin, met_value};
+use verifier::abstract_value::{AbstractValue, Consequences, Origin, met_value};
+use verifier::context::Context;
 use verifier::operand::{Made, applied, converted, selected};
 use verifier::refusal::RefusalKind;
 use verifier::span::Span;
@@ -39,38 +39,44 @@ fn knows_the_members_of_spans(rt: HostRuntime) {
 }
 
 /// One variable x of type INT, and one input.
-fn frame(rt: &impl Abort, alloc: Global) -> Frame {
+fn context(rt: &impl Abort, alloc: Global) -> Context {
     frame_of(rt, alloc, &[("x", IlType::Int, 0, 100)])
 }
 
 /// The value of x.
-fn loaded(rt: &impl Abort, alloc: Global, frame: &Frame) -> Known {
+fn loaded(rt: &impl Abort, alloc: Global, context: &Context) -> AbstractValue {
     let declared = Span::between(0, 100);
-    let source = Known::source(alloc, frame, IlType::Int, declared, Origin::OfVariable(0));
+    let source = AbstractValue::source(
+        alloc,
+        context,
+        IlType::Int,
+        declared,
+        Origin::OfVariable(0),
+    );
     source.expect(rt, "memory")
 }
 
-fn made(rt: &impl Abort, made: Made) -> Known {
+fn made(rt: &impl Abort, made: Made) -> AbstractValue {
     made.expect(rt, "memory").expect(rt, "a value")
 }
 
 /// The value of x <> 0.
-fn compared(rt: &impl Abort, alloc: Global, frame: &Frame) -> Known {
-    let x = loaded(rt, alloc, frame);
-    let zero = Known::plain(alloc, frame, IlType::Int, Span::only(0));
-    made(rt, applied(alloc, frame, Operator::Ne, &x, &zero))
+fn compared(rt: &impl Abort, alloc: Global, context: &Context) -> AbstractValue {
+    let x = loaded(rt, alloc, context);
+    let zero = AbstractValue::plain(alloc, context, IlType::Int, Span::only(0));
+    made(rt, applied(alloc, context, Operator::Ne, &x, &zero))
 }
 
 /// Whether the input is there.
-fn present(rt: &impl Abort, alloc: Global, frame: &Frame) -> Known {
-    Known::presence(alloc, frame, 0).expect(rt, "memory")
+fn present(rt: &impl Abort, alloc: Global, context: &Context) -> AbstractValue {
+    AbstractValue::presence(alloc, context, 0).expect(rt, "memory")
 }
 
 /// x <> 0, and the input is there.
-fn conjoined(rt: &impl Abort, alloc: Global, frame: &Frame) -> Known {
-    let differs = compared(rt, alloc, frame);
-    let here = present(rt, alloc, frame);
-    made(rt, applied(alloc, frame, Operator::And, &differs, &here))
+fn conjoined(rt: &impl Abort, alloc: Global, context: &Context) -> AbstractValue {
+    let differs = compared(rt, alloc, context);
+    let here = present(rt, alloc, context);
+    made(rt, applied(alloc, context, Operator::And, &differs, &here))
 }
 
 /// The span that follows for a variable, if one does.
@@ -84,7 +90,7 @@ fn assert_follows(
 }
 
 /// What follows for x and the input where both hold; nothing does where they don't.
-fn assert_conjoined(rt: &impl Abort, both: &Known) {
+fn assert_conjoined(rt: &impl Abort, both: &AbstractValue) {
     assert_follows(rt, &both.where_true, 0, Some(Some(Span::between(1, 100))));
     assert_same(rt, &both.where_true.present.get(0), &Some(true));
     assert_follows(rt, &both.where_false, 0, Some(None));
@@ -93,12 +99,12 @@ fn assert_conjoined(rt: &impl Abort, both: &Known) {
 
 #[test]
 fn knows_what_follows_from_both(rt: HostRuntime) {
-    let frame = frame(&rt, rt.alloc());
-    assert_conjoined(&rt, &conjoined(&rt, rt.alloc(), &frame));
+    let context = context(&rt, rt.alloc());
+    assert_conjoined(&rt, &conjoined(&rt, rt.alloc(), &context));
 }
 
 /// Where x is 0 is known, until x is stored.
-fn assert_forgets(rt: &impl Abort, alloc: Global, same: Known) {
+fn assert_forgets(rt: &impl Abort, alloc: Global, same: AbstractValue) {
     assert_follows(rt, &same.where_true, 0, Some(Some(Span::only(0))));
     let stored = same.forgets(alloc, 0).expect(rt, "memory");
     assert_follows(rt, &stored.where_true, 0, Some(None));
@@ -107,8 +113,8 @@ fn assert_forgets(rt: &impl Abort, alloc: Global, same: Known) {
 
 #[test]
 fn forgets_what_is_stored(rt: HostRuntime) {
-    let frame = frame(&rt, rt.alloc());
-    let same = compared(&rt, rt.alloc(), &frame).inverted();
+    let context = context(&rt, rt.alloc());
+    let same = compared(&rt, rt.alloc(), &context).inverted();
     assert_forgets(&rt, rt.alloc(), same);
 }
 
@@ -119,12 +125,12 @@ const MOST: usize = 1;
 
 const TRUTH: usize = 2;
 
-fn values(rt: &impl Abort, alloc: Global, frame: &Frame) -> Vec<Known> {
+fn values(rt: &impl Abort, alloc: Global, context: &Context) -> Vec<AbstractValue> {
     let mut values = Vec::new(alloc);
-    values.push(loaded(rt, alloc, frame)).expect(rt, "memory");
-    let most = Known::plain(alloc, frame, IlType::Int, Span::only(32_767));
+    values.push(loaded(rt, alloc, context)).expect(rt, "memory");
+    let most = AbstractValue::plain(alloc, context, IlType::Int, Span::only(32_767));
     values.push(most).expect(rt, "memory");
-    let truth = Known::plain(alloc, frame, IlType::Bool, Span::only(1));
+    let truth = AbstractValue::plain(alloc, context, IlType::Bool, Span::only(1));
     values.push(truth).expect(rt, "memory");
     values
 }
@@ -141,7 +147,7 @@ static OPERATIONS: [(Operator, usize, usize, Option<RefusalKind>); 8] = [
     (Operator::Eq, TRUTH, TRUTH, None),
 ];
 
-fn value<'a>(rt: &impl Abort, values: &'a [Known], place: usize) -> &'a Known {
+fn value<'a>(rt: &impl Abort, values: &'a [AbstractValue], place: usize) -> &'a AbstractValue {
     values.get(place).expect(rt, "a value")
 }
 
@@ -149,75 +155,80 @@ fn value<'a>(rt: &impl Abort, values: &'a [Known], place: usize) -> &'a Known {
 fn refusal(
     rt: &impl Abort,
     alloc: Global,
-    frame: &Frame,
+    context: &Context,
     operator: Operator,
-    first: &Known,
-    second: &Known,
+    first: &AbstractValue,
+    second: &AbstractValue,
 ) -> Option<RefusalKind> {
-    let made = applied(alloc, frame, operator, first, second);
+    let made = applied(alloc, context, operator, first, second);
     made.expect(rt, "memory").err()
 }
 
-fn refuse_operations(rt: &impl Abort, alloc: Global, frame: &Frame, values: &[Known]) {
+fn refuse_operations(rt: &impl Abort, alloc: Global, context: &Context, values: &[AbstractValue]) {
     for (operator, first, second, wanted) in &OPERATIONS {
         let first = value(rt, values, *first);
         let second = value(rt, values, *second);
-        let found = refusal(rt, alloc, frame, *operator, first, second);
+        let found = refusal(rt, alloc, context, *operator, first, second);
         assert_same(rt, &found, wanted);
     }
 }
 
 #[test]
 fn refuses_operations(rt: HostRuntime) {
-    let frame = frame(&rt, rt.alloc());
-    let values = values(&rt, rt.alloc(), &frame);
-    refuse_operations(&rt, rt.alloc(), &frame, &values);
+    let context = context(&rt, rt.alloc());
+    let values = values(&rt, rt.alloc(), &context);
+    refuse_operations(&rt, rt.alloc(), &context, &values);
 }
 
 /// One of x and x, as x <> 0 chooses.
-fn chosen(rt: &impl Abort, alloc: Global, frame: &Frame) -> Known {
-    let x = loaded(rt, alloc, frame);
-    let differs = compared(rt, alloc, frame);
-    made(rt, selected(alloc, frame, &differs, &x, &x))
+fn chosen(rt: &impl Abort, alloc: Global, context: &Context) -> AbstractValue {
+    let x = loaded(rt, alloc, context);
+    let differs = compared(rt, alloc, context);
+    made(rt, selected(alloc, context, &differs, &x, &x))
 }
 
 /// Why a value of type INT is no BOOL.
-fn narrowed(rt: &impl Abort, alloc: Global, frame: &Frame, value: &Known) -> Option<RefusalKind> {
-    let narrow = converted(alloc, frame, IlType::Int, IlType::Bool, value);
+fn narrowed(
+    rt: &impl Abort,
+    alloc: Global,
+    context: &Context,
+    value: &AbstractValue,
+) -> Option<RefusalKind> {
+    let narrow = converted(alloc, context, IlType::Int, IlType::Bool, value);
     narrow.expect(rt, "memory").err()
 }
 
-fn assert_chosen(rt: &impl Abort, alloc: Global, frame: &Frame, chosen: &Known) {
+fn assert_chosen(rt: &impl Abort, alloc: Global, context: &Context, chosen: &AbstractValue) {
     assert_same(rt, &chosen.span, &Span::between(0, 100));
-    let refusal = narrowed(rt, alloc, frame, chosen);
+    let refusal = narrowed(rt, alloc, context, chosen);
     assert_same(rt, &refusal, &Some(RefusalKind::Overflow));
 }
 
 #[test]
 fn makes_one_of_two_values(rt: HostRuntime) {
-    let frame = frame(&rt, rt.alloc());
-    let chosen = chosen(&rt, rt.alloc(), &frame);
-    assert_chosen(&rt, rt.alloc(), &frame, &chosen);
+    let context = context(&rt, rt.alloc());
+    let chosen = chosen(&rt, rt.alloc(), &context);
+    assert_chosen(&rt, rt.alloc(), &context, &chosen);
 }
 
 /// Whether the input is there, where a value that is known on both ways is TRUE.
-fn met(alloc: Global, one: Known, other: Known) -> Option<bool> {
+fn met(alloc: Global, one: AbstractValue, other: AbstractValue) -> Option<bool> {
     let both = met_value(alloc, Some(one), Some(other))?;
     both.where_true.present.get(0)
 }
 
 #[test]
 fn meets_values(rt: HostRuntime) {
-    let frame = frame(&rt, rt.alloc());
-    let here = present(&rt, rt.alloc(), &frame);
+    let context = context(&rt, rt.alloc());
+    let here = present(&rt, rt.alloc(), &context);
     let again = here.copied(rt.alloc()).expect(&rt, "memory");
     assert_same(&rt, &met(rt.alloc(), here, again), &Some(true));
 }
 
 #[test]
 fn drops_what_follows_on_one_way(rt: HostRuntime) {
-    let frame = frame(&rt, rt.alloc());
-    let here = present(&rt, rt.alloc(), &frame);
-    let plain = Known::plain(rt.alloc(), &frame, IlType::Bool, Span::only(1));
+    let context = context(&rt, rt.alloc());
+    let here = present(&rt, rt.alloc(), &context);
+    let plain = AbstractValue::plain(rt.alloc(), &context, IlType::Bool, Span::only(1));
     assert_same(&rt, &met(rt.alloc(), here, plain), &Some(false));
 }

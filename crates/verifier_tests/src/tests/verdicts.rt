@@ -1,20 +1,20 @@
 //! Verdicts on whole images, against a site of two inverters.
 
 use crate::tests::full_fact::FullFact;
-use crate::tests::rows::ROWS;
+use crate::tests::rows::{judge_results, judge_tags_and_code, judge_ways};
 use crate::tests::{assert_same, assert_true, name};
 use point_types::{IlType, Items, Var};
 use scan_code::Image;
 use site_model::Site;
 use std::alloc::Global;
 use std::process::Abort;
-use verifier::as_fact::AsFact;
 use verifier::budget::most_steps;
-use verifier::frame::Frame;
-use verifier::link::{links, ranges};
+use verifier::context::Context;
+use verifier::fact_domain::FactDomain;
 use verifier::listing::listing;
 use verifier::pass::pass;
 use verifier::refusal::{Refusal, RefusalKind};
+use verifier::tag_link::{links, ranges};
 use verifier::verified::Verified;
 use verifier::verify::verify;
 use worked_texts::images::{image, image_of_code, variable};
@@ -71,23 +71,17 @@ pub(crate) fn image_of(rt: &impl Abort, alloc: Global, program: &Program) -> Ima
     image(alloc, 2, program, &[]).expect(rt, "an image")
 }
 
-fn judge_rows(rt: &impl Abort, alloc: Global, site: &Site) {
-    for (program, wanted) in &ROWS {
-        assert_verdict::<32>(rt, alloc, image_of(rt, alloc, program), site, wanted);
-    }
-}
-
-#[test]
-fn judges_programs(rt: HostRuntime) {
-    judge_rows(&rt, rt.alloc(), &site(&rt, rt.alloc()));
-}
-
 /// What is fixed while a program is judged by 32 deferred values at most.
-fn frame_of(rt: &impl Abort, alloc: Global, image: &Image, site: &Site) -> Result<Frame, Refusal> {
+fn frame_of(
+    rt: &impl Abort,
+    alloc: Global,
+    image: &Image,
+    site: &Site,
+) -> Result<Context, Refusal> {
     let links = links(alloc, site.tags(), image.tags.as_slice())?;
     let listing = listing(alloc, image)?;
     let variables = Vec::from_slice(alloc, image.vars.as_slice());
-    Ok(Frame {
+    Ok(Context {
         variables: Items::from_vec(variables.expect(rt, "memory")),
         tags: ranges(alloc, links.as_slice())?,
         depth: 32,
@@ -96,17 +90,21 @@ fn frame_of(rt: &impl Abort, alloc: Global, image: &Image, site: &Site) -> Resul
 }
 
 /// The budget by facts of this kind, or why the program is refused.
-fn budget<F: AsFact>(rt: &impl Abort, alloc: Global, frame: &Frame) -> Result<usize, Refusal> {
-    assert!(rt; frame.size() < 65_536);
-    let reached = pass::<F>(alloc, frame)?;
-    assert!(rt; reached.len() == frame.size());
-    let steps = most_steps(alloc, frame.instructions(), reached.as_slice());
+fn budget<F: FactDomain>(
+    rt: &impl Abort,
+    alloc: Global,
+    context: &Context,
+) -> Result<usize, Refusal> {
+    assert!(rt; context.size() < 65_536);
+    let reached = pass::<F>(alloc, context)?;
+    assert!(rt; reached.len() == context.size());
+    let steps = most_steps(alloc, context.instructions(), reached.as_slice());
     Ok(steps.expect(rt, "memory"))
 }
 
 fn judged(rt: &impl Abort, alloc: Global, image: &Image, site: &Site) -> Result<usize, Refusal> {
     match frame_of(rt, alloc, image, site) {
-        Ok(frame) => budget::<FullFact>(rt, alloc, &frame),
+        Ok(context) => budget::<FullFact>(rt, alloc, &context),
         Err(refusal) => Err(refusal),
     }
 }
@@ -128,16 +126,28 @@ fn assert_judged(
     assert_same(rt, &judged(rt, alloc, image, site), wanted);
 }
 
-fn judge_by_full_facts(rt: &impl Abort, alloc: Global, site: &Site) {
-    for (program, verdict) in &ROWS {
-        let image = image_of(rt, alloc, program);
-        assert_judged(rt, alloc, &image, site, &as_judged(*verdict));
-    }
+/// A program has this verdict, by the changes alone and by full facts.
+pub(crate) fn judge(
+    rt: &impl Abort,
+    alloc: Global,
+    site: &Site,
+    program: &Program,
+    wanted: Verdict,
+) {
+    let image = image_of(rt, alloc, program);
+    assert_judged(rt, alloc, &image, site, &as_judged(wanted));
+    assert_verdict::<32>(rt, alloc, image, site, &wanted);
+}
+
+fn judge_programs(rt: &impl Abort, alloc: Global, site: &Site) {
+    judge_results(rt, alloc, site);
+    judge_ways(rt, alloc, site);
+    judge_tags_and_code(rt, alloc, site);
 }
 
 #[test]
-fn full_facts_give_the_same(rt: HostRuntime) {
-    judge_by_full_facts(&rt, rt.alloc(), &site(&rt, rt.alloc()));
+fn judges_programs_by_both_kinds_of_facts(rt: HostRuntime) {
+    judge_programs(&rt, rt.alloc(), &site(&rt, rt.alloc()));
 }
 
 /// So many jumps back to themselves, each at most 255 times.

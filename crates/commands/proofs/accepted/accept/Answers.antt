@@ -8,5 +8,5 @@ pub returns-in-Ok : goal.returns-in-Ok
 returns-in-Ok c =
     let read = c.in-Ok.ensures.read in
     let same : c.as_slice.result.now ≡ c.in-Ok.models.items = search rules in
-    by_models read.0 c.in-Ok.models.items _ c.args.site.now c.args.program.now c.accept_over.result read.1
+    by_models c.in-Ok.models.items _ c.args.site.now c.args.program.now c.accept_over.result read
     (subst (λ (ms : List ModelDef). IfOk c.accept_over.result (GivesSite ms c.args.site.now c.args.program.now)) same c.accept_over.ensures)

@@ -11,15 +11,16 @@ returns-in-Ok-scanned-clause-printed g c =
 
 pub returns-in-Ok-scanned-clause-last : goal.returns-in-Ok-scanned-clause-last
 returns-in-Ok-scanned-clause-last g c =
-    unprinted_by c.args.poller.now c.args.core.now c.run_scan.new.poller c.run_scan.new.core c.in-Ok.report (g.W.Write.contents c.args.out.now) (g.W.Write.contents c.write_lines.new.out) c.as_bytes.result.now c.write_lines.result
-    (c.in-Ok.ensures.scanned c.requires) c.write_lines.ensures
+    let line : c.as_bytes.result.now ≡ scan_line c.args.k c.in-Ok.report = search rules in
+    unprinted_by c.args.k c.args.poller.now c.args.core.now c.run_scan.new.poller c.run_scan.new.core c.in-Ok.report (g.W.Write.contents c.args.out.now) (g.W.Write.contents c.write_lines.new.out) c.as_bytes.result.now c.write_lines.result
+    (c.in-Ok.ensures.scanned c.requires) line c.write_lines.ensures
 
 pub returns-in-Err-scanned-clause-last : goal.returns-in-Err-scanned-clause-last
 returns-in-Err-scanned-clause-last g c = λ bad.
-    unsaid_by c.args.poller.now c.args.core.now c.run_scan.new.poller c.run_scan.new.core c.in-Ok.report (g.W.Write.contents c.args.out.now) (g.W.Write.contents c.tell_no_memory.new.out) c.tell_no_memory.result
+    unsaid_by c.args.k c.args.poller.now c.args.core.now c.run_scan.new.poller c.run_scan.new.core c.in-Ok.report (g.W.Write.contents c.args.out.now) (g.W.Write.contents c.tell_no_memory.new.out) c.tell_no_memory.result
     (c.in-Ok.ensures.scanned c.requires) c.tell_no_memory.ensures
 
 pub returns-in-Err-clause-last : goal.returns-in-Err-clause-last
 returns-in-Err-clause-last g c = λ bad.
-    unlinked_by c.args.poller.now c.args.core.now c.in-Err.fault c.run_scan.new.poller c.run_scan.new.core (g.W.Write.contents c.args.out.now) (g.W.Write.contents c.tell_unlinked.new.out) c.tell_unlinked.result
+    unlinked_by c.args.k c.args.poller.now c.args.core.now c.in-Err.fault c.run_scan.new.poller c.run_scan.new.core (g.W.Write.contents c.args.out.now) (g.W.Write.contents c.tell_unlinked.new.out) c.tell_unlinked.result
     (c.in-Err.ensures.stopped c.requires) c.tell_unlinked.ensures

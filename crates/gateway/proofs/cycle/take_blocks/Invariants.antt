@@ -6,9 +6,9 @@ use Rattle.gateway.proofs.cycle.take_blocks.Given as goal
 
 abbrev pub invariant-loop-i : goal.invariant-loop-i
 invariant-loop-i g l =
-    TakesBlocks g.C.Controller.step_of (g.C.Controller.site_of l.initial.core) (g.C.Controller.maps_of l.initial.core) (take l.i (g.C.Controller.site_of l.initial.core).wants) (l.initial.line).polling l.initial.core (l.line).polling l.core l.lost
-    × (g.C.Controller.site_of l.core ≡ g.C.Controller.site_of l.initial.core)
-    × (g.C.Controller.maps_of l.core ≡ g.C.Controller.maps_of l.initial.core)
+    TakesBlocks g.C.ScanCore.step_of (g.C.ScanCore.site_of l.initial.core) (g.C.ScanCore.maps_of l.initial.core) (take l.i (g.C.ScanCore.site_of l.initial.core).wants) (l.initial.line).polling l.initial.core (l.line).polling l.core l.lost
+    × (g.C.ScanCore.site_of l.core ≡ g.C.ScanCore.site_of l.initial.core)
+    × (g.C.ScanCore.maps_of l.core ≡ g.C.ScanCore.maps_of l.initial.core)
     × Turned l.initial.line l.line
     × ((l.line.polling).fault ≡ None)
     × (l.lost ≤ l.i)

@@ -6,7 +6,7 @@ use Rattle.gateway.proofs.cycle.write_points.Given as goal
 
 abbrev pub invariant-loop-i : goal.invariant-loop-i
 invariant-loop-i g l =
-    WritesFirst g.C.Controller.plan_of (g.C.Controller.site_of l.core) l.i l.core (l.initial.line).polling (l.line).polling l.writes l.refused
+    WritesFirst g.C.ScanCore.plan_of (g.C.ScanCore.site_of l.core) l.i l.core (l.initial.line).polling (l.line).polling l.writes l.refused
     × Turned l.initial.line l.line
     × ((l.line.polling).fault ≡ None)
     × (l.writes ≤ l.i)

@@ -1,9 +1,9 @@
-use Rattle.std.proofs.Common.{◌≡◌, ◌∙◌, ap, sym, arith, refl, true, false}
+use Rattle.std.proofs.Common.{◌≡◌, ◌∙◌, ap, sym, arith, true, false}
 use Rattle.std.proofs.KnownBytes.{Keeps-trans}
 use Rattle.modbus_frame.specs.Held.{Held}
-use Rattle.modbus_frame.proofs.Sending.{CountsBy-trans}
+use Rattle.modbus_frame.proofs.Sending.{CountsBy-trans, FailsBy-then}
 use Rattle.gateway.specs.LinkRun.{is_reply, Asked}
-use Rattle.gateway.proofs.Dropping.{dropped_more, gets_reply, gets_stale, misses, misses_end}
+use Rattle.gateway.proofs.Dropping.{dropped_more, gets_reply, gets_stale, misses, misses_end, failed_waiting}
 use Rattle.gateway.proofs.exchange.wait.Goals as goal
 
 pub returns-then-is_reply-clause-waits : goal.returns-then-is_reply-clause-waits
@@ -24,7 +24,7 @@ loop-may_drop-preserved g c =
     let other : is_reply asked c.in-Ok-Some.frame ≡ false = sym c.is_reply.ensures ∙ c.if-is_reply.false in (
       dropped_more _ _ _ asked c.loop-may_drop.may_drop _ _ c.in-Ok-Some.frame c.loop-may_drop-test.true so_far got.0 got.1 other (ap (λ (h : Held). h.fault) got.2),
       Keeps-trans _ _ _ rest.1 call.keeps,
-      CountsBy-trans 0 0 0 _ _ _ rest.2 call.failures refl,
+      FailsBy-then 0 0 0 _ _ _ rest.2 (rw c.in-Ok-Some.field-0-is at call.failures),
       CountsBy-trans _ _ _ _ _ _ rest.3 call.calls (omega (arith, rest.4, call.within)),
       omega (arith, rest.4, call.within),
     )
@@ -33,14 +33,18 @@ pub returns-in-Ok-None-clause-waits : goal.returns-in-Ok-None-clause-waits
 returns-in-Ok-None-clause-waits g c =
     let so_far = c.loop-may_drop.invariant.0 in
     let ended = rw c.in-Ok-None.field-0-is at (c.in-Ok-None.ensures.reads so_far.fresh) in
-    misses_end _ _ _ _ c.loop-may_drop.may_drop _ _ c.loop-may_drop-test.true so_far ended
+    misses_end _ _ c.next_frame.new.self _ _ c.loop-may_drop.may_drop _ c.loop-may_drop-test.true so_far ended
 
 pub returns-in-Err-clause-waits : goal.returns-in-Err-clause-waits
 returns-in-Err-clause-waits g c =
     let so_far = c.loop-may_drop.invariant.0 in
-    misses _ _ _ _ c.loop-may_drop.may_drop _ c.in-Err.fault _ c.loop-may_drop-test.true so_far (c.in-Err.ensures.reads so_far.fresh)
+    misses _ _ c.next_frame.new.self _ _ c.loop-may_drop.may_drop _ c.in-Err.fault c.loop-may_drop-test.true so_far (c.in-Err.ensures.reads so_far.fresh)
 
 pub returns-clause-waits : goal.returns-clause-waits
 returns-clause-waits g c =
     let none : c.loop-may_drop.may_drop ≡ 0 = omega (arith, c.loop-may_drop-test.false) in
     gets_stale _ _ _ _ (rw none at c.loop-may_drop.invariant.0)
+
+pub returns-in-Err-clause-failures : goal.returns-in-Err-clause-failures
+returns-in-Err-clause-failures g c =
+    failed_waiting (g.L.Link.failures c.args.link.now) (g.L.Link.failures c.loop-may_drop.link) (g.L.Link.failures c.next_frame.new.link) c.in-Err.fault c.next_frame.new.turns c.loop-may_drop.invariant.2 c.in-Err.ensures.failures

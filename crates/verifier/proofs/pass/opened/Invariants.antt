@@ -5,10 +5,10 @@ use Rattle.verifier.proofs.pass.opened.Given as goal
 
 abbrev pub invariant-loop-n : goal.invariant-loop-n
 invariant-loop-n g l = record {
-  within : l.n ≤ length l.frame.listing;
+  within : l.n ≤ length l.context.listing;
   counted : l.n ≡ length l.pending.items;
-  unmet : AreOpen l.frame (all_stood g.F.AsFact.stands l.pending.items);
+  unmet : AreOpen l.context (all_stood g.F.FactDomain.stands l.pending.items);
 }
 
 abbrev pub decreases-loop-n : goal.decreases-loop-n
-decreases-loop-n g l = length l.frame.listing - l.n
+decreases-loop-n g l = length l.context.listing - l.n

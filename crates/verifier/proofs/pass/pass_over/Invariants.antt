@@ -7,12 +7,12 @@ use Rattle.verifier.proofs.pass.pass_over.Given as goal
 -- the instructions before this one are judged
 abbrev pub invariant-loop-at : goal.invariant-loop-at
 invariant-loop-at g l = record {
-  within : l.at ≤ length l.frame.listing;
-  long : length l.pending ≡ length l.frame.listing;
-  pending : ArePending l.frame l.at (all_stood g.F.AsFact.stands l.pending);
-  reached : l.reached ≡ map is_reached (slots l.frame l.at);
-  unrefused : refusal_to l.frame l.at ≡ None;
+  within : l.at ≤ length l.context.listing;
+  long : length l.pending ≡ length l.context.listing;
+  pending : ArePending l.context l.at (all_stood g.F.FactDomain.stands l.pending);
+  reached : l.reached ≡ map is_reached (slots l.context l.at);
+  unrefused : refusal_to l.context l.at ≡ None;
 }
 
 abbrev pub decreases-loop-at : goal.decreases-loop-at
-decreases-loop-at g l = length l.frame.listing - l.at
+decreases-loop-at g l = length l.context.listing - l.at

@@ -4,5 +4,5 @@ use Rattle.verifier.proofs.verify.judge_frame.Goals as goal
 
 pub most_steps-requires-clause-each : goal.most_steps-requires-clause-each
 most_steps-requires-clause-each c =
-    let frame = c.args.frame.now in
-    ap length (c.as_slice.ensures ∙ (passed_is frame c.in-Ok.reached c.in-Ok.ensures).1) ∙ reached_long frame ∙ ap length (sym c.instructions.ensures)
+    let context = c.args.context.now in
+    ap length (c.as_slice.ensures ∙ (passed_is context c.in-Ok.reached c.in-Ok.ensures).1) ∙ reached_long context ∙ ap length (sym c.instructions.ensures)

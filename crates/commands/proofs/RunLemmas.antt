@@ -1,0 +1,148 @@
+-- Scans over a link, each of which does what the program means.
+use Rattle.std.proofs.Common.{◌≡◌, ℕ, inl, inr, List, [], ◌∷◌, Option, Ok, refl, sym, subst, ◌∙◌}
+use Rattle.modbus_frame.specs.declared.link.LinkFault.{LinkFault}
+use Rattle.register_map.specs.Layout.{Layout}
+use Rattle.scan_code.specs.Image.{IsProper}
+use Rattle.scan_vm.specs.Machine as vm
+use Rattle.site_model.specs.Wants.{Want}
+use Rattle.site_model.specs.declared.site.Site.{Site}
+use Rattle.il_assemble.specs.Correct.{DoesWhatItMeans}
+use Rattle.il_assemble.specs.Meaning.{Program}
+use Rattle.verifier.specs.Links.{links_from}
+use Rattle.verifier.specs.Verdict.{judged}
+use Rattle.verifier.specs.Verified.{Acceptance, HasLinks}
+use Rattle.gateway.specs.Control.{Advances}
+use Rattle.gateway.specs.Core.{Gateway, gateway_of, numbers_of}
+use Rattle.gateway.specs.Cycle.{RunsTo, TakesBlocks}
+use Rattle.gateway.specs.Polling.{Polling}
+use Rattle.gateway.specs.SiteRun.{Steps}
+use Rattle.gateway.specs.declared.cycle.Report.{Report}
+use Rattle.gateway.specs.declared.event.Answer.{Answer}
+use Rattle.gateway.specs.declared.event.Event.{Event}
+use Rattle.gateway.specs.declared.event.Event.TheVariants as event
+use Rattle.commands.specs.Accepted.{most_deferred}
+use Rattle.commands.specs.Meant.{AdvancesAsMeant, StepsAsMeant}
+use Rattle.commands.specs.Scans.{AreScans, DoesScans, End, IsBroken, IsWhole}
+use Rattle.commands.proofs.MeaningLemmas.{IsKept, opening_kept, step_meant}
+
+module _ (site : Site) (p : Program) (a : Acceptance) (right : DoesWhatItMeans p a.image) (linked : links_from site.tags 0 a.image.tags ≡ Ok a.links) (proper : IsProper a.image) (verdict : judged a.image site.tags most_deferred ≡ Ok a.budget) (matched : HasLinks site.tags a.links) where
+  -- a core of this site and this program, whose numbers lie in their ranges
+  record IsOn (g : Gateway) : Type 0 where
+    pub on_site : g.site ≡ site
+    pub on_program : g.machine.accepted ≡ a
+    pub kept : IsKept site p a right linked proper verdict matched g.standing
+
+  advance : (s : Gateway) (e : Event) (r : Answer) (t : Gateway) → IsOn s → Advances s e r t → AdvancesAsMeant p s e r t × IsOn t
+  advance s e r t on h =
+      let there = subst (λ (x : Site). Steps x s.machine.accepted.image (numbers_of s.machine.accepted) s.machine.accepted.budget s.standing e r t.standing) on.on_site h.0 in
+      let here = subst (λ (x : Acceptance). Steps site x.image (numbers_of x) x.budget s.standing e r t.standing) on.on_program there in
+      let k = step_meant site p a right linked proper verdict matched s.standing e r t.standing on.kept here in
+      let back = subst (λ (x : Site). StepsAsMeant p x a s.standing e r t.standing) (sym on.on_site) k.0 in (
+        (subst (λ (x : Acceptance). StepsAsMeant p s.site x s.standing e r t.standing) (sym on.on_program) back, h.1),
+        record { on_site = h.1.site ∙ on.on_site; on_program = h.1.accepted ∙ on.on_program; kept = k.1 },
+      )
+
+  runs : (s : Gateway) (es : List Event) (t : Gateway) → IsOn s → RunsTo Advances s es t → RunsTo (AdvancesAsMeant p) s es t × IsOn t
+  runs s [] t on h = (h, subst IsOn h on)
+  runs s (e ∷ es) t on (r, u, step, rest) =
+      let k = advance s e r u on step in
+      let m = runs u es t k.1 rest in
+      ((r, u, k.0, m.0), m.1)
+
+  abbrev taken_meant : (held : Site) (maps : List (Option Layout)) (wants : List Want) (o : Polling) (s : Gateway) (q : Polling) (t : Gateway) (lost : ℕ) → IsOn s
+      → TakesBlocks Advances held maps wants o s q t lost → TakesBlocks (AdvancesAsMeant p) held maps wants o s q t lost
+  taken_meant held maps wants o s q t lost on h =
+      record { es = h.es; events = h.events; blocks = h.blocks; talks = h.talks; runs = (runs s h.events t on h.runs).0; counted = h.counted }
+
+  whole_meant : (o : Polling) (s : Gateway) (q : Polling) (t : Gateway) (report : Report) (own : List Event) → IsOn s → IsWhole Advances o s q t report own
+      → IsWhole (AdvancesAsMeant p) o s q t report own × IsOn t
+  whole_meant o s q t report own on (scan, e) =
+      let middle = (runs s (scan.taken).events scan.before on (scan.taken).runs).1 in
+      let last = advance scan.before event.Scan scan.answer t middle scan.scan in (
+        (
+          record {
+            middle = scan.middle;
+            before = scan.before;
+            taken = taken_meant s.site s.maps s.site.wants o s scan.middle scan.before report.lost on scan.taken;
+            answer = scan.answer;
+            scan = last.0;
+            written = scan.written;
+            steps = scan.steps;
+          },
+          e,
+        ),
+        last.1,
+      )
+
+  broken_meant : (o : Polling) (s : Gateway) (fault : LinkFault) (q : Polling) (t : Gateway) (events : List Event) → IsOn s → IsBroken Advances o s fault q t events
+      → IsBroken (AdvancesAsMeant p) o s fault q t events
+  broken_meant o s fault q t events on (inl (stop, e)) = inl (
+    record {
+      before = stop.before;
+      want = stop.want;
+      behind = stop.behind;
+      split = stop.split;
+      middle = stop.middle;
+      lost = stop.lost;
+      taken = taken_meant s.site s.maps stop.before o s stop.middle t stop.lost on stop.taken;
+      stops = stop.stops;
+    },
+    e,
+  )
+  broken_meant o s fault q t events on (inr (stop, e)) =
+      let middle = (runs s (stop.taken).events stop.before on (stop.taken).runs).1 in
+      let last = advance stop.before event.Scan stop.answer t middle stop.scan in
+      inr (
+        record {
+          middle = stop.middle;
+          before = stop.before;
+          lost = stop.lost;
+          taken = taken_meant s.site s.maps s.site.wants o s stop.middle stop.before stop.lost on stop.taken;
+          answer = stop.answer;
+          scan = last.0;
+          stops = stop.stops;
+        },
+        e,
+      )
+
+  scans_meant : (o : Polling) (s : Gateway) (reports : List Report) (events : List Event) (q : Polling) (t : Gateway) → IsOn s → AreScans Advances o s reports events q t
+      → AreScans (AdvancesAsMeant p) o s reports events q t × IsOn t
+  scans_meant o s [] events q t on (none, here, there) = ((none, here, there), subst IsOn (sym there) on)
+  scans_meant o s (r ∷ rs) events q t on (middle, between, own, more, split, one, rest) =
+      let k = whole_meant o s middle between r own on one in
+      let m = scans_meant middle between rs more q t k.1 rest in
+      ((middle, between, own, more, split, k.0, m.0), m.1)
+
+  end_meant : (n : ℕ) (reports : List Report) (events : List Event) (o : Polling) (s : Gateway) (q : Polling) (t : Gateway) (old new : Option (List ℕ)) (status : ℕ) → IsOn s
+      → End Advances n reports events o s q t old new status → End (AdvancesAsMeant p) n reports events o s q t old new status
+  end_meant n reports events o s q t old new status on (inl h) = inl h
+  end_meant n reports events o s q t old new status on (inr (inl h)) = inr (inl h)
+  end_meant n reports events o s q t old new status on (inr (inr h)) = inr (inr (record {
+    within = h.within;
+    fault = h.fault;
+    broken = broken_meant o s h.fault q t events on h.broken;
+    written = h.written;
+    printed = h.printed;
+    told = h.told;
+  }))
+
+  does_meant : (n : ℕ) (o : Polling) (s : Gateway) (events : List Event) (q : Polling) (t : Gateway) (old new : Option (List ℕ)) (status : ℕ) → IsOn s
+      → DoesScans Advances n o s events q t old new status → DoesScans (AdvancesAsMeant p) n o s events q t old new status
+  does_meant n o s events q t old new status on h =
+      let all = scans_meant o s h.reports h.before h.middle h.between on h.whole in
+      record {
+        reports = h.reports;
+        before = h.before;
+        behind = h.behind;
+        split = h.split;
+        middle = h.middle;
+        between = h.between;
+        whole = all.0;
+        end = end_meant n h.reports h.behind h.middle h.between q t old new status all.1 h.end;
+      }
+
+  pub scans_from_opening : (maps : List (Option Layout)) (n : ℕ) (o : Polling) (events : List Event) (q : Polling) (t : Gateway) (old new : Option (List ℕ)) (status : ℕ)
+      → DoesScans Advances n o (gateway_of site maps (vm.opened a)) events q t old new status → DoesScans (AdvancesAsMeant p) n o (gateway_of site maps (vm.opened a)) events q t old new status
+  scans_from_opening maps n o events q t old new status h =
+      does_meant n o (gateway_of site maps (vm.opened a)) events q t old new status
+      (record { on_site = refl; on_program = refl; kept = opening_kept site p a right linked proper verdict matched }) h

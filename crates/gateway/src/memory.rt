@@ -1,0 +1,20 @@
+//! What a core keeps beside its machine.
+use point_types::Reading;
+use site_model::Words;
+
+/// What a gateway knows, each list as long as the site's wants or its tags.
+#[derive(Drop)]
+pub(crate) struct Memory {
+    /// The words of the wanted blocks.
+    pub(crate) blocks: Vec<Option<Words>>,
+    /// What clients set.
+    pub(crate) sets: Vec<Option<i64>>,
+    /// What the program stored in the last scan.
+    pub(crate) outputs: Vec<Option<i64>>,
+    /// What the tags were in the last scan.
+    pub(crate) readings: Vec<Reading>,
+    /// How many instructions the last scan took.
+    pub(crate) steps: u32,
+    /// The words of the wanted blocks at the last scan.
+    pub(crate) scanned: Vec<Option<Words>>,
+}
