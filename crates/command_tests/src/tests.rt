@@ -1,12 +1,17 @@
 //! What the tests of the commands share: texts, words and what was printed.
 mod check;
-mod command_line;
+mod explained;
+mod explained_files;
+mod explained_limits;
+mod explained_verdicts;
 mod files;
 mod gateways;
 mod links;
+mod obeyed_words;
 mod probe;
 mod scans;
 mod simulate;
+mod standard_error;
 mod trial;
 
 use std::fmt::Debug;

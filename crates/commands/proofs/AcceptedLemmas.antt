@@ -25,7 +25,7 @@ use Rattle.commands.specs.Accepted.{AcceptsProgram, Gives, GivesSite, GivesVerdi
 use Rattle.commands.specs.Check.{TellsInputs}
 use Rattle.commands.specs.Defined.{AreDefined}
 use Rattle.commands.specs.Report.{accepted_lines, unverified_line}
-use Rattle.commands.specs.Scans.{IsSearched, LeavesPoller, OpensCore, StartsCore}
+use Rattle.commands.specs.Opening.{IsSearched, LeavesPoller, OpensCore, StartsCore}
 use Rattle.commands.specs.Told.{Told, refused_with}
 
 -- what is told of an image that the verdict refuses

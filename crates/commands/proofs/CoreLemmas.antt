@@ -15,7 +15,8 @@ use Rattle.gateway.specs.Polling.{Polling}
 use Rattle.gateway.specs.declared.fault.CoreFault.{CoreFault}
 use Rattle.gateway.specs.declared.fault.CoreFault.TheVariants.{Foreign}
 use Rattle.commands.specs.Report.{bad_core_line, link_line}
-use Rattle.commands.specs.Scans.{IsSearched, IsUnfound, MakesCore, OpensCore, unlinked_with}
+use Rattle.commands.specs.Opening.{IsSearched, IsUnfound, MakesCore, OpensCore}
+use Rattle.commands.specs.Printed.{unlinked_with}
 use Rattle.commands.specs.Told.{Told, refused_with}
 
 -- no maps are given by a poller that failed

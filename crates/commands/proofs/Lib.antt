@@ -1,7 +1,9 @@
 pub mod AcceptedLemmas
+pub mod CheckLemmas
 pub mod CoreLemmas
 mod FoundLemmas
 pub mod GivenLemmas
+pub mod HeadlineLemmas
 pub mod LineLemmas
 pub mod MeaningLemmas
 pub mod NumberLemmas
@@ -9,7 +11,6 @@ pub mod OutcomeLemmas
 pub mod ReportLemmas
 mod RunLemmas
 pub mod ScanLemmas
-pub mod SourceLemmas
 mod Texts
 pub mod UnitLemmas
 pub mod WholeLemmas

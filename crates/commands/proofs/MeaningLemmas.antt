@@ -30,23 +30,25 @@ use Rattle.il_assemble.specs.Correct as means
 use Rattle.il_assemble.specs.Meaning.{Program, Outcome, Done, Fails, meaning}
 use Rattle.scan_vm.proofs.BareRun.{bare_runs_out}
 use Rattle.facts.proofs.Comparing.{and_left, and_right, both_true, le_true, true_le}
+use Rattle.facts.specs.Flow.{TagRange}
 use Rattle.verifier.proofs.Images.{AreLinked, IsLinked, links_are}
 use Rattle.verifier.proofs.Scans.{runs_well, yes_is_accepted}
 use Rattle.scan_vm.specs.Bare.{BareEnding, BareEnded, BareUnfinished, EndsWithinAlike, bare_opening, bare_run}
 use Rattle.verifier.specs.declared.tag_link.TagLink.{TagLink}
 use Rattle.verifier.specs.Links.{links_from}
-use Rattle.verifier.specs.Sound.{AreInRanges, AreReadings, InRanges, IsFine, IsReadingOf, IsYes}
+use Rattle.verifier.specs.Sound.{AreInRanges, AreReadings, InRanges, IsFine, IsReadingOf, IsYes, OutputInRange}
 use Rattle.verifier.specs.Verdict.{judged}
 use Rattle.verifier.specs.Verified.{Acceptance, HasAlike, HasLinks, IsAlike}
-use Rattle.gateway.proofs.Scanning.{inputs_fit, none_in}
+use Rattle.gateway.proofs.Scanning.{inputs_fit, none_in, stored_in}
 use Rattle.gateway.proofs.Settled.{reads_in_range, still_settings}
 use Rattle.gateway.specs.Core.{number_of, numbers_of}
-use Rattle.gateway.specs.SiteRun.{Does, IsScan, Replies, Runs, Sets, Standing, Steps, Writes, opened, reading_at}
+use Rattle.gateway.specs.SiteRun.{Does, IsScan, Replies, Runs, Sets, Standing, Steps, Writes, none_of, opened, reading_at}
 use Rattle.gateway.specs.declared.event.Answer.{Answer}
 use Rattle.gateway.specs.declared.event.Event.{Event}
 use Rattle.gateway.specs.declared.event.Event.TheVariants as event
 use Rattle.gateway.specs.declared.point.OwnPoint.{OwnPoint}
 use Rattle.commands.specs.Accepted.{most_deferred}
+use Rattle.commands.specs.Headline.{IsSafe, stored_of}
 use Rattle.commands.specs.Meant.{IsMeantScan, RunsAsMeant, StepsAsMeant}
 
 -- ---- numbers in their ranges
@@ -178,7 +180,7 @@ module _ (site : Site) (p : Program) (a : Acceptance) (right : DoesWhatItMeans p
     left_variables : AreVariables a.image.vars (h.end).variables
     left_variables = from_ranges a.image.vars (h.end).variables (same_length ∙ variables_length a.image.vars s.variables kept.variables) (subst (λ ds. AreInRanges ds (h.end).variables) (sym frames.variables) fine.variables)
 
-    means_end : meaning p inputs s.variables ≡ Done (h.end).variables (h.end).outputs
+    pub means_end : meaning p inputs s.variables ≡ Done (h.end).variables (h.end).outputs
     means_end = by_outcome (meaning p inputs s.variables) refl
         (subst (λ e. EndsAs e (meaning p inputs s.variables)) h.ended
         (right.each_end inputs s.variables (inputs_typed site.tags h.readings usable a.image.tags a.links (links_are site.tags 0 a.image.tags a.links linked) matched) kept.variables a.budget (subst IsOver (sym h.ended) tt)))
@@ -188,6 +190,13 @@ module _ (site : Site) (p : Program) (a : Acceptance) (right : DoesWhatItMeans p
             let there : h.end ≡ end = cc in
             e ∙ ap (λ xs. Done xs os) (sym (ap (λ z. z.variables) there ∙ v)) ∙ ap (λ ys. Done (h.end).variables ys) (sym (ap (λ z. z.outputs) there ∙ o))
         by_outcome (Fails fault) e (at, same) = cc
+
+    stored_ranged : AreSettings site.tags (stored_of site a h.end)
+    stored_ranged = stored_in site.tags a.links (h.end).outputs (none_of site.tags) matched
+        (subst (λ (tags : List TagRange). (i : ℕ) → OutputInRange (slice_get tags i) (slice_get (h.end).outputs i)) (sym frames.tags) fine.outputs) (none_in site.tags site.tags)
+
+    pub scan_safe : IsSafe site a h.readings s.variables h.steps h.end
+    scan_safe = record { ended = h.ended; bounded = h.bounded; variables = left_variables; outputs = stored_ranged }
 
     scan_meant : IsMeantScan p site a s t
     scan_meant = record { scan = h; means = means_end }

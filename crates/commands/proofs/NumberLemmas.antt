@@ -1,23 +1,11 @@
 -- Numbers that no type holds.
 use Rattle.std.proofs.Common.{◌≡◌, ◌<◌, ◌-◌, ℕ, suc, length, take, drop, get_or, Bool, true, false, not, ◌&&◌, ℤ, List, [], ◌∷◌, Some, None, sym, ap, ◌∙◌, if◌then◌else◌, arith, w64}
-use Rattle.std.proofs.lemmas.Int.{ints}
 use Rattle.std.proofs.Math.Seq.{take-length}
 use mir.Val.{SFits}
 use Rattle.point_types.specs.declared.il_type.IlType.{IlType}
-use Rattle.point_types.specs.declared.il_type.IlType.TheVariants as il
-use Rattle.point_types.specs.Value.{low_of, high_of, is_within}
 use Rattle.point_types.specs.Name.{is_digit, is_underscore}
 use Rattle.commands.specs.Given.{digits, grown, held, if_some}
-
-outside : (k : IlType) (n : ℤ) → (SFits w64 n → ⊥) → is_within (low_of k) (high_of k) n ≡ false
-outside il.Bool n f = grind (arith, ints)
-outside il.Sint n f = grind (arith, ints)
-outside il.Int n f = grind (arith, ints)
-outside il.Dint n f = grind (arith, ints)
-outside il.Lint n f = grind (arith, ints)
-outside il.Usint n f = grind (arith, ints)
-outside il.Uint n f = grind (arith, ints)
-outside il.Udint n f = grind (arith, ints)
+use Rattle.il_reader.proofs.LexerLemmas.{outside}
 
 pub held_nowhere : (k : IlType) (n : ℤ) → (SFits w64 n → ⊥) → None ≡ held k n
 held_nowhere k n f = ap (λ z. if z then Some n else None) (sym (outside k n f))

@@ -1,5 +1,5 @@
 -- Definitions that are read one by one from the texts that remain.
-use Rattle.std.proofs.Common.{◌≡◌, ℕ, ◌+◌, ◌<◌, List, [], ◌∷◌, ◌++◌, length, map, get_or, drop, inl, inr, refl, ap, sym, subst, ◌∙◌, Bor}
+use Rattle.std.proofs.Common.{◌≡◌, ℕ, ◌+◌, ◌<◌, List, [], ◌∷◌, ◌++◌, length, map, get_or, drop, inl, inr, refl, ap, sym, subst, ◌∙◌, Bor, Result, Ok, Err, IfErr, IsErrAnd}
 use Rattle.std.proofs.lemmas.List.{drop_more}
 use Rattle.model_defs.specs.declared.fault.DefFault.{DefFault}
 use Rattle.model_defs.specs.declared.model.ModelDef.{ModelDef}
@@ -7,6 +7,12 @@ use Rattle.model_defs.specs.Definition.{Breaks, IsRead}
 use Rattle.model_defs.specs.Laws.{TextsGiveOneModel}
 use Rattle.model_defs.specs.Shipped.{shipped_texts}
 use Rattle.commands.specs.Defined.{AreDefined, AreRead, IsFirstBroken, IsUndefined, TextsDefineOneList, all_texts}
+
+-- ---- a fault that goes up as it came
+
+pub told_of_fault : {T E : Type 0} (result : Result T E) (came : E) (Holds : E → Type 0) → IsErrAnd result (λ fault. fault ≡ came) → Holds came → IfErr result Holds
+told_of_fault (Ok _) came Holds same h = tt
+told_of_fault (Err fault) came Holds same h = subst Holds (sym same) h
 
 -- ---- elements that are or have texts, one after another
 

@@ -7,45 +7,62 @@ use Rattle.il_assemble.specs.Correct.{DoesWhatItMeans}
 use Rattle.verifier.specs.Links.{links_from}
 use Rattle.verifier.specs.Verdict.{judged}
 use Rattle.gateway.specs.Control.{Advances}
-use Rattle.gateway.specs.Core.{Gateway, gateway_of}
+use Rattle.register_map.specs.Layout.{Layout}
+use Rattle.gateway.specs.Core.{Gateway, IsSame, gateway_of}
 use Rattle.gateway.specs.Polling.{Polling}
 use Rattle.il_assemble.specs.Meaning.{Program}
 use Rattle.site_model.specs.declared.site.Site.{Site}
 use Rattle.verifier.specs.Verified.{Acceptance}
 use Rattle.gateway.specs.declared.event.Event.{Event}
-use Rattle.commands.specs.Scans.{DoesScans, LeavesOff, OpensCore, RunsScans, StartsCore}
+use Rattle.commands.specs.Headline.{AreTextsOf, DoesRun, IsAccepted, RunsProgram}
+use Rattle.commands.specs.Opening.{OpensCore, StartsCore}
+use Rattle.commands.specs.Scans.{DoesScans, LeavesOff}
 use Rattle.commands.specs.Accepted.{Accepts, most_deferred}
-use Rattle.commands.proofs.MeaningLemmas.{all_meant}
-use Rattle.commands.proofs.RunLemmas.{scans_from_opening}
+use Rattle.commands.proofs.RunLemmas.{run_from_opening}
 use Rattle.commands.proofs.ScanLemmas.{follows_all}
 
-runs_opened : (site program : List ℕ) (texts : List (List ℕ)) (n : ℕ) (p middle q : Polling) (old new : Option (List ℕ)) (first core : Gateway) (status : ℕ) (s : Site) (tree : Program) (a : Acceptance)
-    → Accepts site program texts s tree a → OpensCore s a p middle (Ok first) → (events : List Event) → DoesScans Advances n middle first events q core old new status → RunsScans site program texts n p q old new core status
-runs_opened site program texts n p middle q old new first core status s tree a accepts (maps, works, found, linked, is) events does =
+-- what the texts are, of a program that is accepted
+pub texts_of : (site program : List ℕ) (texts : List (List ℕ)) (s : Site) (p : Program) (a : Acceptance) → Accepts site program texts s p a → AreTextsOf site program texts s p a
+texts_of site program texts s p a accepts =
+    let on = (accepts.accepted).accepted in
+    record {
+      of_site = record { models = accepts.models; defined = accepts.defined; located = accepts.located };
+      of_program = record { tree = accepts.tree; read = accepts.read; resolved = (accepts.accepted).resolved };
+      coded = on.kept;
+      linked = subst (λ (i : Image). links_from s.tags 0 i.tags ≡ Ok a.links) (sym on.kept) on.linked;
+    }
+
+-- what is said of a site, a program and maps holds of those of a core that stays the same
+over_core : (site : Site) (a : Acceptance) (maps : List (Option Layout)) (core : Gateway) (P : Site → Acceptance → List (Option Layout) → Type 0) → IsSame (gateway_of site maps (opened a)) core → P site a maps
+    → P core.site core.machine.accepted core.maps
+over_core site a maps core P same h =
+    subst (λ (x : Site). P x core.machine.accepted core.maps) (sym same.site)
+    (subst (λ (x : Acceptance). P site x core.maps) (sym same.accepted)
+    (subst (λ (x : List (Option Layout)). P site a x) (sym same.maps) h))
+
+-- a core that was opened for a program, and what it did
+pub record HasRun (site program : List ℕ) (texts : List (List ℕ)) (n : ℕ) (p q : Polling) (old new : Option (List ℕ)) (core : Gateway) (status : ℕ) : Type 0 where
+  pub accepted : IsAccepted site program texts core.site core.machine.accepted
+  pub run : RunsProgram program n p q old new core status
+
+has_run_opened : (site program : List ℕ) (texts : List (List ℕ)) (n : ℕ) (p middle q : Polling) (old new : Option (List ℕ)) (first core : Gateway) (status : ℕ) (s : Site) (tree : Program) (a : Acceptance)
+    → Accepts site program texts s tree a → OpensCore s a p middle (Ok first) → (events : List Event) → DoesScans Advances n middle first events q core old new status → HasRun site program texts n p q old new core status
+has_run_opened site program texts n p middle q old new first core status s tree a accepts (maps, works, found, linked, is) events does =
     let start = gateway_of s maps (opened a) in
     let from_start = subst (λ (x : Gateway). DoesScans Advances n middle x events q core old new status) is does in
-    let run = follows_all n middle start events q core old new status from_start in
+    let same : IsSame start core = (follows_all n middle start events q core old new status from_start).1 in
+    let of = texts_of site program texts s tree a accepts in
     let on = (accepts.accepted).accepted in
     let right = subst (DoesWhatItMeans tree) (sym on.kept) (accepts.accepted).right in
-    let links = subst (λ (i : Image). links_from s.tags 0 i.tags ≡ Ok a.links) (sym on.kept) on.linked in
     let proper = subst IsProper (sym on.kept) (images_are_proper accepts.tree tree (accepts.accepted).resolved) in
     let verdict = subst (λ (i : Image). judged i s.tags most_deferred ≡ Ok a.budget) (sym on.kept) on.judged in
     record {
-      site = s;
-      program = tree;
-      accepted = a;
-      accepts = accepts;
-      maps = maps;
-      between = middle;
-      found = found;
-      events = events;
-      scans = scans_from_opening s tree a right links proper verdict linked maps n middle events q core old new status from_start;
-      answers = run.0.0;
-      runs = all_meant s tree a right links proper verdict linked events run.0.0 core.standing run.0.1;
-      same = run.1;
+      accepted = over_core s a maps core (λ x b ms. IsAccepted site program texts x b) same (record { program = tree; texts_of = of; safe = on.safe });
+      run = over_core s a maps core (λ x b ms. DoesRun x b ms program n p q old new core status) same
+          (run_from_opening s tree a right of.linked proper verdict linked maps program n p middle events q core old new status of.of_program found from_start);
     }
 
-pub runs_scans : (site program : List ℕ) (texts : List (List ℕ)) (n : ℕ) (p middle q : Polling) (old new : Option (List ℕ)) (first core : Gateway) (status : ℕ)
-    → StartsCore site program texts p middle (Ok first) → LeavesOff n middle first q core old new status → RunsScans site program texts n p q old new core status
-runs_scans site program texts n p middle q old new first core status (s, tree, a, accepts, opens) (events, does) =
-    runs_opened site program texts n p middle q old new first core status s tree a accepts opens events does
+pub has_run : (site program : List ℕ) (texts : List (List ℕ)) (n : ℕ) (p middle q : Polling) (old new : Option (List ℕ)) (first core : Gateway) (status : ℕ)
+    → StartsCore site program texts p middle (Ok first) → LeavesOff n middle first q core old new status → HasRun site program texts n p q old new core status
+has_run site program texts n p middle q old new first core status (s, tree, a, accepts, opens) (events, does) =
+    has_run_opened site program texts n p middle q old new first core status s tree a accepts opens events does

@@ -23,7 +23,7 @@ use Rattle.il_reader.specs.declared.tree.Program.{Program as Tree}
 use Rattle.il_reader.specs.Fault as read
 use Rattle.il_reader.specs.Reading.{reading}
 use Rattle.verifier.specs.Links.{links_from}
-use Rattle.verifier.specs.Promise.{KeepsPromise}
+use Rattle.verifier.specs.Safe.{NeverGoesWrong}
 use Rattle.verifier.specs.Verdict.{judged}
 use Rattle.verifier.specs.Verified.{Acceptance}
 use Rattle.facts.specs.Word as verify
@@ -44,7 +44,7 @@ pub record IsAcceptedOn (site : Site) (image : Image) (a : Acceptance) : Type 0 
   pub kept : a.image ≡ image
   pub linked : links_from site.tags 0 image.tags ≡ Ok a.links
   pub judged : judged image site.tags most_deferred ≡ Ok a.budget
-  pub promise : KeepsPromise most_deferred a
+  pub safe : NeverGoesWrong a
 
 -- A program whose image does what the program means, and is accepted.
 pub record IsAcceptedFor (site : Site) (tree : Tree) (p : Program) (a : Acceptance) : Type 0 where

@@ -2,9 +2,12 @@ pub mod Accepted
 pub mod Check
 pub mod Defined
 pub mod Given
+pub mod Headline
 pub mod Input
 pub mod Meant
+pub mod Opening
 pub mod Outcome
+pub mod Printed
 pub mod Probe
 pub mod Report
 pub mod Scans

@@ -16,6 +16,7 @@ use il_assemble::assemble;
 use il_assemble::laws::texts_keep_the_limits;
 use il_reader::{Program, read};
 use model_defs::{DefFault, ModelDef};
+use refusal_notes::{Cause, cause_of_definition, cause_of_refusal, cause_of_site};
 use scan_code::Image;
 use site_model::{Site, SiteFault};
 use std::alloc::{AllocError, Global};
@@ -46,7 +47,11 @@ pub(crate) fn accept(
     match definitions(alloc, defs) {
         Ok(models) => accept_over(alloc, site, program, models.as_slice()),
         Err(DefFault::OutOfMemory) => Err(AllocError),
-        Err(fault) => Ok(Err(Outcome::refused(undefined(alloc, fault.word())?))),
+        Err(fault) => {
+            let line = undefined(alloc, fault.word())?;
+            let cause = cause_of_definition(alloc, defs, fault);
+            Ok(Err(Outcome::caused(line, cause)))
+        }
     }
 }
 
@@ -62,7 +67,11 @@ fn accept_over(
     match Site::read(alloc, site, models) {
         Ok(site) => accept_on(alloc, site, program),
         Err(SiteFault::OutOfMemory) => Err(AllocError),
-        Err(fault) => Ok(Err(Outcome::refused(no_site(alloc, fault.word())?))),
+        Err(fault) => {
+            let line = no_site(alloc, fault.word())?;
+            let cause = cause_of_site(alloc, site, models, fault);
+            Ok(Err(Outcome::caused(line, cause)))
+        }
     }
 }
 
@@ -102,7 +111,7 @@ fn verified_program(
     ensures { IfOk result (GivesVerified site.now (Ok program.now)) }
 {
     match assemble(alloc, program) {
-        Ok(image) => judged(alloc, site, image),
+        Ok(image) => judged(alloc, site, program, image),
         Err(fault) => Ok(Err(Outcome::unassembled(alloc, fault)?)),
     }
 }
@@ -111,27 +120,32 @@ fn verified_program(
 fn judged(
     alloc: Global,
     site: &Site,
+    program: &Program,
     image: Image,
 ) -> Result<Result<Verified<DEPTH>, Outcome>, AllocError>
     ensures { IfOk result (GivesVerdict site.now image) }
 {
     match verify::<DEPTH>(alloc, image, site) {
         Ok(verified) => Ok(Ok(verified)),
-        Err(refused) => not_accepted(alloc, refused.kind, refused.at),
+        Err(refused) => {
+            let cause = cause_of_refusal(alloc, program, site, &refused);
+            not_accepted(alloc, refused.kind, refused.at, cause)
+        }
     }
 }
 
-/// What is told of a program that the verdict refuses.
+/// What is told of a program that the verdict refuses, for this cause.
 fn not_accepted(
     alloc: Global,
     kind: RefusalKind,
     at: usize,
+    cause: Cause,
 ) -> Result<Result<Verified<DEPTH>, Outcome>, AllocError>
     ensures { IfOk result (λ none. (kind ≢ refusal.OutOfMemory) × (none ≡ Err (refused_with (unverified_line (verdict_word.word_of kind) at)))) }
 {
     if let RefusalKind::OutOfMemory = kind {
         return Err(AllocError);
     }
-    let line = unverified(alloc, kind.word(), at)?;
-    Ok(Err(Outcome::refused(line)))
+    let told = unverified(alloc, kind.word(), at)?;
+    Ok(Err(Outcome::caused(told, cause)))
 }

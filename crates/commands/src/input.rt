@@ -102,3 +102,22 @@ pub(crate) fn is_blank_line(line: &[u8]) -> bool
 {
     before_end(line).iter().all(|byte| is_blank(*byte))
 }
+
+/// On which of the lines, counted from 1, the input line of a number stands: blank lines are none.
+pub(crate) fn input_line(lines: &[u8], number: usize) -> u32 {
+    let mut place = 0u32;
+    let mut seen = 0usize;
+    let mut rest = lines;
+    for _ in 0..lines.len() {
+        let (line, behind) = rest.split_at(line_length(rest));
+        place = place.saturating_add(1);
+        if !is_blank_line(line) {
+            seen = seen.saturating_add(1);
+        }
+        if seen == number {
+            return place;
+        }
+        rest = behind;
+    }
+    place
+}

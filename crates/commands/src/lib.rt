@@ -1,45 +1,40 @@
 //! The commands of the gateway's program, each on texts and links that the caller hands in: a [`trial`] scan of a
-//! program by itself, [`check`], which judges a program for a site, [`simulate`], which serves a plant of simulated
-//! inverters, the [`scans`] of a program on a site, [`probe`], which prints the points of a device, and [`run_plant`],
-//! which does the last three in two processes. [`obey`] does what a command line asks for, and
-//! [`obey_command_line`] is all that a program's `main` calls.
+//! program by itself, [`check`], which judges a program for a site, [`explain`], which prints it with what is known before
+//! each instruction, [`plant_of`], which gives the plant that `simulate` serves, the [`scans`] of a program on a site, and
+//! [`probe`], which prints the points of a device.
 #![tactic(auto)]
 
 mod accepted;
-mod command_line;
-mod definitions;
+pub mod definitions;
+mod explained;
 mod given;
-mod help;
 mod input;
 pub mod laws;
 mod number;
 mod outcome;
-mod plant_run;
-mod plant_server;
+mod plant;
 mod report;
 mod scan;
 mod site_scans;
-mod socket;
-mod source;
-mod standard_input;
+mod trap_cause;
 mod trial_scan;
 mod unit_points;
 mod verdict;
 mod writing;
 
-// what a program's `main` calls, and its parts
-pub use command_line::{command, obey, obey_command_line};
 // a program by itself
-pub use trial_scan::trial;
+pub use trial_scan::{trial, try_input};
 // a program and a site
-pub use verdict::check;
+pub use explained::explain;
+pub use verdict::{check, judge};
 // a plant of simulated inverters
-pub use plant_server::{plant_of, simulate};
+pub use plant::plant_of;
 // a program on a site
-pub use site_scans::{DEPTH, scans};
+pub use site_scans::{DEPTH, scans, scans_noting};
 // a device
 pub use unit_points::probe;
-// a plant, scans of it, and a probe of the gateway behind them
-pub use plant_run::{PlantRun, run_plant};
-// what a refusal prints, and its status
-pub use outcome::Outcome;
+// what is printed, and its status
+pub use outcome::{
+    FAILED_LINK, Outcome, tell_no_memory, tell_unlinked, tell_unusable, write_lines,
+};
+pub use report::listening;

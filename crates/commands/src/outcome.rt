@@ -5,8 +5,8 @@ ghost use Rattle.il_assemble.specs.declared.fault.AsmFaultKind.TheVariants as as
 ghost use Rattle.il_reader.specs.Fault as reading;
 ghost use Rattle.il_reader.specs.declared.fault.ReadFaultKind.TheVariants as read_fault;
 ghost use Rattle.modbus_frame.specs.Fault.{link_fault_word};
+ghost use Rattle.commands.specs.Printed.{IsUnlinked};
 ghost use Rattle.commands.specs.Report.{accepted_lines, link_line, no_memory_line, unassembled_line, unread_line};
-ghost use Rattle.commands.specs.Scans.{IsUnlinked};
 ghost use Rattle.commands.specs.Told.{IsTold, refused_with};
 
 use crate::report::{accepted, link_failed, unassembled, unread, unusable};
@@ -14,18 +14,21 @@ use crate::writing::write_bytes;
 use il_assemble::{AsmFault, AsmFaultKind};
 use il_reader::{ReadFault, ReadFaultKind};
 use modbus_frame::LinkFault;
+use refusal_notes::Cause;
 use std::alloc::{AllocError, Global};
 use std::io::Write;
 use std::marker::Model;
 
 /// The status of a link that failed.
-const FAILED_LINK: u8 = 3;
+pub const FAILED_LINK: u8 = 3;
 
 /// Lines to print, and the status that goes with them.
 #[derive(Drop, Debug)]
 pub struct Outcome {
     pub lines: Vec<u8>,
     pub status: u8,
+    /// Why a command refuses; contracts don't see it.
+    pub cause: Option<Cause>,
 }
 
 impl Model for Outcome {
@@ -44,6 +47,27 @@ impl Outcome {
         Outcome {
             lines: line.into_bytes(),
             status: 1,
+            cause: None,
+        }
+    }
+
+    /// The line of a refusal that is noted, with status 1.
+    pub(crate) fn caused(line: String, cause: Cause) -> Outcome
+        ensures { result ≡ refused_with (string_bytes line) }
+    {
+        let mut outcome = Outcome::refused(line);
+        outcome.cause = Some(cause);
+        outcome
+    }
+
+    /// The lines of a text that is printed, with status 0.
+    pub(crate) fn listed(text: String) -> Outcome
+        ensures { result ≡ record { lines = string_bytes text; status = 0 } }
+    {
+        Outcome {
+            lines: text.into_bytes(),
+            status: 0,
+            cause: None,
         }
     }
 
@@ -55,6 +79,7 @@ impl Outcome {
         Ok(Outcome {
             lines: lines.into_bytes(),
             status: 0,
+            cause: None,
         })
     }
 
@@ -67,7 +92,7 @@ impl Outcome {
             return Err(AllocError);
         }
         let line = unread(alloc, fault.kind.word(), fault.line)?;
-        Ok(Outcome::refused(line))
+        Ok(Outcome::caused(line, Cause::unread(alloc, fault)))
     }
 
     /// The line of a program without code, with status 1; none where memory was refused.
@@ -79,7 +104,7 @@ impl Outcome {
             return Err(AllocError);
         }
         let line = unassembled(alloc, fault.kind.word(), fault.line)?;
-        Ok(Outcome::refused(line))
+        Ok(Outcome::caused(line, Cause::unassembled(alloc, fault)))
     }
 
     /// The line `link: KIND`, with status 3.
@@ -90,6 +115,7 @@ impl Outcome {
         Ok(Outcome {
             lines: line.into_bytes(),
             status: FAILED_LINK,
+            cause: None,
         })
     }
 
@@ -102,7 +128,7 @@ impl Outcome {
 }
 
 /// Writes lines and gives their status; a failed write gives status 1.
-pub(crate) fn write_lines<W: Write>(out: &mut W, lines: &[u8], status: u8) -> u8
+pub fn write_lines<W: Write>(out: &mut W, lines: &[u8], status: u8) -> u8
     ensures { IsTold (W.contents out.old) (W.contents out.new) (record { lines = lines.now; status = status }) result }
 {
     match write_bytes(out, lines) {
@@ -112,14 +138,14 @@ pub(crate) fn write_lines<W: Write>(out: &mut W, lines: &[u8], status: u8) -> u8
 }
 
 /// Writes that memory was refused, and gives the status.
-pub(crate) fn tell_no_memory<W: Write>(out: &mut W) -> u8
+pub fn tell_no_memory<W: Write>(out: &mut W) -> u8
     ensures { IsTold (W.contents out.old) (W.contents out.new) (refused_with no_memory_line) result }
 {
     write_lines(out, b"refused: memory\n", 1)
 }
 
 /// Writes that the file at a path can't be used, and gives the status.
-pub(crate) fn tell_unusable<W: Write>(alloc: Global, path: &str, out: &mut W) -> u8 {
+pub fn tell_unusable<W: Write>(alloc: Global, path: &str, out: &mut W) -> u8 {
     match unusable(alloc, path) {
         Ok(line) => write_lines(out, line.as_bytes(), 1),
         Err(_) => tell_no_memory(out),
@@ -127,7 +153,7 @@ pub(crate) fn tell_unusable<W: Write>(alloc: Global, path: &str, out: &mut W) ->
 }
 
 /// Writes that a link failed, and gives the status.
-pub(crate) fn tell_unlinked<W: Write>(alloc: Global, fault: LinkFault, out: &mut W) -> u8
+pub fn tell_unlinked<W: Write>(alloc: Global, fault: LinkFault, out: &mut W) -> u8
     ensures { IsUnlinked fault (W.contents out.old) (W.contents out.new) result }
 {
     match Outcome::unlinked(alloc, fault) {

@@ -125,7 +125,7 @@ pub(crate) fn no_plant(alloc: Global, kind: &str) -> Result<String, AllocError>
 }
 
 /// The line `listening PORT`.
-pub(crate) fn listening(alloc: Global, port: u16) -> Result<String, AllocError>
+pub fn listening(alloc: Global, port: u16) -> Result<String, AllocError>
     ensures ok { IfOk result (λ text. string_bytes text ≡ report.listening_line port) }
 {
     let text = format!(in alloc; "listening {port}\n")?;

@@ -7,14 +7,18 @@ ghost use Rattle.commands.specs.Report as report;
 
 use crate::outcome::Outcome;
 use crate::report::{push_named, push_steps, push_trap, shown};
+use crate::trap_cause::cause_of_trap;
+use il_reader::Program;
 use point_types::Reading;
+use refusal_notes::Cause;
 use scan_code::Tag;
 use scan_vm::{Scan, Trap, Trial};
 use std::alloc::{AllocError, Global};
 
-/// The outcome of the first scan of a trial, on a reading for each tag.
+/// The outcome of the first scan of a trial of a program, on a reading for each tag.
 pub(crate) fn scan_outcome(
     alloc: Global,
+    program: &Program,
     trial: &mut Trial,
     readings: &[Reading],
 ) -> Result<Outcome, AllocError>
@@ -23,7 +27,24 @@ pub(crate) fn scan_outcome(
     let ending = trial.scan(readings);
     let mut lines = Vec::new(alloc);
     let status = push_scan(&mut lines, alloc, trial, ending)?;
-    Ok(Outcome { lines, status })
+    Ok(Outcome {
+        lines,
+        status,
+        cause: cause_of_ending(alloc, program, trial, ending),
+    })
+}
+
+/// The cause of a trap, where a scan ended with one.
+fn cause_of_ending(
+    alloc: Global,
+    program: &Program,
+    trial: &Trial,
+    ending: Result<Scan, Trap>,
+) -> Option<Cause> {
+    match ending {
+        Ok(_) => None,
+        Err(trap) => Some(cause_of_trap(alloc, program, trial, trap)),
+    }
 }
 
 /// Appends the lines of a scan that ended so, and gives its status.

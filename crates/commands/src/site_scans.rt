@@ -1,12 +1,15 @@
 //! The scans of a program on a site, whose devices are asked over a poller.
-ghost use Rattle.std.specs.Prelude.{◌≡◌, ◌≢◌, length, map, Err, None, string_bytes, IfOk, OnErr};
+ghost use Rattle.std.specs.Prelude.{◌≡◌, ◌≢◌, length, map, Err, None, string_bytes, IfNone, IfOk, IfSome, OnErr};
 ghost use Rattle.gateway.specs.Fault.{core_fault_word};
 ghost use Rattle.gateway.specs.declared.fault.CoreFault.TheVariants.{Foreign};
 ghost use Rattle.modbus_frame.specs.Fault.{link_fault_word};
 ghost use Rattle.modbus_frame.specs.declared.link.LinkFault.TheVariants as link;
 ghost use Rattle.scan_vm.specs.Machine as vm;
+ghost use Rattle.commands.specs.Headline.{IsAccepted, RunsProgram};
+ghost use Rattle.commands.specs.Opening.{IsRefused, IsSearched, LeavesPoller, MakesCore, OpensCore, StartsCore};
+ghost use Rattle.commands.specs.Printed.{unlinked_with};
 ghost use Rattle.commands.specs.Report.{bad_core_line, link_line};
-ghost use Rattle.commands.specs.Scans.{IsLast, IsPrinted, IsScans, IsSearched, LeavesOff, LeavesPoller, MakesCore, OpensCore, StartsCore, unlinked_with};
+ghost use Rattle.commands.specs.Scans.{IsLast, IsPrinted, LeavesOff};
 ghost use Rattle.commands.specs.Told.{refused_with};
 
 pub use crate::accepted::DEPTH;
@@ -15,6 +18,7 @@ use crate::outcome::{Outcome, tell_no_memory, tell_unlinked, write_lines};
 use crate::report::{no_core, scanned};
 use gateway::{Core, CoreFault, Poller, run_scan};
 use modbus_frame::{Link, LinkFault};
+use refusal_notes::Cause;
 use register_map::Map;
 use scan_vm::Machine;
 use site_model::Site;
@@ -36,7 +40,28 @@ pub fn scans<L: Link, W: Write>(
     poller: &mut Poller<L>,
     out: &mut W,
 ) -> (Option<Core<DEPTH>>, u8)
-    ensures { IsScans site.now program.now (map string_bytes defs.now) n poller.old poller.new (W.contents out.old) (W.contents out.new) result.0 result.1 }
+    ensures accepted { IfSome result.0 (λ core. IsAccepted site.now program.now (map string_bytes defs.now) core.site core.machine.accepted) }
+    ensures run { IfSome result.0 (λ core. RunsProgram program.now n poller.old poller.new (W.contents out.old) (W.contents out.new) core result.1) }
+    ensures refused { IfNone result.0 (IsRefused site.now program.now (map string_bytes defs.now) poller.old poller.new (W.contents out.old) (W.contents out.new) result.1) }
+{
+    let mut cause = None;
+    scans_noting(alloc, site, program, defs, n, poller, &mut cause, out)
+}
+
+/// The same, and the cause is noted where the definitions, the site or the program are refused.
+pub fn scans_noting<L: Link, W: Write>(
+    alloc: Global,
+    site: &str,
+    program: &str,
+    defs: &[String],
+    n: u32,
+    poller: &mut Poller<L>,
+    cause: &mut Option<Cause>,
+    out: &mut W,
+) -> (Option<Core<DEPTH>>, u8)
+    ensures accepted { IfSome result.0 (λ core. IsAccepted site.now program.now (map string_bytes defs.now) core.site core.machine.accepted) }
+    ensures run { IfSome result.0 (λ core. RunsProgram program.now n poller.old poller.new (W.contents out.old) (W.contents out.new) core result.1) }
+    ensures refused { IfNone result.0 (IsRefused site.now program.now (map string_bytes defs.now) poller.old poller.new (W.contents out.old) (W.contents out.new) result.1) }
 {
     match core_of(alloc, site, program, defs, poller) {
         Ok(Ok(core)) => {
@@ -44,7 +69,11 @@ pub fn scans<L: Link, W: Write>(
             let status = scan_times(alloc, &mut core, poller, n, out);
             (Some(core), status)
         }
-        Ok(Err(outcome)) => (None, outcome.tell(out)),
+        Ok(Err(outcome)) => {
+            let status = outcome.tell(out);
+            *cause = outcome.cause;
+            (None, status)
+        }
         Err(AllocError) => (None, tell_no_memory(out)),
     }
 }

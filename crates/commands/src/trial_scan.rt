@@ -10,13 +10,14 @@ ghost use Rattle.commands.specs.Report.{bad_input_line};
 ghost use Rattle.commands.specs.Told.{refused_with};
 
 use crate::given::readings_given;
-use crate::input::program_length;
+use crate::input::{input_line, program_length};
 use crate::outcome::{Outcome, tell_no_memory};
 use crate::report::bad_input;
 use crate::scan::scan_outcome;
 use il_assemble::assemble;
 use il_assemble::laws::texts_keep_the_limits;
 use il_reader::{Program, read};
+use refusal_notes::Cause;
 use scan_code::Image;
 use scan_vm::Trial;
 use std::alloc::{AllocError, Global};
@@ -28,9 +29,16 @@ use std::io::Write;
 pub fn trial<W: Write>(alloc: Global, input: &str, out: &mut W) -> u8
     ensures { IsTrial input.now (W.contents out.old) (W.contents out.new) result }
 {
+    try_input(alloc, input, out).0
+}
+
+/// The same, and the cause where the text of the program is refused or the scan traps.
+pub fn try_input<W: Write>(alloc: Global, input: &str, out: &mut W) -> (u8, Option<Cause>)
+    ensures { IsTrial input.now (W.contents out.old) (W.contents out.new) result.0 }
+{
     match outcome_of(alloc, input) {
-        Ok(outcome) => outcome.tell(out),
-        Err(AllocError) => tell_no_memory(out),
+        Ok(outcome) => (outcome.tell(out), outcome.cause),
+        Err(AllocError) => (tell_no_memory(out), None),
     }
 }
 
@@ -56,34 +64,47 @@ fn outcome_of_program(
     ensures { IfOk result (TellsTree program.now (input.lines_of inputs.now)) }
 {
     match assemble(alloc, program) {
-        Ok(image) => outcome_of_image(alloc, image, inputs),
+        Ok(image) => outcome_of_image(alloc, program, image, inputs),
         Err(fault) => Outcome::unassembled(alloc, fault),
     }
 }
 
 /// What is told of an image, with the input lines.
-fn outcome_of_image(alloc: Global, image: Image, inputs: &[u8]) -> Result<Outcome, AllocError>
+fn outcome_of_image(
+    alloc: Global,
+    program: &Program,
+    image: Image,
+    inputs: &[u8],
+) -> Result<Outcome, AllocError>
     ensures { IfOk result (TellsGivenImage image (input.lines_of inputs.now)) }
 {
     let mut trial = Trial::new(alloc, image)?;
-    outcome_of_trial(alloc, &mut trial, inputs)
+    outcome_of_trial(alloc, program, &mut trial, inputs)
 }
 
 /// What is told of the first scan of a trial, with the input lines.
-fn outcome_of_trial(alloc: Global, trial: &mut Trial, inputs: &[u8]) -> Result<Outcome, AllocError>
+fn outcome_of_trial(
+    alloc: Global,
+    program: &Program,
+    trial: &mut Trial,
+    inputs: &[u8],
+) -> Result<Outcome, AllocError>
     ensures { (image : Image) → trial.old ≡ started image → IfOk result (TellsGivenImage image (input.lines_of inputs.now)) }
 {
     match readings_given(alloc, trial.image().tags.as_slice(), inputs) {
-        Ok(Ok(readings)) => scan_outcome(alloc, trial, readings.as_slice()),
-        Ok(Err(number)) => refused_input(alloc, number),
+        Ok(Ok(readings)) => scan_outcome(alloc, program, trial, readings.as_slice()),
+        Ok(Err(number)) => {
+            let line = input_line(inputs, number).saturating_add(program.end_line);
+            refused_input(alloc, number, line)
+        }
         Err(AllocError) => Err(AllocError),
     }
 }
 
-/// What is told of an input line that is refused, by its number.
-fn refused_input(alloc: Global, number: usize) -> Result<Outcome, AllocError>
+/// What is told of an input line that is refused, by its number and its line in the input.
+fn refused_input(alloc: Global, number: usize, place: u32) -> Result<Outcome, AllocError>
     ensures { IfOk result (λ o. o ≡ refused_with (bad_input_line number)) }
 {
     let line = bad_input(alloc, number)?;
-    Ok(Outcome::refused(line))
+    Ok(Outcome::caused(line, Cause::no_input(alloc, place)))
 }

@@ -42,7 +42,11 @@ fn outcome_of<L: Link + Drop>(alloc: Global, link: L, unit: u8) -> Result<Outcom
     ensures { IfOk result TellsAsked }
 {
     match models_of(alloc, link, unit) {
-        Ok(lines) => Ok(Outcome { lines, status: 0 }),
+        Ok(lines) => Ok(Outcome {
+            lines,
+            status: 0,
+            cause: None,
+        }),
         Err(NoModels::Map(fault)) => Ok(Outcome::refused(no_map(alloc, fault.word())?)),
         Err(NoModels::Link(fault)) => Outcome::unlinked(alloc, fault),
         Err(NoModels::OutOfMemory) => Err(AllocError),

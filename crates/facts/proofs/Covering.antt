@@ -15,6 +15,7 @@ use Rattle.facts.specs.Fit.{IsIn, LiesIn, HasIn, Hold, Fits, FitsValue, FitsResu
 use Rattle.facts.proofs.Comparing.{and_left, and_right, eq_out, three_true}
 use Rattle.facts.proofs.Spans.{in_intersected, in_joined_left, in_joined_right}
 use Rattle.facts.proofs.Lists.{by_same, get_set_same, get_set_other, set_at, zipped_at, mapped_at, repeated_at}
+use Rattle.point_types.proofs.Truths.{nat_same as code_equal}
 
 -- both of two consequences
 both_in : (s t : Option Span) (n : Option ℤ) → HasIn s n → HasIn t n → HasIn (both_spans s t) n
@@ -122,7 +123,7 @@ same_optional_out (Some Empty) (Some (Between a b)) e = grind arith
 same_optional_out (Some (Between a b)) (Some Empty) e = grind arith
 same_optional_out (Some (Between a b)) (Some (Between c d)) e = let p = eq_out a c (and_left _ _ e) in let q = eq_out b d (and_right (int_eq a c) _ e) in cc
 
-same_bool_out : (a b : Bool) → same_bool a b ≡ true → a ≡ b
+pub same_bool_out : (a b : Bool) → same_bool a b ≡ true → a ≡ b
 same_bool_out true b e = sym e
 same_bool_out false true e = e
 same_bool_out false false e = refl
@@ -191,9 +192,6 @@ type_numbered il.Lint = refl
 type_numbered il.Usint = refl
 type_numbered il.Uint = refl
 type_numbered il.Udint = refl
-
-code_equal : (m n : ℕ) → nat_eq m n ≡ true → m ≡ n
-code_equal m n e = grind arith
 
 itself : (k : IlType) → nat_eq (code_of k) (code_of k) ≡ true
 itself il.Bool = refl

@@ -25,6 +25,7 @@ use Rattle.std.specs.Int.Signed.{≤ℤ_refl, le_z_yes}
 use Rattle.facts.proofs.Lists.{by_same, set_at, get_set_other}
 use Rattle.facts.proofs.Spans.{absolute_in, product_in, quot_in, rem_in, lies_low, lies_high, flipped_in, cut_in, stands_mirrored, in_joined_left, in_joined_right}
 use Rattle.facts.proofs.Covering.{with_span_hold, nothing_for_hold, united_hold, same_code, code_same}
+use Rattle.point_types.proofs.Truths.{bool_kind}
 
 -- what holds of the result, if there is one
 pub record Yields {A E : Type 0} (r : Result A E) (P : A → Type 0) : Type 0 where
@@ -73,16 +74,6 @@ bit_of (pos zero) h = (false, refl)
 bit_of (pos (suc zero)) h = (true, refl)
 bit_of (pos (suc (suc n))) h = absurd (omega (arith, ints, h.1))
 bit_of (negsuc n) h = absurd (omega (arith, ints, h.0))
-
-pub bool_kind : (k : IlType) → is_bool k ≡ true → k ≡ il.Bool
-bool_kind il.Bool e = refl
-bool_kind il.Sint e = grind arith
-bool_kind il.Int e = grind arith
-bool_kind il.Dint e = grind arith
-bool_kind il.Lint e = grind arith
-bool_kind il.Usint e = grind arith
-bool_kind il.Uint e = grind arith
-bool_kind il.Udint e = grind arith
 
 pub bit_test : (x : Bool) → int_eq (number_of x) (pos 1) ≡ x
 bit_test true = refl

@@ -1,8 +1,10 @@
 pub mod Branches
+pub mod Ends
 pub mod Fact
 pub mod Fit
 pub mod Fitting
 pub mod Flow
+pub mod Numbered
 pub mod Overlay
 pub mod Places
 pub mod Slots

@@ -5,7 +5,7 @@ ghost use Rattle.facts.specs.Places.{IsNext};
 ghost use Rattle.facts.specs.Span.{joined};
 
 use crate::span::Span;
-use crate::sparse_list::{Rest, SparseList};
+use crate::sparse_list::{Rest, SparseList, number_behind};
 use point_types::Items;
 use std::alloc::{AllocError, Global};
 use std::marker::Model;
@@ -248,5 +248,32 @@ impl<'a> SpansLeft<'a> {
             }
             [] => Some(shown(Span::empty(), kept)),
         }
+    }
+}
+
+ghost use Rattle.facts.specs.Numbered.{differing};
+
+impl ChangedSpans {
+    /// Those of the spans that differ from others, with their numbers.
+    pub fn differing(
+        &self,
+        alloc: Global,
+        other: &ChangedSpans,
+    ) -> Result<Items<(usize, Span)>, AllocError>
+        ensures { IfOk result (λ spans. spans ≡ differing 0 self.now other.now) }
+    {
+        let mut found = Items::new(alloc);
+        let mut number: usize = 0;
+        let (mut ones, mut others) = (self.spans(), other.spans());
+        while let Some(one) = ones.next() {
+            let Some(other) = others.next() else {
+                break;
+            };
+            if !one.same(other) {
+                found.push((number, one))?;
+            }
+            number = number_behind(number)?;
+        }
+        Ok(found)
     }
 }

@@ -20,13 +20,25 @@ use std::mem;
 /// the deferred values, the last one first, and the result; a value that is nothing is None. Of the spans
 /// only those are kept that differ from the ranges that are declared, and of the inputs those that are
 /// present.
-#[derive(Drop)]
 pub struct Fact {
     pub variables: ChangedSpans,
     pub inputs: ChangedSpans,
     pub present: PresentInputs,
     pub deferred: Items<Option<AbstractValue>>,
     pub result: Option<AbstractValue>,
+}
+
+/// A call for whoever drops one: the proofs of the functions that own one needn't take it apart.
+impl Drop for Fact {
+    fn drop(self) {
+        let Fact {
+            variables: _,
+            inputs: _,
+            present: _,
+            deferred: _,
+            result: _,
+        } = self;
+    }
 }
 
 impl Fact {

@@ -2,7 +2,8 @@
 ghost use Rattle.std.specs.Prelude.{◌≡◌, ◌&&◌, ◌||◌, IfOk, false, true, map, replicate, slice_get, slice_set};
 ghost use Rattle.facts.specs.Places.{both_places, either_place, is_filled};
 
-use crate::sparse_list::SparseList;
+use crate::sparse_list::{SparseList, number_behind};
+use point_types::Items;
 use std::alloc::{AllocError, Global};
 use std::marker::Model;
 
@@ -178,4 +179,31 @@ fn same_mark(one: Option<()>, other: Option<()>) -> bool
         (None, None) => true,
         _ => false,
     }
+}
+
+ghost use Rattle.facts.specs.Numbered.{numbers_of};
+
+impl PresentInputs {
+    /// The numbers of the inputs that are known to be present.
+    pub fn numbers(&self, alloc: Global) -> Result<Items<usize>, AllocError>
+        ensures { IfOk result (λ numbers. numbers ≡ numbers_of 0 self.now) }
+    {
+        filled_numbers(alloc, &self.kept)
+    }
+}
+
+/// The numbers of the places that are filled.
+fn filled_numbers(alloc: Global, marks: &SparseList<()>) -> Result<Items<usize>, AllocError>
+    ensures { IfOk result (λ numbers. numbers ≡ numbers_of 0 (map is_filled marks.now)) }
+{
+    let mut numbers = Items::new(alloc);
+    let mut number: usize = 0;
+    let mut marks = marks.rest();
+    while let Some(mark) = marks.next() {
+        if let Some(()) = mark {
+            numbers.push(number)?;
+        }
+        number = number_behind(number)?;
+    }
+    Ok(numbers)
 }

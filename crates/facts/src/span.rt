@@ -253,3 +253,54 @@ fn left_between(low: i128, high: i128) -> Span
         Span::empty()
     }
 }
+
+ghost use Rattle.facts.specs.Ends.{absolute_ends, ends, made_ends};
+
+impl Span {
+    /// The least and the greatest member, if there is one.
+    pub fn ends(self) -> Option<(i64, i64)>
+        ensures { result ≡ ends self }
+    {
+        match self.left {
+            Some(span) => Some((span.low as i64, span.high as i64)),
+            None => None,
+        }
+    }
+
+    /// The least and the greatest number that an operator makes of members of both, before they are held
+    /// against a type; None where there is none, or where a divisor may be 0.
+    pub fn operated_ends(self, o: Operator, other: Span) -> Option<(i128, i128)>
+        ensures { result ≡ made_ends o self other }
+    {
+        if divides(o) && other.has_member(0) {
+            return None;
+        }
+        match (self.left, other.left) {
+            (Some(one), Some(two)) => Some(pair_of(ends_of(o, one, two))),
+            _ => None,
+        }
+    }
+
+    /// The least and the greatest number that ABS makes of members, before they are held against a type.
+    pub fn absolute_ends(self) -> Option<(i128, i128)>
+        ensures { result ≡ absolute_ends self }
+    {
+        match self.left {
+            Some(span) => Some(pair_of(span.abs())),
+            None => None,
+        }
+    }
+}
+
+/// Whether an operator wants a divisor that isn't 0.
+fn divides(o: Operator) -> bool
+    ensures { result ≡ divides o }
+{
+    matches!(o, Operator::Div | Operator::Mod)
+}
+
+fn pair_of(ends: intervals::Span) -> (i128, i128)
+    ensures { result ≡ (ends.low, ends.high) }
+{
+    (ends.low, ends.high)
+}

@@ -1,5 +1,5 @@
 //! A list of which few places hold something.
-ghost use Rattle.std.specs.Prelude.{◌≡◌, ◌∷◌, [], ◌++◌, length, None, OnErr, OnOk, IfOk, replicate, slice_get, slice_set};
+ghost use Rattle.std.specs.Prelude.{◌≡◌, ◌+◌, ◌∷◌, [], ◌++◌, length, None, OnErr, OnOk, IfOk, replicate, slice_get, slice_set};
 ghost use Rattle.facts.specs.Places.{IsNext, empty_before, filled};
 
 use std::alloc::{AllocError, Global};
@@ -198,5 +198,15 @@ impl<'a, T: Copy> Rest<'a, T> {
         self.kept = kept;
         self.empty = empty_before(kept, self.empty_at_end);
         Some(Some(*item))
+    }
+}
+
+/// The number of the next place.
+pub(crate) fn number_behind(number: usize) -> Result<usize, AllocError>
+    ensures { IfOk result (λ next. next ≡ number + 1) }
+{
+    match number.checked_add(1) {
+        Some(next) => Ok(next),
+        None => Err(AllocError),
     }
 }

@@ -12,9 +12,7 @@ use Rattle.gateway.specs.declared.point.OwnPoint.TheVariants as own
 use Rattle.gateway.specs.Laws.{AtMostOneServedImage}
 use Rattle.gateway.specs.Points.{own_points}
 use Rattle.gateway.specs.ServedImage.{amount_from, ArePointWords, AreServed, AreWordsOf}
-
-same_ok : {ws us : List ℕ} → ◌≡◌ {A = Result (List ℕ) Unencodable} (Ok ws) (Ok us) → ws ≡ us
-same_ok e = cc
+use Rattle.point_writer.proofs.Plans.{same_ok}
 
 one_number : (kind : Kind) (o : Option Amount) (a b : List ℕ) → AreWordsOf kind o a → AreWordsOf kind o b → a ≡ b
 one_number kind None a b h k = h ∙ sym k

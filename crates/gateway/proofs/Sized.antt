@@ -14,6 +14,7 @@ use Rattle.point_writer.specs.declared.write.Write.{Write}
 use Rattle.point_writer.specs.declared.write.NoWrite.{NoWrite}
 use Rattle.point_writer.specs.SetPoint.{WritesASetPoint}
 use Rattle.gateway.specs.Laws.{WritesAreSetPoints}
+use Rattle.point_types.proofs.Truths.{same_some as same_number}
 
 -- ---- the number of an output is that of a tag
 
@@ -22,9 +23,6 @@ IsThere n ts number = (k : ℕ) × (number ≡ n + k) × (t : SiteTag) × (slice
 
 behind : (n : ℕ) (u : SiteTag) (ts : List SiteTag) (number : ℕ) → IsThere (n + 1) ts number → IsThere n (u ∷ ts) number
 behind n u ts number h = let e = h.1 in (suc h.0, omega (arith, e), h.2, h.3)
-
-same_number : {a b : ℕ} → Some a ≡ Some b → b ≡ a
-same_number e = cc
 
 out_there : (n : ℕ) (ts : List SiteTag) (i number : ℕ) → slice_get (outs_from n ts) i ≡ Some number → IsThere n ts number
 out_there n [] i number e = cc

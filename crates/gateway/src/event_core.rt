@@ -25,7 +25,6 @@ use std::marker::Model;
 
 /// The core of a gateway: its site, the program that runs, what is known of the devices, and what clients set. It goes
 /// from event to event, takes memory when it is made alone, and never waits.
-#[derive(Drop)]
 pub struct Core<const DEPTH: usize> {
     pub(crate) site: Site,
     pub(crate) maps: Vec<Option<Map>>,
@@ -38,6 +37,22 @@ pub struct Core<const DEPTH: usize> {
     pub(crate) room: Vec<Option<i64>>,
     /// Room for the readings of the program's tags.
     pub(crate) inputs: Vec<Reading>,
+}
+
+/// A call for whoever drops one: the proofs of the functions that own one needn't take it apart.
+impl<const DEPTH: usize> Drop for Core<DEPTH> {
+    fn drop(self) {
+        let Core {
+            site: _,
+            maps: _,
+            machine: _,
+            points: _,
+            known: _,
+            image: _,
+            room: _,
+            inputs: _,
+        } = self;
+    }
 }
 
 impl<const DEPTH: usize> Model for Core<DEPTH> {

@@ -2,16 +2,22 @@
 ghost use Rattle.std.specs.Prelude.{◌≡◌};
 
 use std::alloc::{AllocError, AllocFailed};
+use std::fmt;
 use thiserror::Error;
 
 /// Why there is no core for a site and a program.
 #[derive(Clone, Copy, PartialEq, Eq, Debug, Error)]
-#[error("{}", self.word())]
 pub enum CoreFault {
     /// The program was accepted for tags that the site doesn't have so.
     Foreign = 1,
     /// Memory was refused.
     OutOfMemory,
+}
+
+impl fmt::Display for CoreFault {
+    fn fmt<W: fmt::Write>(&self, f: &mut fmt::Formatter<W>) -> fmt::Result {
+        f.write_str(self.word())
+    }
 }
 
 impl CoreFault {

@@ -3,7 +3,6 @@ use point_types::Reading;
 use site_model::Words;
 
 /// What a gateway knows, each list as long as the site's wants or its tags.
-#[derive(Drop)]
 pub(crate) struct Memory {
     /// The words of the wanted blocks.
     pub(crate) blocks: Vec<Option<Words>>,
@@ -17,4 +16,18 @@ pub(crate) struct Memory {
     pub(crate) steps: u32,
     /// The words of the wanted blocks at the last scan.
     pub(crate) scanned: Vec<Option<Words>>,
+}
+
+/// A call for whoever drops one: the proofs of the functions that own one needn't take it apart.
+impl Drop for Memory {
+    fn drop(self) {
+        let Memory {
+            blocks: _,
+            sets: _,
+            outputs: _,
+            readings: _,
+            steps: _,
+            scanned: _,
+        } = self;
+    }
 }

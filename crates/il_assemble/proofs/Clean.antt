@@ -13,6 +13,7 @@ use Rattle.scan_code.specs.Table.{input_kind, output_kind, or_wrong, declared_va
 use Rattle.il_assemble.specs.Meaning.{Program, Source, Variable, Input, Presence, Constant, Simple, Load, Apply, Defer, Limit, Select, Invert, Absolute, Convert, Inner, Close, Then, Place, InVariable, InOutput, State, value_of, optional_value, operand_applied, simple_result, inner_result, scope_of}
 use Rattle.il_assemble.specs.Correct.{IsSource, IsStart, IsSimple, IsInner, IsDeclared, AreVariables, IsReading, AreReadings}
 use Rattle.scan_code.proofs.Fetch.{within_parts}
+use Rattle.point_types.proofs.Truths.{bool_kind}
 
 abbrev pub IsBit : IlType → ℤ → Type 0
 IsBit k n = code_of k ≡ 0 → is_within (pos 0) (pos 1) n ≡ true
@@ -272,16 +273,6 @@ readings_clean (t ∷ ts) (r ∷ rs) h zero = reading_clean t r h.0 t.output
 readings_clean (t ∷ ts) (r ∷ rs) h (suc j) = readings_clean ts rs h.1 j
 
 -- NOT twice
-
-pub bool_kind : (k : IlType) → is_bool k ≡ true → k ≡ il.Bool
-bool_kind il.Bool h = refl
-bool_kind il.Sint h = absurd (true≢false (sym h))
-bool_kind il.Int h = absurd (true≢false (sym h))
-bool_kind il.Dint h = absurd (true≢false (sym h))
-bool_kind il.Lint h = absurd (true≢false (sym h))
-bool_kind il.Usint h = absurd (true≢false (sym h))
-bool_kind il.Uint h = absurd (true≢false (sym h))
-bool_kind il.Udint h = absurd (true≢false (sym h))
 
 twice : (n : ℤ) → is_within (pos 0) (pos 1) n ≡ true → number_of (int_eq (number_of (int_eq n (pos 0))) (pos 0)) ≡ n
 twice (pos zero) h = refl

@@ -32,7 +32,8 @@ use Rattle.il_assemble.specs.Assembled.{IsAssembled, StartsAreInRange, WhatElabo
 use Rattle.il_assemble.proofs.Leads.{past_append}
 use Rattle.il_assemble.proofs.Bytes.{code_is_of_bytes, long_as_past}
 use Rattle.il_assemble.proofs.Lines.{same_size, code_does_what_the_program_means, each_end_is_the_meaning}
-use Rattle.il_assemble.proofs.Sound.{first_ok, at_line_ok, unless_none, lowest_none, both, known_there, store_well, simple_well, simple_depth}
+use Rattle.il_assemble.proofs.Sound.{first_ok, at_line_ok, unless_none, lowest_none, known_there, store_well, simple_well, simple_depth}
+use Rattle.point_types.proofs.Truths.{both}
 
 -- Labels.
 

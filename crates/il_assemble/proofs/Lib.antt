@@ -19,3 +19,4 @@ pub mod TextTokens
 pub mod TextNames
 pub mod TextDeclared
 pub mod TextTrees
+pub mod TabledLines

@@ -24,7 +24,7 @@ use Rattle.il_assemble.specs.Names.{Scope}
 use Rattle.il_assemble.specs.Typing.{loaded_inner_type, or_dint, type_after, type_inside, whole_type}
 use Rattle.il_assemble.specs.Written.{Written, Load, Apply, Defer, Limit, Select, Invert, Absolute, Convert, Inner, Close, Then, written}
 
-code_append : (ps qs : List Part) → code_of (ps ++ qs) ≡ code_of ps ++ code_of qs
+pub code_append : (ps qs : List Part) → code_of (ps ++ qs) ≡ code_of ps ++ code_of qs
 code_append [] qs = refl
 code_append (p ∷ ps) qs = ap (λ l. p.code ++ l) (code_append ps qs) ∙ sym (append_assoc p.code (code_of ps) (code_of qs))
 

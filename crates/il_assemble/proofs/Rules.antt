@@ -22,8 +22,10 @@ use Rattle.il_assemble.specs.Names.{Scope, tags_of, uses_of}
 use Rattle.il_assemble.specs.StaticFault.{checked_lines}
 use Rattle.il_assemble.specs.Elaboration.{declared_var, first_line, limits_of, measured, named_apart, names_seen, nested, program_of, resolved_lines, scope_of, too_long, undivided, unless_external, unless_variable}
 use Rattle.il_assemble.proofs.Bytes.{code_is_of_bytes}
-use Rattle.il_assemble.proofs.Sound.{both, negated}
+use Rattle.il_assemble.proofs.Sound.{negated}
 use Rattle.il_assemble.proofs.Elaborating.{IsElaborated, code_same, few_externals, few_variables, fewer_tags, parts, passes_assemble, well}
+use Rattle.point_types.proofs.Truths.{both}
+use Rattle.point_types.proofs.Truths.{and_both}
 
 -- The rules of images.
 
@@ -61,9 +63,6 @@ images_are_proper t p e = let x = parts t p e in subst (λ (q : Program). IsProp
 pub or_none : (a b : Bool) → (a || b) ≡ false → (a ≡ false) × (b ≡ false)
 or_none true b h = cc
 or_none false b h = (refl, h)
-
-pub and_both : (a b : Bool) → a ≡ true → b ≡ true → (a && b) ≡ true
-and_both a b h k = ap (λ x. x && b) h ∙ k
 
 -- what isn't among the first names isn't among the second ones
 abbrev Lack : List (List ℕ) → List (List ℕ) → Type 0

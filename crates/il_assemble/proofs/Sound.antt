@@ -18,6 +18,7 @@ use Rattle.il_assemble.specs.Typing.{is_literal_of, or_dint, type_beside, whole_
 use Rattle.il_assemble.specs.StaticFault.{lowest, unless, load_fault, store_fault, operand_fault, first_fault, is_conversion, at_line, checked_simple, checked_inner}
 use Rattle.il_assemble.specs.Elaboration.{source_known, source_of, place_known, first_source, resolved_simple, resolved_inner, is_nested_within, is_inner_within, declared_var, program_of}
 use Rattle.il_assemble.specs.Written.{Written, Load, Apply, Defer, Limit, Select, Invert, Absolute, Convert, Inner, Close, Then}
+use Rattle.point_types.proofs.Truths.{both}
 
 -- Answers.
 
@@ -37,10 +38,6 @@ pub lowest_none : (a b : Option AsmFaultKind) → lowest a b ≡ None → (a ≡
 lowest_none None b e = (refl, e)
 lowest_none (Some a) None e = cc
 lowest_none (Some a) (Some b) e = cc
-
-pub both : (a b : Bool) → (a && b) ≡ true → (a ≡ true) × (b ≡ true)
-both true b h = (refl, h)
-both false b h = cc
 
 pub negated : (b : Bool) → not b ≡ true → b ≡ false
 negated true h = cc

@@ -19,9 +19,11 @@ use Rattle.il_reader.specs.Declaration.{among, begun, bounded, external_of, has_
 use Rattle.il_reader.specs.Grammar.{IsFree, IsNext, Placed, past, placed, with_entries}
 use Rattle.il_reader.specs.Limit.{most_names}
 use Rattle.il_assemble.specs.Assembled.{declared_name, external_name}
-use Rattle.il_assemble.proofs.Rules.{and_both, or_none}
-use Rattle.il_assemble.proofs.Sound.{both, negated}
+use Rattle.il_assemble.proofs.Rules.{or_none}
+use Rattle.il_assemble.proofs.Sound.{negated}
 use Rattle.il_assemble.proofs.TextTokens.{AreNamed, IsNamed}
+use Rattle.point_types.proofs.Truths.{both}
+use Rattle.point_types.proofs.Truths.{and_both}
 
 -- ---- tokens behind tokens
 

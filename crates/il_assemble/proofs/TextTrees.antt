@@ -21,10 +21,11 @@ use Rattle.il_assemble.specs.Assembled.{declared_name, external_name}
 use Rattle.il_assemble.specs.Elaboration.{counted, elaborated, is_action_within, is_inner_within, is_nested_within, named_apart, names_seen, nested, scope_of, too_long, undivided, unless_external, unless_variable}
 use Rattle.il_assemble.specs.Texts.{KeepsTheLimits, TextsKeepTheLimits, elaborated_text}
 use Rattle.il_assemble.specs.Written.{Written, Load, Apply, Defer, Limit, Select, Invert, Absolute, Convert, Inner, Close, Then}
-use Rattle.il_assemble.proofs.Rules.{and_both, names_stay_different}
+use Rattle.il_assemble.proofs.Rules.{names_stay_different}
 use Rattle.il_assemble.proofs.TextDeclared.{blocks}
 use Rattle.il_assemble.proofs.TextNames.{next_named}
 use Rattle.il_assemble.proofs.TextTokens.{AreNamed, ScansNamed, tokens_named}
+use Rattle.point_types.proofs.Truths.{and_both}
 
 -- ---- parentheses
 

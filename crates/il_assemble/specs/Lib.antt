@@ -12,3 +12,5 @@ pub mod Typing
 pub mod Word
 pub mod Written
 pub mod Texts
+pub mod LineTable
+pub mod LineForms

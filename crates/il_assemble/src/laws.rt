@@ -2,6 +2,7 @@
 ghost use Rattle.il_assemble.specs.Assembled.{ImagesAreProper, NamesStayDifferent, PartsAreTheCode, StartsAreInRange, StaticFaultsWantNoMemory, WhatElaboratesIsWell};
 ghost use Rattle.il_assemble.specs.Examples.{ExamplesHold};
 ghost use Rattle.il_assemble.specs.Correct.{CodeIsOfBytes, CodeDoesWhatTheProgramMeans, EachEndIsTheMeaning, NumberedCountersFindTheirLimits, RunsThatAreOverStayOver, SizesDependOnTheFormAlone, TurnsNeverRunOut};
+ghost use Rattle.il_assemble.specs.LineTable.{InstructionsHaveTheirLines};
 ghost use Rattle.il_assemble.specs.Texts.{TextsKeepTheLimits};
 
 use il_reader::laws::reading_is_exact;
@@ -45,6 +46,12 @@ pub fn numbered_counters_find_their_limits()
 /// The parts of an instruction, by which the line is told whose code passes the limit, make up its code.
 pub fn parts_are_the_code()
     ensures { PartsAreTheCode }
+{}
+
+/// The lines of instructions are those of parts that make up the code of the program: instruction i of the image
+/// lies in the code of the statement at line i of the table.
+pub fn instructions_have_their_lines()
+    ensures { InstructionsHaveTheirLines }
 {}
 
 /// What elaborates is well formed.

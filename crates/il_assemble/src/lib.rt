@@ -8,6 +8,7 @@ mod fault;
 mod jumps;
 pub mod laws;
 mod limits;
+mod line_table;
 mod measure;
 mod names;
 mod passing;
@@ -19,3 +20,4 @@ mod uses;
 
 pub use assembler::assemble;
 pub use fault::{AsmFault, AsmFaultKind};
+pub use line_table::instruction_lines;

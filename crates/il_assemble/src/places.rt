@@ -9,11 +9,21 @@ use name_places::{Places, note};
 use std::alloc::{AllocError, Global};
 
 /// The places of a program's variables, externals and labels.
-#[derive(Drop)]
 pub(crate) struct Tables<'a> {
     pub(crate) variables: Places<'a>,
     pub(crate) externals: Places<'a>,
     pub(crate) labels: Places<'a>,
+}
+
+/// A call for whoever drops one: the proofs of the functions that own one needn't take it apart.
+impl Drop for Tables<'_> {
+    fn drop(self) {
+        let Tables {
+            variables: _,
+            externals: _,
+            labels: _,
+        } = self;
+    }
 }
 
 /// The places of all names.

@@ -12,7 +12,7 @@ use Rattle.il_reader.specs.declared.lexer.Mode.{Mode}
 use Rattle.il_reader.specs.declared.lexer.Mode.TheVariants as mode
 use Rattle.il_reader.specs.Tokens.{stands, limits_of, number_stands, lexed, is_colon, behind_blank, colon_behind, colon_comes}
 
-outside : (k : IlType) (n : ℤ) → (SFits w64 n → ⊥) → is_within (low_of k) (high_of k) n ≡ false
+pub outside : (k : IlType) (n : ℤ) → (SFits w64 n → ⊥) → is_within (low_of k) (high_of k) n ≡ false
 outside il.Bool n f = grind (arith, ints)
 outside il.Sint n f = grind (arith, ints)
 outside il.Int n f = grind (arith, ints)

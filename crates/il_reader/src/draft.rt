@@ -15,7 +15,6 @@ pub(crate) struct Head {
 }
 
 /// A program as far as it has been read.
-#[derive(Drop)]
 pub(crate) struct Draft {
     pub name: Name,
     /// The names that are declared, those of the declaration that is being read included.
@@ -26,6 +25,21 @@ pub(crate) struct Draft {
     pub pending: Items<Entry>,
     pub labels: Items<Name>,
     pub statements: Items<Statement>,
+}
+
+/// A call for whoever drops one: the proofs of the functions that own one needn't take it apart.
+impl Drop for Draft {
+    fn drop(self) {
+        let Draft {
+            name: _,
+            scope: _,
+            variables: _,
+            externals: _,
+            pending: _,
+            labels: _,
+            statements: _,
+        } = self;
+    }
 }
 
 impl Draft {

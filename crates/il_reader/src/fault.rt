@@ -2,11 +2,11 @@
 ghost use Rattle.std.specs.Prelude.{◌≡◌};
 ghost use Rattle.il_reader.specs.Fault.{word_of};
 
+use std::fmt;
 use thiserror::Error;
 
 /// Why a text is no program.
 #[derive(Clone, Copy, PartialEq, Eq, Debug, Error)]
-#[error("{}", self.word())]
 pub enum ReadFaultKind {
     /// Bytes that are no token, a word that is no name, or a comment that is never closed.
     Word,
@@ -34,6 +34,12 @@ pub enum ReadFaultKind {
     OutOfMemory,
 }
 
+impl fmt::Display for ReadFaultKind {
+    fn fmt<W: fmt::Write>(&self, f: &mut fmt::Formatter<W>) -> fmt::Result {
+        f.write_str(self.word())
+    }
+}
+
 impl ReadFaultKind {
     /// The word by which a refusal names the fault.
     pub fn word(self) -> &'static str
@@ -51,6 +57,58 @@ impl ReadFaultKind {
             ReadFaultKind::Duplicate => "Duplicate",
             ReadFaultKind::TooLong => "TooLong",
             ReadFaultKind::OutOfMemory => "OutOfMemory",
+        }
+    }
+
+    /// What is wrong, in short.
+    pub fn meaning(self) -> &'static str {
+        match self {
+            ReadFaultKind::Word => "characters that are no word of the language",
+            ReadFaultKind::Header => "the frame of the program is broken",
+            ReadFaultKind::Declaration => "no declaration of a variable or an external",
+            ReadFaultKind::Operator => "no operator stands where one must",
+            ReadFaultKind::Operand => "an operand is missing, or one is too many",
+            ReadFaultKind::Label => "a jump without the name of a label",
+            ReadFaultKind::Parenthesis => {
+                "a parenthesis that closes or opens nothing, or what may not stand inside"
+            }
+            ReadFaultKind::Literal => "no number, or one that is too large",
+            ReadFaultKind::Duplicate => "a name that stands already",
+            ReadFaultKind::TooLong => "the text has more than a program may have",
+            ReadFaultKind::OutOfMemory => "memory was refused",
+        }
+    }
+
+    /// What to do about it.
+    pub fn help(self) -> &'static str {
+        match self {
+            ReadFaultKind::Word => {
+                "write names in letters, digits and single underscores, at most 32 of them; close each comment (* .. *)"
+            }
+            ReadFaultKind::Header => {
+                "begin with PROGRAM and a name, end with END_PROGRAM, and write nothing behind it"
+            }
+            ReadFaultKind::Declaration => {
+                "write name : TYPE; with (low..high) or := start inside the type; look for a missing semicolon in the line before"
+            }
+            ReadFaultKind::Operator => {
+                "begin the line with one operator, as LD or ADD; a label has a colon, and {LOOP n} stands before a jump"
+            }
+            ReadFaultKind::Operand => {
+                "give one operand; LIMIT and SEL take two with a comma, NOT, ABS and conversions none"
+            }
+            ReadFaultKind::Label => "name a label that stands before a line, as JMP done",
+            ReadFaultKind::Parenthesis => {
+                "give each op( a ) on a line of its own, and store, jump and return behind it"
+            }
+            ReadFaultKind::Literal => {
+                "write a decimal within the type, or digits of the base behind 16#, 8# or 2#"
+            }
+            ReadFaultKind::Duplicate => "rename one of the two; case makes no difference",
+            ReadFaultKind::TooLong => {
+                "split the program, or store parts of a nested expression in variables"
+            }
+            ReadFaultKind::OutOfMemory => "give the program more memory, and run the command again",
         }
     }
 }

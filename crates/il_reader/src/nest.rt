@@ -8,9 +8,15 @@ use std::alloc::{AllocError, Global};
 use std::marker::Model;
 
 /// The parentheses that stand open. Contracts see them as a list, the inmost first.
-#[derive(Drop)]
 pub(crate) struct Nest {
     parentheses: Vec<OpenParenthesis>,
+}
+
+/// A call for whoever drops one: the proofs of the functions that own one needn't take it apart.
+impl Drop for Nest {
+    fn drop(self) {
+        let Nest { parentheses: _ } = self;
+    }
 }
 
 /// Parentheses that stand open: the instruction that opened them, and the lines inside so far.

@@ -9,7 +9,6 @@ use std::alloc::{AllocError, Global};
 const MOST_BYTES: usize = 1_048_576;
 
 /// How a text stands between two of its bytes.
-#[derive(Drop)]
 pub(crate) struct Reader {
     /// The line of the next byte.
     pub line: u32,
@@ -17,6 +16,18 @@ pub(crate) struct Reader {
     pub last: u32,
     pub mode: Mode,
     pub state: State,
+}
+
+/// A call for whoever drops one: the proofs of the functions that own one needn't take it apart.
+impl Drop for Reader {
+    fn drop(self) {
+        let Reader {
+            line: _,
+            last: _,
+            mode: _,
+            state: _,
+        } = self;
+    }
 }
 
 impl Reader {

@@ -3,7 +3,7 @@ use crate::computation::Computation;
 use point_types::{Condition, IlType, Items, Name, Operator, Var};
 
 /// A program as its text has it (IEC 61131-3 edition 2, 2.5.3 and 3.2). Lines are counted from 1.
-#[derive(Drop, Debug)]
+#[derive(Debug)]
 pub struct Program {
     pub name: Name,
     /// The variables of all VAR blocks, in the order of the text.
@@ -14,6 +14,19 @@ pub struct Program {
     pub statements: Items<Statement>,
     /// The line of END_PROGRAM.
     pub end_line: u32,
+}
+
+/// A call for whoever drops one: the proofs of the functions that own one needn't take it apart.
+impl Drop for Program {
+    fn drop(self) {
+        let Program {
+            name: _,
+            variables: _,
+            externals: _,
+            statements: _,
+            end_line: _,
+        } = self;
+    }
 }
 
 /// A declared variable, and the line of its name.

@@ -9,17 +9,13 @@ use Rattle.point_types.specs.Value.{◌>>=◌}
 use Rattle.inverter_sim.specs.declared.fault.PlantFault.{PlantFault}
 use Rattle.inverter_sim.specs.declared.misbehaviour.Fault.{Fault}
 use Rattle.inverter_sim.specs.State.{DeviceState}
-use Rattle.inverter_sim.specs.File.{integers_in, any_of, count, faults_from, fault_of, devices_from, device_of, valued_all, valued, Valued}
+use Rattle.inverter_sim.specs.File.{integers_in, any_of, faults_from, fault_of, devices_from, device_of, valued_all, valued, Valued}
 
 pub next_of : {X : Type 0} (xs : List X) (i : ℕ) (x : X) → i < length xs → x ≡ get_or xs i x → drop i xs ≡ x ∷ drop (i + 1) xs
 next_of xs i x within is = rw (drop-cons xs i x, add-one) (rw (← is) refl)
 
 pub next_item : (vs : List Value) (i : ℕ) (v : Value) → i < length vs → v ≡ get_or vs i v → items_view (drop i vs) ≡ item (view v) (items_view (drop (i + 1) vs))
 next_item vs i v within is = ap items_view (next_of vs i v within is)
-
-pub counted_items : (vs : List Value) → count (items_view vs) ≡ length vs
-counted_items [] = refl
-counted_items (v ∷ vs) = ap (λ n. n + 1) (counted_items vs) ∙ add-one (length vs)
 
 longer : {X : Type 0} (before : List X) (x : X) (rest : Option (List X)) → option_map (λ l. before ++ l) (option_map (λ l. x ∷ l) rest) ≡ option_map (λ l. (before ++ x ∷ []) ++ l) rest
 longer before x None = refl

@@ -6,8 +6,9 @@ use Rattle.std.specs.List.{list_any, list_all}
 use Rattle.std.specs.Ordering.{int_eq}
 use Rattle.std.specs.Option.{ok_or, option_map_or}
 use Rattle.std.specs.Str.{bytes_eq}
-use Rattle.toml.specs.Data.{Data, Items, Members, no_items, item, table, get, as_integer, as_str, as_array}
+use Rattle.toml.specs.Data.{Data, Items, Members, no_items, item, table, as_integer}
 use Rattle.toml.specs.Parse.{parse_document}
+use Rattle.file_keys.specs.Keys.{number_at, number_or, text_at, list_at, section_at, count, has_over}
 use Rattle.point_types.specs.Value.{◌>>=◌}
 use Rattle.point_types.specs.Point.{row_of}
 use Rattle.point_types.specs.declared.kind.Kind.{Kind}
@@ -24,49 +25,26 @@ use Rattle.inverter_sim.specs.Image.{Placed, image_of, places_of, placed, point_
 
 -- ---- keys
 
--- a key of a table, where it is there and a whole number
-abbrev pub integer_at : List ℕ → Data → Option ℤ
-integer_at key tree = option_and_then as_integer (get key tree)
-
--- the same of a key that may be missing
-abbrev pub integer_or : List ℕ → ℤ → Data → Option ℤ
-integer_or key usual tree = option_map_or as_integer (get key tree) (Some usual)
-
-abbrev pub text_at : List ℕ → Data → Option (List ℕ)
-text_at key tree = option_and_then as_str (get key tree)
-
 -- a list of whole numbers
 abbrev pub integers_in : Items → Option (List ℤ)
 integers_in no_items = Some []
 integers_in (item tree trees) = option_and_then (λ n. option_map (λ ns. n ∷ ns) (integers_in trees)) (as_integer tree)
 
 abbrev pub integers_at : List ℕ → Data → Option (List ℤ)
-integers_at key tree = option_and_then integers_in (option_and_then as_array (get key tree))
-
--- the entries of a section, which may be missing
-abbrev pub section : List ℕ → Data → Option Items
-section key tree = option_map_or as_array (get key tree) (Some no_items)
+integers_at key tree = option_and_then integers_in (list_at key tree)
 
 -- ---- numbers of entries
-
-abbrev pub count : Items → ℕ
-count no_items = 0
-count (item tree trees) = count trees + 1
-
--- there is a list at the key, with more entries than that
-abbrev pub is_longer : List ℕ → ℕ → Data → Bool
-is_longer key most tree = option_map_or (λ trees. nat_lt most (count trees)) (option_and_then as_array (get key tree)) false
 
 abbrev pub any_of : (Data → Bool) → Items → Bool
 any_of test no_items = false
 any_of test (item tree trees) = test tree || any_of test trees
 
 abbrev pub device_has_too_many : Data → Bool
-device_has_too_many tree = is_longer (codes "models") 16 tree || is_longer (codes "available") 1024 tree
+device_has_too_many tree = has_over 16 (codes "models") tree || has_over 1024 (codes "available") tree
 
 -- more devices, models of a device or watts of a device than a plant has, wherever in the file
 abbrev pub has_too_many : Data → Bool
-has_too_many tree = is_longer (codes "device") 64 tree || option_map_or (any_of device_has_too_many) (option_and_then as_array (get (codes "device") tree)) false
+has_too_many tree = has_over 64 (codes "device") tree || option_map_or (any_of device_has_too_many) (list_at (codes "device") tree) false
 
 -- ---- a device
 
@@ -88,11 +66,11 @@ device_keys tree =
     option_and_then (λ wmax.
     option_and_then (λ available.
     option_map (λ base. record { unit = unit; models = models; wmax = wmax; available = available; base = base })
-    (integer_or (codes "base") (pos 40000) tree))
+    (number_or (codes "base") (pos 40000) tree))
     (integers_at (codes "available") tree))
-    (integer_at (codes "wmax") tree))
+    (number_at (codes "wmax") tree))
     (integers_at (codes "models") tree))
-    (integer_at (codes "unit") tree)
+    (number_at (codes "unit") tree)
 
 -- of two definitions with one id the last one counts
 abbrev pub definition_of : List ModelDef → ℤ → Option ModelDef
@@ -154,9 +132,9 @@ value_keys tree =
     option_and_then (λ model.
     option_and_then (λ point.
     option_map (λ raw. record { model = model; point = point; raw = raw })
-    (integer_at (codes "raw") tree))
+    (number_at (codes "raw") tree))
     (text_at (codes "point") tree))
-    (integer_at (codes "model") tree)
+    (number_at (codes "model") tree)
 
 abbrev pub is_signed : Kind → Bool
 is_signed kinds.Int16 = true
@@ -210,7 +188,7 @@ valued_all models v (item tree trees) = valued models v tree >>= λ next. valued
 -- the registers when all values are given
 abbrev pub values_of : List ModelDef → List ℕ → Data → Result (List ℕ) PlantFault
 values_of models registers tree =
-    ok_or (section (codes "value") tree) fault.MissingKey >>= λ trees.
+    ok_or (section_at (codes "value") tree) fault.MissingKey >>= λ trees.
     valued_all models (record { registers = registers; seen = [] }) trees >>= λ v.
     Ok v.registers
 
@@ -234,7 +212,7 @@ devices_from defs seen no_items = Ok seen
 devices_from defs seen (item tree trees) = device_of defs seen tree >>= λ d. devices_from defs (seen ++ d ∷ []) trees
 
 abbrev pub devices_of : List ModelDef → Data → Result (List DeviceState) PlantFault
-devices_of defs tree = ok_or (section (codes "device") tree) fault.MissingKey >>= devices_from defs []
+devices_of defs tree = ok_or (section_at (codes "device") tree) fault.MissingKey >>= devices_from defs []
 
 -- ---- the faults of a plant
 
@@ -248,7 +226,7 @@ own_key kind =
 
 -- its number; 0 for a kind without one
 abbrev pub own_number : List ℕ → Data → Option ℤ
-own_number kind tree = option_map_or (λ key. integer_at key tree) (own_key kind) (Some (pos 0))
+own_number kind tree = option_map_or (λ key. number_at key tree) (own_key kind) (Some (pos 0))
 
 pub record FaultKeys : Type 0 where
   pub request : ℤ
@@ -262,7 +240,7 @@ fault_keys tree =
     option_map (λ number. record { request = request; kind = kind; number = number })
     (own_number kind tree))
     (text_at (codes "kind") tree))
-    (integer_at (codes "request") tree)
+    (number_at (codes "request") tree)
 
 -- nothing where the number is outside its limits, or for another kind
 abbrev pub misbehaviour_of : List ℕ → ℤ → Option Misbehaviour
@@ -298,7 +276,7 @@ abbrev pub faults_in : Items → Result (List Fault) PlantFault
 faults_in trees = if nat_lt 256 (count trees) then Err fault.TooMany else faults_from [] trees
 
 abbrev pub faults_of : Data → Result (List Fault) PlantFault
-faults_of tree = ok_or (section (codes "fault") tree) fault.MissingKey >>= faults_in
+faults_of tree = ok_or (section_at (codes "fault") tree) fault.MissingKey >>= faults_in
 
 -- ---- the plant
 

@@ -3,12 +3,14 @@
 
 mod device;
 mod fault;
+mod fault_place;
 mod misbehaviour;
 mod place;
 mod plant;
 mod points;
 mod reader;
 mod serving;
+mod spot;
 mod tick;
 
 // a plant of inverters, and what one of its devices does wrong

@@ -9,8 +9,11 @@ ghost use Rattle.inverter_sim.specs.Serve.{after_among, reply_among, after_servi
 
 use crate::device::Device;
 use crate::fault::PlantFault;
+use crate::fault_place::place_of;
 use crate::misbehaviour::Fault;
 use crate::reader::{devices_of, faults_of, has_too_many};
+use crate::spot::Spot;
+use file_keys::Placed;
 use modbus_frame::{Exception, Pdu, exception_pdu};
 use model_defs::ModelDef;
 use std::alloc::Global;
@@ -55,13 +58,27 @@ impl Plant {
         ensures unbroken { OnOk result ((e : FaultOfPlant) → ¬ Breaks defs.now toml.now e) }
         ensures refused { IfErr result (λ e. e ≢ fault.OutOfMemory → Breaks defs.now toml.now e) }
     {
-        match table_from_str(alloc, toml) {
-            Ok(table) => read_tree(alloc, &Value::Table(table), defs),
-            Err(e) => if e.is_memory() {
-                Err(PlantFault::OutOfMemory)
-            } else {
-                Err(PlantFault::NotToml)
-            },
+        let mut spot = Spot::File;
+        read_to(alloc, toml, defs, &mut spot)
+    }
+
+    /// The same; the fault, which is that of [`Plant::read`], has the place in the text where it was found.
+    pub fn read_placed(
+        alloc: Global,
+        toml: &str,
+        defs: &[ModelDef],
+    ) -> Result<Plant, Placed<PlantFault>>
+        ensures ok { IfOk result (StandsFor defs.now toml.now) }
+        ensures unbroken { OnOk result ((e : FaultOfPlant) → ¬ Breaks defs.now toml.now e) }
+        ensures refused { IfErr result (λ p. p.fault ≢ fault.OutOfMemory → Breaks defs.now toml.now p.fault) }
+    {
+        let mut spot = Spot::File;
+        match read_to(alloc, toml, defs, &mut spot) {
+            Ok(plant) => Ok(plant),
+            Err(fault) => Err(Placed {
+                fault,
+                place: place_of(alloc, toml, defs, spot, fault),
+            }),
         }
     }
 
@@ -85,15 +102,41 @@ impl Plant {
     }
 }
 
-fn read_tree(alloc: Global, tree: &Value, defs: &[ModelDef]) -> Result<Plant, PlantFault>
+/// Reads a plant file, and notes the entry that it has come to.
+fn read_to(
+    alloc: Global,
+    toml: &str,
+    defs: &[ModelDef],
+    spot: &mut Spot,
+) -> Result<Plant, PlantFault>
+    ensures ok { IfOk result (StandsFor defs.now toml.now) }
+    ensures unbroken { OnOk result ((e : FaultOfPlant) → ¬ Breaks defs.now toml.now e) }
+    ensures refused { IfErr result (λ e. e ≢ fault.OutOfMemory → Breaks defs.now toml.now e) }
+{
+    match table_from_str(alloc, toml) {
+        Ok(table) => read_tree(alloc, &Value::Table(table), defs, spot),
+        Err(e) => if e.is_memory() {
+            Err(PlantFault::OutOfMemory)
+        } else {
+            Err(PlantFault::NotToml)
+        },
+    }
+}
+
+fn read_tree(
+    alloc: Global,
+    tree: &Value,
+    defs: &[ModelDef],
+    spot: &mut Spot,
+) -> Result<Plant, PlantFault>
     ensures { MatchResult result (λ p. plant_of defs.now (view tree.now) ≡ Ok p)
         (λ e. e ≢ fault.OutOfMemory → plant_of defs.now (view tree.now) ≡ Err e) }
 {
     if has_too_many(tree) {
         return Err(PlantFault::TooMany);
     }
-    let devices = devices_of(alloc, tree, defs)?;
-    let faults = faults_of(alloc, tree)?;
+    let devices = devices_of(alloc, tree, defs, spot)?;
+    let faults = faults_of(alloc, tree, spot)?;
     Ok(Plant {
         devices,
         faults,

@@ -17,6 +17,7 @@ use Rattle.modbus_frame.specs.Reading.{Reading}
 use Rattle.modbus_frame.specs.Served.{Answered}
 use Rattle.modbus_frame.specs.Serving.{HasServed, Serves, Replies, ComesNext, IsInPart, CameInPart, EndsReading, EndsReplying, GoesOn}
 use Rattle.modbus_frame.proofs.Sending.{CountsBy-none, CountsBy-trans, FailsBy-none, FailsBy-then}
+use Rattle.modbus_frame.proofs.Streams.{AllByRecursion-more as each_more}
 
 module _ {S : Type 0} (Answers : S → Frame → List ℕ → S → Type 0) where
   pub Answered-more : (state : S) (frames : List Frame) (sent : List ℕ) (middle : S) (frame : Frame) (bytes : List ℕ) (end : S) → Answered Answers state frames sent middle → Answers middle frame bytes end → Answered Answers state (frames ++ frame ∷ []) (sent ++ bytes) end
@@ -27,10 +28,6 @@ module _ {S : Type 0} (Answers : S → Frame → List ℕ → S → Type 0) wher
       (so_far.0, so_far.1 ++ bytes, so_far.2, so_far.3, ap (λ l. l ++ bytes) so_far.4 ∙ append_assoc so_far.0 so_far.1 bytes, Answered-more so_far.2 frames so_far.1 middle frame bytes end so_far.5 one)
 
 -- ---- one frame more
-
-pub each_more : (frames : List Frame) (frame : Frame) → AllByRecursion IsFrame frames → IsFrame frame → AllByRecursion IsFrame (frames ++ frame ∷ [])
-each_more [] frame each next = (next, tt)
-each_more (f ∷ frames) frame each next = (each.0, each_more frames frame each.1 next)
 
 pub came_more : (a b c : Option (List ℕ)) (frames : List Frame) (frame : Frame)
     → Consumes a b (flat_map frame_bytes frames) → Consumes b c (frame_bytes frame) → Consumes a c (flat_map frame_bytes (frames ++ frame ∷ []))

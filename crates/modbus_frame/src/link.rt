@@ -4,6 +4,7 @@ ghost use Rattle.modbus_frame.specs.Fault.{link_fault_word};
 ghost use Rattle.modbus_frame.specs.declared.link.LinkFault.TheVariants.{Frame};
 
 use crate::fault::FrameFault;
+use std::fmt;
 use thiserror::Error;
 
 /// What carries the bytes of frames both ways, as a connection does.
@@ -53,7 +54,6 @@ pub struct Down;
 
 /// Why work over a link ended.
 #[derive(Clone, Copy, Debug, PartialEq, Eq, Error)]
-#[error("{}", self.word())]
 pub enum LinkFault {
     /// A read failed.
     Read,
@@ -67,6 +67,12 @@ pub enum LinkFault {
     Turns,
     /// There was no memory.
     OutOfMemory,
+}
+
+impl fmt::Display for LinkFault {
+    fn fmt<W: fmt::Write>(&self, f: &mut fmt::Formatter<W>) -> fmt::Result {
+        f.write_str(self.word())
+    }
 }
 
 impl LinkFault {

@@ -3,6 +3,7 @@ ghost use Rattle.std.specs.Prelude.{◌≡◌};
 ghost use Rattle.modbus_frame.specs.Fault.{reply_fault_word};
 
 use crate::words::Words;
+use std::fmt;
 use thiserror::Error;
 
 /// What a client asks of a device: functions 3, 6 and 16
@@ -45,12 +46,17 @@ impl Exception {
 
 /// Why a reply isn't what was asked for.
 #[derive(Clone, Copy, Debug, PartialEq, Eq, Error)]
-#[error("{}", self.word())]
 pub enum ReplyFault {
     /// The device answered with an exception.
     Exception(Exception),
     /// The bytes are no reply to this request.
     Mismatch,
+}
+
+impl fmt::Display for ReplyFault {
+    fn fmt<W: fmt::Write>(&self, f: &mut fmt::Formatter<W>) -> fmt::Result {
+        f.write_str(self.word())
+    }
 }
 
 impl ReplyFault {

@@ -14,6 +14,7 @@ use Rattle.model_defs.specs.Definition.{Description, all_registers, is_uint16, i
 use Rattle.model_defs.specs.Descriptions.{descriptions_view}
 use Rattle.model_defs.specs.declared.point.Point.{Point}
 use Rattle.model_defs.proofs.Entries.{Entries, names_apart}
+use Rattle.point_types.proofs.Truths.{both}
 
 told_at : (ds : List Description) (ps : List Point) (i : ℕ) (p : Point) → ArePoints ds ps → slice_get ps i ≡ Some p → slice_get ds i ≡ Some (description_told ds p)
 told_at ds ps i p are at = ap (λ xs. slice_get xs i) (sym are) ∙ slice_get-map (description_told ds) ps i ∙ ap (option_map (description_told ds)) at
@@ -40,10 +41,6 @@ factors_told ds ps are among i j p at factor =
 uint16_from : (k : Kind) → is_uint16 k ≡ true → k ≡ kinds.Uint16
 uint16_from kinds.Uint16 h = refl
 uint16_from other h = absurd (cc)
-
-both : (a b : Bool) → (a && b) ≡ true → (a ≡ true) × (b ≡ true)
-both true b h = (refl, h)
-both false b h = absurd (cc)
 
 heading_told : (ds : List Description) (p : Point) (name : List ℕ) → (has_name name (description_told ds p) && is_uint16 p.kind) ≡ true → (p.name ≡ name) × (p.kind ≡ kinds.Uint16)
 heading_told ds p name h = let s = both (has_name name (description_told ds p)) (is_uint16 p.kind) h in (sym ((bytes_eq-Decides name p.name).0 s.0), uint16_from p.kind s.1)

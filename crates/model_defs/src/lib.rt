@@ -3,6 +3,7 @@
 
 mod description;
 mod fault;
+mod fault_place;
 pub mod laws;
 mod model;
 mod models;
@@ -14,7 +15,7 @@ mod reader;
 // a definition, read or shipped
 pub use fault::DefFault;
 pub use models::{shipped, shipped_models};
-pub use reader::read;
+pub use reader::{read, read_placed};
 // what it says
 pub use model::ModelDef;
 pub use point::{Point, PointName, Points, Sf};

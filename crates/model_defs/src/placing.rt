@@ -14,11 +14,12 @@ use crate::point::{Point, PointName, Points, Sf};
 use point_types::Kind;
 use std::alloc::Global;
 
-/// Lays the points out as a model of that id, where they break no rule together.
+/// Lays the points out as a model of that id, where they break no rule together; notes the point that it has come to.
 pub(crate) fn lay_out(
     alloc: Global,
     id: u16,
     points: &Descriptions<'_>,
+    point: &mut Option<usize>,
 ) -> Result<ModelDef, DefFault>
     requires { (1 ≤ id) × (id ≤ 65534) }
     ensures id { IfOk result (λ model. model.id ≡ id) }
@@ -34,7 +35,7 @@ pub(crate) fn lay_out(
     let Some(registers) = total(points) else {
         return Err(DefFault::TooLong);
     };
-    let placed = place(alloc, points)?;
+    let placed = place(alloc, points, point)?;
     Ok(ModelDef {
         id,
         length: registers - 2,
@@ -102,8 +103,12 @@ fn place_factor(points: &Descriptions<'_>, factor: Factor<'_>) -> Option<Sf>
     }
 }
 
-/// Lays the points out, the first one at the model's ID.
-fn place(alloc: Global, points: &Descriptions<'_>) -> Result<Points, DefFault>
+/// Lays the points out, the first one at the model's ID, and notes the number of the one that it has come to.
+fn place(
+    alloc: Global,
+    points: &Descriptions<'_>,
+    point: &mut Option<usize>,
+) -> Result<Points, DefFault>
     requires { all_registers (descriptions_view points.now.entries) ≤ 125 }
     ensures told { IfOk result (ArePoints (descriptions_view points.now.entries)) }
     ensures in_order { IfOk result IsInOrder }
@@ -117,6 +122,7 @@ fn place(alloc: Global, points: &Descriptions<'_>) -> Result<Points, DefFault>
     let mut placed = Vec::new(alloc);
     let mut offset: u16 = 0;
     for (name, description) in points.iter() {
+        *point = Some(placed.len());
         let Some(sf) = place_factor(points, description.factor) else {
             return Err(DefFault::BadScalePoint);
         };

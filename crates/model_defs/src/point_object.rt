@@ -62,7 +62,7 @@ fn keys_of(tree: &Value) -> Option<PointKeys<'_>>
 }
 
 /// The kind of a type's word (SunSpec Device Information Model Specification, the table of types).
-fn kind_named(word: &str) -> Option<Kind>
+pub(crate) fn kind_named(word: &str) -> Option<Kind>
     ensures { result ≡ kind_of word.now }
 {
     match word {

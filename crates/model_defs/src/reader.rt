@@ -9,9 +9,11 @@ ghost use Rattle.model_defs.specs.declared.fault.DefFault.TheVariants as fault;
 
 use crate::description::Descriptions;
 use crate::fault::DefFault;
+use crate::fault_place::place_of;
 use crate::model::ModelDef;
 use crate::placing::lay_out;
 use crate::point_object::{read_point, whole_number};
+use file_keys::Placed;
 use indexmap::IndexMap;
 use serde_json::Value;
 use std::alloc::Global;
@@ -26,8 +28,34 @@ pub fn read(alloc: Global, text: &[u8]) -> Result<ModelDef, DefFault>
     ensures unbroken { OnOk result ((e : DefFault) → ¬ Breaks text.now e) }
     ensures refused { IfErr result (λ e. e ≢ fault.OutOfMemory → Breaks text.now e) }
 {
+    let mut point = None;
+    read_to(alloc, text, &mut point)
+}
+
+/// The same; the fault, which is that of [`read`], has the place in the text where it was found.
+pub fn read_placed(alloc: Global, text: &[u8]) -> Result<ModelDef, Placed<DefFault>>
+    ensures ok { IfOk result (IsRead text.now) }
+    ensures unbroken { OnOk result ((e : DefFault) → ¬ Breaks text.now e) }
+    ensures refused { IfErr result (λ p. p.fault ≢ fault.OutOfMemory → Breaks text.now p.fault) }
+{
+    let mut point = None;
+    match read_to(alloc, text, &mut point) {
+        Ok(model) => Ok(model),
+        Err(fault) => Err(Placed {
+            fault,
+            place: place_of(alloc, text, point, fault),
+        }),
+    }
+}
+
+/// Reads a definition, and notes the number of the point that it has come to.
+fn read_to(alloc: Global, text: &[u8], point: &mut Option<usize>) -> Result<ModelDef, DefFault>
+    ensures ok { IfOk result (IsRead text.now) }
+    ensures unbroken { OnOk result ((e : DefFault) → ¬ Breaks text.now e) }
+    ensures refused { IfErr result (λ e. e ≢ fault.OutOfMemory → Breaks text.now e) }
+{
     match Value::from_slice(alloc, text) {
-        Ok(tree) => read_tree(alloc, &tree),
+        Ok(tree) => read_tree(alloc, &tree, point),
         Err(e) => if e.is_memory() {
             Err(DefFault::OutOfMemory)
         } else {
@@ -37,7 +65,7 @@ pub fn read(alloc: Global, text: &[u8]) -> Result<ModelDef, DefFault>
 }
 
 /// The same of a tree.
-fn read_tree(alloc: Global, tree: &Value) -> Result<ModelDef, DefFault>
+fn read_tree(alloc: Global, tree: &Value, point: &mut Option<usize>) -> Result<ModelDef, DefFault>
     ensures stands { IfOk result (StandsFor (view tree.now)) }
     ensures unbroken { OnOk result (first_broken (view tree.now) ≡ None) }
     ensures refused { IfErr result (λ e. e ≢ fault.OutOfMemory
@@ -52,8 +80,8 @@ fn read_tree(alloc: Global, tree: &Value) -> Result<ModelDef, DefFault>
     if has_groups(outline.group) {
         return Err(DefFault::Repeating);
     }
-    let points = read_points(alloc, outline.points)?;
-    lay_out(alloc, id, &points)
+    let points = read_points(alloc, outline.points, point)?;
+    lay_out(alloc, id, &points, point)
 }
 
 /// The keys of a model, each of its JSON kind.
@@ -99,7 +127,11 @@ fn has_groups(group: &Value) -> bool
 }
 
 /// Reads the points' objects in order, up to the first that breaks a rule.
-fn read_points<'a>(alloc: Global, trees: &'a Vec<Value>) -> Result<Descriptions<'a>, DefFault>
+fn read_points<'a>(
+    alloc: Global,
+    trees: &'a Vec<Value>,
+    point: &mut Option<usize>,
+) -> Result<Descriptions<'a>, DefFault>
     ensures told { IfOk result
         (λ points. descriptions_view points.entries ≡ descriptions_of (items_view trees.now.items)) }
     ensures unbroken { IfOk result (λ _. broken_among [] (items_view trees.now.items) ≡ None) }
@@ -108,6 +140,7 @@ fn read_points<'a>(alloc: Global, trees: &'a Vec<Value>) -> Result<Descriptions<
 {
     let mut points = IndexMap::new(alloc);
     for tree in trees {
+        *point = Some(points.len());
         let (name, description) = read_point(tree)?;
         if points.insert(name, description)?.is_some() {
             return Err(DefFault::DuplicateName);

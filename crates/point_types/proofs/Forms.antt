@@ -10,13 +10,11 @@ use Rattle.point_types.specs.declared.kind.Kind.{Kind}
 use Rattle.point_types.specs.declared.kind.Kind.TheVariants as kind
 use Rattle.point_types.specs.Point.{Row, row_of, number_of, has_top_bit, read_as, meaning_of, StandsFor, IsSpelling, HasNoSpelling}
 use Rattle.point_types.proofs.Numbers.{number_of-lt}
+use Rattle.point_types.proofs.Truths.{same_some as same_value}
 
 -- v is the number n of k registers, or what is left of it by two's complement
 abbrev pub IsOf : ℕ → ℕ → ℤ → Type 0
 IsOf k n v = (v ≡ pos n) ⊎ (v ≡ (pos n -ℤ pos (65536 ^ k)))
-
-same_value : {a b : ℤ} → Some a ≡ Some b → b ≡ a
-same_value e = cc
 
 read_is : (f : Form) (k n : ℕ) (v : ℤ) → read_as f k n ≡ Some v → IsOf k n v
 read_is form.Signed k n v e = go (has_top_bit k n) e

@@ -1,3 +1,4 @@
+pub mod Truths
 pub mod Encodings
 pub mod Forms
 pub mod NameLemmas

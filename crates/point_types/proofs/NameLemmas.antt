@@ -9,6 +9,8 @@ use Rattle.std.proofs.lemmas.List.{length-map}
 use Rattle.std.proofs.lemmas.List.{map_more}
 use Rattle.std.proofs.Math.Seq.{set-append_seam}
 use Rattle.point_types.specs.Name.{folded, padded, begins_with_letter, is_name, is_name_byte, is_name_word, is_parted, name_of}
+use Rattle.point_types.proofs.Truths.{first_of}
+use Rattle.point_types.proofs.Truths.{second_of}
 
 set-padded : (bs : List ℕ) (b : ℕ) → length bs < 32 → set (padded bs) (length bs) b ≡ padded (bs ++ b ∷ [])
 set-padded bs b h =
@@ -49,17 +51,6 @@ long_is_none text h = sym (ap (λ z. if z && is_name_word (map folded text) then
 
 low_byte : (b : ℕ) → is_name_byte b ≡ true → b < 128
 low_byte b h = grind (arith, nat_tests)
-
-first_of : (a b : Bool) → (a && b) ≡ true → a ≡ true
-first_of true b h = refl
-first_of false b h = h
-
-second_of : (a b : Bool) → (a && b) ≡ true → b ≡ true
-second_of true b h = h
-second_of false b h = absurd (no h)
-  where
-    no : false ≡ true → ⊥
-    no e = cc
 
 low_bytes : (bs : List ℕ) → list_all is_name_byte bs ≡ true → (i : ℕ) → get_or bs i 0 < 128
 low_bytes [] h i = lit< tt

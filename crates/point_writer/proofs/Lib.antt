@@ -1,2 +1,2 @@
 mod Outputs
-mod Plans
+pub mod Plans

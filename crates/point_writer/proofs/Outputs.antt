@@ -9,11 +9,7 @@ use Rattle.site_model.specs.Readings.{AreSettings, known_at}
 use Rattle.point_writer.specs.declared.write.Write.{Write}
 use Rattle.point_writer.specs.declared.write.NoWrite.{NoWrite}
 use Rattle.point_writer.specs.SetPoint.{IsPlan}
-
-known-read : {T : Type 0} (xs : List (Option T)) (i : ℕ) → get_or xs i None ≡ known_at xs i
-known-read [] i = refl
-known-read (x ∷ xs) zero = refl
-known-read (x ∷ xs) (suc i) = known-read xs i
+use Rattle.site_model.proofs.Entries.{known-read}
 
 same_value : {A : Type 0} {o : Option A} {a b : A} → o ≡ Some a → o ≡ Some b → a ≡ b
 same_value p q = cc

@@ -53,7 +53,7 @@ refused-at place t v fault r e h = subst (λ (x : NoWrite). IsPlanAt (Some place
 words-encode : (place : Place) (t : SiteTag) (v : ℤ) (w : Write) → SetsAt place t v w → IsEncoding t.point v t.exponent place.factor (Ok w.words)
 words-encode place t v w s = encoded t.point v t.exponent t.low t.high s.raw (factor_of place.factor) w.words s.stands s.reads
 
-same_ok : {ws us : List ℕ} → ◌≡◌ {A = Result (List ℕ) Unencodable} (Ok ws) (Ok us) → ws ≡ us
+pub same_ok : {ws us : List ℕ} → ◌≡◌ {A = Result (List ℕ) Unencodable} (Ok ws) (Ok us) → ws ≡ us
 same_ok e = cc
 
 abbrev made : ℕ → ℕ → List ℕ → Write

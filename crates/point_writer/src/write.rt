@@ -4,6 +4,7 @@ ghost use Rattle.point_writer.specs.Fault.{no_write_of, no_write_word};
 
 use point_types::Unencodable;
 use site_model::Words;
+use std::fmt;
 use thiserror::Error;
 
 /// Words for registers of a device that lie side by side.
@@ -19,7 +20,6 @@ pub struct Write {
 
 /// Why a tag isn't written, by the first cause that holds.
 #[derive(Clone, Copy, PartialEq, Eq, Debug, Error)]
-#[error("{}", self.word())]
 pub enum NoWrite {
     /// The program didn't store it.
     NotSet = 1,
@@ -32,6 +32,12 @@ pub enum NoWrite {
     Inexact,
     /// The raw number lies outside the point's kind, or its words would read as absent.
     OutOfType,
+}
+
+impl fmt::Display for NoWrite {
+    fn fmt<W: fmt::Write>(&self, f: &mut fmt::Formatter<W>) -> fmt::Result {
+        f.write_str(self.word())
+    }
 }
 
 impl NoWrite {

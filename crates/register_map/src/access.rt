@@ -3,16 +3,22 @@ ghost use Rattle.std.specs.Prelude.{◌≡◌, ℕ, List, Option, length};
 ghost use Rattle.register_map.specs.Faults.{read_fault_word};
 ghost use Rattle.register_map.specs.Reads.{Answer, answer_of, is_fault, Counts};
 
+use std::fmt;
 use thiserror::Error;
 
 /// Why a read of registers gave no words.
 #[derive(Clone, Copy, Debug, PartialEq, Eq, Error)]
-#[error("{}", self.word())]
 pub enum ReadFault {
     /// The device answered with an exception, as for registers that it doesn't have.
     Refused,
     /// There was no answer to the read.
     Failed,
+}
+
+impl fmt::Display for ReadFault {
+    fn fmt<W: fmt::Write>(&self, f: &mut fmt::Formatter<W>) -> fmt::Result {
+        f.write_str(self.word())
+    }
 }
 
 impl ReadFault {

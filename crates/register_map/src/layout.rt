@@ -3,6 +3,7 @@ ghost use Rattle.std.specs.Prelude.{◌≡◌, ◌<◌, All, IfSome};
 ghost use Rattle.register_map.specs.Faults.{map_fault_word};
 
 use arrayvec::ArrayVec;
+use std::fmt;
 use std::marker::Model;
 use thiserror::Error;
 
@@ -78,7 +79,6 @@ impl Map {
 
 /// Why no map was found.
 #[derive(Clone, Copy, Debug, PartialEq, Eq, Error)]
-#[error("{}", self.word())]
 pub enum MapFault {
     /// No base has the mark `SunS`.
     NoMark = 1,
@@ -90,6 +90,12 @@ pub enum MapFault {
     TooMany,
     /// A register couldn't be read.
     Read,
+}
+
+impl fmt::Display for MapFault {
+    fn fmt<W: fmt::Write>(&self, f: &mut fmt::Formatter<W>) -> fmt::Result {
+        f.write_str(self.word())
+    }
 }
 
 impl MapFault {

@@ -11,6 +11,7 @@ use Rattle.scan_code.specs.declared.op.Op.TheVariants as does
 use Rattle.point_types.specs.Value.{low_of, high_of, is_within, is_bool, code_of}
 use Rattle.scan_code.specs.Instruction.{whole_type, number_from, signed_from, typed_number, two_types, sized, decoded, decoded_at}
 use Rattle.scan_code.specs.Spelling.{spelled, place_bytes, bytes_of, unsigned, IsFine, SpelledInstructionsDecode}
+use Rattle.point_types.proofs.Truths.{both as both_true}
 
 pub place_read : (n : ℕ) → number_from 0 (place_bytes n) ≡ n
 place_read n = omega arith
@@ -58,10 +59,6 @@ unsigned_small (negsuc n) h = omega arith
 
 pub number_read : (n : ℤ) → IsLong n → signed_from (bytes_of 8 (unsigned n) []) ≡ n
 number_read n h = ap signed (eight_read (unsigned n) (unsigned_small n h)) ∙ signed_read n h
-
-pub both_true : (a b : Bool) → (a && b) ≡ true → (a ≡ true) × (b ≡ true)
-both_true true b h = (refl, h)
-both_true false b h = absurd (true≢false (sym h))
 
 pub within_parts : (low high n : ℤ) → is_within low high n ≡ true → (int_le low n ≡ true) × (int_le n high ≡ true)
 within_parts low high n h = both_true (int_le low n) (int_le n high) h

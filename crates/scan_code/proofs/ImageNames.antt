@@ -11,6 +11,8 @@ use Rattle.std.proofs.lemmas.List.{append_assoc}
 use Rattle.point_types.specs.Value.{code_of}
 use Rattle.scan_code.specs.ImageSpelling.{spelled_number, spelled_range}
 use Rattle.scan_code.specs.Image.{is_among, is_new, names_of, tag_name, var_name}
+use Rattle.point_types.proofs.Truths.{first_of}
+use Rattle.point_types.proofs.Truths.{second_of}
 
 any-map : {A : Type 0} (f : A → List ℕ) (n : List ℕ) (xs : List A) → list_any (bytes_eq n) (map f xs) ≡ list_any (λ x. bytes_eq n (f x)) xs
 any-map f n [] = refl
@@ -27,14 +29,6 @@ first_taken vars tags n r e h = h ∙ ap (λ z. z || list_any (λ t. bytes_eq n 
 
 pub second_taken : (vars : List Var) (tags : List Tag) (n : List ℕ) (r s : Bool) → r ≡ list_any (λ v. bytes_eq n (var_name v)) vars → r ≡ false → s ≡ list_any (λ t. bytes_eq n (tag_name t)) tags → s ≡ is_among (names_of vars tags) n
 second_taken vars tags n r s e h g = g ∙ ap (λ z. z || list_any (λ t. bytes_eq n (tag_name t)) tags) (sym h ∙ e) ∙ among_names vars tags n
-
-pub first_of : (a b : Bool) → (a && b) ≡ true → a ≡ true
-first_of true b h = refl
-first_of false b h = h
-
-pub second_of : (a b : Bool) → (a && b) ≡ true → b ≡ true
-second_of true b h = h
-second_of false b h = absurd (true≢false (sym h))
 
 folded_lower : (b : ℕ) → is_name_byte b ≡ true → folded b ≡ b
 folded_lower b h = grind (arith, nat_tests)

@@ -11,7 +11,7 @@ use Rattle.scan_code.specs.declared.image_fault.ImageFault.{ImageFault}
 use Rattle.scan_code.specs.declared.image_fault.ImageFault.TheVariants as fault
 use Rattle.scan_code.specs.Image.{Image, IsProper, is_new, is_whole_if_bool, names_of}
 use Rattle.scan_code.specs.ImageReading.{TakesOrWantsMemory, then_take, kept_if, number_at, piece_at, name_length_at, name_at, low_at, high_at, ranged, var_behind, var_at, vars_at, tag_at, tags_at}
-use Rattle.scan_code.proofs.Fetch.{both_true}
+use Rattle.point_types.proofs.Truths.{both as both_true}
 
 pub ranged_told : (name : List ℕ) (kind : IlType) (low high start : ℤ) (b : Bool) (e : is_ranged kind low high start ≡ b) (h : is_ranged kind low high start ≡ true) (rest : List ℕ)
     → ranged name kind low high start b e rest ≡ Ok (record { name = name; kind = kind; low = low; high = high; start = start; ranged = h }, rest)

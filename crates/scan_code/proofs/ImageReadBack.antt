@@ -19,9 +19,11 @@ use Rattle.scan_code.specs.ImageReading.{Taken, then_take, kept_if, place_at, nu
 use Rattle.std.proofs.lemmas.Int.{ints}
 use Rattle.scan_code.specs.ImageLaws.{ImagesReadBack, MoreIsRest}
 use Rattle.scan_code.proofs.Fetch.{number_read, is_long, place_read}
-use Rattle.scan_code.proofs.ImageTaken.{after_direction, after_high, after_length, after_low, after_tag_name, after_var_name, all_new, both, made, names_more_tags, names_more_vars, tag_made, whole_range}
-use Rattle.scan_code.proofs.ImageNames.{first_of, second_of}
+use Rattle.scan_code.proofs.ImageTaken.{after_direction, after_high, after_length, after_low, after_tag_name, after_var_name, all_new, made, names_more_tags, names_more_vars, tag_made, whole_range}
 use Rattle.scan_code.proofs.ImageParts.{ranged_told}
+use Rattle.point_types.proofs.Truths.{and_both as both}
+use Rattle.point_types.proofs.Truths.{first_of}
+use Rattle.point_types.proofs.Truths.{second_of}
 
 kept_true : {A : Type 0} (b : Bool) (e : ImageFault) (a : A) (rest : List ℕ) → b ≡ true → kept_if b e a rest ≡ Ok (a, rest)
 kept_true b e a rest h = ap (λ t. kept_if t e a rest) h

@@ -12,6 +12,7 @@ use Rattle.scan_code.specs.declared.image_fault.ImageFault.TheVariants as fault
 use Rattle.scan_code.specs.Image.{are_new, is_new, is_whole_if_bool, names_of, tag_name, var_name}
 use Rattle.scan_code.specs.ImageReading.{Taken, then_take, kept_if, piece_at, name_length_at, name_at, type_at, direction_at, number_at, is_low, is_high, low_at, high_at, ranged, var_behind, var_at, vars_at, tag_at, tags_at}
 use Rattle.point_types.specs.Value.{int_eq, is_bool, is_ranged}
+use Rattle.point_types.proofs.Truths.{and_both as both}
 
 abbrev from : {A : Type 0} → A → Result A ImageFault → A
 from d (Ok a) = a
@@ -76,9 +77,6 @@ var_is_new before bytes x h =
 
 abbrev pub whole_range : IlType → ℤ → ℤ → Bool
 whole_range kind low high = not (is_bool kind) || (int_eq low (pos 0) && int_eq high (pos 1))
-
-pub both : (a b : Bool) → a ≡ true → b ≡ true → (a && b) ≡ true
-both a b e f = ap (λ x. x && b) e ∙ f
 
 whole_told : (kind : IlType) (low high : ℤ) → is_low kind low ≡ true → is_high kind low high ≡ true → whole_range kind low high ≡ true
 whole_told il.Bool low high e f = both (int_eq low (pos 0)) (int_eq high (pos 1)) e f

@@ -19,12 +19,24 @@ pub struct Tag {
 /// A program as bytecode (IEC 61131-3 edition 2, 3.2), with the tables of its variables and tags. Each image
 /// has version 1, or 2 where there are counted jumps, at most 1,024 variables and 1,024 tags, no name twice
 /// among both, the range 0..1 for each BOOL variable, and at most 65,535 bytes of code.
-#[derive(Drop, Debug)]
+#[derive(Debug)]
 pub struct Image {
     pub version: u8,
     pub vars: Items<Var>,
     pub tags: Items<Tag>,
     pub code: Items<u8>,
+}
+
+/// A call for whoever drops one: the proofs of the functions that own one needn't take it apart.
+impl Drop for Image {
+    fn drop(self) {
+        let Image {
+            version: _,
+            vars: _,
+            tags: _,
+            code: _,
+        } = self;
+    }
 }
 
 impl Model for Image {

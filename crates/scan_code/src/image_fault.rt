@@ -1,10 +1,10 @@
 //! Why bytes are no image.
 use std::alloc::{AllocError, AllocFailed};
+use std::fmt;
 use thiserror::Error;
 
 /// Why bytes are no image, by number from 1 on; of several the one that is met first from left to right.
 #[derive(Clone, Copy, PartialEq, Eq, Debug, Error)]
-#[error("{}", self.word())]
 pub enum ImageFault {
     /// One of the first four bytes is there and isn't that of `ILSC`.
     Mark,
@@ -18,6 +18,12 @@ pub enum ImageFault {
     /// over 7, a direction over 1, or a range or a start value outside its bounds.
     Field,
     OutOfMemory,
+}
+
+impl fmt::Display for ImageFault {
+    fn fmt<W: fmt::Write>(&self, f: &mut fmt::Formatter<W>) -> fmt::Result {
+        f.write_str(self.word())
+    }
 }
 
 impl ImageFault {

@@ -66,4 +66,10 @@ impl Deferred {
         self.count -= 1;
         Some(self.values[self.count])
     }
+
+    /// A value that was taken off since the last one was put on: 0 for the one that was taken last.
+    pub(crate) fn taken(&self, number: usize) -> Option<Value> {
+        let place = self.count.checked_add(number)?;
+        self.values.get(place).copied()
+    }
 }

@@ -1,10 +1,10 @@
 //! Why a trial scan stopped.
+use std::fmt;
 use thiserror::Error;
 
 /// Why a scan stopped, by the first of these that holds of an instruction: Code, Stack, Type,
 /// ZeroDivisor, Overflow, MissingPoint, StoreRange.
 #[derive(Clone, Copy, PartialEq, Eq, Debug, Error)]
-#[error("{}", self.word())]
 pub enum TrapKind {
     /// No result where one is wanted, or a value of a wrong or another type.
     WrongType,
@@ -23,6 +23,12 @@ pub enum TrapKind {
     StoreRange,
 }
 
+impl fmt::Display for TrapKind {
+    fn fmt<W: fmt::Write>(&self, f: &mut fmt::Formatter<W>) -> fmt::Result {
+        f.write_str(self.word())
+    }
+}
+
 impl TrapKind {
     ghost use Rattle.std.specs.Prelude.{◌≡◌};
     ghost use Rattle.scan_vm.specs.Trap.{word_of};
@@ -39,6 +45,42 @@ impl TrapKind {
             TrapKind::Code => "Code",
             TrapKind::Stack => "Stack",
             TrapKind::StoreRange => "StoreRange",
+        }
+    }
+
+    /// What is wrong, in short; `{}` stands for the name of the variable or the input.
+    pub fn meaning(self) -> &'static str {
+        match self {
+            TrapKind::WrongType => "no result, or a value of another type than is wanted",
+            TrapKind::Overflow => "a number left its type",
+            TrapKind::ZeroDivisor => "a division by 0",
+            TrapKind::MissingPoint => "{} has no value",
+            TrapKind::Code => "the bytes of the code are no instructions",
+            TrapKind::Stack => "deferred values are missing, or more than 128",
+            TrapKind::StoreRange => "the result lies outside the range of {}",
+        }
+    }
+
+    /// What to do about it; `{}` stands for the same name.
+    pub fn help(self) -> &'static str {
+        match self {
+            TrapKind::WrongType => {
+                "load first, convert one of the operands, or write the type of a literal, as INT#8"
+            }
+            TrapKind::Overflow => {
+                "bound the operands, as by MIN and MAX before, or convert to a wider type first"
+            }
+            TrapKind::ZeroDivisor => {
+                "test the divisor before (LE 0 / JMPC elsewhere), or bound it, as by MAX 1"
+            }
+            TrapKind::MissingPoint => {
+                "test it first (LD {}_OK / JMPCN elsewhere), or give it a value in an input line, as {}=5"
+            }
+            TrapKind::Code => "assemble the text again",
+            TrapKind::Stack => "store parts of a nested expression in variables",
+            TrapKind::StoreRange => {
+                "bound it by MAX and MIN before the store, or declare a wider range"
+            }
         }
     }
 }

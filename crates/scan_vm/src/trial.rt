@@ -1,7 +1,8 @@
 //! A trial of a program by itself, which tests each instruction.
 use crate::execution::Execution;
 use crate::trap::Trap;
-use point_types::Reading;
+use crate::value::Value;
+use point_types::{IlType, Reading};
 use scan_code::Image;
 use std::alloc::{AllocError, Global};
 use std::marker::Model;
@@ -14,11 +15,21 @@ pub struct Scan {
 
 /// A machine that runs any image and tests each step (IEC 61131-3 edition 2, 3.2). Variables keep
 /// their values between scans; a scan takes no memory.
-#[derive(Drop)]
 pub struct Trial {
     image: Image,
     execution: Execution,
     before: Vec<i64>,
+}
+
+/// A call for whoever drops one: the proofs of the functions that own one needn't take it apart.
+impl Drop for Trial {
+    fn drop(self) {
+        let Trial {
+            image: _,
+            execution: _,
+            before: _,
+        } = self;
+    }
 }
 
 impl Model for Trial {
@@ -87,10 +98,32 @@ impl Trial {
         self.execution.outputs()[i]
     }
 
+    /// The address of the instruction that stopped the last scan, behind a trap.
+    pub fn stopped_at(&self) -> usize {
+        self.execution.address()
+    }
+
+    /// The result at the end of the last scan, or where it stopped.
+    pub fn last_result(&self) -> Option<(IlType, i64)> {
+        typed(self.execution.result())
+    }
+
+    /// The deferred value that the last instruction to take one took, behind a trap that isn't Stack; with 1 the one
+    /// before it.
+    pub fn last_taken(&self, number: usize) -> Option<(IlType, i64)> {
+        typed(self.execution.taken(number))
+    }
+
     /// The image that was handed in.
     pub fn image(&self) -> &Image
         ensures { result.now ≡ self.now.image }
     {
         &self.image
     }
+}
+
+/// A value as its type and its number.
+fn typed(value: Option<Value>) -> Option<(IlType, i64)> {
+    let value = value?;
+    Some((value.kind(), value.number()))
 }

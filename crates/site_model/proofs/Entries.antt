@@ -17,7 +17,7 @@ set-cases (x ∷ xs) (suc i) v (suc k) r e = go (set-cases xs i v k r e)
     go (inl p) = inl (ap suc p.0, p.1)
     go (inr p) = inr ((λ q. p.0 (omega (arith, q))), p.1)
 
-known-read : {T : Type 0} (xs : List (Option T)) (i : ℕ) → get_or xs i None ≡ known_at xs i
+pub known-read : {T : Type 0} (xs : List (Option T)) (i : ℕ) → get_or xs i None ≡ known_at xs i
 known-read [] i = refl
 known-read (x ∷ xs) zero = refl
 known-read (x ∷ xs) (suc i) = known-read xs i

@@ -5,9 +5,7 @@ use Rattle.std.proofs.lemmas.Int.{ints}
 use Rattle.std.proofs.lemmas.Bool.Decides.{leb_tells}
 use Rattle.point_types.specs.declared.kind.Kind.TheVariants as kinds
 use Rattle.point_types.specs.Point.{number_of, has_top_bit, value_of}
-
-same_value : {a b : ℤ} → Some a ≡ Some b → b ≡ a
-same_value e = cc
+use Rattle.point_types.proofs.Truths.{same_some as same_value}
 
 read_16 : (n : ℕ) (v : ℤ) (b : Bool) → n < 65536 → ((nat_le (65536 ^ 1) (2 * n) ≡ true) × (65536 ^ 1 ≤ 2 * n)) ⊎ ((nat_le (65536 ^ 1) (2 * n) ≡ false) × (2 * n < 65536 ^ 1)) → nat_le (65536 ^ 1) (2 * n) ≡ b → Some (if b then pos n -ℤ pos (65536 ^ 1) else pos n) ≡ Some v → FitsSigned w16 v
 read_16 n v true h (inl (t, l)) q e = let s = same_value e in omega (arith, ints, s)

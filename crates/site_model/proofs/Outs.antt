@@ -4,6 +4,7 @@ use Rattle.site_model.specs.declared.access.Access.{Access}
 use Rattle.site_model.specs.declared.access.Access.TheVariants as access
 use Rattle.site_model.specs.declared.tag.SiteTag.{SiteTag}
 use Rattle.site_model.specs.Wants.{is_output, outs_from, outs_of, AreOutputs}
+use Rattle.point_types.proofs.Truths.{same_some as same_number}
 
 written : (a : Access) → is_output a ≡ true → a ≡ access.Output
 written access.Input e = cc
@@ -18,9 +19,6 @@ IsAt n ts number = (t : SiteTag) × (j : ℕ) × (number ≡ n + j) × (slice_ge
 behind : (n : ℕ) (u : SiteTag) (ts : List SiteTag) (number : ℕ) → IsAt (n + 1) ts number → IsAt n (u ∷ ts) number
 unfolding IsAt
 behind n u ts number h = let e = h.2 in (h.0, suc h.1, omega (arith, e), h.3, h.4)
-
-same_number : {a b : ℕ} → Some a ≡ Some b → b ≡ a
-same_number e = cc
 
 outs-at : (n : ℕ) (ts : List SiteTag) (i number : ℕ) → slice_get (outs_from n ts) i ≡ Some number → IsAt n ts number
 unfolding IsAt

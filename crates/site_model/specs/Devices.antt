@@ -6,7 +6,7 @@ use Rattle.std.specs.Option.{ok_or, option_map_or}
 use Rattle.std.specs.Str.{bytes_eq}
 use Rattle.toml.specs.Data.{Data, Items, no_items, item}
 use Rattle.point_types.specs.Value.{◌>>=◌, int_eq}
-use Rattle.site_model.specs.Keys.{text_at, number_at, optional_number_at, natural_within}
+use Rattle.file_keys.specs.Keys.{text_at, number_at, optional_number_at, natural_within}
 use Rattle.site_model.specs.declared.device.SiteDevice.{SiteDevice}
 use Rattle.site_model.specs.declared.device.WriteFunction.{WriteFunction}
 use Rattle.site_model.specs.declared.device.WriteFunction.TheVariants as write

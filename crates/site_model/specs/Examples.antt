@@ -5,7 +5,8 @@ use Rattle.toml.specs.Data.{Data, Items, no_items, item, Members, no_members, me
 use Rattle.point_types.specs.declared.il_type.IlType.TheVariants as il
 use Rattle.point_types.specs.declared.kind.Kind.TheVariants as kinds
 use Rattle.site_model.specs.Devices.{device_of}
-use Rattle.site_model.specs.File.{site_of, is_over}
+use Rattle.file_keys.specs.Keys.{is_over}
+use Rattle.site_model.specs.File.{site_of}
 use Rattle.site_model.specs.Serving.{can_be_encoded}
 use Rattle.site_model.specs.Tagging.{bit_of, has_range}
 use Rattle.site_model.specs.declared.device.WriteFunction.TheVariants as write

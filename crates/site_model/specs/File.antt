@@ -6,7 +6,7 @@ use Rattle.toml.specs.Data.{Data, table, Items, no_items, item, get, as_array}
 use Rattle.toml.specs.Parse.{parse_document}
 use Rattle.point_types.specs.Value.{◌>>=◌}
 use Rattle.model_defs.specs.declared.model.ModelDef.{ModelDef}
-use Rattle.site_model.specs.Keys.{section_at}
+use Rattle.file_keys.specs.Keys.{section_at, has_over}
 use Rattle.site_model.specs.Gateway.{Gateway, gateway_of}
 use Rattle.site_model.specs.Lengths.{lengths_of}
 use Rattle.site_model.specs.Devices.{devices_behind}
@@ -29,17 +29,6 @@ pub record Layout : Type 0 where
 
 -- ---- lists that are too long
 
-abbrev pub count : Items → ℕ
-count no_items = 0
-count (item d ds) = suc (count ds)
-
--- a list of more than so many elements
-abbrev pub is_over : ℕ → Data → Bool
-is_over most d = option_map_or (λ items. nat_lt most (count items)) (as_array d) false
-
-abbrev pub has_over : ℕ → List ℕ → Data → Bool
-has_over most key tree = option_map_or (is_over most) (get key tree) false
-
 -- more than 16 models of the gateway, 64 devices, 1,024 tags or 256 served points
 abbrev pub has_too_many : Data → Bool
 has_too_many doc =
@@ -59,12 +48,16 @@ layout_over defs g devices tags served = record {
   lengths = lengths_of g.models defs tags;
 }
 
+-- the entries of a section, which is a list where it is there
+abbrev pub section_in : List ℕ → Data → Result Items SiteFault
+section_in key doc = ok_or (section_at key doc) fault.MissingKey
+
 abbrev pub layout_of : List ModelDef → Data → Result Layout SiteFault
 layout_of defs doc =
     gateway_of defs doc >>= λ g.
-    section_at (codes "device") doc >>= devices_behind [] >>= λ devices.
-    section_at (codes "tag") doc >>= tags_behind devices g.models defs [] >>= λ tags.
-    section_at (codes "served") doc >>= served_behind g.models tags [] >>= λ served.
+    section_in (codes "device") doc >>= devices_behind [] >>= λ devices.
+    section_in (codes "tag") doc >>= tags_behind devices g.models defs [] >>= λ tags.
+    section_in (codes "served") doc >>= served_behind g.models tags [] >>= λ served.
     Ok (layout_over defs g devices tags served)
 
 -- the site of a tree, or the first rule that it breaks: lists that are too long, the gateway, devices, tags, served points

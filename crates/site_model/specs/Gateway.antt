@@ -6,7 +6,7 @@ use Rattle.std.specs.Option.{ok_or, option_map_or}
 use Rattle.toml.specs.Data.{Data, Items, no_items, item, get, as_integer}
 use Rattle.point_types.specs.Value.{◌>>=◌, int_eq}
 use Rattle.model_defs.specs.declared.model.ModelDef.{ModelDef}
-use Rattle.site_model.specs.Keys.{number_at, optional_number_at, numbers_in, natural_within}
+use Rattle.file_keys.specs.Keys.{number_at, optional_number_at, numbers_in, natural_within}
 use Rattle.site_model.specs.declared.fault.SiteFault.{SiteFault}
 use Rattle.site_model.specs.declared.fault.SiteFault.TheVariants as fault
 

@@ -3,12 +3,10 @@ pub mod Tag
 pub mod Wants
 pub mod Fault
 pub mod Examples
-pub mod Keys
 pub mod Gateway
 pub mod Devices
 pub mod Tagging
 pub mod Serving
 pub mod Lengths
-pub mod Numbers
 pub mod File
 pub mod Views

@@ -10,7 +10,7 @@ use Rattle.point_types.specs.declared.kind.Kind.{Kind}
 use Rattle.point_types.specs.declared.kind.Kind.TheVariants as kinds
 use Rattle.model_defs.specs.declared.point.Point.{Point}
 use Rattle.model_defs.specs.declared.model.ModelDef.{ModelDef}
-use Rattle.site_model.specs.Keys.{text_at, number_at, optional_text_at, optional_number_at, optional_texts_at}
+use Rattle.file_keys.specs.Keys.{text_at, number_at, optional_text_at, optional_number_at, optional_texts_at}
 use Rattle.site_model.specs.Gateway.{has_id}
 use Rattle.site_model.specs.Tagging.{Tag, is_input, is_own, is_numeric, is_sunssf, point_number, offset_at}
 use Rattle.site_model.specs.declared.served.Served.{Served}

@@ -1,6 +1,6 @@
 -- Which tags the entries of the section `tag` of a site file stand for.
 -- SunSpec Device Information Model Specification, points; IEC 61131-3 edition 2, 2.1.2 identifiers, 2.3.1 elementary data types.
-use Rattle.std.specs.Prelude.{◌+◌, ℕ, ◌-◌, ℤ, pos, neg_ℤ, nat_eq, nat_lt, Bool, true, false, not, ◌&&◌, ◌||◌, is_some, List, [], ◌∷◌, ◌++◌, length, drop, find, slice_get, Option, None, Some, option_map, option_and_then, if◌then◌else◌, Result, Ok, Err, codes}
+use Rattle.std.specs.Prelude.{◌+◌, ℕ, ◌-◌, ℤ, pos, neg_ℤ, nat_eq, nat_lt, Bool, true, false, not, ◌&&◌, ◌||◌, is_some, List, [], ◌∷◌, ◌++◌, length, drop, find, position, slice_get, Option, None, Some, option_map, option_and_then, if◌then◌else◌, Result, Ok, Err, codes}
 use Rattle.std.specs.List.{list_any, position}
 use Rattle.std.specs.Option.{ok_or, option_map_or}
 use Rattle.std.specs.Str.{bytes_eq}
@@ -15,7 +15,7 @@ use Rattle.model_defs.specs.declared.point.Point.{Point}
 use Rattle.model_defs.specs.declared.point.Sf.{Sf as PointSf}
 use Rattle.model_defs.specs.declared.point.Sf.TheVariants as scales
 use Rattle.model_defs.specs.declared.model.ModelDef.{ModelDef}
-use Rattle.site_model.specs.Keys.{text_at, number_at, optional_text_at, optional_number_at, natural_within}
+use Rattle.file_keys.specs.Keys.{text_at, number_at, optional_text_at, optional_number_at, natural_within}
 use Rattle.site_model.specs.Gateway.{has_id, definition_of}
 use Rattle.site_model.specs.Tag.{may_write, start_of}
 use Rattle.site_model.specs.declared.access.Access.{Access}
@@ -129,13 +129,12 @@ is_input other = false
 
 -- ---- where the point is
 
--- the number of the device of a name, where the first one has number n
-abbrev pub number_named : ℕ → List ℕ → List SiteDevice → Option ℕ
-number_named n name [] = None
-number_named n name (d ∷ ds) = if bytes_eq name d.name then Some n else number_named (n + 1) name ds
+abbrev pub is_device_named : List ℕ → SiteDevice → Bool
+is_device_named name d = bytes_eq name d.name
 
+-- the number of the first device of a name
 abbrev pub device_number : List SiteDevice → List ℕ → Option ℕ
-device_number devices name = number_named 0 name devices
+device_number devices name = position (is_device_named name) devices
 
 abbrev pub device_named : List SiteDevice → List ℕ → Result (Option ℕ) SiteFault
 device_named devices name = ok_or (option_map Some (device_number devices name)) fault.UnknownDevice

@@ -1,30 +1,22 @@
 //! The devices of a site by their names.
-ghost use Rattle.std.specs.Prelude.{◌≡◌, IfOk, IfErr};
-ghost use Rattle.site_model.specs.Numbers.{NumbersDevices};
-ghost use Rattle.site_model.specs.declared.fault.SiteFault.TheVariants as fault;
+ghost use Rattle.std.specs.Prelude.{IfOk};
+ghost use Rattle.name_places.specs.Places.{IsPlaced};
+ghost use Rattle.site_model.specs.Tagging.{is_device_named};
 
 use crate::device::SiteDevice;
-use crate::fault::SiteFault;
-use indexmap::IndexMap;
-use std::alloc::Global;
+use name_places::{Places, note};
+use std::alloc::{AllocError, Global};
 
 /// The number of each device by its name, in the order of the file.
-pub(crate) type DeviceNumbers<'a> = IndexMap<&'a str, usize>;
-
-/// The numbers of these devices.
 pub(crate) fn device_numbers<'a>(
     alloc: Global,
     devices: &'a [SiteDevice],
-) -> Result<DeviceNumbers<'a>, SiteFault>
-    ensures told { IfOk result (λ numbers. NumbersDevices devices.now numbers.entries) }
-    ensures memory { IfErr result (λ e. e ≡ fault.OutOfMemory) }
+) -> Result<Places<'a>, AllocError>
+    ensures { IfOk result (λ numbers. IsPlaced is_device_named devices.now numbers.entries) }
 {
-    let mut numbers = IndexMap::new(alloc);
+    let mut numbers = Places::new(alloc);
     for (number, device) in devices.iter().enumerate() {
-        let name = device.name.as_str();
-        if numbers.get(name).is_none() {
-            numbers.insert(name, number)?;
-        }
+        note(&mut numbers, device.name.as_str(), number)?;
     }
     Ok(numbers)
 }

@@ -9,8 +9,9 @@ ghost use Rattle.site_model.specs.declared.fault.SiteFault.TheVariants as fault;
 
 use crate::device::{SiteDevice, WriteFunction};
 use crate::fault::SiteFault;
-use crate::keys::{base_of, byte_of, number_at, optional_number_at, text_at};
+use crate::spot::Spot;
 use crate::text::Text;
+use file_keys::{base_of, byte_of, number_at, optional_number_at, text_at};
 use point_types::Items;
 use std::alloc::Global;
 use toml::Value;
@@ -24,13 +25,18 @@ struct DeviceKeys<'a> {
     write: Option<i64>,
 }
 
-/// Reads the devices in order.
-pub(crate) fn read_devices(alloc: Global, entries: &[Value]) -> Result<Items<SiteDevice>, SiteFault>
+/// Reads the devices in order, and notes the one that it has come to.
+pub(crate) fn read_devices(
+    alloc: Global,
+    entries: &[Value],
+    spot: &mut Spot,
+) -> Result<Items<SiteDevice>, SiteFault>
     ensures told { IfOk result (λ devices. devices_behind [] (items_view entries.now) ≡ Ok devices) }
     ensures refused { IfErr result (λ e. e ≢ fault.OutOfMemory → devices_behind [] (items_view entries.now) ≡ Err e) }
 {
     let mut devices = Items::new(alloc);
     for entry in entries {
+        *spot = Spot::Device(devices.len());
         let device = read_device(alloc, devices.as_slice(), entry)?;
         devices.push(device)?;
     }

@@ -1,9 +1,10 @@
 //! From the text of a site file to the site.
-ghost use Rattle.std.specs.Prelude.{◌≡◌, ◌≢◌, ◌||◌, [], nat_lt, map, codes, false, Ok, Err, IfOk, IfErr};
+ghost use Rattle.std.specs.Prelude.{◌≡◌, ◌≢◌, ◌||◌, [], map, codes, false, Ok, Err, IfOk, IfErr, MatchResult};
 ghost use Rattle.std.specs.Option.{option_map_or};
 ghost use Rattle.toml.specs.Data.{get};
 ghost use Rattle.toml.specs.View.{view, items_view};
-ghost use Rattle.site_model.specs.File.{count, has_over, has_too_many, is_over, layout_of, layout_over, site_in, site_of};
+ghost use Rattle.site_model.specs.File.{has_too_many, layout_of, layout_over, section_in, site_in, site_of};
+ghost use Rattle.file_keys.specs.Keys.{has_over};
 ghost use Rattle.site_model.specs.Tagging.{tags_behind};
 ghost use Rattle.site_model.specs.Views.{gateway_view, site_view, tag_view};
 ghost use Rattle.site_model.specs.declared.fault.SiteFault.TheVariants as fault;
@@ -12,28 +13,30 @@ use crate::device::SiteDevice;
 use crate::device_numbers::device_numbers;
 use crate::devices::read_devices;
 use crate::fault::SiteFault;
+use crate::fault_place::place_of;
 use crate::gateway::{Gateway, read_gateway};
-use crate::keys::section_at;
 use crate::lengths::lengths_of;
 use crate::served::Served;
 use crate::serving::read_served;
 use crate::site::Site;
+use crate::spot::Spot;
 use crate::tag::SiteTag;
 use crate::tags::{Scope, read_tags};
 use crate::wants::{outs_of, wants_of};
+use file_keys::{Placed, has_over, section_at};
 use model_defs::ModelDef;
 use point_types::Items;
 use std::alloc::{AllocError, Global};
 use toml::Value;
 
 /// The most models of a gateway.
-const MOST_MODELS: usize = 16;
+pub(crate) const MOST_MODELS: usize = 16;
 /// The most devices of a site.
-const MOST_DEVICES: usize = 64;
+pub(crate) const MOST_DEVICES: usize = 64;
 /// The most tags of a site.
-const MOST_TAGS: usize = 1024;
+pub(crate) const MOST_TAGS: usize = 1024;
 /// The most entries of what is served.
-const MOST_SERVED: usize = 256;
+pub(crate) const MOST_SERVED: usize = 256;
 
 impl Site {
     /// Reads a site file (TOML) over model definitions, of which the last one of an ID counts. Unknown keys aren't looked
@@ -42,43 +45,101 @@ impl Site {
         ensures told { IfOk result (λ site. site_in defs.now toml.now ≡ Ok (site_view site)) }
         ensures refused { IfErr result (λ e. e ≢ fault.OutOfMemory → site_in defs.now toml.now ≡ Err e) }
     {
-        match toml::table_from_str(alloc, toml) {
-            Ok(table) => read_tree(alloc, defs, &Value::Table(table)),
-            Err(e) if e.is_memory() => Err(SiteFault::OutOfMemory),
-            Err(_) => Err(SiteFault::NotToml),
+        let mut spot = Spot::File;
+        read_to(alloc, toml, defs, &mut spot)
+    }
+
+    /// The same; the fault, which is that of [`Site::read`], has the place in the text where it was found.
+    pub fn read_placed(
+        alloc: Global,
+        toml: &str,
+        defs: &[ModelDef],
+    ) -> Result<Site, Placed<SiteFault>>
+        ensures told { IfOk result (λ site. site_in defs.now toml.now ≡ Ok (site_view site)) }
+        ensures refused { IfErr result (λ p. p.fault ≢ fault.OutOfMemory → site_in defs.now toml.now ≡ Err p.fault) }
+    {
+        let mut spot = Spot::File;
+        match read_to(alloc, toml, defs, &mut spot) {
+            Ok(site) => Ok(site),
+            Err(fault) => Err(Placed {
+                fault,
+                place: place_of(alloc, toml, defs, spot, fault),
+            }),
         }
     }
 }
 
+/// Reads a site file, and notes the entry that it has come to.
+fn read_to(alloc: Global, toml: &str, defs: &[ModelDef], spot: &mut Spot) -> Result<Site, SiteFault>
+    ensures told { IfOk result (λ site. site_in defs.now toml.now ≡ Ok (site_view site)) }
+    ensures refused { IfErr result (λ e. e ≢ fault.OutOfMemory → site_in defs.now toml.now ≡ Err e) }
+{
+    match toml::table_from_str(alloc, toml) {
+        Ok(table) => read_tree(alloc, defs, &Value::Table(table), spot),
+        Err(e) if e.is_memory() => Err(SiteFault::OutOfMemory),
+        Err(_) => Err(SiteFault::NotToml),
+    }
+}
+
 /// The same of a tree.
-fn read_tree(alloc: Global, defs: &[ModelDef], file: &Value) -> Result<Site, SiteFault>
+fn read_tree(
+    alloc: Global,
+    defs: &[ModelDef],
+    file: &Value,
+    spot: &mut Spot,
+) -> Result<Site, SiteFault>
     ensures told { IfOk result (λ site. site_of defs.now (view file.now) ≡ Ok (site_view site)) }
     ensures refused { IfErr result (λ e. e ≢ fault.OutOfMemory → site_of defs.now (view file.now) ≡ Err e) }
 {
     if has_too_many(file) {
         return Err(SiteFault::TooMany);
     }
-    read_sections(alloc, defs, file)
+    read_sections(alloc, defs, file, spot)
 }
 
 /// Reads the sections in order.
-fn read_sections(alloc: Global, defs: &[ModelDef], file: &Value) -> Result<Site, SiteFault>
+fn read_sections(
+    alloc: Global,
+    defs: &[ModelDef],
+    file: &Value,
+    spot: &mut Spot,
+) -> Result<Site, SiteFault>
     ensures told { IfOk result (λ site. layout_of defs.now (view file.now) ≡ Ok (site_view site)) }
     ensures refused { IfErr result (λ e. e ≢ fault.OutOfMemory → layout_of defs.now (view file.now) ≡ Err e) }
 {
+    *spot = Spot::Gateway;
     let gateway = read_gateway(alloc, defs, file)?;
-    let devices = read_devices(alloc, section_at(file, "device")?)?;
+    let devices = read_devices(alloc, section_in(file, "device")?, spot)?;
     let own = gateway.models.as_slice();
     let tags = tags_over(
         alloc,
         devices.as_slice(),
         own,
         defs,
-        section_at(file, "tag")?,
+        section_in(file, "tag")?,
+        spot,
     )?;
-    let entries = section_at(file, "served")?;
-    let served = read_served(alloc, gateway.models.as_slice(), tags.as_slice(), entries)?;
+    let entries = section_in(file, "served")?;
+    let served = read_served(
+        alloc,
+        gateway.models.as_slice(),
+        tags.as_slice(),
+        entries,
+        spot,
+    )?;
     Ok(with_lookups(alloc, defs, gateway, devices, tags, served)?)
+}
+
+/// The entries of a section, none where it is missing.
+fn section_in<'a>(file: &'a Value, key: &str) -> Result<&'a [Value], SiteFault>
+    ensures { MatchResult result
+        (λ entries. section_in key.now (view file.now) ≡ Ok (items_view entries.now))
+        (λ e. section_in key.now (view file.now) ≡ Err e) }
+{
+    match section_at(file, key) {
+        Some(entries) => Ok(entries),
+        None => Err(SiteFault::MissingKey),
+    }
 }
 
 /// Reads the tags over these devices, the gateway's own models and all definitions.
@@ -88,6 +149,7 @@ fn tags_over<'x>(
     own: &'x [ModelDef],
     defs: &'x [ModelDef],
     entries: &[Value],
+    spot: &mut Spot,
 ) -> Result<Items<SiteTag>, SiteFault>
     ensures told { IfOk result
         (λ tags. tags_behind devices.now own.now defs.now [] (items_view entries.now) ≡ Ok (map tag_view tags)) }
@@ -101,7 +163,7 @@ fn tags_over<'x>(
         own,
         defs,
     };
-    read_tags(alloc, scope, entries)
+    read_tags(alloc, scope, entries, spot)
 }
 
 /// The site of these parts, with what it looks up for its callers.
@@ -147,26 +209,6 @@ fn has_too_many_models(file: &Value) -> bool
 {
     match file.get("gateway") {
         Some(gateway) => has_over(MOST_MODELS, "models", gateway),
-        None => false,
-    }
-}
-
-/// Whether a list of more than so many elements stands at a key.
-fn has_over(most: usize, key: &str, table: &Value) -> bool
-    ensures { result ≡ has_over most key.now (view table.now) }
-{
-    match table.get(key) {
-        Some(value) => is_over(most, value),
-        None => false,
-    }
-}
-
-#[tactic(auto, using(crate::proofs::Lists::count_items))]
-fn is_over(most: usize, value: &Value) -> bool
-    ensures { result ≡ is_over most (view value.now) }
-{
-    match value.as_array() {
-        Some(list) => list.len() > most,
         None => false,
     }
 }

@@ -10,7 +10,7 @@ ghost use Rattle.site_model.specs.declared.fault.SiteFault.{SiteFault};
 ghost use Rattle.site_model.specs.declared.fault.SiteFault.TheVariants as fault;
 
 use crate::fault::SiteFault;
-use crate::keys::{base_of, byte_of, number_at, numbers_in, optional_number_at};
+use file_keys::{base_of, byte_of, number_at, numbers_in, optional_number_at};
 use model_defs::ModelDef;
 use point_types::Items;
 use std::alloc::Global;

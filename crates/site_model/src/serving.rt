@@ -11,12 +11,13 @@ ghost use Rattle.site_model.specs.declared.fault.SiteFault.TheVariants as fault;
 
 use crate::fault::SiteFault;
 use crate::gateway::model_of;
-use crate::keys::{number_at, optional_number_at, optional_text_at, optional_texts_at, text_at};
 use crate::served::{Served, Source};
+use crate::spot::Spot;
 use crate::sums::sum_of;
 use crate::tag::SiteTag;
 use crate::tag_rules::{is_numeric, is_own, is_sunssf, offset_at};
 use crate::text::Text;
+use file_keys::{number_at, optional_number_at, optional_text_at, optional_texts_at, text_at};
 use model_defs::{ModelDef, Point};
 use point_types::{Items, Kind};
 use std::alloc::Global;
@@ -38,12 +39,13 @@ struct Given<'a> {
     sum: Option<&'a [Value]>,
 }
 
-/// Reads the entries in order.
+/// Reads the entries in order, and notes the one that it has come to.
 pub(crate) fn read_served(
     alloc: Global,
     own: &[ModelDef],
     tags: &[SiteTag],
     entries: &[Value],
+    spot: &mut Spot,
 ) -> Result<Items<Served>, SiteFault>
     ensures told { IfOk result (λ served. served_behind own.now (map tag_view tags.now) [] (items_view entries.now) ≡ Ok served) }
     ensures refused { IfErr result (λ e. e ≢ fault.OutOfMemory
@@ -51,6 +53,7 @@ pub(crate) fn read_served(
 {
     let mut served = Items::new(alloc);
     for entry in entries {
+        *spot = Spot::Served(served.len());
         let point = read_entry(alloc, own, tags, served.as_slice(), entry)?;
         served.push(point)?;
     }

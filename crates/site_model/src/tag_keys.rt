@@ -6,7 +6,7 @@ ghost use Rattle.site_model.specs.Tagging.{tag_keys, numbers_of, place_of, acces
 ghost use Rattle.site_model.specs.Views.{numbers_view, place_view, tag_keys_view};
 
 use crate::access::Access;
-use crate::keys::{number_at, optional_number_at, optional_text_at, text_at};
+use file_keys::{number_at, optional_number_at, optional_text_at, text_at};
 use point_types::{IlType, Name};
 use toml::Value;
 

@@ -3,7 +3,7 @@ ghost use Rattle.std.specs.Prelude.{◌≡◌, pos, neg_ℤ, option_map, IfSome,
 ghost use Rattle.point_types.specs.Reading.{IsExponent};
 ghost use Rattle.point_types.specs.Value.{is_ranged, is_within};
 ghost use Rattle.site_model.specs.Tag.{is_written, start_of};
-ghost use Rattle.site_model.specs.Keys.{natural_within};
+ghost use Rattle.file_keys.specs.Keys.{natural_within};
 ghost use Rattle.site_model.specs.Tagging.{access_of, bit_of, exponent_of, factor_in, goes_together, has_range, is_bit_place, is_input, is_numeric, is_own, is_place, is_polled, is_rounding, is_sunssf, last_bit, may_be_written, offset_at, tag_over, tag_typed, type_of, unit_of, unit_within};
 ghost use Rattle.site_model.specs.Views.{numbers_view, tag_keys_view, tag_view, unit_view};
 

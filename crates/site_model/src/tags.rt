@@ -2,22 +2,23 @@
 ghost use Rattle.std.specs.Prelude.{◌≡◌, ◌≢◌, [], map, option_map, nat_eq, nat_lt, find, is_some, Ok, Err, IfOk, IfErr, MatchResult};
 ghost use Rattle.std.specs.List.{list_any};
 ghost use Rattle.toml.specs.View.{view, items_view};
-ghost use Rattle.site_model.specs.Numbers.{NumbersDevices};
+ghost use Rattle.name_places.specs.Places.{IsPlaced};
 ghost use Rattle.site_model.specs.Tag.{start_of};
-ghost use Rattle.site_model.specs.Tagging.{clashes, device_for, device_named, device_number, is_on_heading, is_same_device, is_same_point, is_same_side, model_for, point_for, tag_of, tag_placed, tags_behind};
+ghost use Rattle.site_model.specs.Tagging.{clashes, device_for, device_named, device_number, is_device_named, is_on_heading, is_same_device, is_same_point, is_same_side, model_for, point_for, tag_of, tag_placed, tags_behind};
 ghost use Rattle.site_model.specs.Views.{tag_keys_view, tag_view};
 ghost use Rattle.site_model.specs.declared.fault.SiteFault.{SiteFault};
 ghost use Rattle.site_model.specs.declared.fault.SiteFault.TheVariants as fault;
 
 use crate::access::Access;
 use crate::device::SiteDevice;
-use crate::device_numbers::DeviceNumbers;
 use crate::fault::SiteFault;
 use crate::gateway::{definition_of, model_of};
+use crate::spot::Spot;
 use crate::tag::SiteTag;
 use crate::tag_keys::{TagKeys, access_of, keys_of, type_of};
 use crate::tag_rules::{is_own, is_polled, may_be_written, tag_typed, unit_of};
 use model_defs::{ModelDef, Point};
+use name_places::{Places, place_of};
 use point_types::Items;
 use std::alloc::Global;
 use toml::Value;
@@ -26,17 +27,18 @@ use toml::Value;
 #[derive(Clone, Copy)]
 pub(crate) struct Scope<'a, 'n> {
     pub(crate) devices: &'a [SiteDevice],
-    pub(crate) numbers: &'n DeviceNumbers<'a>,
+    pub(crate) numbers: &'n Places<'a>,
     pub(crate) own: &'a [ModelDef],
     pub(crate) defs: &'a [ModelDef],
-    ghost numbered: { NumbersDevices devices.now numbers.now.entries },
+    ghost numbered: { IsPlaced is_device_named devices.now numbers.now.entries },
 }
 
-/// Reads the tags in order.
+/// Reads the tags in order, and notes the one that it has come to.
 pub(crate) fn read_tags(
     alloc: Global,
     scope: Scope<'_, '_>,
     entries: &[Value],
+    spot: &mut Spot,
 ) -> Result<Items<SiteTag>, SiteFault>
     ensures told { IfOk result
         (λ tags. tags_behind scope.entry.devices.now scope.entry.own.now scope.entry.defs.now [] (items_view entries.now) ≡ Ok (map tag_view tags)) }
@@ -45,6 +47,7 @@ pub(crate) fn read_tags(
 {
     let mut tags = Items::new(alloc);
     for entry in entries {
+        *spot = Spot::Tag(tags.len());
         let tag = read_tag(scope, tags.as_slice(), entry)?;
         tags.push(tag)?;
     }
@@ -92,7 +95,7 @@ fn device_for(
 fn device_number(scope: Scope<'_, '_>, name: &str) -> Option<usize>
     ensures { result ≡ device_number scope.entry.devices.now name.now }
 {
-    scope.numbers.get(name).copied()
+    place_of(scope.numbers, name)
 }
 
 /// The tag over its point, as far as it doesn't hang on the tags before it.

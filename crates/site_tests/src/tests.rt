@@ -1,4 +1,5 @@
 //! What the tests of sites share.
+mod fault_places;
 mod faults;
 mod files;
 mod memory;

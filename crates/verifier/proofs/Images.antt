@@ -24,6 +24,8 @@ use Rattle.scan_code.proofs.ImageParts.{bool_is_whole}
 use Rattle.verifier.proofs.Made.{IsMadeFrom, IsPlaced, IsTag, IsWhole, SameTag}
 use Rattle.verifier.proofs.Listings.{head_is, whole_stands}
 use Rattle.facts.proofs.Covering.{same_code}
+use Rattle.point_types.proofs.Truths.{nat_same as nat_is}
+use Rattle.facts.proofs.Covering.{same_bool_out as same_bool_is}
 
 -- no number is decoded that is not one of its type
 abbrev pub IsNumber : Op → Type 0
@@ -188,11 +190,6 @@ listed_is image (suc most) at n jumps ended es e = listed_past image most at n j
 abbrev pub IsLinked : Tag → TagLink → Type 0
 IsLinked tag link = (tag.output ≡ is_stored link.site.access) × (tag.kind ≡ link.site.kind)
 
-same_bool_is : (a b : Bool) → same_bool a b ≡ true → a ≡ b
-same_bool_is true b e = sym e
-same_bool_is false true e = absurd (cc)
-same_bool_is false false e = refl
-
 allowed_is : (tag : Tag) (link l : TagLink) → allowed tag link ≡ Ok l → IsLinked tag l
 allowed_is tag link l e = kinds (nat_eq (code_of tag.kind) (code_of link.site.kind)) refl e
   where
@@ -241,9 +238,6 @@ tag_there : (output : Bool) (o : Option Tag) (r : Option TagRange) → SameTag o
 tag_there output None r s e = absurd (cc)
 tag_there output (Some g) None s e = absurd s
 tag_there output (Some g) (Some r) s e = sym s.0 ∙ same_bool_is g.output output e
-
-nat_is : (m n : ℕ) → nat_eq m n ≡ true → m ≡ n
-nat_is m n e = grind arith
 
 less_is : (m n : ℕ) → nat_lt m n ≡ true → m < n
 less_is m n e = grind arith

@@ -13,6 +13,7 @@ pub mod Working
 pub mod Linking
 pub mod Listed
 pub mod HeadsAre
+pub mod Knowing
 pub mod Lengths
 pub mod Passing
 pub mod Promised

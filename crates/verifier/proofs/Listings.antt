@@ -5,9 +5,7 @@ use Rattle.scan_code.specs.declared.op.Op.TheVariants as does
 use Rattle.scan_code.specs.Instruction.{decoded, decoded_at}
 use Rattle.facts.specs.Flow.{number_at}
 use Rattle.verifier.proofs.Made.{IsWhole}
-
-nat_same : (m n : ℕ) → nat_eq m n ≡ true → m ≡ n
-nat_same m n e = grind arith
+use Rattle.point_types.proofs.Truths.{nat_same}
 
 pub head_is : {A : Type 0} (x y : A) → Some x ≡ Some y → x ≡ y
 head_is x y e = cc

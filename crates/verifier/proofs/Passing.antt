@@ -1,14 +1,16 @@
 -- One pass finds the one family: what it leaves at the later instructions is what flows there.
-use Rattle.std.proofs.Common.{◌≡◌, ℕ, zero, suc, ◌+◌, ◌-◌, ◌<◌, ◌≤◌, List, [], ◌∷◌, ◌++◌, length, map, Result, Ok, Err, Option, Some, None, slice_get, slice_set, option_map, Bool, false, nat_eq, refl, sym, ap, subst, ◌∙◌, arith, if◌then◌else◌, length-append}
+use Rattle.std.proofs.Common.{◌≡◌, ◌⊎◌, inl, inr, ℕ, zero, suc, ◌+◌, ◌-◌, ◌<◌, ◌≤◌, List, [], ◌∷◌, ◌++◌, length, map, Result, Ok, Err, Option, Some, None, slice_get, slice_set, option_map, Bool, false, nat_eq, refl, sym, ap, subst, ◌∙◌, arith, if◌then◌else◌, length-append}
 use Rattle.facts.specs.declared.refusal.Refusal.{Refusal}
 use Rattle.facts.specs.declared.refusal.RefusalKind.{RefusalKind}
 use Rattle.facts.specs.declared.fact.Fact.{Fact}
 use Rattle.facts.specs.Flow.{Context, Way, Flow}
 use Rattle.facts.specs.Slots.{Slot, Unreached, meets, arriving, flow_of, ways_of, gathered, slots, is_reached}
 use Rattle.verifier.specs.Budget.{reached}
+use Rattle.verifier.specs.Gathered.{AreGathered, IsRefusedAt, slot_before}
+use Rattle.facts.specs.Word.{out_of_memory}
 use Rattle.verifier.specs.Verdict.{first_refusal, refusal_of}
 use Rattle.verifier.specs.declared.arrived.Arrived.{Arrived}
-use Rattle.verifier.specs.Passing.{opening, closed, delivered, all_delivered, passed, passed_by, stood, all_stood}
+use Rattle.verifier.specs.Passing.{opening, delivered, all_delivered, passed, passed_by, stood, all_stood}
 use Rattle.facts.proofs.Lists.{get_set_other}
 use Rattle.verifier.proofs.Listings.{head_is}
 use Rattle.std.proofs.lemmas.List.{length-map}
@@ -104,13 +106,13 @@ abbrev or_else : Option Refusal → Option Refusal → Option Refusal
 or_else None o = o
 or_else (Some r) o = Some r
 
-module _ (c : Context) where
-  -- before anything more flows there
-  abbrev pub open_slot : ℕ → Slot
-  open_slot n = gathered c n 0 (slots c n) (opening c n)
+mapped_more : {A B : Type 0} (f : A → B) (xs : List A) (y : A) → map f (xs ++ y ∷ []) ≡ map f xs ++ f y ∷ []
+mapped_more f [] y = refl
+mapped_more f (x ∷ xs) y = ap (λ ys. f x ∷ ys) (mapped_more f xs y)
 
+module _ (c : Context) where
   abbrev pub slot_of : ℕ → Slot
-  slot_of n = closed c n (open_slot n)
+  slot_of n = slot_before c n
 
   pub slots_long : (n : ℕ) → length (slots c n) ≡ n
   slots_long zero = refl
@@ -135,17 +137,20 @@ module _ (c : Context) where
 
   -- what is pending, at instruction n and behind it
   abbrev pub ArePending : ℕ → List Slot → Type 0
-  ArePending n ss = (m : ℕ) (s : Slot) → n ≤ m → slice_get ss m ≡ Some s → s ≡ gathered_to n m
+  ArePending n ss = AreGathered c n n ss
 
-  pub pending_next : (n : ℕ) (ways : List Way) (ss : List Slot) → ArePending n ss → flow_of c n (slot_of n) (slice_get c.listing n) ≡ Ok ways → ArePending (suc n) (all_delivered ways (slice_set ss n Unreached))
-  pending_next n ways ss h f m s k e =
-      go (slice_get ss m) refl (sym (all_delivered_at ways (slice_set ss n Unreached) m ∙ ap (option_map (arriving m ways)) (get_set_other ss n m Unreached (λ p. omega arith))) ∙ e)
+  -- and behind it alone, once that is taken
+  pub pending_left : (n : ℕ) (ss : List Slot) → ArePending n ss → AreGathered c n (suc n) (slice_set ss n Unreached)
+  pending_left n ss h m s k e = h m s (omega arith) (sym (get_set_other ss n m Unreached (λ p. omega arith)) ∙ e)
+
+  pub pending_next : (n : ℕ) (ways : List Way) (ss : List Slot) → AreGathered c n (suc n) ss → flow_of c n (slot_of n) (slice_get c.listing n) ≡ Ok ways → ArePending (suc n) (all_delivered ways ss)
+  pending_next n ways ss h f m s k e = go (slice_get ss m) refl (sym (all_delivered_at ways ss m) ∙ e)
     where
       go : (o : Option Slot) → slice_get ss m ≡ o → option_map (arriving m ways) (slice_get ss m) ≡ Some s → s ≡ gathered_to (suc n) m
       go None p q = absurd (cc)
       go (Some t) p q =
           let g : option_map (arriving m ways) (Some t) ≡ Some s = subst (λ (o : Option Slot). option_map (arriving m ways) o ≡ Some s) p q in
-          sym (head_is (arriving m ways t) s g) ∙ ap (arriving m ways) (h m t (omega arith) p) ∙ sym (gathered_next n m ∙ ap (λ (r : Flow). arriving m (ways_of r) (gathered_to n m)) f)
+          sym (head_is (arriving m ways t) s g) ∙ ap (arriving m ways) (h m t k p) ∙ sym (gathered_next n m ∙ ap (λ (r : Flow). arriving m (ways_of r) (gathered_to n m)) f)
 
   pub first_pending : (ss : List Slot) → AreOpen c ss → ArePending 0 ss
   first_pending ss h m s k e = h m s e
@@ -183,21 +188,20 @@ module _ (c : Context) where
   refused_later (suc k) n r h = let e : suc n + k ≡ n + suc k = omega arith in
       subst (λ (m : ℕ). refusal_to m ≡ Some r) e (refused_later k (suc n) r (still_refused n r h))
 
-  pub refused_at_last : (n : ℕ) (kind : RefusalKind) → n < length c.listing → refusal_to n ≡ None → flow_of c n (slot_of n) (slice_get c.listing n) ≡ Err kind → passed c ≡ Err (record { at = n; kind = kind })
-  refused_at_last n kind k h f =
+  pub refused_first : (n : ℕ) (kind : RefusalKind) → n < length c.listing → refusal_to n ≡ None → flow_of c n (slot_of n) (slice_get c.listing n) ≡ Err kind → refusal_of c ≡ Some (record { at = n; kind = kind })
+  refused_first n kind k h f =
       let e : suc n + (length c.listing - suc n) ≡ length c.listing = omega arith in
-      let g : refusal_of c ≡ Some (record { at = n; kind = kind }) = subst (λ (m : ℕ). refusal_to m ≡ Some (record { at = n; kind = kind })) e (refused_later (length c.listing - suc n) (suc n) (record { at = n; kind = kind }) (one_refused n kind h f)) in
-      ap (λ (o : Option Refusal). passed_by o (reached c)) g
+      subst (λ (m : ℕ). refusal_to m ≡ Some (record { at = n; kind = kind })) e (refused_later (length c.listing - suc n) (suc n) (record { at = n; kind = kind }) (one_refused n kind h f))
+
+  pub passed_refused : (n : ℕ) (r : Refusal) → IsRefusedAt c n r → (passed c ≡ Err r) ⊎ (r ≡ out_of_memory)
+  passed_refused n r (inl first) = inl (ap (λ (o : Option Refusal). passed_by o (reached c)) first.0)
+  passed_refused n r (inr none) = inr none
 
   pub all_passed : (n : ℕ) → n ≡ length c.listing → refusal_to n ≡ None → passed c ≡ Ok (map is_reached (slots c n))
   all_passed n e h = let g : refusal_of c ≡ None = subst (λ (m : ℕ). refusal_to m ≡ None) e h in ap (λ (o : Option Refusal). passed_by o (reached c)) g ∙ ap (λ (m : ℕ). Ok (map is_reached (slots c m))) (sym e)
 
-  pub reached_next : (n : ℕ) → map is_reached (slots c (suc n)) ≡ map is_reached (slots c n) ++ is_reached (slot_of n) ∷ []
-  reached_next n = map_more (slots c n)
-    where
-      map_more : (ss : List Slot) → map is_reached (ss ++ slot_of n ∷ []) ≡ map is_reached ss ++ is_reached (slot_of n) ∷ []
-      map_more [] = refl
-      map_more (s ∷ ss) = ap (λ (bs : List Bool). is_reached s ∷ bs) (map_more ss)
+  pub mapped_next : {B : Type 0} (f : Slot → B) (n : ℕ) → map f (slots c (suc n)) ≡ map f (slots c n) ++ f (slot_of n) ∷ []
+  mapped_next f n = mapped_more f (slots c n) (slot_of n)
 
   -- what a pass without a refusal says
   pub passed_is : (flags : List Bool) → passed c ≡ Ok flags → (refusal_of c ≡ None) × (flags ≡ reached c)

@@ -37,8 +37,9 @@ use Rattle.facts.proofs.Comparing.{and_left, and_right, both_true, le_true}
 use Rattle.facts.proofs.Lists.{by_same, get_set_same, get_set_other, set_at, get_within}
 use Rattle.facts.proofs.Spans.{lies_low, lies_high, in_joined_right, in_member, member_in}
 use Rattle.verifier.proofs.Listings.{rising, number_found, lt_yes, le_yes, first_is}
-use Rattle.facts.proofs.Values.{bit_test, bit_zero, bool_kind, presence_fits, number_in, applied_good, inverted_good, selected_good, absolute_good, converted_good, Yields, by_ok, by_need, by_check, by_then, by_first, Good, plain_fits, source_fits, bit_value}
+use Rattle.facts.proofs.Values.{bit_test, bit_zero, presence_fits, number_in, applied_good, inverted_good, selected_good, absolute_good, converted_good, Yields, by_ok, by_need, by_check, by_then, by_first, Good, plain_fits, source_fits, bit_value}
 use Rattle.facts.proofs.Covering.{joined_lies_left, stored_fits, widened_fits, under_fits, none_empty, lies_of, in_of, code_same}
+use Rattle.point_types.proofs.Truths.{bool_kind}
 
 abbrev pub IsAt : Context → ℕ → ℕ → Type 0
 IsAt c n address = (i : Op) × (slice_get c.listing n ≡ Some (address, i))

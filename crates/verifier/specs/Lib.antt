@@ -1,12 +1,16 @@
 pub mod Budget
+pub mod Gathered
 pub mod Heads
 pub mod Judging
+pub mod Known
 pub mod Links
 pub mod Listing
 pub mod Passing
 pub mod Promise
 pub mod Ranges
+pub mod Safe
 pub mod Sound
+pub mod Told
 pub mod Verdict
 pub mod Verified
 pub mod Worked

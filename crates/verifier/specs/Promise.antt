@@ -1,15 +1,13 @@
--- What is promised of the scans of a program that was accepted.
+-- What is promised of each state of a scan of a program that was accepted.
 -- IEC 61131-3 edition 2, 3.2 (instruction list), 2.4.3 (values of variables before and between scans).
-use Rattle.std.specs.Prelude.{◌≡◌, ℕ, ◌≤◌, ℤ, List, map, Ok}
+use Rattle.std.specs.Prelude.{◌≡◌, ℕ, ℤ, List, map, Ok}
 use Rattle.point_types.specs.declared.reading.Reading.{Reading}
 use Rattle.scan_code.specs.Machine.{run, opening}
-use Rattle.scan_code.specs.Table.{start_of}
 use Rattle.verifier.specs.Budget.{budget}
 use Rattle.facts.specs.Flow.{Context}
 use Rattle.verifier.specs.Listing.{listing_of}
 use Rattle.verifier.specs.Ranges.{range_of}
-use Rattle.verifier.specs.Sound.{AreInRanges, AreReadings, AreRows, EndsWithin, IsFine, ScansEnd}
-use Rattle.verifier.specs.Verdict.{most_steps}
+use Rattle.verifier.specs.Sound.{AreInRanges, AreReadings, IsFine}
 use Rattle.verifier.specs.Verified.{Acceptance, IsVerified}
 
 -- what the program is judged by: its variables and instructions, the site's ranges of its tags
@@ -20,19 +18,13 @@ pub record IsFrameOf (most : ℕ) (a : Acceptance) (c : Context) : Type 0 where
   pub listing : listing_of a.image ≡ Ok c.listing
 
 -- whatever the readings, each number within the site's range, and whatever the variables within theirs
-pub record KeepsPromise (depth : ℕ) (a : Acceptance) : Type 0 where
+pub record FitsFacts (depth : ℕ) (a : Acceptance) : Type 0 where
   pub context : Context
   pub framed : IsFrameOf depth a context
   pub budgeted : a.budget ≡ budget context
-  pub bounded : a.budget ≤ most_steps
   -- after any number of instructions nothing has trapped, the state fits the fact of its instruction, and variables,
   -- outputs that are set and the number of deferred values are in range
   pub fine : (rs : List Reading) → AreReadings context rs → (variables : List ℤ) → AreInRanges a.image.vars variables → (n : ℕ) → IsFine context rs (run a.image rs 0 n (opening a.image variables))
-  -- a scan ends within the budget
-  pub ends : (rs : List Reading) → AreReadings context rs → (variables : List ℤ) → AreInRanges a.image.vars variables → EndsWithin a.budget (run a.image rs 0 a.budget (opening a.image variables))
-  -- so does every number of scans, from the start values on
-  pub starts : AreInRanges a.image.vars (map start_of a.image.vars)
-  pub scans : (rows : List (List Reading)) → AreRows context rows → (variables : List ℤ) → AreInRanges a.image.vars variables → ScansEnd a.image context rows variables
 
-abbrev pub AcceptedKeepPromises : Type 0
-AcceptedKeepPromises = (depth : ℕ) (a : Acceptance) → IsVerified depth a → KeepsPromise depth a
+abbrev pub AcceptedFitFacts : Type 0
+AcceptedFitFacts = (depth : ℕ) (a : Acceptance) → IsVerified depth a → FitsFacts depth a

@@ -2,7 +2,7 @@
 
 /// What has come to an instruction from earlier ones: nothing, what is known, or facts that don't meet.
 #[derive(Drop)]
-pub(crate) enum Arrived<F> {
+pub enum Arrived<F> {
     Nothing,
     AbstractValue(F),
     Clash,

@@ -29,7 +29,7 @@ pub fn most_steps(
 }
 
 /// For each instruction how many are on the longest path from it to an end, if any leads there.
-fn path_lengths(
+pub fn path_lengths(
     alloc: Global,
     listing: &[(usize, Op)],
     reached: &[bool],

@@ -1,6 +1,7 @@
 //! Laws of the verdict: accepted programs run well, and every scan ends.
 ghost use Rattle.verifier.specs.Budget.{LongestIsAPath, NoPathIsLonger};
-ghost use Rattle.verifier.specs.Promise.{AcceptedKeepPromises};
+ghost use Rattle.verifier.specs.Promise.{AcceptedFitFacts};
+ghost use Rattle.verifier.specs.Safe.{AcceptedNeverGoWrong};
 ghost use Rattle.verifier.specs.Sound.{EveryScanEnds, RunsOut, RunsWell, YesIsAccepted};
 ghost use Rattle.verifier.specs.Worked.{WorkedVerdicts};
 
@@ -38,7 +39,8 @@ pub fn longest_is_of_a_path()
 {}
 
 /// What is accepted keeps its promise: every number of scans end without a trap and within the budget,
-/// with variables, outputs and deferred values in their ranges.
+/// with variables and outputs in their ranges; and each state of a scan fits the fact of its instruction.
 pub fn accepted_keep_promises()
-    ensures { AcceptedKeepPromises }
+    ensures safe { AcceptedNeverGoWrong }
+    ensures fits { AcceptedFitFacts }
 {}

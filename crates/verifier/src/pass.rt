@@ -1,5 +1,6 @@
 //! The pass over a program: from each fact to the facts that follow.
-ghost use Rattle.std.specs.Prelude.{◌≡◌, ℕ, ◌<◌, ◌+◌, ◌^◌, length, Some, IfOk, OnOk, slice_get, slice_set};
+ghost use Rattle.std.specs.Prelude.{◌≡◌, ℕ, ◌<◌, ◌+◌, ◌^◌, length, Some, IfErr, IfOk, OnOk, slice_get, slice_set};
+ghost use Rattle.verifier.specs.Gathered.{AreGathered, IsRefusedAt, NoneRefuses, slot_before};
 ghost use Rattle.verifier.specs.Heads.{heads_of};
 ghost use Rattle.verifier.specs.Passing.{all_delivered, all_stood, closed, delivered, flow_stood, opening, passed, stood, ways_stood};
 ghost use Rattle.facts.specs.Slots.{Holds, Slot, Unreached, address_of, flow_of, head_slot, is_loop_head, is_reached, meets};
@@ -40,20 +41,67 @@ fn pass_over<F: FactDomain>(
     let mut reached = Items::new(alloc);
     let mut at = 0;
     while at < context.size() {
-        let arrived = taken(pending, at);
-        let slot = close(alloc, context, heads, at, arrived)?;
+        let slot = known_at(alloc, context, heads, pending, at)?;
         reached.push(has_fact(&slot))?;
-        match flow_of(alloc, context, at, slot)? {
-            Ok(ways) => deliver_all(alloc, pending, ways)?,
-            Err(kind) => return Err(Refusal { at, kind }),
+        match pass_on(alloc, context, pending, at, slot) {
+            Ok(()) => at += 1,
+            Err(refusal) => return Err(refusal),
         }
-        at += 1;
     }
     Ok(reached)
 }
 
+/// What is known before an instruction to which all has come: nothing where no path reaches it.
+pub(crate) fn known_at<F: FactDomain>(
+    alloc: Global,
+    context: &Context,
+    heads: &[usize],
+    pending: &mut [Arrived<F>],
+    at: usize,
+) -> Result<Arrived<F>, AllocError>
+    requires heads { heads.now ≡ heads_of context.now.listing }
+    requires within { at < length context.now.listing }
+    requires long { length pending.old ≡ length context.now.listing }
+    requires gathered { AreGathered context.now at at (all_stood F.stands pending.old) }
+    ensures known { IfOk result (λ slot. stood F.stands slot ≡ slot_before context.now at) }
+    ensures left { AreGathered context.now at (at + 1) (all_stood F.stands pending.new) }
+{
+    let arrived = taken(pending, at);
+    let slot = close(alloc, context, heads, at, arrived)?;
+    Ok(slot)
+}
+
+/// Brings what flows on from an instruction to where it flows, or refuses the instruction.
+pub(crate) fn pass_on<F: FactDomain>(
+    alloc: Global,
+    context: &Context,
+    pending: &mut [Arrived<F>],
+    at: usize,
+    slot: Arrived<F>,
+) -> Result<(), Refusal>
+    requires within { at < length context.now.listing }
+    requires few { at + 1 < 2 ^ 64 }
+    requires known { stood F.stands slot ≡ slot_before context.now at }
+    requires gathered { AreGathered context.now at (at + 1) (all_stood F.stands pending.old) }
+    requires unrefused { NoneRefuses context.now at }
+    ensures gathered { OnOk result (AreGathered context.now (at + 1) (at + 1) (all_stood F.stands pending.new)) }
+    ensures unrefused { OnOk result (NoneRefuses context.now (at + 1)) }
+    ensures refused { IfErr result (IsRefusedAt context.now at) }
+{
+    match flow_of(alloc, context, at, slot)? {
+        Ok(ways) => {
+            deliver_all(alloc, pending, ways)?;
+            Ok(())
+        }
+        Err(kind) => Err(Refusal { at, kind }),
+    }
+}
+
 /// What stands at each instruction before anything flows there.
-fn opened<F: FactDomain>(alloc: Global, context: &Context) -> Result<Vec<Arrived<F>>, AllocError>
+pub(crate) fn opened<F: FactDomain>(
+    alloc: Global,
+    context: &Context,
+) -> Result<Vec<Arrived<F>>, AllocError>
     ensures long { IfOk result (λ pending. length pending.items ≡ length context.now.listing) }
     ensures each { IfOk result (λ pending. (n : ℕ) (slot : Slot) → slice_get (all_stood F.stands pending.items) n ≡ Some slot → slot ≡ opening context.now n) }
 {

@@ -2,7 +2,8 @@
 ghost use Rattle.std.specs.Prelude.{◌≡◌, ◌<◌, length, IfOk};
 ghost use Rattle.verifier.specs.Judging.{IsVerdict, judged_of, judged_with, linked_frame, within_budget};
 ghost use Rattle.verifier.specs.Listing.{listing_of};
-ghost use Rattle.verifier.specs.Promise.{KeepsPromise};
+ghost use Rattle.verifier.specs.Promise.{FitsFacts};
+ghost use Rattle.verifier.specs.Safe.{NeverGoesWrong};
 ghost use Rattle.facts.specs.Word.{AnswersOrWantsMemory};
 
 use crate::budget::most_steps;
@@ -36,7 +37,8 @@ pub fn verify<const DEPTH: usize>(
     site: &Site,
 ) -> Result<Verified<DEPTH>, Refused>
     ensures verdict { IsVerdict DEPTH image site.now.tags result }
-    ensures promise { IfOk result (λ accepted. KeepsPromise DEPTH accepted) }
+    ensures safe { IfOk result (λ accepted. NeverGoesWrong accepted) }
+    ensures fits { IfOk result (λ accepted. FitsFacts DEPTH accepted) }
 {
     let links = match links(alloc, site.tags(), image.tags.as_slice()) {
         Ok(links) => links,
@@ -65,7 +67,7 @@ fn judge(alloc: Global, image: &Image, links: &[TagLink], depth: usize) -> Resul
 }
 
 /// The instructions of an image; they are few, since each has a byte.
-fn listed(alloc: Global, image: &Image) -> Result<Items<(usize, Op)>, Refusal>
+pub(crate) fn listed(alloc: Global, image: &Image) -> Result<Items<(usize, Op)>, Refusal>
     ensures listed { AnswersOrWantsMemory (λ listing. listing) (listing_of image.now) result }
     ensures few { IfOk result (λ listing. length listing < 65536) }
 {
@@ -73,7 +75,8 @@ fn listed(alloc: Global, image: &Image) -> Result<Items<(usize, Op)>, Refusal>
     listing(alloc, image)
 }
 
-fn frame_of(
+/// What an image whose tags are linked is judged by.
+pub(crate) fn frame_of(
     alloc: Global,
     image: &Image,
     links: &[TagLink],

@@ -5,6 +5,7 @@ mod full_fact;
 mod images;
 mod listings;
 mod memory;
+mod notes;
 mod rows;
 mod site_links;
 mod values;

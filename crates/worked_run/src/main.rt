@@ -4,5 +4,5 @@
 use std::process::ExitCode;
 
 fn main(rt: HostRuntime) -> ExitCode {
-    ExitCode::from(commands::obey_command_line(&rt))
+    ExitCode::from(command_line::obey_command_line(&rt))
 }

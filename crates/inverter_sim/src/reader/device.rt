@@ -8,11 +8,13 @@ ghost use Rattle.inverter_sim.specs.Reading.{models_view, device_keys_view};
 ghost use Rattle.inverter_sim.specs.declared.fault.PlantFault.TheVariants as fault;
 
 use super::image::{image_of, places_of};
-use super::keys::{integer_at, integer_or, integers_at, section, within};
+use super::keys::{integers_at, within};
 use super::layout::{has_room, tick_points};
 use super::values::give_values;
 use crate::device::Device;
 use crate::fault::PlantFault;
+use crate::spot::Spot;
+use file_keys::{number_at, number_or, section_at};
 use model_defs::ModelDef;
 use std::alloc::Global;
 use toml::Value;
@@ -20,32 +22,35 @@ use toml::Value;
 /// The base of a device whose entry has none.
 const USUAL_BASE: i64 = 40000;
 
-/// The devices of a plant file.
+/// The devices of a plant file; the one that the reader has come to is noted.
 pub(crate) fn devices_of(
     alloc: Global,
     tree: &Value,
     defs: &[ModelDef],
+    spot: &mut Spot,
 ) -> Result<Vec<Device>, PlantFault>
     ensures { MatchResult result (λ v. devices_of defs.now (view tree.now) ≡ Ok v.items)
         (λ e. e ≢ fault.OutOfMemory → devices_of defs.now (view tree.now) ≡ Err e) }
 {
-    let Some(entries) = section(tree, "device") else {
+    let Some(entries) = section_at(tree, "device") else {
         return Err(PlantFault::MissingKey);
     };
-    devices_in(alloc, entries, defs)
+    devices_in(alloc, entries, defs, spot)
 }
 
 fn devices_in(
     alloc: Global,
     entries: &[Value],
     defs: &[ModelDef],
+    spot: &mut Spot,
 ) -> Result<Vec<Device>, PlantFault>
     ensures { MatchResult result (λ v. devices_from defs.now [] (items_view entries.now) ≡ Ok v.items)
         (λ e. e ≢ fault.OutOfMemory → devices_from defs.now [] (items_view entries.now) ≡ Err e) }
 {
     let mut devices = Vec::new(alloc);
     for entry in entries {
-        let device = device_of(alloc, entry, defs, &devices)?;
+        *spot = Spot::Device(devices.len());
+        let device = device_of(alloc, entry, defs, &devices, spot)?;
         devices.push(device)?;
     }
     Ok(devices)
@@ -65,15 +70,15 @@ fn device_keys(alloc: Global, entry: &Value) -> Result<DeviceKeys, PlantFault>
     ensures { MatchResult result (λ k. device_keys (view entry.now) ≡ Some (device_keys_view k))
         (λ e. e ≢ fault.OutOfMemory → (e ≡ fault.MissingKey) × (device_keys (view entry.now) ≡ None)) }
 {
-    let Some(unit) = integer_at(entry, "unit") else {
+    let Some(unit) = number_at(entry, "unit") else {
         return Err(PlantFault::MissingKey);
     };
     let models = integers_at(alloc, entry, "models")?;
-    let Some(wmax) = integer_at(entry, "wmax") else {
+    let Some(wmax) = number_at(entry, "wmax") else {
         return Err(PlantFault::MissingKey);
     };
     let available = integers_at(alloc, entry, "available")?;
-    let Some(base) = integer_or(entry, "base", USUAL_BASE) else {
+    let Some(base) = number_or(entry, "base", USUAL_BASE) else {
         return Err(PlantFault::MissingKey);
     };
     Ok(DeviceKeys {
@@ -86,7 +91,7 @@ fn device_keys(alloc: Global, entry: &Value) -> Result<DeviceKeys, PlantFault>
 }
 
 /// The definition of an ID; of two the last one counts.
-fn definition_of(defs: &[ModelDef], number: i64) -> Option<&ModelDef>
+pub(crate) fn definition_of(defs: &[ModelDef], number: i64) -> Option<&ModelDef>
     ensures { option_map (λ d. d.now) result ≡ definition_of defs.now number }
 {
     defs.iter().rev().find(|d| i64::from(d.id) == number)
@@ -201,6 +206,7 @@ fn device_of(
     entry: &Value,
     defs: &[ModelDef],
     seen: &[Device],
+    spot: &mut Spot,
 ) -> Result<Device, PlantFault>
     ensures { MatchResult result (λ d. device_of defs.now seen.now (view entry.now) ≡ Ok d)
         (λ e. e ≢ fault.OutOfMemory → device_of defs.now seen.now (view entry.now) ≡ Err e) }
@@ -213,7 +219,7 @@ fn device_of(
     }
     let places = places_of(alloc, &models)?;
     let mut registers = image_of(alloc, &models)?;
-    give_values(alloc, &models, &mut registers, entry)?;
+    give_values(alloc, &models, &mut registers, entry, spot)?;
     let points = tick_points(&models);
     Ok(Device {
         unit: ranges.unit,

@@ -5,13 +5,15 @@ ghost use Rattle.inverter_sim.specs.File.{own_key, own_number, fault_keys, misbe
 ghost use Rattle.inverter_sim.specs.Reading.{fault_keys_view};
 ghost use Rattle.inverter_sim.specs.declared.fault.PlantFault.TheVariants as fault;
 
-use super::keys::{integer_at, is_more, section, text_at, within};
+use super::keys::within;
 use crate::fault::PlantFault;
 use crate::misbehaviour::{Fault, Misbehaviour};
+use crate::spot::Spot;
+use file_keys::{is_more, number_at, section_at, text_at};
 use std::alloc::Global;
 use toml::Value;
 
-const MOST_FAULTS: usize = 256;
+pub(crate) const MOST_FAULTS: usize = 256;
 
 /// The keys of an entry.
 #[derive(Clone, Copy)]
@@ -21,33 +23,39 @@ struct FaultKeys<'a> {
     number: i64,
 }
 
-/// The faults of a plant file.
-pub(crate) fn faults_of(alloc: Global, tree: &Value) -> Result<Vec<Fault>, PlantFault>
+/// The faults of a plant file; the one that the reader has come to is noted.
+pub(crate) fn faults_of(
+    alloc: Global,
+    tree: &Value,
+    spot: &mut Spot,
+) -> Result<Vec<Fault>, PlantFault>
     ensures { MatchResult result (λ v. faults_of (view tree.now) ≡ Ok v.items)
         (λ e. e ≢ fault.OutOfMemory → faults_of (view tree.now) ≡ Err e) }
 {
-    let Some(entries) = section(tree, "fault") else {
+    let Some(entries) = section_at(tree, "fault") else {
         return Err(PlantFault::MissingKey);
     };
-    faults_in(alloc, entries)
+    *spot = Spot::Faults;
+    faults_in(alloc, entries, spot)
 }
 
-fn faults_in(alloc: Global, entries: &[Value]) -> Result<Vec<Fault>, PlantFault>
+fn faults_in(alloc: Global, entries: &[Value], spot: &mut Spot) -> Result<Vec<Fault>, PlantFault>
     ensures { MatchResult result (λ v. faults_in (items_view entries.now) ≡ Ok v.items)
         (λ e. e ≢ fault.OutOfMemory → faults_in (items_view entries.now) ≡ Err e) }
 {
     if is_more(entries, MOST_FAULTS) {
         return Err(PlantFault::TooMany);
     }
-    read_faults(alloc, entries)
+    read_faults(alloc, entries, spot)
 }
 
-fn read_faults(alloc: Global, entries: &[Value]) -> Result<Vec<Fault>, PlantFault>
+fn read_faults(alloc: Global, entries: &[Value], spot: &mut Spot) -> Result<Vec<Fault>, PlantFault>
     ensures { MatchResult result (λ v. faults_from [] (items_view entries.now) ≡ Ok v.items)
         (λ e. e ≢ fault.OutOfMemory → faults_from [] (items_view entries.now) ≡ Err e) }
 {
     let mut faults = Vec::new(alloc);
     for entry in entries {
+        *spot = Spot::Fault(faults.len());
         let fault = fault_of(&faults, entry)?;
         faults.push(fault)?;
     }
@@ -77,7 +85,7 @@ fn not_seen(seen: &[Fault], fault: Fault) -> Result<Fault, PlantFault>
 fn fault_keys(tree: &Value) -> Option<FaultKeys<'_>>
     ensures { option_map fault_keys_view result ≡ fault_keys (view tree.now) }
 {
-    let request = integer_at(tree, "request")?;
+    let request = number_at(tree, "request")?;
     let kind = text_at(tree, "kind")?;
     let number = own_number(tree, kind)?;
     Some(FaultKeys {
@@ -88,7 +96,7 @@ fn fault_keys(tree: &Value) -> Option<FaultKeys<'_>>
 }
 
 /// The key that a kind of fault has of its own.
-fn own_key(kind: &str) -> Option<&'static str>
+pub(crate) fn own_key(kind: &str) -> Option<&'static str>
     ensures { option_copied result ≡ own_key kind.now }
 {
     match kind {
@@ -105,7 +113,7 @@ fn own_number(tree: &Value, kind: &str) -> Option<i64>
     ensures { result ≡ own_number kind.now (view tree.now) }
 {
     match own_key(kind) {
-        Some(key) => integer_at(tree, key),
+        Some(key) => number_at(tree, key),
         None => Some(0),
     }
 }

@@ -10,9 +10,10 @@ ghost use Rattle.inverter_sim.specs.Reading.{models_view, value_keys_view};
 ghost use Rattle.inverter_sim.specs.declared.fault.PlantFault.TheVariants as fault;
 
 use super::image::store;
-use super::keys::{integer_at, section, text_at};
 use super::layout::{locate, point_named};
 use crate::fault::PlantFault;
+use crate::spot::Spot;
+use file_keys::{number_at, section_at, text_at};
 use model_defs::{ModelDef, Point};
 use point_types::Kind;
 use std::alloc::Global;
@@ -26,12 +27,13 @@ struct ValueKeys<'a> {
     raw: i64,
 }
 
-/// Gives the points of a device the values that its entries name.
+/// Gives the points of a device the values that its entries name, and notes the one that the reader has come to.
 pub(super) fn give_values(
     alloc: Global,
     models: &[&ModelDef],
     registers: &mut Vec<u16>,
     tree: &Value,
+    spot: &mut Spot,
 ) -> Result<(), PlantFault>
     requires { map_length (models_view models.now) ≤ 65536 }
     ensures values { MatchResult result
@@ -39,11 +41,12 @@ pub(super) fn give_values(
         (λ e. e ≢ fault.OutOfMemory → values_of (models_view models.now) registers.old.items (view tree.now) ≡ Err e) }
     ensures len { length registers.new.items ≡ length registers.old.items }
 {
-    let Some(entries) = section(tree, "value") else {
+    let Some(entries) = section_at(tree, "value") else {
         return Err(PlantFault::MissingKey);
     };
     let mut seen = Vec::new(alloc);
     for entry in entries {
+        *spot = spot.at_value(seen.len());
         give_value(models, registers, &mut seen, entry)?;
     }
     Ok(())
@@ -97,9 +100,9 @@ fn is_seen(seen: &[usize], at: usize) -> bool
 fn value_keys(entry: &Value) -> Option<ValueKeys<'_>>
     ensures { option_map value_keys_view result ≡ value_keys (view entry.now) }
 {
-    let model = integer_at(entry, "model")?;
+    let model = number_at(entry, "model")?;
     let point = text_at(entry, "point")?;
-    let raw = integer_at(entry, "raw")?;
+    let raw = number_at(entry, "raw")?;
     Some(ValueKeys { model, point, raw })
 }
 

@@ -8,6 +8,7 @@ use point_types::Items;
 use scan_code::Op;
 use std::alloc::{AllocError, Global};
 use std::marker::Model;
+use std::mem;
 use verifier::abstract_value::AbstractValue;
 use verifier::changed_spans::ChangedSpans;
 use verifier::context::Context;
@@ -52,7 +53,7 @@ impl FullFact {
         ensures { IfOk result (λ listed. listed ≡ fact) }
     {
         match lists_of(alloc, &fact) {
-            Ok(lists) => Ok(over(lists, fact)),
+            Ok(lists) => Ok(over(alloc, lists, fact)),
             Err(error) => Err(error),
         }
     }
@@ -82,13 +83,13 @@ impl FullFact {
 }
 
 /// The fact by these lists, in place of the changes.
-fn over(lists: Lists, fact: Fact) -> FullFact
+fn over(alloc: Global, lists: Lists, mut fact: Fact) -> FullFact
     ensures { result ≡ record fact { variables = lists.variables; inputs = lists.inputs; present = lists.present } }
 {
     FullFact {
         lists,
-        deferred: fact.deferred,
-        result: fact.result,
+        deferred: mem::replace(&mut fact.deferred, Items::new(alloc)),
+        result: mem::replace(&mut fact.result, None),
     }
 }
 

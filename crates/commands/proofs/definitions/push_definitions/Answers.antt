@@ -1,14 +1,13 @@
 use Rattle.std.proofs.Common.{◌≡◌, string_bytes, subst, rules}
-use Rattle.clap.proofs.TakesLemmas.{passed_up}
 use Rattle.model_defs.specs.Definition.{Breaks, IsRead}
-use Rattle.commands.proofs.Texts.{broken_behind, broken_here, read_more}
+use Rattle.commands.proofs.Texts.{broken_behind, broken_here, read_more, told_of_fault}
 use Rattle.commands.proofs.definitions.push_definitions.Goals as goal
 
 pub returns-in_err-push_definition-clause-refused : goal.returns-in_err-push_definition-clause-refused
 returns-in_err-push_definition-clause-refused c =
     let t = c.text-item.result in
     let same : c.as_str.result.now ≡ string_bytes t = search rules in
-    passed_up c.from_residual.result _ _ c.from_residual.ensures.1 (λ real.
+    told_of_fault c.from_residual.result _ _ c.from_residual.ensures.1 (λ real.
     c.loop-text.invariant.1 _ (broken_here string_bytes c.args.texts.now c.loop-text.text-index t c.in_err-push_definition.field-0.0 c.loop-text-test.true c.text-item.is
     (subst (λ text. Breaks text c.in_err-push_definition.field-0.0) same (c.in_err-push_definition.ensures.refused real))))
 

@@ -1,6 +1,6 @@
 use Rattle.std.proofs.Common.{IfOk, subst}
 use Rattle.scan_vm.specs.Machine.{Running}
-use Rattle.commands.specs.Scans.{MakesCore}
+use Rattle.commands.specs.Opening.{MakesCore}
 use Rattle.commands.proofs.site_scans.core_over.Goals as goal
 
 pub returns-in-Ok : goal.returns-in-Ok

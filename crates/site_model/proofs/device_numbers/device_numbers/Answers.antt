@@ -1,11 +1,13 @@
-use Rattle.std.proofs.Common.{◌≡◌, rules, arith}
-use Rattle.site_model.proofs.Numbers.{seen, after_insert, after_kept}
+use Rattle.std.proofs.Common.{ap, arith, sym}
+use Rattle.std.specs.Str.{bytes_eq}
+use Rattle.name_places.proofs.Places.{at_first, one_more}
+use Rattle.site_model.specs.Tagging.{is_device_named}
 use Rattle.site_model.proofs.device_numbers.device_numbers.Goals as goal
-use Rattle.site_model.proofs.device_numbers.device_numbers.Goals.{then-is_none+in_ok-insert, else-is_none}
 
--- src/device_numbers.rt:20:5
+pub loop-number-init : goal.loop-number-init
+loop-number-init c = at_first is_device_named c.args.devices.now c.new-numbers.result.entries c.new-numbers.ensures.empty
+
 pub loop-number-preserved : goal.loop-number-preserved
-loop-number-preserved c = elim c.if-is_none.branch [
-  | then-is_none+in_ok-insert w ↦ rw (w.numbers-is, w.in_ok-insert.ensures.entries) (after_insert c.args.devices.now c.loop-number.number c.index-devices-number.result c.loop-number.numbers.entries c.as_str-name.result (omega (arith, c.loop-number-test.true)) c.index-devices-number.is c.as_str-name.ensures (seen c.get.result _ _ c.get.ensures.value w.if-is_none.ensures) c.loop-number.invariant)
-  | else-is_none w ↦ rw w.numbers-is (after_kept c.args.devices.now c.loop-number.number c.index-devices-number.result c.loop-number.numbers.entries c.as_str-name.result.now (omega (arith, c.loop-number-test.true)) c.index-devices-number.is c.as_str-name.ensures (seen c.get.result _ _ c.get.ensures.value w.if-is_none.ensures) c.loop-number.invariant)
-]
+loop-number-preserved c =
+    one_more is_device_named c.args.devices.now c.loop-number.number c.index-devices-number.result c.loop-number.numbers.entries c.note.new.places.entries c.as_str.result.now
+    (omega (arith, c.loop-number-test.true)) c.index-devices-number.is (λ other. ap (bytes_eq other) (sym c.as_str.ensures)) c.in_ok-note.ensures c.loop-number.invariant

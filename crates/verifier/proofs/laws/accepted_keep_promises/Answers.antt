@@ -1,5 +1,5 @@
-use Rattle.verifier.proofs.Promised.{keeps_promises}
+use Rattle.verifier.proofs.Promised.{fit_facts, never_go_wrong}
 use Rattle.verifier.proofs.laws.accepted_keep_promises.Goals as goal
 
 pub returns : goal.returns
-returns c = keeps_promises
+returns c = record { safe = never_go_wrong; fits = fit_facts }

@@ -1,0 +1,153 @@
+//! The words that a command line may have.
+use crate::help;
+use clap::builder::ValueParser;
+use clap::{Arg, ArgAction, Command};
+use std::alloc::{AllocError, Global};
+
+/// The words that a command line may have, behind the program's own.
+pub fn command<'a>(alloc: Global) -> Result<Command<'a>, AllocError> {
+    let command = Command::new(alloc, "sunsite")
+        .about(
+            "A SunSpec Modbus gateway; without words, a trial scan of the program on standard input",
+        )
+        .version(help::VERSION)
+        .after_help(help::PROGRAM)
+        .subcommand_required(true);
+    let command = with_subcommand(command, check_command(alloc))?;
+    let command = with_subcommand(command, explain_command(alloc))?;
+    let command = with_subcommand(command, simulate_command(alloc))?;
+    let command = with_subcommand(command, run_command(alloc))?;
+    with_subcommand(command, probe_command(alloc))
+}
+
+/// A command with one more below it.
+fn with_subcommand<'a>(
+    command: Command<'a>,
+    subcommand: Result<Command<'a>, AllocError>,
+) -> Result<Command<'a>, AllocError> {
+    match subcommand {
+        Ok(subcommand) => command.subcommand(subcommand),
+        Err(AllocError) => Err(AllocError),
+    }
+}
+
+fn check_command<'a>(alloc: Global) -> Result<Command<'a>, AllocError> {
+    Command::new(alloc, "check")
+        .about("Judges a program for a site")
+        .after_help(help::CHECK)
+        .arg(site_file(alloc))?
+        .arg(program_file(alloc))?
+        .arg(quiet_flag(alloc))?
+        .arg(definition_files(alloc))
+}
+
+fn explain_command<'a>(alloc: Global) -> Result<Command<'a>, AllocError> {
+    Command::new(alloc, "explain")
+        .about("Prints a program with what is known before each instruction")
+        .after_help(help::EXPLAIN)
+        .arg(site_file(alloc))?
+        .arg(program_file(alloc))?
+        .arg(quiet_flag(alloc))?
+        .arg(definition_files(alloc))
+}
+
+fn simulate_command<'a>(alloc: Global) -> Result<Command<'a>, AllocError> {
+    Command::new(alloc, "simulate")
+        .about("Serves a plant of simulated inverters on a loopback port, for one connection")
+        .after_help(help::SIMULATE)
+        .arg(word(alloc, "PLANT", "the plant file (TOML)"))?
+        .arg(quiet_flag(alloc))?
+        .arg(definition_files(alloc))
+}
+
+fn run_command<'a>(alloc: Global) -> Result<Command<'a>, AllocError> {
+    Command::new(alloc, "run")
+        .about(
+            "Runs a program on a site whose devices are a simulated plant, and probes the gateway",
+        )
+        .after_help(help::RUN)
+        .arg(site_file(alloc))?
+        .arg(program_file(alloc))?
+        .arg(plant_option(alloc))?
+        .arg(scans_option(alloc))?
+        .arg(exe_option(alloc))?
+        .arg(quiet_flag(alloc))?
+        .arg(definition_files(alloc))
+}
+
+fn probe_command<'a>(alloc: Global) -> Result<Command<'a>, AllocError> {
+    Command::new(alloc, "probe")
+        .about("Prints the points of a device on a loopback port")
+        .after_help(help::PROBE)
+        .arg(port_word(alloc))?
+        .arg(unit_option(alloc))
+}
+
+fn site_file<'a>(alloc: Global) -> Arg<'a> {
+    word(alloc, "SITE", "the site file (TOML)")
+}
+
+fn program_file<'a>(alloc: Global) -> Arg<'a> {
+    word(alloc, "PROGRAM", "the program (Instruction List)")
+}
+
+fn port_word<'a>(alloc: Global) -> Arg<'a> {
+    word(alloc, "PORT", "the loopback port of the device").value_parser(ValueParser::unsigned(
+        1, 65535,
+    ))
+}
+
+fn plant_option<'a>(alloc: Global) -> Arg<'a> {
+    option(alloc, "plant", "PLANT", "the plant file (TOML)").required(true)
+}
+
+fn scans_option<'a>(alloc: Global) -> Arg<'a> {
+    option(alloc, "scans", "N", "how many scans")
+        .required(true)
+        .value_parser(ValueParser::unsigned(1, 1000))
+}
+
+fn exe_option<'a>(alloc: Global) -> Arg<'a> {
+    option(
+        alloc,
+        "exe",
+        "PATH",
+        "the program that is started for the plant and the probe, instead of this one",
+    )
+}
+
+fn unit_option<'a>(alloc: Global) -> Arg<'a> {
+    option(alloc, "unit", "U", "the unit that is asked")
+        .value_parser(ValueParser::unsigned(0, 255))
+        .default_value("1")
+}
+
+fn quiet_flag<'a>(alloc: Global) -> Arg<'a> {
+    Arg::new(alloc, "quiet")
+        .long("quiet")
+        .action(ArgAction::SetTrue)
+        .help("no explanation of a refusal on standard error")
+}
+
+fn definition_files<'a>(alloc: Global) -> Arg<'a> {
+    option(
+        alloc,
+        "def",
+        "FILE",
+        "a model definition (JSON); the last one of an ID counts",
+    )
+    .action(ArgAction::Append)
+}
+
+/// A word that the command needs.
+fn word<'a>(alloc: Global, name: &'a str, help: &'a str) -> Arg<'a> {
+    Arg::new(alloc, name).required(true).help(help)
+}
+
+/// An option that takes a value.
+fn option<'a>(alloc: Global, name: &'a str, value: &'a str, help: &'a str) -> Arg<'a> {
+    Arg::new(alloc, name)
+        .long(name)
+        .value_name(value)
+        .help(help)
+}

@@ -1,0 +1,43 @@
+//! What the helps of the commands say behind their words and options.
+
+/// The version of the program, and the kit that proves and builds it.
+pub(crate) const VERSION: &str = "0.1.0 (rattle-kit-13b logic dac8208d650f15bf)";
+
+pub const PROGRAM: &str =
+    "Without words it reads a program (Instruction List) from standard input, and behind END_PROGRAM a
+line NAME=VALUE for each input that has a value, and runs one scan:
+  sunsite < examples/average.il
+
+Status: 0 well; 1 refused, or the scan trapped; 2 no such command line; 3 a link failed";
+
+pub(crate) const CHECK: &str =
+    "Prints 'accepted' and 'budget N', the most instructions of a scan, or why the program is refused.
+One of the files can be '-', standard input:
+  sunsite check examples/site.toml examples/limiter.il
+
+Status: 0 accepted; 1 refused; 2 no such command line";
+
+pub(crate) const EXPLAIN: &str =
+    "Prints the program with its instructions and what is known before each of them, to the one that is
+refused where one is. One of the files can be '-', standard input:
+  sunsite explain examples/site.toml examples/limiter.il
+
+Status: 0 accepted; 1 refused; 2 no such command line";
+
+pub(crate) const SIMULATE: &str =
+    "Prints 'listening PORT', and ends with the connection. One of the files can be '-', standard input:
+  sunsite simulate examples/plant.toml
+
+Status: 0 served to its end; 1 refused; 2 no such command line; 3 the link failed";
+
+pub(crate) const RUN: &str =
+    "Prints a line for each scan, and then what a client of the gateway sees. SITE or PROGRAM can be '-',
+standard input:
+  sunsite run examples/site.toml examples/limiter.il --plant examples/plant.toml --scans 3
+
+Status: 0 well; 1 refused; 2 no such command line; 3 a link failed";
+
+pub(crate) const PROBE: &str = "Prints each model with its points that are present, and 'end ADDR':
+  sunsite probe 40123 --unit 1
+
+Status: 0 well; 1 refused; 2 no such command line; 3 the link failed";

@@ -1,0 +1,386 @@
+//! A whole run over loopback: a simulated plant in a second process, the gateway's scans of it, and a probe of the gateway.
+use crate::link_cause::cause_of_link;
+use crate::socket::{SocketLink, loopback};
+use crate::watched_link::WatchedLink;
+use commands::{
+    DEPTH, FAILED_LINK, scans_noting, tell_no_memory, tell_unlinked, tell_unusable, write_lines,
+};
+use gateway::{Core, Poller, serve_client};
+use modbus_frame::LinkFault;
+use refusal_notes::{Cause, Notes};
+use std::alloc::Global;
+use std::io::{ErrorKind, Read, Write};
+use std::net::{Net, OpenListener, TcpListener, TcpStream};
+use std::process::{Child, Command, Output, Processes, Stdio};
+use std::{io, str};
+
+/// The most bytes of the line by which a plant says its port.
+const LONGEST_LINE: usize = 4096;
+
+/// What a run is of.
+#[derive(Clone, Copy)]
+pub struct PlantRun<'n, 'a> {
+    /// The files of the site, the program and the definitions, and whether a refusal is explained.
+    pub notes: Notes<'n>,
+    /// The path of the plant file.
+    pub plant: &'a str,
+    /// How many scans.
+    pub scans: u32,
+    /// The path of the program that is started for the plant and for the probe.
+    pub exe: &'a str,
+}
+
+/// Starts a plant, scans it, and prints what a probe of the gateway behind the scans prints. Gives the status: that of
+/// the scans, where it isn't 0, else that of the probe; 1 for a refusal or a failed write, 3 where the link failed.
+pub fn run_plant<R: Net + Processes + Eprint + AllocGlobal, W: Write>(
+    rt: &R,
+    alloc: Global,
+    run: &PlantRun<'_, '_>,
+    out: &mut W,
+) -> u8 {
+    match start_plant(rt, alloc, run) {
+        Ok(plant) => run_started(rt, alloc, run, plant, out),
+        Err(fault) => no_start(alloc, run.exe, &fault, out),
+    }
+}
+
+/// Scans the plant that was started, and ends it: one that nobody came to would wait for ever.
+fn run_started<R: Net + Processes + Eprint + AllocGlobal, W: Write>(
+    rt: &R,
+    alloc: Global,
+    run: &PlantRun<'_, '_>,
+    plant: Child<R::Started>,
+    out: &mut W,
+) -> u8 {
+    let mut plant = plant;
+    let lines = plant.stdout.take();
+    let status = run_told(rt, alloc, run, lines, out);
+    let _ = plant.kill();
+    let _ = plant.wait();
+    status
+}
+
+/// Scans the plant that prints these lines.
+fn run_told<R: Net + Processes + Eprint + AllocGlobal, P: Read + Drop, W: Write>(
+    rt: &R,
+    alloc: Global,
+    run: &PlantRun<'_, '_>,
+    lines: Option<P>,
+    out: &mut W,
+) -> u8 {
+    match lines {
+        Some(lines) => run_by(rt, alloc, run, lines, out),
+        None => tell_lost(rt, alloc, &run.notes, LinkFault::Read, out),
+    }
+}
+
+/// Scans the plant that says its port in the first of these lines, which stay open to its end.
+fn run_by<R: Net + Processes + Eprint + AllocGlobal, P: Read + Drop, W: Write>(
+    rt: &R,
+    alloc: Global,
+    run: &PlantRun<'_, '_>,
+    lines: P,
+    out: &mut W,
+) -> u8 {
+    let mut lines = lines;
+    match first_line(alloc, &mut lines) {
+        Ok(line) => run_behind(rt, alloc, run, line.as_slice(), out),
+        Err(fault) => tell_unreached(rt, alloc, &run.notes, &fault, out),
+    }
+}
+
+/// Scans the plant whose first line this is, and has the gateway probed.
+fn run_behind<R: Net + Processes + Eprint + AllocGlobal, W: Write>(
+    rt: &R,
+    alloc: Global,
+    run: &PlantRun<'_, '_>,
+    line: &[u8],
+    out: &mut W,
+) -> u8 {
+    match port_in(line) {
+        Some(port) => run_at(rt, alloc, run, port, out),
+        None => write_lines(out, line, 1),
+    }
+}
+
+/// Scans the plant on a port, and has the gateway probed.
+fn run_at<R: Net + Processes + Eprint + AllocGlobal, W: Write>(
+    rt: &R,
+    alloc: Global,
+    run: &PlantRun<'_, '_>,
+    port: u16,
+    out: &mut W,
+) -> u8 {
+    match TcpStream::connect(rt, loopback(port)) {
+        Ok(stream) => run_over(rt, alloc, run, stream, out),
+        Err(fault) => tell_unreached(rt, alloc, &run.notes, &fault, out),
+    }
+}
+
+/// Scans the plant over a connection, and has the gateway probed.
+fn run_over<R: Net + Processes + Eprint + AllocGlobal, S: Read + Write + Drop, W: Write>(
+    rt: &R,
+    alloc: Global,
+    run: &PlantRun<'_, '_>,
+    stream: S,
+    out: &mut W,
+) -> u8 {
+    let mut cause = None;
+    let mut scanned = scans_over(alloc, run, stream, &mut cause, out);
+    run.notes.explain(rt, &cause);
+    probed_behind(rt, alloc, run, &mut scanned, out)
+}
+
+/// Does the scans over a connection, and closes it. Gives the cause where they are refused or the link fails.
+fn scans_over<S: Read + Write + Drop, W: Write>(
+    alloc: Global,
+    run: &PlantRun<'_, '_>,
+    stream: S,
+    cause: &mut Option<Cause>,
+    out: &mut W,
+) -> (Option<Core<DEPTH>>, u8) {
+    let notes = &run.notes;
+    let mut poller = Poller::new(WatchedLink::new(alloc, SocketLink::new(stream)));
+    let scanned = scans_noting(
+        alloc,
+        notes.site,
+        notes.program,
+        notes.defs,
+        run.scans,
+        &mut poller,
+        cause,
+        out,
+    );
+    if scanned.1 == FAILED_LINK {
+        *cause = cause_of_link(alloc, notes.site, notes.defs, &mut poller);
+    }
+    scanned
+}
+
+/// Has the gateway probed behind scans that ended well; else gives their status.
+fn probed_behind<R: Net + Processes + Eprint + AllocGlobal, W: Write>(
+    rt: &R,
+    alloc: Global,
+    run: &PlantRun<'_, '_>,
+    scanned: &mut (Option<Core<DEPTH>>, u8),
+    out: &mut W,
+) -> u8 {
+    match scanned {
+        (Some(core), 0) => probed(rt, alloc, run, core, out),
+        (_, status) => *status,
+    }
+}
+
+/// Serves a probe of the core on a free port, and prints what it prints.
+fn probed<R: Net + Processes + Eprint + AllocGlobal, W: Write>(
+    rt: &R,
+    alloc: Global,
+    run: &PlantRun<'_, '_>,
+    core: &mut Core<DEPTH>,
+    out: &mut W,
+) -> u8 {
+    match TcpListener::bind(rt, loopback(0)) {
+        Ok(listener) => probed_on(rt, alloc, run, &listener, core, out),
+        Err(fault) => tell_unreached(rt, alloc, &run.notes, &fault, out),
+    }
+}
+
+/// Serves a probe of the core on the listener's port, and prints what it prints.
+fn probed_on<R: Processes + Eprint + AllocGlobal, L: OpenListener, W: Write>(
+    rt: &R,
+    alloc: Global,
+    run: &PlantRun<'_, '_>,
+    listener: &L,
+    core: &mut Core<DEPTH>,
+    out: &mut W,
+) -> u8
+where
+    L::Stream: Read + Write,
+{
+    let Ok(address) = listener.local_addr() else {
+        return tell_lost(rt, alloc, &run.notes, LinkFault::Read, out);
+    };
+    match start_probe(rt, alloc, run.exe, address.port(), core.site().unit()) {
+        Ok(probe) => {
+            let served = serve_one(listener, core);
+            let printed = probe.wait_with_output(alloc);
+            tell_probed(rt, alloc, &run.notes, served, &printed, out)
+        }
+        Err(fault) => no_start(alloc, run.exe, &fault, out),
+    }
+}
+
+/// Serves one connection to its end.
+fn serve_one<L: OpenListener>(listener: &L, core: &mut Core<DEPTH>) -> Result<u32, LinkFault>
+where
+    L::Stream: Read + Write,
+{
+    match listener.accept() {
+        Ok((stream, _)) => {
+            let mut link = SocketLink::new(stream);
+            serve_client(core, &mut link)
+        }
+        Err(_) => Err(LinkFault::Read),
+    }
+}
+
+/// Prints what the probe printed, where it was served to its end.
+fn tell_probed<R: Eprint + AllocGlobal, W: Write>(
+    rt: &R,
+    alloc: Global,
+    notes: &Notes<'_>,
+    served: Result<u32, LinkFault>,
+    printed: &io::Result<Output>,
+    out: &mut W,
+) -> u8 {
+    if let Err(fault) = served {
+        return tell_lost(rt, alloc, notes, fault, out);
+    }
+    match printed {
+        Ok(printed) => write_lines(
+            out,
+            printed.stdout.as_slice(),
+            status_of(printed.status.code()),
+        ),
+        Err(fault) => tell_unreached(rt, alloc, notes, fault, out),
+    }
+}
+
+fn status_of(code: Option<i32>) -> u8 {
+    match code {
+        Some(0) => 0,
+        Some(3) => 3,
+        _ => 1,
+    }
+}
+
+fn start_plant<R: Processes>(
+    rt: &R,
+    alloc: Global,
+    run: &PlantRun<'_, '_>,
+) -> io::Result<Child<R::Started>> {
+    let def_paths = run.notes.def_paths;
+    if run.notes.quiet {
+        let words = ["simulate", "--quiet", run.plant];
+        return start(rt, alloc, run.exe, &words, def_paths);
+    }
+    start(rt, alloc, run.exe, &["simulate", run.plant], def_paths)
+}
+
+fn start_probe<R: Processes>(
+    rt: &R,
+    alloc: Global,
+    exe: &str,
+    port: u16,
+    unit: u8,
+) -> io::Result<Child<R::Started>> {
+    let port = port.to_string(alloc)?;
+    let unit = unit.to_string(alloc)?;
+    let words = ["probe", port.as_str(), "--unit", unit.as_str()];
+    start(rt, alloc, exe, &words, &[])
+}
+
+/// Starts the program at a path with these words, and `--def` before each of the paths. What it prints can be read.
+fn start<R: Processes>(
+    rt: &R,
+    alloc: Global,
+    exe: &str,
+    words: &[&str],
+    def_paths: &[&str],
+) -> io::Result<Child<R::Started>> {
+    let mut command = Command::new(alloc, exe)?;
+    spawn(rt, &mut command, words, def_paths)
+}
+
+fn spawn<R: Processes>(
+    rt: &R,
+    command: &mut Command,
+    words: &[&str],
+    def_paths: &[&str],
+) -> io::Result<Child<R::Started>> {
+    push_words(command, words)?;
+    push_def_paths(command, def_paths)?;
+    command.stdin(Stdio::null());
+    command.stdout(Stdio::piped());
+    command.spawn(rt)
+}
+
+fn push_words(command: &mut Command, words: &[&str]) -> io::Result<()> {
+    for word in words {
+        command.arg(*word)?;
+    }
+    Ok(())
+}
+
+fn push_def_paths(command: &mut Command, paths: &[&str]) -> io::Result<()> {
+    for path in paths {
+        command.arg("--def")?;
+        command.arg(*path)?;
+    }
+    Ok(())
+}
+
+/// The bytes up to the first line feed, and with it.
+fn first_line<R: Read>(alloc: Global, reader: &mut R) -> io::Result<Vec<u8>> {
+    let mut line = Vec::new(alloc);
+    push_line(&mut line, reader)?;
+    Ok(line)
+}
+
+fn push_line<R: Read>(line: &mut Vec<u8>, reader: &mut R) -> io::Result<()> {
+    for _ in 0..LONGEST_LINE {
+        let mut byte = [0u8];
+        if reader.read(&mut byte)? == 0 {
+            return Ok(());
+        }
+        line.push(byte[0])?;
+        if byte[0] == b'\n' {
+            return Ok(());
+        }
+    }
+    Ok(())
+}
+
+/// The port in the line `listening PORT`.
+fn port_in(line: &[u8]) -> Option<u16> {
+    let line = str::from_utf8(line).ok()?;
+    line.strip_prefix("listening ")?
+        .trim_end()
+        .parse::<u16>()
+        .ok()
+}
+
+/// Tells that the program at the path can't be started.
+fn no_start<W: Write>(alloc: Global, path: &str, fault: &io::Error, out: &mut W) -> u8 {
+    match fault.kind() {
+        ErrorKind::OutOfMemory => tell_no_memory(out),
+        _ => tell_unusable(alloc, path, out),
+    }
+}
+
+/// Tells that a process or a connection gives nothing.
+fn tell_unreached<R: Eprint + AllocGlobal, W: Write>(
+    rt: &R,
+    alloc: Global,
+    notes: &Notes<'_>,
+    fault: &io::Error,
+    out: &mut W,
+) -> u8 {
+    match fault.kind() {
+        ErrorKind::OutOfMemory => tell_no_memory(out),
+        _ => tell_lost(rt, alloc, notes, LinkFault::Read, out),
+    }
+}
+
+/// Tells that a link failed, and explains it.
+fn tell_lost<R: Eprint + AllocGlobal, W: Write>(
+    rt: &R,
+    alloc: Global,
+    notes: &Notes<'_>,
+    fault: LinkFault,
+    out: &mut W,
+) -> u8 {
+    let status = tell_unlinked(alloc, fault, out);
+    notes.explain(rt, &Some(Cause::unlinked(alloc, fault)));
+    status
+}

@@ -1,0 +1,113 @@
+//! The texts of the files that a command line names.
+use crate::source::{SourceFault, read_file};
+use crate::standard_input::STANDARD_INPUT;
+use clap::ArgMatches;
+use commands::{tell_no_memory, tell_unusable};
+use std::alloc::{AllocFailed, Global};
+use std::io::Write;
+use std::rt::Files;
+
+/// The texts of the files that are named.
+#[derive(Drop)]
+pub(crate) struct Sources {
+    pub site: String,
+    pub program: String,
+    pub defs: Vec<String>,
+}
+
+/// Why the files' texts aren't had: the first file that can't be used, or want of memory.
+#[derive(Clone, Copy)]
+pub(crate) enum Refusal<'a> {
+    File(&'a str),
+    OutOfMemory,
+}
+
+impl Refusal<'_> {
+    /// Writes its line, and gives the status.
+    pub fn tell<W: Write>(self, alloc: Global, out: &mut W) -> u8 {
+        match self {
+            Refusal::OutOfMemory => tell_no_memory(out),
+            Refusal::File(path) => tell_unusable(alloc, path, out),
+        }
+    }
+}
+
+impl<T: Drop> From<AllocFailed<T>> for Refusal<'_> {
+    fn from(_refused: AllocFailed<T>) -> Self {
+        Refusal::OutOfMemory
+    }
+}
+
+/// Reads the files in the order site, program, definitions.
+pub(crate) fn read_sources<'a>(
+    rt: &(impl Input + AllocGlobal + Files),
+    alloc: Global,
+    matches: &ArgMatches<'a>,
+) -> Result<Sources, Refusal<'a>> {
+    let site = text(rt, alloc, matches.get_str("SITE").unwrap_or(STANDARD_INPUT))?;
+    let program = text(
+        rt,
+        alloc,
+        matches.get_str("PROGRAM").unwrap_or(STANDARD_INPUT),
+    )?;
+    let defs = read_definitions(rt, alloc, matches)?;
+    Ok(Sources {
+        site,
+        program,
+        defs,
+    })
+}
+
+/// Reads the plant file, and then the definitions.
+pub(crate) fn read_plant<'a>(
+    rt: &(impl Input + AllocGlobal + Files),
+    alloc: Global,
+    matches: &ArgMatches<'a>,
+) -> Result<(String, Vec<String>), Refusal<'a>> {
+    let plant = text(
+        rt,
+        alloc,
+        matches.get_str("PLANT").unwrap_or(STANDARD_INPUT),
+    )?;
+    let defs = read_definitions(rt, alloc, matches)?;
+    Ok((plant, defs))
+}
+
+/// The texts of the model definitions that are handed in, in order.
+fn read_definitions<'a>(
+    rt: &(impl Input + AllocGlobal + Files),
+    alloc: Global,
+    matches: &ArgMatches<'a>,
+) -> Result<Vec<String>, Refusal<'a>> {
+    let mut defs = Vec::new(alloc);
+    let paths = matches.get_strs("def").unwrap_or(&[]);
+    push_texts(rt, alloc, &mut defs, paths)?;
+    Ok(defs)
+}
+
+/// Appends the texts of the files, in order.
+fn push_texts<'a>(
+    rt: &(impl Input + AllocGlobal + Files),
+    alloc: Global,
+    texts: &mut Vec<String>,
+    paths: &[&'a str],
+) -> Result<(), Refusal<'a>> {
+    for path in paths {
+        let text = text(rt, alloc, path)?;
+        texts.push(text)?;
+    }
+    Ok(())
+}
+
+/// The text of a file.
+fn text<'a>(
+    rt: &(impl Input + AllocGlobal + Files),
+    alloc: Global,
+    path: &'a str,
+) -> Result<String, Refusal<'a>> {
+    match read_file(rt, alloc, path) {
+        Ok(text) => Ok(text),
+        Err(SourceFault::Unusable) => Err(Refusal::File(path)),
+        Err(SourceFault::OutOfMemory) => Err(Refusal::OutOfMemory),
+    }
+}

@@ -1,0 +1,182 @@
+//! A link that remembers what was asked over it last, and what came.
+use modbus_frame::{Down, Link};
+use std::alloc::Global;
+
+/// How many bytes of a request, and of what came behind it, are remembered.
+const KEPT: usize = 12;
+
+/// The function that reads registers (Modbus Application Protocol V1.1b3, 6.3).
+const READ: u8 = 3;
+
+/// A link that remembers the last request that went out, what came behind it, and the models whose ID was read.
+#[derive(Drop)]
+pub struct WatchedLink<L: Link> {
+    link: L,
+    request: Front,
+    reply: Front,
+    models: Vec<ModelAt>,
+}
+
+/// The front of some bytes, and how many there were.
+#[derive(Clone, Copy)]
+pub(crate) struct Front {
+    bytes: [u8; 12],
+    count: usize,
+}
+
+/// A model of a unit, at the register of its ID.
+#[derive(Clone, Copy)]
+pub(crate) struct ModelAt {
+    pub unit: u8,
+    pub addr: u16,
+    pub id: u16,
+}
+
+/// A request to a unit, as its frame has it: the function, an address, and for reads and writes of several registers
+/// how many.
+#[derive(Clone, Copy)]
+pub(crate) struct Asked {
+    pub unit: u8,
+    pub function: u8,
+    pub addr: u16,
+    pub qty: u16,
+}
+
+impl Front {
+    const fn new() -> Front {
+        Front {
+            bytes: [0; 12],
+            count: 0,
+        }
+    }
+
+    /// Some more bytes.
+    fn push(&mut self, bytes: &[u8]) {
+        for byte in bytes {
+            if let Some(place) = self.bytes.get_mut(self.count) {
+                *place = *byte;
+            }
+            self.count = self.count.saturating_add(1);
+        }
+    }
+
+    /// How many bytes there were.
+    pub fn count(&self) -> usize {
+        self.count
+    }
+
+    /// Those that are kept.
+    pub fn kept(&self) -> &[u8] {
+        match self.bytes.split_at_checked(self.count) {
+            Some((kept, _)) => kept,
+            None => &self.bytes,
+        }
+    }
+
+    /// The number in two bytes; none where they aren't kept.
+    fn number_at(&self, place: usize) -> Option<u16> {
+        match self.kept().split_at_checked(place) {
+            Some((_, [high, low, ..])) => Some(u16::from_be_bytes([*high, *low])),
+            _ => None,
+        }
+    }
+}
+
+impl<L: Link> WatchedLink<L> {
+    /// The link, over which nothing was asked yet.
+    pub fn new(alloc: Global, link: L) -> WatchedLink<L> {
+        WatchedLink {
+            link,
+            request: Front::new(),
+            reply: Front::new(),
+            models: Vec::new(alloc),
+        }
+    }
+
+    /// The last request that went out whole.
+    pub(crate) fn asked(&self) -> Option<Asked> {
+        let unit = self.request.number_at(6)?;
+        let [unit, function] = unit.to_be_bytes();
+        Some(Asked {
+            unit,
+            function,
+            addr: self.request.number_at(8)?,
+            qty: self.request.number_at(10)?,
+        })
+    }
+
+    /// What came behind it.
+    pub(crate) fn came(&self) -> Front {
+        self.reply
+    }
+
+    /// The ID of the model in which a register of a unit lies, where it was read.
+    pub(crate) fn model_of(&self, unit: u8, addr: u16) -> Option<u16> {
+        let mut found = None;
+        for model in self.models.as_slice() {
+            if model.unit == unit && model.addr <= addr {
+                found = Some(model.id);
+            }
+        }
+        found
+    }
+
+    /// Notes the ID that the last reply brought. A length, which follows an ID in the next register, isn't one.
+    fn learn(&mut self) {
+        let Some(
+            Asked {
+                unit,
+                function: READ,
+                addr,
+                qty: 1,
+            },
+        ) = self.asked()
+        else {
+            return;
+        };
+        let (Some(0x0302), Some(id)) = (self.reply.number_at(7), self.reply.number_at(9)) else {
+            return;
+        };
+        if !self.is_length(unit, addr) {
+            let _ = self.models.push(ModelAt { unit, addr, id });
+        }
+    }
+
+    /// Whether a register is that behind the last ID.
+    fn is_length(&self, unit: u8, addr: u16) -> bool {
+        match self.models.last() {
+            Some(model) => model.unit == unit && model.addr.checked_add(1) == Some(addr),
+            None => false,
+        }
+    }
+}
+
+impl<L: Link> Link for WatchedLink<L> {
+    ghost use Rattle.std.specs.Prelude.{None};
+    ghost use Rattle.modbus_frame.specs.Link.{untold};
+
+    ghost calls = { λ _. None };
+
+    ghost failures = { λ _. untold };
+
+    ghost coming = { λ _. None };
+
+    ghost sent = { λ _. None };
+
+    fn read(&mut self, into: &mut [u8]) -> Result<usize, Down> {
+        let count = self.link.read(into)?;
+        self.reply.push(into.split_at(count).0);
+        Ok(count)
+    }
+
+    fn write(&mut self, from: &[u8]) -> Result<usize, Down> {
+        if self.reply.count > 0 {
+            self.learn();
+            self.request = Front::new();
+            self.reply = Front::new();
+        }
+        let count = self.link.write(from)?;
+        self.request.push(from.split_at(count).0);
+        Ok(count)
+    }
+}

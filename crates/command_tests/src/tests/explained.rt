@@ -1,0 +1,190 @@
+//! What is explained on standard error of texts that are refused.
+use crate::tests::{assert_same, printed};
+use commands::try_input;
+use refusal_notes::Cause;
+use std::process::Abort;
+
+/// A text, what is printed, and what is explained.
+type Explained = (&'static str, &'static str, &'static str);
+
+const OF_READING: &[Explained] = &[
+    (
+        "PROGRAM p\nVAR_EXTERNAL\n  inv1_w, inv2_w : DINT;\n  target, lim1 : INT;\n  ena1 : BOOL;\nEND_VAR\nVAR\n  a, z : INT;\n  b : BOOL;\n  d : DINT;\n  x : INT (0..10);\nEND_VAR\n  LD x ?\nEND_PROGRAM\n",
+        "refused: read Word line 13\n",
+        "p.il:13: Word: characters that are no word of the language\n   13 |   LD x ?\n      |   ^^^^^^\n  help: write names in letters, digits and single underscores, at most 32 of them; close each comment (* .. *)\n",
+    ),
+    (
+        "PROGRAM p\nLD 1",
+        "refused: read Header line 2\n",
+        "p.il:2: Header: the frame of the program is broken\n    2 | LD 1\n      | ^^^^\n  help: begin with PROGRAM and a name, end with END_PROGRAM, and write nothing behind it\n",
+    ),
+    (
+        "PROGRAM p\nVAR_EXTERNAL\n  inv1_w, inv2_w : DINT;\n  target, lim1 : INT;\n  ena1 : BOOL;\nEND_VAR\nVAR\n  a, z : INT;\n  b : BOOL;\n  d : DINT;\n  x : INT (0..10);\n  k : SINT := 200;\nEND_VAR\nEND_PROGRAM\n",
+        "refused: read Declaration line 12\n",
+        "p.il:12: Declaration: no declaration of a variable or an external\n   12 |   k : SINT := 200;\n      |   ^^^^^^^^^^^^^^^^\n  help: write name : TYPE; with (low..high) or := start inside the type; look for a missing semicolon in the line before\n",
+    ),
+    (
+        "PROGRAM p\nVAR_EXTERNAL\n  inv1_w, inv2_w : DINT;\n  target, lim1 : INT;\n  ena1 : BOOL;\nEND_VAR\nVAR\n  a, z : INT;\n  b : BOOL;\n  d : DINT;\n  x : INT (0..10);\nEND_VAR\n  FOO a\nEND_PROGRAM\n",
+        "refused: read Operator line 13\n",
+        "p.il:13: Operator: no operator stands where one must\n   13 |   FOO a\n      |   ^^^\n  help: begin the line with one operator, as LD or ADD; a label has a colon, and {LOOP n} stands before a jump\n",
+    ),
+    (
+        "PROGRAM p\nVAR_EXTERNAL\n  inv1_w, inv2_w : DINT;\n  target, lim1 : INT;\n  ena1 : BOOL;\nEND_VAR\nVAR\n  a, z : INT;\n  b : BOOL;\n  d : DINT;\n  x : INT (0..10);\nEND_VAR\n  LD\nEND_PROGRAM\n",
+        "refused: read Operand line 13\n",
+        "p.il:13: Operand: an operand is missing, or one is too many\n   13 |   LD\n      |   ^^\n  help: give one operand; LIMIT and SEL take two with a comma, NOT, ABS and conversions none\n",
+    ),
+    (
+        "PROGRAM p\nVAR_EXTERNAL\n  inv1_w, inv2_w : DINT;\n  target, lim1 : INT;\n  ena1 : BOOL;\nEND_VAR\nVAR\n  a, z : INT;\n  b : BOOL;\n  d : DINT;\n  x : INT (0..10);\nEND_VAR\n  JMP\nEND_PROGRAM\n",
+        "refused: read Label line 13\n",
+        "p.il:13: Label: a jump without the name of a label\n   13 |   JMP\n      |   ^^^\n  help: name a label that stands before a line, as JMP done\n",
+    ),
+    (
+        "PROGRAM p\nVAR_EXTERNAL\n  inv1_w, inv2_w : DINT;\n  target, lim1 : INT;\n  ena1 : BOOL;\nEND_VAR\nVAR\n  a, z : INT;\n  b : BOOL;\n  d : DINT;\n  x : INT (0..10);\nEND_VAR\n  LD a\n  )\nEND_PROGRAM\n",
+        "refused: read Parenthesis line 14\n",
+        "p.il:14: Parenthesis: a parenthesis that closes or opens nothing, or what may not stand inside\n   14 |   )\n      |   ^\n  help: give each op( a ) on a line of its own, and store, jump and return behind it\n",
+    ),
+    (
+        "PROGRAM p\nVAR_EXTERNAL\n  inv1_w, inv2_w : DINT;\n  target, lim1 : INT;\n  ena1 : BOOL;\nEND_VAR\nVAR\n  a, z : INT;\n  b : BOOL;\n  d : DINT;\n  x : INT (0..10);\nEND_VAR\n  LD 9999999999999999999\nEND_PROGRAM\n",
+        "refused: read Literal line 13\n",
+        "p.il:13: Literal: no number, or one that is too large\n   13 |   LD 9999999999999999999\n      |      ^^^^^^^^^^^^^^^^^^^\n  help: write a decimal within the type, or digits of the base behind 16#, 8# or 2#\n",
+    ),
+    (
+        "PROGRAM p\nVAR_EXTERNAL\n  inv1_w, inv2_w : DINT;\n  target, lim1 : INT;\n  ena1 : BOOL;\nEND_VAR\nVAR\n  a, z : INT;\n  b : BOOL;\n  d : DINT;\n  x : INT (0..10);\n  a : INT;\nEND_VAR\nEND_PROGRAM\n",
+        "refused: read Duplicate line 12\n",
+        "p.il:12: Duplicate: a name that stands already\n   12 |   a : INT;\n      |   ^^^^^^^^\n  help: rename one of the two; case makes no difference\n",
+    ),
+];
+
+const OF_ASSEMBLING: &[Explained] = &[
+    (
+        "PROGRAM p\nVAR_EXTERNAL\n  inv1_w, inv2_w : DINT;\n  target, lim1 : INT;\n  ena1 : BOOL;\nEND_VAR\nVAR\n  a, z : INT;\n  b : BOOL;\n  d : DINT;\n  x : INT (0..10);\nEND_VAR\n  LD q\nEND_PROGRAM\n",
+        "refused: assemble UnknownName line 13\n",
+        "p.il:13: UnknownName: a name that isn't declared, or a store to a presence\n   13 |   LD q\n      |      ^\n  help: declare it: in VAR for a variable of the program, in VAR_EXTERNAL for a tag of the site\n",
+    ),
+    (
+        "PROGRAM p\nVAR_EXTERNAL\n  inv1_w, inv2_w : DINT;\n  target, lim1 : INT;\n  ena1 : BOOL;\nEND_VAR\nVAR\n  a, z : INT;\n  b : BOOL;\n  d : DINT;\n  x : INT (0..10);\nEND_VAR\n  top: JMP q (* away *)\nEND_PROGRAM\n",
+        "refused: assemble UnknownLabel line 13\n",
+        "p.il:13: UnknownLabel: a jump to a label that isn't there\n   13 |   top: JMP q (* away *)\n      |            ^\n  help: write the label before a line, with a colon\n",
+    ),
+    (
+        "PROGRAM p\nVAR_EXTERNAL\n  inv1_w, inv2_w : DINT;\n  target, lim1 : INT;\n  ena1 : BOOL;\nEND_VAR\nVAR\n  a, z : INT;\n  b : BOOL;\n  d : DINT;\n  x : INT (0..10);\nEND_VAR\n  e:\n  LD a\n  JMP e\nEND_PROGRAM\n",
+        "refused: assemble BackwardJump line 15\n",
+        "p.il:15: BackwardJump: a jump to an earlier label, or to its own line\n   15 |   JMP e\n      |       ^\n  help: count the jumps that go back: {LOOP 10} before JMP\n",
+    ),
+    (
+        "PROGRAM p\nVAR_EXTERNAL\n  inv1_w, inv2_w : DINT;\n  target, lim1 : INT;\n  ena1 : BOOL;\nEND_VAR\nVAR\n  a, z : INT;\n  b : BOOL;\n  d : DINT;\n  x : INT (0..10);\nEND_VAR\n  LD target\n  ST target\nEND_PROGRAM\n",
+        "refused: assemble LoadAndStore line 14\n",
+        "p.il:14: LoadAndStore: an external that is loaded and stored\n   14 |   ST target\n      |      ^^^^^^\n  help: use two tags, or keep the value in a variable: a tag is an input or an output\n",
+    ),
+    (
+        "PROGRAM p\nVAR_EXTERNAL\n  inv1_w, inv2_w : DINT;\n  target, lim1 : INT;\n  ena1 : BOOL;\nEND_VAR\nVAR\n  a, z : INT;\n  b : BOOL;\n  d : DINT;\n  x : INT (0..10);\nEND_VAR\n  LD b\n  AND 1\nEND_PROGRAM\n",
+        "refused: assemble LiteralType line 14\n",
+        "p.il:14: LiteralType: a literal that isn't of the type that it takes here\n   14 |   AND 1\n      |       ^\n  help: write TRUE or FALSE for a BOOL, and the type before a number that has another, as INT#5\n",
+    ),
+    (
+        "PROGRAM p\nVAR_EXTERNAL\n  inv1_w, inv2_w : DINT;\n  target, lim1 : INT;\n  ena1 : BOOL;\nEND_VAR\nVAR\n  a, z : INT;\n  b : BOOL;\n  d : DINT;\n  x : INT (0..10);\nEND_VAR\n  {LOOP 2} JMP e\n  e:\nEND_PROGRAM\n",
+        "refused: assemble ForwardLoop line 13\n",
+        "p.il:13: ForwardLoop: a counted jump to a later label\n   13 |   {LOOP 2} JMP e\n      |                ^\n  help: leave {LOOP n} away: jumps forward aren't counted\n",
+    ),
+];
+
+/// Trials that trap or have an input line that is refused.
+const OF_TRIALS: &[Explained] = &[
+    (
+        "PROGRAM p\nVAR_EXTERNAL\n  inv1_w, inv2_w : DINT;\n  target, lim1 : INT;\n  ena1 : BOOL;\nEND_VAR\nVAR\n  a, z : INT;\n  b : BOOL;\n  d : DINT;\n  x : INT (0..10);\nEND_VAR\n  LD a\n  ST d\nEND_PROGRAM\n",
+        "a=0\nz=0\nb=FALSE\nd=0\nx=0\ntrap Type at 1\n",
+        "p.il:14: Type: no result, or a value of another type than is wanted\n   14 |   ST d\n      |      ^ the result is INT 0\n  help: load first, convert one of the operands, or write the type of a literal, as INT#8\n",
+    ),
+    (
+        "PROGRAM p\nVAR_EXTERNAL\n  inv1_w, inv2_w : DINT;\n  target, lim1 : INT;\n  ena1 : BOOL;\nEND_VAR\nVAR\n  a, z : INT;\n  b : BOOL;\n  d : DINT;\n  x : INT (0..10);\nEND_VAR\n  LDN a\nEND_PROGRAM\n",
+        "a=0\nz=0\nb=FALSE\nd=0\nx=0\ntrap Type at 1\n",
+        "p.il:13: Type: no result, or a value of another type than is wanted\n   13 |   LDN a\n      |       ^ the result is INT 0\n  help: load first, convert one of the operands, or write the type of a literal, as INT#8\n",
+    ),
+    (
+        "PROGRAM p\nVAR_EXTERNAL\n  inv1_w, inv2_w : DINT;\n  target, lim1 : INT;\n  ena1 : BOOL;\nEND_VAR\nVAR\n  a, z : INT;\n  b : BOOL;\n  d : DINT;\n  x : INT (0..10);\nEND_VAR\n  ST a\nEND_PROGRAM\n",
+        "a=0\nz=0\nb=FALSE\nd=0\nx=0\ntrap Type at 0\n",
+        "p.il:13: Type: no result, or a value of another type than is wanted\n   13 |   ST a\n      |      ^ the result is none\n  help: load first, convert one of the operands, or write the type of a literal, as INT#8\n",
+    ),
+    (
+        "PROGRAM p\nVAR_EXTERNAL\n  inv1_w, inv2_w : DINT;\n  target, lim1 : INT;\n  ena1 : BOOL;\nEND_VAR\nVAR\n  a, z : INT;\n  b : BOOL;\n  d : DINT;\n  x : INT (0..10);\nEND_VAR\n  LD INT#32767\n  ADD 1\nEND_PROGRAM\n",
+        "a=0\nz=0\nb=FALSE\nd=0\nx=0\ntrap Overflow at 3\n",
+        "p.il:14: Overflow: a number left its type\n   14 |   ADD 1\n      |       ^ INT 32767 meets INT 1, INT holds -32768..32767\n  help: bound the operands, as by MIN and MAX before, or convert to a wider type first\n",
+    ),
+    (
+        "PROGRAM p\nVAR_EXTERNAL\n  inv1_w, inv2_w : DINT;\n  target, lim1 : INT;\n  ena1 : BOOL;\nEND_VAR\nVAR\n  a, z : INT;\n  b : BOOL;\n  d : DINT;\n  x : INT (0..10);\nEND_VAR\n  LD INT#300\n  INT_TO_USINT\nEND_PROGRAM\n",
+        "a=0\nz=0\nb=FALSE\nd=0\nx=0\ntrap Overflow at 1\n",
+        "p.il:14: Overflow: a number left its type\n   14 |   INT_TO_USINT\n      |   ^^^^^^^^^^^^ the result is INT 300, USINT holds 0..255\n  help: bound the operands, as by MIN and MAX before, or convert to a wider type first\n",
+    ),
+    (
+        "PROGRAM p\nVAR_EXTERNAL\n  inv1_w, inv2_w : DINT;\n  target, lim1 : INT;\n  ena1 : BOOL;\nEND_VAR\nVAR\n  a, z : INT;\n  b : BOOL;\n  d : DINT;\n  x : INT (0..10);\nEND_VAR\n  LD 1\n  DIV( a\n  )\nEND_PROGRAM\n",
+        "a=0\nz=0\nb=FALSE\nd=0\nx=0\ntrap ZeroDivisor at 3\n",
+        "p.il:14: ZeroDivisor: a division by 0\n   14 |   DIV( a\n      |        ^ INT 1 meets INT 0\n  help: test the divisor before (LE 0 / JMPC elsewhere), or bound it, as by MAX 1\n",
+    ),
+    (
+        "PROGRAM p\nVAR_EXTERNAL\n  inv1_w, inv2_w : DINT;\n  target, lim1 : INT;\n  ena1 : BOOL;\nEND_VAR\nVAR\n  a, z : INT;\n  b : BOOL;\n  d : DINT;\n  x : INT (0..10);\nEND_VAR\n  LD inv1_w\nEND_PROGRAM\n",
+        "a=0\nz=0\nb=FALSE\nd=0\nx=0\ntrap MissingPoint at 0\n",
+        "p.il:13: MissingPoint: inv1_w has no value\n   13 |   LD inv1_w\n      |      ^^^^^^ no input line gives it a value\n  help: test it first (LD inv1_w_OK / JMPCN elsewhere), or give it a value in an input line, as inv1_w=5\n",
+    ),
+    (
+        "PROGRAM p\nVAR_EXTERNAL\n  inv1_w, inv2_w : DINT;\n  target, lim1 : INT;\n  ena1 : BOOL;\nEND_VAR\nVAR\n  a, z : INT;\n  b : BOOL;\n  d : DINT;\n  x : INT (0..10);\nEND_VAR\n  LD INT#11\n  ST x\nEND_PROGRAM\n",
+        "a=0\nz=0\nb=FALSE\nd=0\nx=0\ntrap StoreRange at 1\n",
+        "p.il:14: StoreRange: the result lies outside the range of x\n   14 |   ST x\n      |      ^ the result is INT 11, x holds 0..10\n  help: bound it by MAX and MIN before the store, or declare a wider range\n",
+    ),
+    (
+        "PROGRAM p\nVAR_EXTERNAL\n  inv1_w, inv2_w : DINT;\n  target, lim1 : INT;\n  ena1 : BOOL;\nEND_VAR\nVAR\n  a, z : INT;\n  b : BOOL;\n  d : DINT;\n  x : INT (0..10);\nEND_VAR\n  LD a\n  SEL 1, 2\nEND_PROGRAM\n",
+        "a=0\nz=0\nb=FALSE\nd=0\nx=0\ntrap Type at 5\n",
+        "p.il:14: Type: no result, or a value of another type than is wanted\n   14 |   SEL 1, 2\n      |       ^^^^ INT 0 chooses between DINT 1 and DINT 2\n  help: load first, convert one of the operands, or write the type of a literal, as INT#8\n",
+    ),
+    (
+        "PROGRAM p\nVAR_EXTERNAL\n  inv1_w, inv2_w : DINT;\n  target, lim1 : INT;\n  ena1 : BOOL;\nEND_VAR\nVAR\n  a, z : INT;\n  b : BOOL;\n  d : DINT;\n  x : INT (0..10);\nEND_VAR\n  LD b\n  SEL d, a\nEND_PROGRAM\n",
+        "a=0\nz=0\nb=FALSE\nd=0\nx=0\ntrap Type at 5\n",
+        "p.il:14: Type: no result, or a value of another type than is wanted\n   14 |   SEL d, a\n      |       ^^^^ BOOL FALSE chooses between DINT 0 and INT 0\n  help: load first, convert one of the operands, or write the type of a literal, as INT#8\n",
+    ),
+    (
+        "PROGRAM p\nVAR_EXTERNAL\n  inv1_w, inv2_w : DINT;\n  target, lim1 : INT;\n  ena1 : BOOL;\nEND_VAR\nVAR\n  a, z : INT;\n  b : BOOL;\n  d : DINT;\n  x : INT (0..10);\nEND_VAR\nEND_PROGRAM\n\nq=1\n",
+        "refused: input 1\n",
+        "p.il:15: input: the line gives no value to an input\n   15 | q=1\n      | ^^^\n  help: write NAME=VALUE without blanks: an external that the program loads, once, and a value of its type or absent\n",
+    ),
+    (
+        "PROGRAM p\nVAR_EXTERNAL\n  inv1_w, inv2_w : DINT;\n  target, lim1 : INT;\n  ena1 : BOOL;\nEND_VAR\nVAR\n  a, z : INT;\n  b : BOOL;\n  d : DINT;\n  x : INT (0..10);\nEND_VAR\n  LD inv1_w\n  ST d\nEND_PROGRAM\ninv1_w=5\n\ninv1_w=6\n",
+        "refused: input 2\n",
+        "p.il:18: input: the line gives no value to an input\n   18 | inv1_w=6\n      | ^^^^^^^^\n  help: write NAME=VALUE without blanks: an external that the program loads, once, and a value of its type or absent\n",
+    ),
+];
+
+#[test]
+fn a_text_that_cannot_be_read_is_explained(rt: HostRuntime) {
+    assert_explained(&rt, OF_READING);
+}
+
+#[test]
+fn a_program_without_code_is_explained(rt: HostRuntime) {
+    assert_explained(&rt, OF_ASSEMBLING);
+}
+
+#[test]
+fn a_trap_is_explained_by_what_met(rt: HostRuntime) {
+    assert_explained(&rt, OF_TRIALS);
+}
+
+fn assert_explained(rt: &(impl AllocGlobal + Abort), rows: &[Explained]) {
+    for (text, lines, note) in rows.iter() {
+        let mut out = Vec::new(rt.alloc());
+        let (_, cause) = try_input(rt.alloc(), text, &mut out);
+        assert_same(rt, &printed(rt, out).as_str(), lines);
+        assert_note(rt, cause, "p.il", text, note);
+    }
+}
+
+/// There is a cause, and this is its note on the text.
+pub(crate) fn assert_note(
+    rt: &(impl AllocGlobal + Abort),
+    cause: Option<Cause>,
+    path: &str,
+    text: &str,
+    note: &str,
+) {
+    let cause = cause.expect(rt, "a cause");
+    let found = cause.note(path, text).shown(rt.alloc());
+    assert_same(rt, &found.expect(rt, "memory").as_str(), &note);
+}

@@ -1,0 +1,32 @@
+//! What is explained on standard error of programs that have more than a program may have.
+use crate::tests::explained_verdicts::assert_verdict;
+
+#[test]
+fn an_expression_that_is_nested_too_deep_is_explained(rt: HostRuntime) {
+    let mut text = String::from_str(rt.alloc(), "PROGRAM p\n  LD 1\n").expect(&rt, "memory");
+    for _ in 0..101 {
+        text.push_str("  ADD( 1\n").expect(&rt, "memory");
+    }
+    let note =
+        "p.il:103: TooLong: the text has more than a program may have\n  103 |   ADD( 1\n      |   ^^^^^^\n  help: split the program, or store parts of a nested expression in variables\n";
+    assert_verdict(&rt, text.as_str(), "refused: read TooLong line 103\n", note);
+}
+
+#[test]
+fn a_counted_jump_too_many_is_explained(rt: HostRuntime) {
+    let mut text = String::from_str(rt.alloc(), "PROGRAM p\n").expect(&rt, "memory");
+    for number in 0..257u32 {
+        let line = format!(in rt.alloc(); "l{number}: {{LOOP 2}} JMP l{number}\n");
+        let line = line.expect(&rt, "memory");
+        text.push_str(line.as_str()).expect(&rt, "memory");
+    }
+    text.push_str("END_PROGRAM\n").expect(&rt, "memory");
+    let note =
+        "p.il:258: TooLong: more code or counted jumps than a program may have\n  258 | l256: {LOOP 2} JMP l256\n      | ^^^^^^^^^^^^^^^^^^^^^^^\n  help: shorten the program: 65,535 bytes of code and 256 counted jumps are the most\n";
+    assert_verdict(
+        &rt,
+        text.as_str(),
+        "refused: assemble TooLong line 258\n",
+        note,
+    );
+}

@@ -1,0 +1,132 @@
+//! The command `explain`: a program with what the verdict knows before each of its instructions.
+use crate::accepted::DEPTH;
+use crate::definitions::definitions;
+use crate::outcome::{Outcome, tell_no_memory};
+use crate::report::{no_site, undefined, unverified};
+use il_assemble::assemble;
+use il_reader::{Program, read};
+use model_defs::{DefFault, ModelDef};
+use program_notes::table_of;
+use refusal_notes::{Cause, cause_of_definition, cause_of_refusal, cause_of_site};
+use scan_code::Image;
+use site_model::{Site, SiteFault};
+use std::alloc::{AllocError, Global};
+use std::io::Write;
+use verifier::verify::verify;
+use verifier::{RefusalKind, Refused};
+
+/// Prints a program that is judged for a site as the verdict sees it: its lines, with the instructions of each and what
+/// is known before them, to the end or to the instruction that is refused. Behind a refusal, of the definitions, the
+/// site or the program, comes its line. Gives the status, that of `check`, and the cause of a refusal.
+pub fn explain<W: Write>(
+    alloc: Global,
+    site: &str,
+    program: &str,
+    defs: &[String],
+    out: &mut W,
+) -> (u8, Option<Cause>) {
+    match outcome_of(alloc, site, program, defs) {
+        Ok(outcome) => (outcome.tell(out), outcome.cause),
+        Err(AllocError) => (tell_no_memory(out), None),
+    }
+}
+
+/// What is told of a program, a site and definitions.
+fn outcome_of(
+    alloc: Global,
+    site: &str,
+    program: &str,
+    defs: &[String],
+) -> Result<Outcome, AllocError> {
+    match definitions(alloc, defs) {
+        Ok(models) => outcome_over(alloc, site, program, models.as_slice()),
+        Err(DefFault::OutOfMemory) => Err(AllocError),
+        Err(fault) => {
+            let line = undefined(alloc, fault.word())?;
+            Ok(Outcome::caused(line, cause_of_definition(alloc, defs, fault)))
+        }
+    }
+}
+
+/// The same over model definitions.
+fn outcome_over(
+    alloc: Global,
+    site: &str,
+    program: &str,
+    models: &[ModelDef],
+) -> Result<Outcome, AllocError> {
+    match Site::read(alloc, site, models) {
+        Ok(site) => outcome_on(alloc, &site, program),
+        Err(SiteFault::OutOfMemory) => Err(AllocError),
+        Err(fault) => {
+            let line = no_site(alloc, fault.word())?;
+            let cause = cause_of_site(alloc, site, models, fault);
+            Ok(Outcome::caused(line, cause))
+        }
+    }
+}
+
+/// The same on a site.
+fn outcome_on(alloc: Global, site: &Site, text: &str) -> Result<Outcome, AllocError> {
+    match read(alloc, text) {
+        Ok(program) => outcome_of_program(alloc, site, text, &program),
+        Err(fault) => Outcome::unread(alloc, fault),
+    }
+}
+
+/// The same of a program as it was read.
+fn outcome_of_program(
+    alloc: Global,
+    site: &Site,
+    text: &str,
+    program: &Program,
+) -> Result<Outcome, AllocError> {
+    match assemble(alloc, program) {
+        Ok(image) => outcome_of_image(alloc, site, text, program, image),
+        Err(fault) => Outcome::unassembled(alloc, fault),
+    }
+}
+
+/// The same of its image.
+fn outcome_of_image(
+    alloc: Global,
+    site: &Site,
+    text: &str,
+    program: &Program,
+    image: Image,
+) -> Result<Outcome, AllocError> {
+    match verify::<DEPTH>(alloc, image, site) {
+        Ok(verified) => {
+            let table = table_of(alloc, text, program, verified.image(), site, None)?;
+            Ok(Outcome::listed(table))
+        }
+        Err(refused) => outcome_of_refused(alloc, site, text, program, &refused),
+    }
+}
+
+/// What is told of a program that the verdict refuses: the table to there, and the line of the refusal.
+fn outcome_of_refused(
+    alloc: Global,
+    site: &Site,
+    text: &str,
+    program: &Program,
+    refused: &Refused,
+) -> Result<Outcome, AllocError> {
+    if let RefusalKind::OutOfMemory = refused.kind {
+        return Err(AllocError);
+    }
+    let at = refused_instruction(refused);
+    let mut lines = table_of(alloc, text, program, &refused.image, site, at)?;
+    let line = unverified(alloc, refused.kind.word(), refused.at)?;
+    lines.push_str(line.as_str())?;
+    let cause = cause_of_refusal(alloc, program, site, refused);
+    Ok(Outcome::caused(lines, cause))
+}
+
+/// The number of the instruction that is refused; None where it isn't one that is refused.
+fn refused_instruction(refused: &Refused) -> Option<usize> {
+    match refused.kind {
+        RefusalKind::OverBudget => None,
+        _ => Some(refused.at),
+    }
+}

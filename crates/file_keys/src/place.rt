@@ -1,0 +1,87 @@
+//! Where in a file a fault was found.
+use crate::finding::{EntryName, Finding};
+use crate::wording::{entry_shown, rule_shown, stands_shown};
+use std::alloc::{AllocError, Global};
+
+/// A fault of a file, and where it was found; no place where memory for it was refused.
+#[derive(Debug, Drop)]
+pub struct Placed<F: Copy> {
+    pub fault: F,
+    pub place: Option<FilePlace>,
+}
+
+/// Where in a file a fault was found.
+#[derive(Debug, Drop)]
+pub enum FilePlace {
+    /// Where the text goes wrong: the line and the column, both from 1.
+    Text {
+        line: usize,
+        column: usize,
+    },
+    /// The entry that breaks a rule, the key, what stands there, and what may.
+    Entry {
+        entry: String,
+        key: &'static str,
+        stands: Option<String>,
+        rule: String,
+    },
+}
+
+impl FilePlace {
+    /// The line and the column behind so many bytes of a text. A column counts characters.
+    pub fn in_text(text: &str, bytes: usize) -> FilePlace {
+        let mut line = 1usize;
+        let mut column = 1usize;
+        for (place, letter) in text.char_indices() {
+            if place >= bytes {
+                break;
+            }
+            if letter == '\n' {
+                line = line.saturating_add(1);
+                column = 1;
+            } else {
+                column = column.saturating_add(1);
+            }
+        }
+        FilePlace::Text { line, column }
+    }
+
+    /// Where a text is no TOML; None where memory was refused.
+    pub fn of_toml(text: &str, error: &toml::de::Error) -> Option<FilePlace> {
+        let span = error.span()?;
+        Some(FilePlace::in_text(text, span.start))
+    }
+
+    /// What was found at an entry.
+    pub fn at_entry(
+        alloc: Global,
+        entry: EntryName<'_>,
+        finding: Finding<'_>,
+    ) -> Result<FilePlace, AllocError> {
+        let entry = entry_shown(alloc, entry)?;
+        let stands = stands_shown(alloc, finding.stands)?;
+        let rule = rule_shown(alloc, finding.rule)?;
+        Ok(FilePlace::Entry {
+            entry,
+            key: finding.key,
+            stands,
+            rule,
+        })
+    }
+
+    /// The place in one line of plain text: `[[tag]] inv1_w: low = 5 is over high = 4`, or `line 12, column 7`.
+    pub fn shown(&self, alloc: Global) -> Result<String, AllocError> {
+        match self {
+            FilePlace::Text { line, column } => format!(in alloc; "line {line}, column {column}"),
+            FilePlace::Entry {
+                entry,
+                key,
+                stands,
+                rule,
+            } => match stands {
+                Some(stands) => format!(in alloc; "{entry}: {key} = {stands} {rule}"),
+                None => format!(in alloc; "{entry}: {key} {rule}"),
+            },
+        }
+    }
+}

@@ -1,0 +1,21 @@
+//! What is known before each instruction of a program, in words: behind a refusal ([`detail_of`]), and line by line
+//! ([`table_of`]); and which line and name an instruction has.
+#![tactic(auto)]
+
+mod code_lines;
+mod detail;
+mod items;
+mod line_index;
+mod longest;
+mod refusing;
+mod rows;
+mod stacking;
+mod table;
+mod typing;
+mod words;
+
+pub use code_lines::{address_of, declared_line, instruction_line, name_in, number_at, tag_name};
+pub use detail::{Detail, detail_of};
+pub use rows::{Row, rows_of};
+pub use table::table_of;
+pub use words::type_word;

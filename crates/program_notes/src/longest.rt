@@ -1,0 +1,135 @@
+//! The longest path through a program, which makes its budget.
+ghost use Rattle.std.specs.Prelude.{◌≡◌, ◌<◌, length};
+
+use crate::items::Line;
+use crate::rows::Row;
+use facts::context::Context;
+use point_types::Condition;
+use scan_code::Op;
+use std::alloc::{AllocError, Global};
+use verifier::budget::path_lengths;
+use verifier::listing::number_at;
+use verifier::told::Standing;
+
+/// Appends the longest path, by lines; nothing where an instruction wasn't judged.
+pub(crate) fn push_longest(
+    alloc: Global,
+    line: &mut Line,
+    context: &Context,
+    rows: &[Row],
+) -> Result<(), AllocError>
+    requires { length context.now.listing < 65536 }
+{
+    let listing = context.instructions();
+    let reached = reached_flags(alloc, rows)?;
+    if reached.len() != listing.len() {
+        return Ok(());
+    }
+    let lengths = path_lengths(alloc, listing, &reached)?;
+    let steps = longest_steps(alloc, listing, &lengths)?;
+    push_steps(alloc, line, rows, &steps)
+}
+
+/// Which instructions a path reaches; of those that were judged.
+fn reached_flags(alloc: Global, rows: &[Row]) -> Result<Vec<bool>, AllocError> {
+    let mut reached = Vec::new(alloc);
+    for row in rows {
+        match &row.known {
+            Some(Standing::Unreached) => reached.push(false)?,
+            Some(_) => reached.push(true)?,
+            None => return Ok(reached),
+        }
+    }
+    Ok(reached)
+}
+
+/// The numbers of the instructions on a longest path from a start to an end.
+fn longest_steps(
+    alloc: Global,
+    listing: &[(usize, Op)],
+    lengths: &[Option<usize>],
+) -> Result<Vec<usize>, AllocError> {
+    let mut steps = Vec::new(alloc);
+    let mut at = longest_start(listing, lengths);
+    let length = length_of(lengths, at);
+    steps.push(at)?;
+    for done in 1..length {
+        let Some(next) = next_of(listing, lengths, at, length.saturating_sub(done)) else {
+            break;
+        };
+        steps.push(next)?;
+        at = next;
+    }
+    Ok(steps)
+}
+
+/// Where a longest path begins: at the first instruction, or where a counted jump leads.
+fn longest_start(listing: &[(usize, Op)], lengths: &[Option<usize>]) -> usize {
+    let mut start = 0;
+    for (_, op) in listing {
+        if let Op::Repeat(_, _, _, to) = op {
+            let head = number_at(listing, usize::from(*to)).unwrap_or(0);
+            if length_of(lengths, head) > length_of(lengths, start) {
+                start = head;
+            }
+        }
+    }
+    start
+}
+
+fn length_of(lengths: &[Option<usize>], at: usize) -> usize {
+    match lengths.get(at) {
+        Some(Some(length)) => *length,
+        _ => 0,
+    }
+}
+
+/// The next instruction of a longest path, on which so many are left.
+fn next_of(
+    listing: &[(usize, Op)],
+    lengths: &[Option<usize>],
+    at: usize,
+    left: usize,
+) -> Option<usize> {
+    let next = at.checked_add(1)?;
+    match listing.get(at) {
+        Some((_, Op::Jump(Condition::Always, to))) => number_at(listing, usize::from(*to)),
+        Some((_, Op::Jump(_, to))) if length_of(lengths, next) != left => number_at(
+            listing,
+            usize::from(*to),
+        ),
+        Some(_) => Some(next),
+        None => None,
+    }
+}
+
+/// Appends how many instructions the path has, and the lines that it goes through.
+fn push_steps(
+    alloc: Global,
+    line: &mut Line,
+    rows: &[Row],
+    steps: &[usize],
+) -> Result<(), AllocError> {
+    let count = steps.len();
+    let head = format!(in alloc; "longest path: {count} instructions, through lines ")?;
+    line.push(head.as_str())?;
+    let from = line.column;
+    let mut last = 0;
+    for step in steps {
+        let number = line_of(rows, *step);
+        if number != last {
+            let number = format!(in alloc; "{number}")?;
+            line.push_item(from, number.as_str())?;
+        }
+        last = number;
+    }
+    line.end()
+}
+
+/// The line of an instruction.
+pub(crate) fn line_of(rows: &[Row], number: usize) -> u32 {
+    match rows.get(number) {
+        Some(row) => row.line,
+        None => 0,
+    }
+}

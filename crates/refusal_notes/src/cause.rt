@@ -1,0 +1,181 @@
+//! Why a command refuses, and the note that tells it on standard error.
+use crate::link_texts::{link_help, link_meaning};
+use crate::marks::{mark_of_trapped, mark_of_unassembled, mark_of_unread, mark_of_unverified};
+use il_assemble::AsmFault;
+use il_reader::ReadFault;
+use inverter_sim::PlantFault;
+use modbus_frame::LinkFault;
+use model_defs::DefFault;
+use scan_vm::TrapKind;
+use site_model::SiteFault;
+use source_notes::{Mark, Note};
+use std::alloc::Global;
+use verifier::RefusalKind;
+
+/// The file that a note is on.
+#[derive(Clone, Copy, PartialEq, Eq, Debug)]
+pub enum NotedFile {
+    Program,
+    Site,
+    Plant,
+    /// The definition of this number among those that are handed in.
+    Definition(usize),
+    /// No file, but the link to the devices.
+    Link,
+}
+
+/// Why a command refuses: a place in a file, the kind of refusal, and what is known about it.
+#[derive(Drop, Debug)]
+pub struct Cause {
+    pub file: NotedFile,
+    /// The line, counted from 1; 0 where the note is on the whole file.
+    pub line: u32,
+    /// What on the line is meant.
+    pub mark: Mark,
+    /// The kind as it is printed.
+    pub kind: &'static str,
+    pub meaning: &'static str,
+    pub help: &'static str,
+    /// The name that `{}` stands for in both.
+    pub name: String,
+    /// What is known there; empty where nothing is.
+    pub detail: String,
+}
+
+impl Cause {
+    /// On account of a line of the program's text.
+    fn of_line(alloc: Global, line: u32, mark: Mark, texts: Texts) -> Cause {
+        Cause {
+            file: NotedFile::Program,
+            line,
+            mark,
+            kind: texts.kind,
+            meaning: texts.meaning,
+            help: texts.help,
+            name: String::new(alloc),
+            detail: String::new(alloc),
+        }
+    }
+
+    /// On account of a whole file.
+    fn of_file(alloc: Global, file: NotedFile, texts: Texts) -> Cause {
+        let mut cause = Cause::of_line(alloc, 0, Mark::Line, texts);
+        cause.file = file;
+        cause
+    }
+
+    /// The text of the program can't be read.
+    pub fn unread(alloc: Global, fault: ReadFault) -> Cause {
+        let kind = fault.kind;
+        let texts = Texts {
+            kind: kind.word(),
+            meaning: kind.meaning(),
+            help: kind.help(),
+        };
+        Cause::of_line(alloc, fault.line, mark_of_unread(kind), texts)
+    }
+
+    /// The program has no code.
+    pub fn unassembled(alloc: Global, fault: AsmFault) -> Cause {
+        let kind = fault.kind;
+        let texts = Texts {
+            kind: kind.word(),
+            meaning: kind.meaning(),
+            help: kind.help(),
+        };
+        Cause::of_line(alloc, fault.line, mark_of_unassembled(kind), texts)
+    }
+
+    /// The verdict refuses this line.
+    pub fn unverified(alloc: Global, kind: RefusalKind, line: u32) -> Cause {
+        let texts = Texts {
+            kind: kind.word(),
+            meaning: kind.meaning(),
+            help: kind.help(),
+        };
+        Cause::of_line(alloc, line, mark_of_unverified(kind), texts)
+    }
+
+    /// A trial stopped in this line.
+    pub fn trapped(alloc: Global, kind: TrapKind, line: u32) -> Cause {
+        let texts = Texts {
+            kind: kind.word(),
+            meaning: kind.meaning(),
+            help: kind.help(),
+        };
+        Cause::of_line(alloc, line, mark_of_trapped(kind), texts)
+    }
+
+    /// An input line gives nothing to an input.
+    pub fn no_input(alloc: Global, line: u32) -> Cause {
+        let texts = Texts {
+            kind: "input",
+            meaning: "the line gives no value to an input",
+            help: "write NAME=VALUE without blanks: an external that the program loads, once, and a value of its type or absent",
+        };
+        Cause::of_line(alloc, line, Mark::Line, texts)
+    }
+
+    /// The site file is none.
+    pub fn no_site(alloc: Global, fault: SiteFault) -> Cause {
+        let texts = Texts {
+            kind: fault.word(),
+            meaning: fault.meaning(),
+            help: fault.help(),
+        };
+        Cause::of_file(alloc, NotedFile::Site, texts)
+    }
+
+    /// The plant file is none.
+    pub fn no_plant(alloc: Global, fault: PlantFault) -> Cause {
+        let texts = Texts {
+            kind: fault.word(),
+            meaning: fault.meaning(),
+            help: fault.help(),
+        };
+        Cause::of_file(alloc, NotedFile::Plant, texts)
+    }
+
+    /// The definition of this number is none.
+    pub fn undefined(alloc: Global, number: usize, fault: DefFault) -> Cause {
+        let texts = Texts {
+            kind: fault.word(),
+            meaning: fault.meaning(),
+            help: fault.help(),
+        };
+        Cause::of_file(alloc, NotedFile::Definition(number), texts)
+    }
+
+    /// The link to the devices failed.
+    pub fn unlinked(alloc: Global, fault: LinkFault) -> Cause {
+        let texts = Texts {
+            kind: fault.word(),
+            meaning: link_meaning(fault),
+            help: link_help(fault),
+        };
+        Cause::of_file(alloc, NotedFile::Link, texts)
+    }
+
+    /// The note, on the text of the file at the path.
+    pub fn note<'a>(&'a self, path: &'a str, text: &'a str) -> Note<'a> {
+        Note {
+            path,
+            text,
+            line: self.line,
+            mark: self.mark,
+            kind: self.kind,
+            meaning: self.meaning,
+            help: self.help,
+            name: self.name.as_str(),
+            detail: self.detail.as_str(),
+        }
+    }
+}
+
+/// What is told of a kind.
+#[derive(Clone, Copy)]
+struct Texts {
+    kind: &'static str,
+    meaning: &'static str,
+    help: &'static str,
+}

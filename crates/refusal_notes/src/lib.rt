@@ -1,0 +1,15 @@
+//! Why a command refuses, by the kinds of refusal of all that it reads: a [`Cause`], with the place in a file and what is
+//! known there, and the [`Notes`] that print it on standard error.
+#![tactic(auto)]
+
+mod cause;
+mod file_causes;
+mod link_texts;
+mod marks;
+mod notes;
+mod verdict_cause;
+
+pub use cause::{Cause, NotedFile};
+pub use file_causes::{cause_of_definition, cause_of_plant, cause_of_site};
+pub use notes::{Notes, explain_unusable};
+pub use verdict_cause::cause_of_refusal;

@@ -1,0 +1,102 @@
+//! What is printed on standard error of a refusal.
+use crate::cause::{Cause, NotedFile};
+use source_notes::{Mark, Note};
+
+/// The files that the notes of a command are on, each by its path and its text, and whether there are notes.
+#[derive(Clone, Copy)]
+pub struct Notes<'a> {
+    /// Whether nothing is printed.
+    pub quiet: bool,
+    pub site_path: &'a str,
+    pub site: &'a str,
+    pub program_path: &'a str,
+    pub program: &'a str,
+    pub plant_path: &'a str,
+    pub plant: &'a str,
+    pub def_paths: &'a [&'a str],
+    pub defs: &'a [String],
+}
+
+impl<'a> Notes<'a> {
+    /// Notes on a program alone.
+    pub fn on_program(quiet: bool, path: &'a str, text: &'a str) -> Notes<'a> {
+        Notes {
+            quiet,
+            site_path: "",
+            site: "",
+            program_path: path,
+            program: text,
+            plant_path: "",
+            plant: "",
+            def_paths: &[],
+            defs: &[],
+        }
+    }
+
+    /// Prints why a command refuses. Where that fails, or memory for it is refused, nothing more comes of it.
+    pub fn explain(&self, rt: &(impl Eprint + AllocGlobal), cause: &Option<Cause>) {
+        if self.quiet {
+            return;
+        }
+        if let Some(cause) = cause {
+            let (path, text) = (self.path(cause.file), self.text(cause.file));
+            print(rt, &cause.note(path, text));
+        }
+    }
+
+    fn path(&self, file: NotedFile) -> &str {
+        match file {
+            NotedFile::Program => self.program_path,
+            NotedFile::Site => self.site_path,
+            NotedFile::Plant => self.plant_path,
+            NotedFile::Definition(number) => path_at(self.def_paths, number),
+            NotedFile::Link => "link",
+        }
+    }
+
+    fn text(&self, file: NotedFile) -> &str {
+        match file {
+            NotedFile::Program => self.program,
+            NotedFile::Site => self.site,
+            NotedFile::Plant => self.plant,
+            NotedFile::Definition(number) => text_at(self.defs, number),
+            NotedFile::Link => "",
+        }
+    }
+}
+
+/// Prints that a file can't be used.
+pub fn explain_unusable(rt: &(impl Eprint + AllocGlobal), path: &str) {
+    let note = Note {
+        path,
+        text: "",
+        line: 0,
+        mark: Mark::Line,
+        kind: "file",
+        meaning: "it can't be read, isn't UTF-8, or has more than 16,777,216 bytes",
+        help: "look for the path and the right to read it, and save it as UTF-8",
+        name: "",
+        detail: "",
+    };
+    print(rt, &note);
+}
+
+fn path_at<'a>(paths: &[&'a str], number: usize) -> &'a str {
+    match paths.get(number) {
+        Some(path) => path,
+        None => "",
+    }
+}
+
+fn text_at(texts: &[String], number: usize) -> &str {
+    match texts.get(number) {
+        Some(text) => text.as_str(),
+        None => "",
+    }
+}
+
+fn print(rt: &(impl Eprint + AllocGlobal), note: &Note<'_>) {
+    if let Ok(note) = note.shown(rt.alloc()) {
+        let _ = rt.eprint(note.as_str());
+    }
+}

@@ -1,0 +1,64 @@
+//! What is noted of a program that the verdict refuses.
+use crate::cause::Cause;
+use il_reader::Program;
+use point_types::Name;
+use program_notes::{address_of, detail_of, name_in, tag_name};
+use scan_code::{Image, decode};
+use site_model::Site;
+use std::alloc::Global;
+use verifier::{Refusal, RefusalKind, Refused};
+
+/// The cause of a refusal, with the line that it speaks of and what is known there. Where memory for a part of it is
+/// refused, it goes without.
+pub fn cause_of_refusal(alloc: Global, program: &Program, site: &Site, refused: &Refused) -> Cause {
+    let refusal = Refusal {
+        at: refused.at,
+        kind: refused.kind,
+    };
+    let detail = detail_of(alloc, program, &refused.image, site, &refusal);
+    let line = match &detail {
+        Ok(detail) => detail.line,
+        Err(_) => 0,
+    };
+    let mut cause = Cause::unverified(alloc, refused.kind, line);
+    if let Some(name) = refused_name(refused) {
+        let _ = cause.name.push_str(name.as_str());
+    }
+    if let Ok(detail) = detail {
+        cause.detail = detail.text;
+    }
+    cause
+}
+
+/// The name of the variable or the tag that is refused.
+fn refused_name(refused: &Refused) -> Option<Name> {
+    if is_of_tag(refused.kind) {
+        return tag_name(&refused.image, refused.at);
+    }
+    instruction_name(&refused.image, refused.at)
+}
+
+fn instruction_name(image: &Image, number: usize) -> Option<Name> {
+    let code = image.code.as_slice();
+    let address = address_of(code, number)?;
+    let (op, _) = decode(code, address)?;
+    name_in(image, op)
+}
+
+/// Whether a refusal speaks of a tag, and not of an instruction.
+fn is_of_tag(kind: RefusalKind) -> bool {
+    match kind {
+        RefusalKind::TagUnknown | RefusalKind::TagType | RefusalKind::TagAccess => true,
+        RefusalKind::OverBudget
+        | RefusalKind::OutOfMemory
+        | RefusalKind::Code
+        | RefusalKind::Jump
+        | RefusalKind::WrongType
+        | RefusalKind::Overflow
+        | RefusalKind::ZeroDivisor
+        | RefusalKind::MayBeMissing
+        | RefusalKind::Stack
+        | RefusalKind::StoreRange
+        | RefusalKind::NoResult => false,
+    }
+}

@@ -1,0 +1,351 @@
+//! Where each kind of fault is found in a site file, a plant file and a definition: the fault and the place, as they are
+//! printed.
+
+use crate::tests::files::SITE;
+use crate::tests::{assert_same, assert_true, definitions, edited, given_definitions};
+use file_keys::FilePlace;
+use inverter_sim::Plant;
+use model_defs::{ModelDef, read, read_placed};
+use site_model::{Site, SiteFault};
+use std::alloc::Global;
+use std::process::Abort;
+
+/// The word of a fault, and its place.
+fn told(rt: &impl Abort, alloc: Global, word: &str, place: &Option<FilePlace>) -> String {
+    let place = place.as_ref().expect(rt, "a place");
+    let shown = place.shown(alloc).expect(rt, "memory");
+    format!(in alloc; "{word}: {shown}").expect(rt, "memory")
+}
+
+/// A site file is refused there, and by the fault of the reader without places.
+fn assert_site_refused(
+    rt: &impl Abort,
+    alloc: Global,
+    defs: &[ModelDef],
+    text: &str,
+    wanted: &str,
+) {
+    let refused = Site::read_placed(alloc, text, defs).err();
+    let refused = refused.expect(rt, "a fault");
+    let found = told(rt, alloc, refused.fault.word(), &refused.place);
+    assert_same(rt, &found.as_str(), &wanted);
+    let plain = Site::read(alloc, text, defs).err();
+    assert_same(rt, &plain, &Some(refused.fault));
+}
+
+/// The site file with one edit: the old text, the new one, and what is told.
+fn assert_sites(rt: &impl Abort, alloc: Global, edits: &[(&str, &str, &str)]) {
+    let defs = definitions(rt, alloc);
+    for edit in edits {
+        let (old, new, wanted) = *edit;
+        let text = edited(rt, alloc, SITE, old, new);
+        assert_site_refused(rt, alloc, &defs, text.as_str(), wanted);
+    }
+}
+
+const SECTIONS: &[(&str, &str, &str)] = &[
+    ("unit = 1", "unit = 1 1", "NotToml: line 4, column 8"),
+    (
+        "[gateway]",
+        "[way]",
+        "MissingKey: the file: [gateway] is missing",
+    ),
+    (
+        "base = 40000",
+        "base = \"a\"",
+        "MissingKey: [gateway]: base = \"a\" is no whole number",
+    ),
+    (
+        "[1, 103, 123]",
+        "[1, 160]",
+        "UnknownModel: [gateway]: models = 160 has no definition",
+    ),
+    (
+        "unit = 1",
+        "unit = 256",
+        "BadRange: [gateway]: unit = 256 is not in 0..255",
+    ),
+    (
+        "[1, 103, 123]",
+        "[103, 1]",
+        "BadRange: [gateway]: models don't begin with 1, name one twice, or don't end by register 65535",
+    ),
+    (
+        "1, 103, 123]",
+        "1,1,1,1,1,1,1,1,1,1,1,1,1,1,1,1,1]",
+        "TooMany: [gateway]: models has more than 16 entries",
+    ),
+    (
+        "name = \"inv1\"\n",
+        "",
+        "MissingKey: [[device]] 1: name is missing",
+    ),
+    (
+        "unit = 2",
+        "unit = 1",
+        "Duplicate: [[device]] inv2: unit = 1 is the unit of a device before it",
+    ),
+    (
+        "unit = 2",
+        "unit = 2\nwrite = 5",
+        "BadRange: [[device]] inv2: write = 5 is neither 6 nor 16",
+    ),
+];
+
+const TAGS: &[(&str, &str, &str)] = &[
+    (
+        "device = \"inv1\"\n",
+        "",
+        "MissingKey: [[tag]] inv1_w: device is missing",
+    ),
+    (
+        "device = \"inv1\"",
+        "device = \"inv\\u001b3\"",
+        "UnknownDevice: [[tag]] inv1_w: device = \"inv?3\" is the name of no device",
+    ),
+    (
+        "model = 103",
+        "model = 160",
+        "UnknownModel: [[tag]] inv1_w: model = 160 has no definition",
+    ),
+    (
+        "point = \"W\"",
+        "point = \"WX\"",
+        "UnknownPoint: [[tag]] inv1_w: point = \"WX\" is no point of its model",
+    ),
+    (
+        "model = 123\npoint = \"WMaxLimPct\"",
+        "model = 103\npoint = \"W\"",
+        "NotWritable: [[tag]] target: point = \"W\" can't be written",
+    ),
+    (
+        "low = -100000\nhigh = 100000",
+        "low = 5\nhigh = 4",
+        "BadRange: [[tag]] inv1_w: low = 5 is over high = 4",
+    ),
+    (
+        "default = 50",
+        "default = -1",
+        "BadRange: [[tag]] target: default = -1 is under low = 0",
+    ),
+    (
+        "exponent = 0",
+        "exponent = 11",
+        "BadRange: [[tag]] inv1_w: exponent = 11 is not in -10..10",
+    ),
+    (
+        "\"in\"",
+        "\"inn\"",
+        "BadType: [[tag]] inv1_w: access = \"inn\" is none of in, out, set, site",
+    ),
+    (
+        "access = \"set\"",
+        "access = \"set\"\ndevice = \"inv1\"",
+        "BadType: [[tag]] target: device = \"inv1\" is for tags on devices, in and out",
+    ),
+    (
+        "\"inv2_w\"",
+        "\"inv1_w\"",
+        "Duplicate: [[tag]] inv1_w: name = \"inv1_w\" is the name of a tag before it",
+    ),
+];
+
+const SERVED: &[(&str, &str, &str)] = &[
+    (
+        "value = 0",
+        "values = 0",
+        "MissingKey: [[served]] 2: value, text or sum is missing",
+    ),
+    (
+        "point = \"WMaxLimPct_SF\"\nvalue = 0",
+        "point = \"WMaxLimPct_SF\"\nvalue = 40000",
+        "BadRange: [[served]] 3: value = 40000 can't be encoded in its point",
+    ),
+    (
+        "sum = [\"inv1_w\", \"inv2_w\"]",
+        "text = \"a\"",
+        "BadType: [[served]] 1: text = \"a\" is for points of kind string",
+    ),
+    (
+        "sum = [\"inv1_w\", \"inv2_w\"]",
+        "value = 1\n[[served]]\nmodel = 103\npoint = \"W\"\nvalue = 1",
+        "Duplicate: [[served]] 2: point = \"W\" has a value already, or is the ID or the length of a model",
+    ),
+];
+
+#[test]
+fn of_sections(rt: HostRuntime) {
+    assert_sites(&rt, rt.alloc(), SECTIONS);
+}
+
+#[test]
+fn of_tags(rt: HostRuntime) {
+    assert_sites(&rt, rt.alloc(), TAGS);
+}
+
+#[test]
+fn of_served_points(rt: HostRuntime) {
+    assert_sites(&rt, rt.alloc(), SERVED);
+}
+
+/// A place that gets no memory is none; the fault stays.
+#[test]
+fn a_site_is_refused_without_memory(rt: HostRuntime) {
+    let Some(defs) = given_definitions(rt.alloc()) else {
+        return;
+    };
+    let text = "[gateway]\nunit = 300\nmodels = [1]\n";
+    if let Some(refused) = Site::read_placed(rt.alloc(), text, &defs).err() {
+        let is_memory = refused.fault == SiteFault::OutOfMemory;
+        assert_true(&rt, is_memory || refused.fault == SiteFault::BadRange);
+    }
+}
+
+/// A plant of one device, before what is wrong.
+const DEVICE: &str = "[[device]]\nunit = 1\nmodels = [1, 103]\nwmax = 5000\navailable = [4000]\n";
+
+/// Lines behind the device, and what is told.
+const LINES: &[(&str, &str)] = &[
+    ("x = ", "NotToml: line 6, column 5"),
+    (
+        "base = 1.0\n",
+        "MissingKey: [[device]] 1: base = (float) is no whole number",
+    ),
+    (
+        "base = 65535\n",
+        "BadRange: [[device]] 1: base = 65535 is not in 0..65534",
+    ),
+    (
+        "[[device]]\nunit = 2\nmodels = [1, 160]\nwmax = 1\navailable = [1]\n",
+        "UnknownModel: [[device]] 2: models = 160 has no definition",
+    ),
+    (
+        "[[device]]\nunit = 1\nmodels = [1]\nwmax = 1\navailable = [1]\n",
+        "Duplicate: [[device]] 2: unit = 1 is the unit of a device before it",
+    ),
+    (
+        "[[device]]\nmodels = [1,1,1,1,1,1,1,1,1,1,1,1,1,1,1,1,1]\n",
+        "TooMany: [[device]] 2: models has more than 16 entries",
+    ),
+    (
+        "[[device.value]]\nmodel = 103\npoint = \"WX\"\nraw = 0\n",
+        "UnknownPoint: [[device]] 1, [[device.value]] 1: point = \"WX\" is no point of its model",
+    ),
+    (
+        "[[device.value]]\nmodel = 103\npoint = \"W\"\nraw = 32768\n",
+        "BadRange: [[device]] 1, [[device.value]] 1: raw = 32768 can't stand in its point",
+    ),
+    (
+        "[[fault]]\nrequest = 1\n",
+        "MissingKey: [[fault]] 1: kind is missing",
+    ),
+    (
+        "[[fault]]\nrequest = 1\nkind = \"stale\"\ncount = 101\n",
+        "BadRange: [[fault]] 1: count = 101 is not in 1..100",
+    ),
+];
+
+/// A plant file is refused there, and by the fault of the reader without places.
+fn assert_plant_refused(
+    rt: &impl Abort,
+    alloc: Global,
+    defs: &[ModelDef],
+    text: &str,
+    wanted: &str,
+) {
+    let refused = Plant::read_placed(alloc, text, defs).err();
+    let refused = refused.expect(rt, "a fault");
+    let found = told(rt, alloc, refused.fault.word(), &refused.place);
+    assert_same(rt, &found.as_str(), &wanted);
+    let plain = Plant::read(alloc, text, defs).err();
+    assert_same(rt, &plain, &Some(refused.fault));
+}
+
+#[test]
+fn of_plants(rt: HostRuntime) {
+    let defs = definitions(&rt, rt.alloc());
+    for row in LINES {
+        let (lines, wanted) = *row;
+        let text = format!(in rt.alloc(); "{DEVICE}{lines}").expect(&rt, "memory");
+        assert_plant_refused(&rt, rt.alloc(), &defs, text.as_str(), wanted);
+    }
+}
+
+/// A definition without a fault.
+const MODEL: &str = r#"{"id": 64001, "group": {"points": [
+{"name": "ID", "type": "uint16", "size": 1}, {"name": "L", "type": "uint16", "size": 1},
+{"name": "A", "type": "int16", "size": 1, "sf": "A_SF"}, {"name": "A_SF", "type": "sunssf", "size": 1}]}}"#;
+
+/// Edits of it, and what is told.
+const EDITS: &[(&str, &str, &str)] = &[
+    ("64001,", "64001;", "NotJson: line 1, column 8"),
+    (
+        "\"id\": 64001",
+        "\"id\": \"a\"",
+        "MissingKey: the model: id = \"a\" is no whole number",
+    ),
+    (
+        "\"type\": \"int16\", ",
+        "",
+        "MissingKey: point A: type is missing",
+    ),
+    (
+        "64001",
+        "65535",
+        "BadType: the model: id = 65535 is not in 1..65534",
+    ),
+    (
+        "\"int16\"",
+        "\"int17\"",
+        "BadType: point A: type = \"int17\" is no type of a point",
+    ),
+    (
+        "\"int16\", \"size\": 1",
+        "\"int16\", \"size\": 2",
+        "BadSize: point A: size = 2 isn't the size of its type",
+    ),
+    (
+        "\"A_SF\", \"type\"",
+        "\"A\", \"type\"",
+        "DuplicateName: point A: name = \"A\" is the name of a point before it",
+    ),
+    (
+        "\"sf\": \"A_SF\"",
+        "\"sf\": 11",
+        "BadScalePoint: point A: sf = 11 is neither the name of a point of type sunssf nor in -10..10",
+    ),
+    (
+        "{\"points\"",
+        "{\"groups\": [1], \"points\"",
+        "Repeating: the model: group.groups is no empty list",
+    ),
+    (
+        "\"int16\", \"size\": 1",
+        "\"string\", \"size\": 124",
+        "TooLong: the model: group.points have more than 123 registers behind ID and L",
+    ),
+    (
+        "\"name\": \"ID\"",
+        "\"name\": \"Id\"",
+        "BadHeader: the model: group.points don't begin with ID and L, both uint16",
+    ),
+];
+
+/// A definition is refused there, and by the fault of the reader without places.
+fn assert_model_refused(rt: &impl Abort, alloc: Global, text: &str, wanted: &str) {
+    let refused = read_placed(alloc, text.as_bytes()).err();
+    let refused = refused.expect(rt, "a fault");
+    let found = told(rt, alloc, refused.fault.word(), &refused.place);
+    assert_same(rt, &found.as_str(), &wanted);
+    let plain = read(alloc, text.as_bytes()).err();
+    assert_same(rt, &plain, &Some(refused.fault));
+}
+
+#[test]
+fn of_definitions(rt: HostRuntime) {
+    for edit in EDITS {
+        let (old, new, wanted) = *edit;
+        let text = edited(&rt, rt.alloc(), MODEL, old, new);
+        assert_model_refused(&rt, rt.alloc(), text.as_str(), wanted);
+    }
+}

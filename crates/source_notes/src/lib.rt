@@ -1,0 +1,11 @@
+//! Notes on a line of a text, in the form that compilers use: where, what is wrong, the line with carets under what is
+//! meant, and what to do.
+#![tactic(auto)]
+
+mod marking;
+mod note;
+#[cfg(test)]
+mod tests;
+
+pub use marking::Mark;
+pub use note::Note;
