@@ -6,7 +6,7 @@ mod Replaying
 pub mod Scanning
 mod Serving
 pub mod Settled
-mod Sized
+pub mod Sized
 mod Spelled
 mod Totals
 pub mod Dropping

@@ -54,10 +54,10 @@ size_within kind.Acc64 = (omega arith, omega arith)
 size_within kind.String = (omega arith, omega arith)
 
 -- an output's number is that of a tag
-abbrev HasTag : Site → ℕ → Type 0
+abbrev pub HasTag : Site → ℕ → Type 0
 HasTag site i = (number : ℕ) × (slice_get site.outs i ≡ Some number) × (t : SiteTag) × (slice_get site.tags number ≡ Some t)
 
-tag_of : (site : Site) (i : ℕ) → site.outs ≡ outs_of site.tags → i < length site.outs → HasTag site i
+pub tag_of : (site : Site) (i : ℕ) → site.outs ≡ outs_of site.tags → i < length site.outs → HasTag site i
 tag_of site i written within =
     let number = get_or site.outs i 0 in
     let at : slice_get site.outs i ≡ Some number = slice_get-get_or site.outs i 0 within in

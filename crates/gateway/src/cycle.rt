@@ -18,8 +18,8 @@ use register_map::{Block, Map};
 use site_model::{Site, SiteDevice, Words, WriteFunction};
 
 /// A request to a unit.
-#[derive(Drop)]
-pub(crate) struct Call {
+#[derive(Debug, PartialEq, Eq, Drop)]
+pub struct Call {
     /// The unit that is asked.
     pub unit: u8,
     /// What it is asked.
@@ -221,8 +221,8 @@ impl<L: Link> Line<L> {
     }
 }
 
-// The request for a wanted block, where the device has the model.
-fn read_of(site: &Site, maps: &[Option<Map>], want: (usize, u16)) -> Option<Call>
+/// The request for a wanted block, where the device has the model.
+pub fn read_of(site: &Site, maps: &[Option<Map>], want: (usize, u16)) -> Option<Call>
     ensures read { result ≡ read_of site.now maps.now want }
     ensures quantity { IfSome result (λ call. HasQuantity call.request) }
 {
@@ -248,7 +248,8 @@ fn block_request(block: Block, length: u16) -> Request
     }
 }
 
-fn event_by(want: (usize, u16), outcome: Outcome) -> Event
+/// What a request for a wanted block tells: its words, or that it is lost.
+pub fn event_by(want: (usize, u16), outcome: Outcome) -> Event
     ensures { result ≡ event_by want outcome }
 {
     match outcome {
@@ -257,8 +258,8 @@ fn event_by(want: (usize, u16), outcome: Outcome) -> Event
     }
 }
 
-// The request that writes a point, where it is to be written.
-fn write_of(devices: &[SiteDevice], plan: &Result<Write, NoWrite>) -> Option<Call>
+/// The request that writes a point, where it is to be written.
+pub fn write_of(devices: &[SiteDevice], plan: &Result<Write, NoWrite>) -> Option<Call>
     requires { IfOk plan.now (λ w. (1 ≤ length w.words) × (length w.words ≤ 123)) }
     ensures write { result ≡ write_of devices.now plan.now }
     ensures quantity { IfSome result (λ call. HasQuantity call.request) }

@@ -1,6 +1,7 @@
 //! The core of a gateway: one state, one step for each event.
-ghost use Rattle.std.specs.Prelude.{◌≡◌, ◌<◌, length, IfSome};
+ghost use Rattle.std.specs.Prelude.{◌≡◌, ◌<◌, ◌≤◌, ℕ, length, None, IsSome, IfSome};
 ghost use Rattle.std.specs.List.{position};
+ghost use Rattle.site_model.specs.Readings.{known_at};
 ghost use Rattle.site_model.specs.Wants.{same_want};
 ghost use Rattle.gateway.specs.SiteRun.{told, with_block};
 
@@ -66,12 +67,12 @@ impl<const DEPTH: usize> Model for Core<DEPTH> {
 }
 
 impl<const DEPTH: usize> Core<DEPTH> {
-    ghost use Rattle.std.specs.Prelude.{◌≡◌, ◌<◌, ◌≤◌, length, IfOk, IfErr, OnOk};
+    ghost use Rattle.std.specs.Prelude.{◌≡◌, ◌<◌, ◌≤◌, length, set, ℕ, None, IsSome, IfOk, IfErr, IfSome, OnOk};
     ghost use Rattle.verifier.specs.Verified.{HasLinks};
     ghost use Rattle.gateway.specs.declared.fault.CoreFault.TheVariants.{Foreign, OutOfMemory};
     ghost use Rattle.modbus_frame.specs.Message.{request_of, IsAnswerTo, IsRequest};
     ghost use Rattle.point_writer.specs.SetPoint.{IsPlanFor, WritesASetPoint};
-    ghost use Rattle.site_model.specs.Readings.{AreSettings};
+    ghost use Rattle.site_model.specs.Readings.{AreSettings, known_at};
     ghost use Rattle.gateway.specs.Core.{IsSame, RunsOn, StepsOn, gateway_of, numbers_of};
     ghost use Rattle.gateway.specs.Driving.{Drives, ScansOnce};
     ghost use Rattle.gateway.specs.SiteRun.{Does, IsScan, Replies, SaysWrote, WritesAt, after_block};
@@ -176,10 +177,54 @@ impl<const DEPTH: usize> Core<DEPTH> {
     }
 
     /// The maps of the site's devices that were handed in.
-    pub(crate) fn maps(&self) -> &[Option<Map>]
+    pub fn maps(&self) -> &[Option<Map>]
         ensures { result.now ≡ self.now.maps }
     {
         &self.maps
+    }
+
+    /// A device that has no map, looked for from the one of this number on, round to the one before it; None where each
+    /// has one.
+    pub fn unmapped(&self, first: usize) -> Option<usize>
+        ensures device { IfSome result (λ device. device < length self.now.site.devices) }
+        ensures unmapped { IfSome result (λ device. known_at self.now.maps device ≡ None) }
+        ensures all { result ≡ None → (device : ℕ) → device < length self.now.site.devices → IsSome (known_at self.now.maps device) }
+    {
+        let count = self.maps.len();
+        let turn = first.min(count);
+        match unmapped_in(&self.maps, turn, count) {
+            Some(device) => Some(device),
+            None => unmapped_in(&self.maps, 0, turn),
+        }
+    }
+
+    /// From now on this is the map of a device, or it has none; nothing else changes.
+    pub fn learn(&mut self, device: usize, map: Option<Map>)
+        requires { device < length self.old.site.devices }
+        ensures { self.new ≡ record self.old { maps = set self.old.maps device map } }
+    {
+        self.maps[device] = map;
+    }
+
+    /// What each of the site's tags was in the last scan: its number, or why it was absent; NoBlock before any scan.
+    pub fn readings(&self) -> &[Reading]
+        ensures { result.now ≡ self.now.standing.last.readings }
+    {
+        self.known.readings.as_slice()
+    }
+
+    /// What the program stored in the last scan, for each of the site's tags; None where it stored nothing.
+    pub fn outputs(&self) -> &[Option<i64>]
+        ensures { result.now ≡ self.now.standing.last.outputs }
+    {
+        self.known.outputs.as_slice()
+    }
+
+    /// What clients set, for each of the site's tags; None where nothing was set.
+    pub fn settings(&self) -> &[Option<i64>]
+        ensures { result.now ≡ self.now.standing.sets }
+    {
+        self.known.sets.as_slice()
     }
 
     /// How many instructions the last scan took; 0 before any.
@@ -284,6 +329,20 @@ impl<const DEPTH: usize> Core<DEPTH> {
         );
         answer
     }
+}
+
+/// The first device of these numbers that has no map.
+fn unmapped_in(maps: &[Option<Map>], first: usize, end: usize) -> Option<usize>
+    requires { end ≤ length maps.now }
+    ensures found { IfSome result (λ device. (first ≤ device) × (device < end) × (known_at maps.now device ≡ None)) }
+    ensures all { result ≡ None → (device : ℕ) → first ≤ device → device < end → IsSome (known_at maps.now device) }
+{
+    for device in first..end {
+        if maps[device].is_none() {
+            return Some(device);
+        }
+    }
+    None
 }
 
 /// The words of a block, which begin with its model's ID.

@@ -2,7 +2,7 @@
 ghost use Rattle.std.specs.Prelude.{◌≡◌, ◌-◌, ◌≤◌, ◌==◌, ◌&&◌, ◌++◌, None, OnOk, IfOk};
 ghost use Rattle.std.specs.Io.KnownBytes.{Keeps};
 ghost use Rattle.modbus_frame.specs.Exchange.{SendsFront, CountsSent, left};
-ghost use Rattle.modbus_frame.specs.Frame.{frame_bytes};
+ghost use Rattle.modbus_frame.specs.Frame.{frame_bytes, IsFrame};
 ghost use Rattle.modbus_frame.specs.Link.{CountsBy};
 ghost use Rattle.modbus_frame.specs.Message.{HasQuantity};
 ghost use Rattle.gateway.specs.LinkRun.{frame_of, is_reply, next_id, Suits};
@@ -13,7 +13,7 @@ use crate::outcome::Outcome;
 use modbus_frame::{Frame, FrameReader, Link, LinkFault, Request, request_pdu, send, write_frame};
 
 /// With so many dropped frames a request is stale.
-const MOST_DROPPED: u8 = 17;
+pub const MOST_DROPPED: u8 = 17;
 
 /// Sends a request and waits for its outcome.
 pub(crate) fn exchange<L: Link>(
@@ -74,15 +74,24 @@ fn send_request<L: Link>(
     ensures calls { CountsBy (turns.old - turns.new) (L.calls link.old) (L.calls link.new) }
     ensures within { turns.new ≤ turns.old }
 {
-    let frame = Frame {
-        transaction: id,
-        unit,
-        pdu: request_pdu(request),
-    };
+    let frame = request_frame(id, unit, request);
     let mut buffer = [0; Frame::MAX_LEN];
     let len = write_frame(&frame, &mut buffer);
     let (bytes, _) = buffer.split_at(len);
     send(link, bytes, turns)
+}
+
+/// The frame of a request to a unit, of this transaction.
+pub fn request_frame(id: u16, unit: u8, request: &Request) -> Frame
+    requires { HasQuantity request.now }
+    ensures frame { result ≡ frame_of (record { id = id; unit = unit; request = request.now }) }
+    ensures is_frame { IsFrame result }
+{
+    Frame {
+        transaction: id,
+        unit,
+        pdu: request_pdu(request),
+    }
 }
 
 /// Waits for the reply to a request. Frames with another transaction or unit are dropped; the 17th of them makes it stale.
@@ -120,7 +129,8 @@ fn wait<L: Link>(
     Ok(Outcome::Stale)
 }
 
-fn is_reply(frame: &Frame, id: u16, unit: u8) -> bool
+/// Whether a frame has the transaction and the unit of a request: it is its reply.
+pub fn is_reply(frame: &Frame, id: u16, unit: u8) -> bool
     ensures { result ≡ (frame.now.transaction == id && frame.now.unit == unit) }
 {
     frame.transaction == id && frame.unit == unit

@@ -29,7 +29,8 @@ pub use event::{Answer, Event};
 pub use event_core::Core;
 pub use fault::CoreFault;
 // the devices: what is asked of them over a link, and whole scans
-pub use cycle::Report;
+pub use cycle::{Call, Report, event_by, read_of, write_of};
+pub use exchange::{MOST_DROPPED, is_reply, request_frame};
 pub use outcome::Outcome;
 pub use polled::run_scan;
 pub use poller::Poller;

@@ -21,8 +21,8 @@ pub enum Outcome {
 }
 
 impl Outcome {
-    // What a reply to the request says.
-    pub(crate) fn of_reply(request: &Request, pdu: &Pdu) -> Outcome
+    /// What a reply to the request says.
+    pub fn of_reply(request: &Request, pdu: &Pdu) -> Outcome
         ensures said { result ≡ outcome_by (response_of request.now pdu.now) }
         ensures suits { Suits request.now result }
     {

@@ -104,7 +104,7 @@ runs_read_the_stream stream frames held start = record { whole = refl; each = tt
 runs_read_the_stream stream frames held (call {bytes} {frames = given} {old} run piece result new feeds) = IsRead-feeds bytes given old piece result new (runs_read_the_stream bytes given old run) feeds
 
 -- a frame stands at the front
-abbrev HasFront : List ℕ → Type 0
+abbrev pub HasFront : List ℕ → Type 0
 HasFront rest = (frame : Frame) × (more : List ℕ) × IsFrame frame × (rest ≡ frame_bytes frame ++ more)
 
 pub length_of-frame : (frame : Frame) (more : List ℕ) → IsFrame frame → length_of (frame_bytes frame ++ more) ≡ 1 + length frame.pdu
@@ -113,7 +113,7 @@ length_of-frame frame more is_frame = omega (arith, is_frame.0, is_frame.1)
 pub length-frame_bytes : (frame : Frame) → length (frame_bytes frame) ≡ 7 + length frame.pdu
 length-frame_bytes frame = omega arith
 
-IsRest-front : (rest : List ℕ) → IsRest rest → ¬ (HasFront rest)
+pub IsRest-front : (rest : List ℕ) → IsRest rest → ¬ (HasFront rest)
 IsRest-front rest partial front =
     let frame = front.0 in
     let more = front.1 in
@@ -122,7 +122,7 @@ IsRest-front rest partial front =
     let short = partial.unfinished (omega arith) in
     omega arith
 
-IsFaulty-front : (fault : FrameFault) (rest : List ℕ) → IsFaulty fault rest → ¬ (HasFront rest)
+pub IsFaulty-front : (fault : FrameFault) (rest : List ℕ) → IsFaulty fault rest → ¬ (HasFront rest)
 IsFaulty-front BadProtocol rest faulty front = faulty.1 (ap protocol_of front.3)
 IsFaulty-front BadLength rest faulty front =
     let announced : length_of rest ≡ 1 + length (front.0).pdu = ap length_of front.3 ∙ length_of-frame front.0 front.1 front.2 in
@@ -137,7 +137,7 @@ frame_of_parts : ℕ → ℕ → List ℕ → Frame
 frame_of_parts transaction unit pdu = record { transaction = transaction; unit = unit; pdu = pdu }
 
 -- Two frames that begin one list are one.
-same_front : (frame other : Frame) (more rest : List ℕ) → IsFrame frame → IsFrame other → frame_bytes frame ++ more ≡ frame_bytes other ++ rest → (frame ≡ other) × (more ≡ rest)
+pub same_front : (frame other : Frame) (more rest : List ℕ) → IsFrame frame → IsFrame other → frame_bytes frame ++ more ≡ frame_bytes other ++ rest → (frame ≡ other) × (more ≡ rest)
 unfolding frame_of_parts
 same_front frame other more rest one two same =
     let at : ℕ → List ℕ → ℕ = λ k l. get_or l k 0 in
@@ -151,7 +151,7 @@ same_front frame other more rest one two same =
     (ap (λ t. frame_of_parts t frame.unit frame.pdu) transaction ∙ ap (λ u. frame_of_parts other.transaction u frame.pdu) unit ∙ ap (λ p. frame_of_parts other.transaction other.unit p) pdu, after)
 
 -- A list is frames and something else in one way.
-same_stream : (frames others : List Frame) (more rest : List ℕ) → AllByRecursion IsFrame frames → AllByRecursion IsFrame others → ¬ (HasFront more) → ¬ (HasFront rest) → stream_of frames more ≡ stream_of others rest → (frames ≡ others) × (more ≡ rest)
+pub same_stream : (frames others : List Frame) (more rest : List ℕ) → AllByRecursion IsFrame frames → AllByRecursion IsFrame others → ¬ (HasFront more) → ¬ (HasFront rest) → stream_of frames more ≡ stream_of others rest → (frames ≡ others) × (more ≡ rest)
 same_stream [] [] more rest each all no_front none same = (refl, same)
 same_stream [] (other ∷ others) more rest each all no_front none same = absurd (no_front (other, flat_map frame_bytes others ++ rest, all.0, same ∙ append_assoc (frame_bytes other) (flat_map frame_bytes others) rest))
 same_stream (frame ∷ frames) [] more rest each all no_front none same = absurd (none (frame, flat_map frame_bytes frames ++ more, each.0, sym same ∙ append_assoc (frame_bytes frame) (flat_map frame_bytes frames) more))
@@ -161,11 +161,11 @@ same_stream (frame ∷ frames) (other ∷ others) more rest each all no_front no
     (cc, next.1)
 
 -- A rest is no fault, and a fault has one cause.
-IsRest-IsFaulty : (fault : FrameFault) (rest : List ℕ) → IsRest rest → IsFaulty fault rest → ⊥
+pub IsRest-IsFaulty : (fault : FrameFault) (rest : List ℕ) → IsRest rest → IsFaulty fault rest → ⊥
 IsRest-IsFaulty BadProtocol rest partial faulty = faulty.1 (partial.protocol faulty.0)
 IsRest-IsFaulty BadLength rest partial faulty = faulty.2 (partial.announced faulty.0)
 
-same_fault : (fault other : FrameFault) (rest : List ℕ) → IsFaulty fault rest → IsFaulty other rest → fault ≡ other
+pub same_fault : (fault other : FrameFault) (rest : List ℕ) → IsFaulty fault rest → IsFaulty other rest → fault ≡ other
 same_fault BadProtocol BadProtocol rest one two = refl
 same_fault BadProtocol BadLength rest one two = absurd (one.1 two.1)
 same_fault BadLength BadProtocol rest one two = absurd (two.1 one.1)

@@ -33,7 +33,7 @@ pub struct Exception(pub u8);
 
 impl Exception {
     /// The function isn't one of those that are served.
-    pub(crate) const ILLEGAL_FUNCTION: Exception = Exception(0x01);
+    pub const ILLEGAL_FUNCTION: Exception = Exception(0x01);
     /// No register has such an address.
     pub const ILLEGAL_DATA_ADDRESS: Exception = Exception(0x02);
     /// A quantity, a count, a length or a value isn't allowed.

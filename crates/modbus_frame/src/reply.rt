@@ -1,5 +1,5 @@
 //! The bytes that answer a frame.
-ghost use Rattle.std.specs.Prelude.{◌≡◌, ◌++◌, ◌≤◌, length, true};
+ghost use Rattle.std.specs.Prelude.{◌≡◌, ◌++◌, ◌≤◌, ◌<◌, [], length, true};
 ghost use Rattle.modbus_frame.specs.Frame.{frame_bytes};
 ghost use Rattle.modbus_frame.specs.Serving.{Sends, copies};
 
@@ -19,15 +19,29 @@ pub struct FrameReply {
 }
 
 impl Model for FrameReply {
-    ghost use Rattle.std.specs.Prelude.{◌++◌};
+    ghost use Rattle.std.specs.Prelude.{◌++◌, ◌<◌, length};
     ghost use Rattle.modbus_frame.specs.Serving.{ReplyBytes, copies};
 
     ghost Value = { ReplyBytes };
 
     ghost view = { λ a. record { bytes = copies a.times a.first.items ++ a.last.items; goes_on = a.goes_on } };
+
+    ghost invariant = { λ a. 0 < a.times → 0 < length a.first.items };
 }
 
 impl FrameReply {
+    /// No bytes, behind which frames may be answered.
+    pub fn nothing() -> FrameReply
+        ensures { result ≡ record { bytes = []; goes_on = true } }
+    {
+        FrameReply {
+            first: ArrayVec::new(),
+            times: 0,
+            last: ArrayVec::new(),
+            goes_on: true,
+        }
+    }
+
     /// A frame, behind which more may be answered.
     pub fn whole(reply: &Frame) -> FrameReply
         ensures { result ≡ record { bytes = frame_bytes reply.now; goes_on = true } }
@@ -54,10 +68,25 @@ impl FrameReply {
     }
 
     /// Whether more frames may be answered behind it.
-    pub(crate) fn goes_on(&self) -> bool
+    pub fn goes_on(&self) -> bool
         ensures { result ≡ self.now.goes_on }
     {
         self.goes_on
+    }
+
+    /// Takes off its next bytes, at most 260: none only where none are left.
+    pub fn next_piece(&mut self) -> ArrayVec<u8, 260>
+        ensures front { self.old.bytes ≡ result.items ++ self.new.bytes }
+        ensures all { result.items ≡ [] → self.new.bytes ≡ [] }
+        ensures same { self.new.goes_on ≡ self.old.goes_on }
+    {
+        if self.times == 0 {
+            return self.last.take();
+        }
+        self.times -= 1;
+        let mut piece = ArrayVec::new();
+        piece.try_extend_from_slice(&self.first).unwrap();
+        piece
     }
 
     /// Sends its bytes, by at most `turns` writes.

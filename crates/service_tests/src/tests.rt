@@ -1,0 +1,19 @@
+//! What the tests of the service share.
+mod inquiries;
+mod memory;
+mod rounds;
+mod searches;
+mod sessions;
+
+use std::fmt::Debug;
+use std::process::Abort;
+
+/// `assert_eq!`, which is proved once here and not at each of its calls.
+pub(crate) fn assert_same<T: PartialEq + Debug>(rt: &impl Abort, found: &T, wanted: &T) {
+    assert_eq!(rt; *found, *wanted);
+}
+
+/// `assert!`, in the same way.
+pub(crate) fn assert_true(rt: &impl Abort, found: bool) {
+    assert!(rt; found);
+}
