@@ -1,0 +1,94 @@
+-- A core's course is a site run.
+use Rattle.std.proofs.Common.{◌≡◌, ◌≢◌, ◌⊎◌, inl, inr, ℕ, Bool, true, false, eqb, List, [], ◌∷◌, ◌++◌, Option, set, refl, sym, ap, subst, ◌∙◌}
+use Rattle.std.proofs.lemmas.Bool.Decides.{eqb_tells}
+use Rattle.std.proofs.Math.Logic.{∥∥₁_elim, ∥∥₁_prop}
+use Rattle.register_map.specs.Layout.{Layout}
+use Rattle.site_model.specs.declared.site.Site.{Site}
+use Rattle.scan_code.specs.Image.{Image}
+use Rattle.verifier.specs.Verified.{Acceptance}
+use Rattle.modbus_frame.specs.declared.frame.Frame.{Frame}
+use Rattle.gateway.specs.declared.event.Event.{Event}
+use Rattle.gateway.specs.declared.event.Answer.{Answer}
+use Rattle.gateway.specs.declared.event.Event.TheVariants as event
+use Rattle.gateway.specs.declared.event.Answer.TheVariants as answer
+use Rattle.gateway.specs.Control.{Advances, AnswersFrame}
+use Rattle.gateway.specs.Core.{Gateway, IsSame, StepsOn, numbers_of}
+use Rattle.gateway.specs.SiteRun.{Runs, Standing, Steps}
+use Rattle.service.specs.Rounds.{IsRoundFor, Progress}
+use Rattle.service_core.specs.Course.{CoursesAreSiteRuns, IsNew, Reached, stays, steps, learns}
+
+runs_then : (site : Site) (image : Image) (links : List ℕ) (budget : ℕ) (s : Standing) (es : List Event) (answers : List Answer) (t : Standing) (e : Event) (a : Answer) (u : Standing)
+    → Runs site image links budget s es answers t → Steps site image links budget t e a u → Runs site image links budget s (es ++ e ∷ []) (answers ++ a ∷ []) u
+runs_then site image links budget s [] answers t e a u run step =
+    (a, [], u, subst (λ x. Steps site image links budget x e a u) run.1 step, ap (λ l. l ++ a ∷ []) run.0, (refl, refl))
+runs_then site image links budget s (first ∷ es) answers t e a u (own, rest, next, one, is, more) step =
+    (own, rest ++ a ∷ [], next, one, ap (λ l. l ++ a ∷ []) is, runs_then site image links budget next es rest t e a u more step)
+
+moved : (g h : Gateway) (e : Event) (a : Answer) (i : Gateway) → h.site ≡ g.site → h.machine.accepted ≡ g.machine.accepted → StepsOn h e a i
+    → Steps g.site g.machine.accepted.image (numbers_of g.machine.accepted) g.machine.accepted.budget h.standing e a i.standing
+moved g h e a i site accepted step =
+    subst (λ (s : Site). Steps s g.machine.accepted.image (numbers_of g.machine.accepted) g.machine.accepted.budget h.standing e a i.standing) site
+    (subst (λ (x : Acceptance). Steps h.site x.image (numbers_of x) x.budget h.standing e a i.standing) accepted step)
+
+pub courses_are_site_runs : CoursesAreSiteRuns
+courses_are_site_runs g h (stays s) = ([], [], (refl, refl), refl, refl)
+courses_are_site_runs g h (learns {h = middle} before device found) = courses_are_site_runs g middle before
+courses_are_site_runs g h (steps {h = middle} before e a i one) =
+    let (es, answers, run, site, accepted) = courses_are_site_runs g middle before in (
+      es ++ e ∷ [],
+      answers ++ a ∷ [],
+      runs_then g.site g.machine.accepted.image (numbers_of g.machine.accepted) g.machine.accepted.budget g.standing es answers middle.standing e a i.standing run (moved g middle e a i site accepted one.0),
+      (one.1).site ∙ site,
+      (one.1).accepted ∙ accepted,
+    )
+
+step_on : (g : Gateway) (e : Event) (a : Answer) (h : Gateway) → Reached g → StepsOn g e a h → IsSame g h → Reached h
+step_on g e a h from step same = record { first = from.first; opening = from.opening; goes = steps from.goes e a h (step, same) }
+
+learn_on : (g : Gateway) (device : ℕ) (found : Option Layout) (h : Gateway) → Reached g → h ≡ record g { maps = set g.maps device found } → Reached h
+learn_on g device found h from is = subst Reached (sym is) (record { first = from.first; opening = from.opening; goes = learns from.goes device found })
+
+answer_on : (g : Gateway) (frame : Frame) (bytes : List ℕ) (goes_on : Bool) (h : Gateway) → Reached g → AnswersFrame g frame bytes goes_on h → Reached h
+answer_on g frame bytes goes_on h from answers = go (eqb_tells frame.unit g.site.unit)
+  where
+    go : ((eqb frame.unit g.site.unit ≡ true) × (frame.unit ≡ g.site.unit)) ⊎ ((eqb frame.unit g.site.unit ≡ false) × (frame.unit ≢ g.site.unit)) → Reached h
+    go (inl own) = let on = (answers.answers).own own.1 in step_on g (event.Client frame.pdu) (answer.Reply answers.pdu) h from on.0 on.1
+    go (inr other) = subst Reached (sym ((answers.answers).other other.1).1) from
+
+pub same_site : (g : Gateway) (frame : Frame) (bytes : List ℕ) (goes_on : Bool) (h : Gateway) → AnswersFrame g frame bytes goes_on h → h.site ≡ g.site
+same_site g frame bytes goes_on h answers = go (eqb_tells frame.unit g.site.unit)
+  where
+    go : ((eqb frame.unit g.site.unit ≡ true) × (frame.unit ≡ g.site.unit)) ⊎ ((eqb frame.unit g.site.unit ≡ false) × (frame.unit ≢ g.site.unit)) → h.site ≡ g.site
+    go (inl own) = (((answers.answers).own own.1).1).site
+    go (inr other) = ap (λ (x : Gateway). x.site) ((answers.answers).other other.1).1
+
+-- ---- the same of what is kept
+
+pub reached_opening : (g : Gateway) → IsNew g → ∥ Reached g ∥₁
+reached_opening g opening = ∣ record { first = g; opening = opening; goes = stays g } ∣₁
+
+pub reached_step : (g : Gateway) (e : Event) (a : Answer) (h : Gateway) → ∥ Reached g ∥₁ → StepsOn g e a h → IsSame g h → ∥ Reached h ∥₁
+reached_step g e a h from step same = ∥∥₁_elim from ∥∥₁_prop (λ r. ∣ step_on g e a h r step same ∣₁)
+
+pub reached_learn : (g : Gateway) (device : ℕ) (found : Option Layout) (h : Gateway) → ∥ Reached g ∥₁ → h ≡ record g { maps = set g.maps device found } → ∥ Reached h ∥₁
+reached_learn g device found h from is = ∥∥₁_elim from ∥∥₁_prop (λ r. ∣ learn_on g device found h r is ∣₁)
+
+pub reached_answer : (g : Gateway) (frame : Frame) (bytes : List ℕ) (goes_on : Bool) (h : Gateway) → ∥ Reached g ∥₁ → AnswersFrame g frame bytes goes_on h → ∥ Reached h ∥₁
+reached_answer g frame bytes goes_on h from answers = ∥∥₁_elim from ∥∥₁_prop (λ r. ∣ answer_on g frame bytes goes_on h r answers ∣₁)
+
+pub reached_advance : (g : Gateway) (e : Event) (a : Answer) (h : Gateway) → ∥ Reached g ∥₁ → Advances g e a h → ∥ Reached h ∥₁
+reached_advance g e a h from one = reached_step g e a h from one.0 one.1
+
+pub round_stays : (g : Gateway) (frame : Frame) (bytes : List ℕ) (goes_on : Bool) (h : Gateway) (p : Progress) → IsRoundFor g.site p → AnswersFrame g frame bytes goes_on h → IsRoundFor h.site p
+round_stays g frame bytes goes_on h p fits answers = subst (λ (s : Site). IsRoundFor s p) (sym (same_site g frame bytes goes_on h answers)) fits
+
+-- ---- the same behind a box
+
+pub reached_after : (g m : Gateway) (e : Event) (a : Answer) (h : Gateway) → ∥ Reached g ∥₁ → m ≡ g → Advances m e a h → ∥ Reached h ∥₁
+reached_after g m e a h from same one = reached_advance m e a h (subst (λ x. ∥ Reached x ∥₁) (sym same) from) one
+
+pub reached_behind : (g m : Gateway) (frame : Frame) (bytes : List ℕ) (goes_on : Bool) (h : Gateway) → ∥ Reached g ∥₁ → m ≡ g → AnswersFrame m frame bytes goes_on h → ∥ Reached h ∥₁
+reached_behind g m frame bytes goes_on h from same answers = reached_answer m frame bytes goes_on h (subst (λ x. ∥ Reached x ∥₁) (sym same) from) answers
+
+pub round_behind : (g m : Gateway) (frame : Frame) (bytes : List ℕ) (goes_on : Bool) (h : Gateway) (p : Progress) → IsRoundFor g.site p → m ≡ g → AnswersFrame m frame bytes goes_on h → IsRoundFor h.site p
+round_behind g m frame bytes goes_on h p fits same answers = round_stays m frame bytes goes_on h p (subst (λ (x : Gateway). IsRoundFor x.site p) (sym same) fits) answers

@@ -1,0 +1,14 @@
+use Rattle.std.proofs.Common.{rules, ◌≡◌, length}
+use Rattle.gateway.specs.declared.event.Event.TheVariants as event
+use Rattle.gateway.specs.declared.event.Answer.TheVariants as answer
+use Rattle.service_core.proofs.Runs.{reached_after}
+use Rattle.service_core.proofs.scan_cycle.ScanCycle.scan.Goals as goal
+
+pub invariant_of-self-2 : goal.invariant_of-self-2
+invariant_of-self-2 g c =
+    let same : c.deref_mut.result.now ≡ c.args.self.now.core.value = search rules in
+    record {
+      small = c.args.self.now.small;
+      reached = reached_after _ _ event.Scan (answer.Writes (length c.deref_mut.result.now.site.outs)) _ c.args.self.now.reached same c.scan.ensures.scanned;
+      fits = c.scan.ensures.round;
+    }

@@ -1,0 +1,28 @@
+-- What a round asks of a device (Modbus Application Protocol V1.1b3, sections 6.3, 6.6 and 6.12).
+use Rattle.std.specs.Prelude.{◌≡◌, ◌⊎◌, ℕ, Some, Result, slice_get}
+use Rattle.site_model.specs.Wants.{Want}
+use Rattle.point_writer.specs.declared.write.Write.{Write}
+use Rattle.point_writer.specs.declared.write.NoWrite.{NoWrite}
+use Rattle.gateway.specs.declared.cycle.Call.{Call}
+use Rattle.gateway.specs.Control.{IsPlanned}
+use Rattle.gateway.specs.Core.{Gateway}
+use Rattle.gateway.specs.Cycle.{read_of}
+use Rattle.service.specs.Rounds.{write_to}
+
+-- It reads one of the blocks that are wanted of the device, by the map that this has now.
+pub record IsRead (g : Gateway) (device : ℕ) (call : Call) : Type 0 where
+  pub place : ℕ
+  pub want : Want
+  pub wanted : slice_get g.site.wants place ≡ Some want
+  pub own : want.0 ≡ device
+  pub read : read_of g.site g.maps want ≡ Some call
+
+-- It writes what is planned for an output, to the device, by the maps of now.
+pub record IsWrite (g : Gateway) (device : ℕ) (call : Call) : Type 0 where
+  pub output : ℕ
+  pub plan : Result Write NoWrite
+  pub planned : IsPlanned g output plan
+  pub written : write_to device g.site.devices plan ≡ Some call
+
+abbrev pub IsCallOf : Gateway → ℕ → Call → Type 0
+IsCallOf g device call = IsRead g device call ⊎ IsWrite g device call

@@ -1,0 +1,4 @@
+pub mod Course
+pub mod Calls
+pub mod Requests
+pub mod Counting

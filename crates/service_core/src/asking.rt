@@ -1,0 +1,239 @@
+//! What is asked of devices next.
+ghost use Rattle.std.specs.Prelude.{IfSome};
+ghost use Rattle.modbus_frame.specs.Message.{HasQuantity};
+ghost use Rattle.service_core.specs.Requests.{MayBeAsked};
+
+use crate::note::Note;
+use crate::service_state::Service;
+use crate::times::sooner;
+use crate::wire::{Aim, Asked};
+use modbus_frame::Request;
+use register_map::Map;
+use service::Step;
+
+/// A request that may begin.
+#[derive(Drop)]
+pub(crate) struct Wish {
+    aim: Aim,
+    request: Request,
+}
+
+/// What devices are asked for.
+#[derive(Clone, Copy, Debug, PartialEq, Eq)]
+enum Purpose {
+    /// The round that is under way.
+    Round,
+    /// Maps.
+    Search,
+}
+
+impl<const DEPTH: usize> Service<DEPTH> {
+    /// Begins requests on all connections that are free.
+    pub(crate) fn ask_all(&mut self) {
+        for link in 0..self.wires.len() {
+            self.ask(link);
+        }
+    }
+
+    /// Begins requests on a connection until one is under way, or none is left to begin.
+    fn ask(&mut self, link: usize) {
+        for _ in 0..self.devices.len().saturating_add(64) {
+            if !self.may_ask(link) {
+                return;
+            }
+            if !self.ask_for(link, Purpose::Round) && !self.ask_for(link, Purpose::Search) {
+                self.rest_link(link);
+                return;
+            }
+        }
+    }
+
+    /// Whether a connection is free, and may have something to ask.
+    fn may_ask(&self, link: usize) -> bool {
+        match self.wires.get(link) {
+            Some(wire) => wire.is_free() && wire.is_stirred(self.now),
+            None => false,
+        }
+    }
+
+    /// There is nothing to ask over the connection before one of its devices may be asked again, or something happens.
+    fn rest_link(&mut self, link: usize) {
+        let mut until = u64::MAX;
+        for i in 0..self.device_count(link) {
+            until = self.asked_again_by(link, i, until);
+        }
+        if let Some(wire) = self.wires.get_mut(link) {
+            wire.rest_until(until);
+        }
+    }
+
+    fn asked_again_by(&self, link: usize, i: usize, until: u64) -> u64 {
+        let device = match self.device_at(link, i) {
+            Some(device) => device,
+            None => return until,
+        };
+        match self.devices.get(device) {
+            Some(found) => sooner(until, found.asked_again_at(), self.now),
+            None => until,
+        }
+    }
+
+    /// How many devices a connection has.
+    fn device_count(&self, link: usize) -> usize {
+        match self.wires.get(link) {
+            Some(wire) => wire.devices().len(),
+            None => 0,
+        }
+    }
+
+    /// The number of a connection's device.
+    fn device_at(&self, link: usize, i: usize) -> Option<usize> {
+        let found = self.wires.get(link)?.devices().get(i)?;
+        Some(found.device)
+    }
+
+    /// Asks the next device in turn that there is something to ask of; whether there is one.
+    fn ask_for(&mut self, link: usize, purpose: Purpose) -> bool {
+        let turn = match self.wires.get(link) {
+            Some(wire) => wire.turn(),
+            None => return false,
+        };
+        self.ask_between(link, purpose, turn, usize::MAX)
+            || self.ask_between(link, purpose, 0, turn)
+    }
+
+    /// The same among the devices with these numbers.
+    fn ask_between(&mut self, link: usize, purpose: Purpose, first: usize, end: usize) -> bool {
+        for i in 0..self.device_count(link) {
+            if let Some(device) = self.device_at(link, i) {
+                if first <= device && device < end && self.ask_device(link, device, purpose) {
+                    return true;
+                }
+            }
+        }
+        false
+    }
+
+    fn ask_device(&mut self, link: usize, device: usize, purpose: Purpose) -> bool {
+        if !self.is_rested(device) {
+            return false;
+        }
+        match self.wish_of(device, purpose) {
+            Some(wish) => {
+                self.begin(link, device, wish);
+                true
+            }
+            None => false,
+        }
+    }
+
+    fn is_rested(&self, device: usize) -> bool {
+        match self.devices.get(device) {
+            Some(found) => found.is_rested(self.now),
+            None => false,
+        }
+    }
+
+    fn wish_of(&mut self, device: usize, purpose: Purpose) -> Option<Wish>
+        ensures quantity { IfSome result (λ wish. HasQuantity wish.request) }
+        ensures asked { IfSome result (λ wish. ∥ MayBeAsked device wish.request ∥₁) }
+    {
+        match (self.cycle.is_mapped(device), purpose) {
+            (true, Purpose::Round) => self.wish_of_round(device),
+            (false, Purpose::Search) => self.wish_of_search(device),
+            _ => None,
+        }
+    }
+
+    fn wish_of_round(&mut self, device: usize) -> Option<Wish>
+        ensures quantity { IfSome result (λ wish. HasQuantity wish.request) }
+        ensures asked { IfSome result (λ wish. ∥ MayBeAsked device wish.request ∥₁) }
+    {
+        let call = self.cycle.next(device)?;
+        let aim = self.aim_of(device);
+        Some(Wish {
+            aim,
+            request: call.request,
+        })
+    }
+
+    fn aim_of(&self, device: usize) -> Aim {
+        match self.cycle.output(device) {
+            Some(output) => Aim::Output(output),
+            None => Aim::Block,
+        }
+    }
+
+    #[tactic(auto, using(crate::proofs::Rightful::next_read))]
+    fn wish_of_search(&mut self, device: usize) -> Option<Wish>
+        ensures quantity { IfSome result (λ wish. HasQuantity wish.request) }
+        ensures asked { IfSome result (λ wish. ∥ MayBeAsked device wish.request ∥₁) }
+    {
+        let found = self.devices.get(device)?;
+        if !found.is_sought(self.now) {
+            return None;
+        }
+        match found.seek() {
+            Step::Ask(request) => Some(Wish {
+                aim: Aim::Map,
+                request,
+            }),
+            Step::Found(map) => {
+                self.find(device, map);
+                None
+            }
+            Step::NoMap => {
+                self.find_none(device);
+                None
+            }
+        }
+    }
+
+    fn find(&mut self, device: usize, map: Map) {
+        self.cycle.learn(device, Some(map));
+        if let Some(found) = self.devices.get_mut(device) {
+            found.is_lost = false;
+        }
+        self.notes.add(Note::Found(device));
+    }
+
+    fn find_none(&mut self, device: usize) {
+        let again = self.now.saturating_add(self.limits.search_again);
+        if let Some(found) = self.devices.get_mut(device) {
+            found.seek_from(again);
+        }
+        self.notes.add(Note::NoMap(device));
+    }
+
+    fn begin(&mut self, link: usize, device: usize, wish: Wish)
+        requires quantity { HasQuantity wish.request }
+        requires asked { ∥ MayBeAsked device wish.request ∥₁ }
+    {
+        let asked = Asked {
+            device,
+            aim: wish.aim,
+            since: self.now,
+            until: self.until(wish.aim),
+        };
+        let fate = match self.wires.get_mut(link) {
+            Some(wire) => wire.begin(asked, wish.request),
+            None => return,
+        };
+        if let Some(found) = self.devices.get_mut(device) {
+            found.counts.ask();
+        }
+        if let Some(fate) = fate {
+            self.settle(link, fate);
+        }
+    }
+
+    /// Until when an answer is waited for. A search takes nothing of the next round.
+    fn until(&self, aim: Aim) -> u64 {
+        let until = self.now.saturating_add(self.limits.timeout);
+        match aim {
+            Aim::Block => until.min(self.deadline),
+            Aim::Map => until.min(self.next_round),
+            Aim::Output(_) | Aim::Past => until,
+        }
+    }
+}

@@ -1,0 +1,131 @@
+//! A place for a client.
+ghost use Rattle.std.specs.Prelude.{◌≡◌, ◌≤◌, length, take};
+ghost use Rattle.service.specs.Sessions.{ServesOn};
+
+use crate::scan_cycle::ScanCycle;
+use modbus_frame::Responder;
+use service::Session;
+
+/// Room for the answers of one turn.
+const ROOM: usize = 2080;
+
+/// A place for a client, with the bytes that wait to go out to it.
+#[derive(Drop)]
+pub(crate) struct ClientPlace {
+    session: Session,
+    may_write: bool,
+    out: [u8; 2080],
+    start: usize,
+    end: usize,
+    is_taken: bool,
+    is_closing: bool,
+    /// When it came, or its last whole frame.
+    last: u64,
+    ghost begins: { start ≤ end },
+    ghost room: { end ≤ 2080 },
+}
+
+impl ClientPlace {
+    pub(crate) fn new() -> ClientPlace {
+        ClientPlace {
+            session: Session::new(),
+            may_write: false,
+            out: [0; ROOM],
+            start: 0,
+            end: 0,
+            is_taken: false,
+            is_closing: false,
+            last: 0,
+        }
+    }
+
+    pub(crate) fn is_taken(&self) -> bool {
+        self.is_taken
+    }
+
+    /// When its client came, or sent its last whole frame.
+    pub(crate) fn last(&self) -> u64 {
+        self.last
+    }
+
+    /// Whether its client waits to be closed once it was silent for long.
+    pub(crate) fn is_waited_for(&self) -> bool {
+        self.is_taken && !self.is_closing
+    }
+
+    /// A client comes.
+    pub(crate) fn open(&mut self, may_write: bool, now: u64) {
+        self.session = Session::new();
+        self.may_write = may_write;
+        self.start = 0;
+        self.end = 0;
+        self.is_taken = true;
+        self.is_closing = false;
+        self.last = now;
+    }
+
+    /// Its client is gone.
+    pub(crate) fn leave(&mut self) {
+        self.open(false, 0);
+        self.is_taken = false;
+    }
+
+    /// Its client is to be closed.
+    pub(crate) fn close(&mut self) {
+        self.is_closing = true;
+    }
+
+    pub(crate) fn wants_close(&self) -> bool {
+        self.is_taken && (self.is_closing || (self.start == self.end && self.session.is_over()))
+    }
+
+    /// The bytes that are to go out.
+    pub(crate) fn out(&self) -> &[u8] {
+        &self.out[self.start..self.end]
+    }
+
+    /// So many bytes are gone; what still waits takes their place once all are.
+    pub(crate) fn sent(&mut self, n: usize) {
+        self.start += n.min(self.end - self.start);
+        if self.start == self.end {
+            let end = self.session.put(&mut self.out);
+            self.start = 0;
+            self.end = end;
+        }
+    }
+
+    /// Takes bytes of the client, and answers frames in them, at most 8; how many bytes it used.
+    pub(crate) fn take<const DEPTH: usize>(
+        &mut self,
+        cycle: &mut ScanCycle<DEPTH>,
+        bytes: &[u8],
+        now: u64,
+    ) -> usize {
+        if !self.is_taken || self.is_closing || self.session.is_over() {
+            return bytes.len();
+        }
+        if self.start < self.end {
+            return 0;
+        }
+        let used = self.serve(cycle, bytes);
+        // an answer waits where a frame was whole
+        if self.end > 0 {
+            self.last = now;
+        }
+        used
+    }
+
+    // One turn of the client.
+    fn serve<const DEPTH: usize>(&mut self, cycle: &mut ScanCycle<DEPTH>, bytes: &[u8]) -> usize
+        ensures serves { ServesOn ⟦<ScanCycle<DEPTH> as Responder>⟧.answers 8 (record cycle.old { may_write = self.old.may_write })
+            self.old.session (take result bytes.now) (take self.new.end self.new.out) cycle.new self.new.session }
+        ensures used { result ≤ length bytes.now }
+        ensures front { self.new.start ≡ 0 }
+    {
+        cycle.turn_to(self.may_write);
+        let turned = self.session.turn(cycle, bytes, &mut self.out);
+        self.start = 0;
+        self.end = turned.put;
+        turned.used
+    }
+}

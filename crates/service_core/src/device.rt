@@ -1,0 +1,101 @@
+//! What is known of a device, apart from its map.
+ghost use Rattle.service.specs.Searches.{HasStepQuantity, IsNext};
+
+use crate::counts::Counts;
+use crate::limits::{Limits, Station};
+use crate::note::Loss;
+use crate::times::longer;
+use gateway::Outcome;
+use service::{Search, Step};
+
+/// A device: where it is, and when it may be asked.
+#[derive(Drop)]
+pub(crate) struct Device {
+    pub(crate) station: Station,
+    base: Option<u16>,
+    search: Search,
+    /// Before this time no search begins.
+    search_at: u64,
+    /// Before this time it isn't asked.
+    rest_until: u64,
+    /// Its last back-off; 0 where it answered since.
+    wait: u64,
+    pub(crate) is_lost: bool,
+    /// Why it was lost last.
+    pub(crate) last_loss: Option<Loss>,
+    pub(crate) counts: Counts,
+}
+
+impl Device {
+    pub(crate) fn new(station: Station, base: Option<u16>) -> Device {
+        Device {
+            station,
+            base,
+            search: Search::new(base),
+            search_at: 0,
+            rest_until: 0,
+            wait: 0,
+            is_lost: false,
+            last_loss: None,
+            counts: Counts::new(),
+        }
+    }
+
+    /// Whether it may be asked, by its back-off.
+    pub(crate) fn is_rested(&self, now: u64) -> bool {
+        now >= self.rest_until
+    }
+
+    /// Whether it may be searched.
+    pub(crate) fn is_sought(&self, now: u64) -> bool {
+        now >= self.search_at
+    }
+
+    /// When it may be asked and searched again.
+    pub(crate) fn asked_again_at(&self) -> u64 {
+        self.rest_until.max(self.search_at)
+    }
+
+    /// The next step of its search.
+    pub(crate) fn seek(&self) -> Step
+        ensures next { IsNext self.now.search result }
+        ensures quantity { HasStepQuantity result }
+    {
+        self.search.next()
+    }
+
+    /// Takes what came of a read of its search.
+    pub(crate) fn learn(&mut self, outcome: &Outcome) {
+        if !self.search.is_full() {
+            self.search.take(outcome);
+        }
+    }
+
+    /// From this time on it is searched from the start.
+    pub(crate) fn seek_from(&mut self, at: u64) {
+        self.search = Search::new(self.base);
+        self.search_at = at;
+    }
+
+    /// It didn't answer: it isn't asked for a while.
+    pub(crate) fn rest(&mut self, now: u64, limits: &Limits) {
+        self.wait = longer(self.wait, limits.period, limits.back_off_most);
+        self.rest_until = now.saturating_add(self.wait);
+        self.search = Search::new(self.base);
+    }
+
+    /// It is lost; whether it wasn't before.
+    pub(crate) fn lose(&mut self, loss: Loss) -> bool {
+        self.counts.lose(loss);
+        self.last_loss = Some(loss);
+        let was_lost = self.is_lost;
+        self.is_lost = true;
+        !was_lost
+    }
+
+    /// It answered.
+    pub(crate) fn heard(&mut self) {
+        self.wait = 0;
+        self.rest_until = 0;
+    }
+}

@@ -1,0 +1,36 @@
+//! What is asked of a service.
+
+/// Its times, in milliseconds, and its room.
+#[derive(Clone, Copy, Debug, PartialEq, Eq)]
+pub struct Limits {
+    /// From the start of a round to that of the next one.
+    pub period: u64,
+    /// How long a device may take to answer.
+    pub timeout: u64,
+    /// The most clients.
+    pub clients: usize,
+    /// A client is closed of which no whole frame came for so long.
+    pub idle: u64,
+    /// The longest wait before a device is asked, or a connection is made, again.
+    pub back_off_most: u64,
+    /// How long after a search that found no map the next one begins.
+    pub search_again: u64,
+}
+
+/// A device of a connection.
+#[derive(Clone, Copy, Debug, PartialEq, Eq)]
+pub(crate) struct LinkDevice {
+    /// Its number.
+    pub(crate) device: usize,
+    /// Its unit there.
+    pub(crate) unit: u8,
+}
+
+/// Where a device is reached.
+#[derive(Clone, Copy, Debug, PartialEq, Eq)]
+pub struct Station {
+    /// The number of its connection.
+    pub link: usize,
+    /// Its unit there.
+    pub unit: u8,
+}

@@ -1,0 +1,290 @@
+//! The core with its round.
+ghost use Rattle.std.specs.Prelude.{◌≡◌, ◌≤◌, length, IfOk, IfSome};
+ghost use Rattle.modbus_frame.specs.Message.{HasQuantity};
+ghost use Rattle.service.specs.Rounds.{IsRoundFor};
+ghost use Rattle.service_core.specs.Calls.{IsCallOf};
+ghost use Rattle.service_core.specs.Course.{Reached};
+ghost use Rattle.service_core.specs.Requests.{MayBeAsked};
+
+use gateway::{Call, Core, Event, Report};
+use modbus_frame::{Frame, FrameReply, Responder};
+use register_map::Map;
+use service::{Fate, Round, Turn, is_write, refusal};
+use std::alloc::{AllocError, Global};
+
+/// How far a round is.
+#[derive(Clone, Copy, Debug, PartialEq, Eq)]
+pub(crate) enum Phase {
+    /// Wanted blocks are asked for.
+    Reading,
+    /// The program ran, and outputs are written.
+    Writing,
+    /// The round is over.
+    Resting,
+}
+
+/// The core, behind its guard, with the round that is under way, and what that did.
+#[derive(Drop)]
+pub(crate) struct ScanCycle<const DEPTH: usize> {
+    core: Box<Core<DEPTH>>,
+    round: Round,
+    phase: Phase,
+    lost: usize,
+    writes: usize,
+    refused: usize,
+    /// Whether the client whose turn it is may write.
+    may_write: bool,
+    ghost small: { DEPTH ≤ 65536 },
+    ghost reached: { ∥ Reached core.value ∥₁ },
+    ghost fits: { IsRoundFor core.value.site round },
+}
+
+impl<const DEPTH: usize> ScanCycle<DEPTH> {
+    pub(crate) fn new(alloc: Global, core: Core<DEPTH>) -> Result<ScanCycle<DEPTH>, AllocError>
+        requires small { DEPTH ≤ 65536 }
+        requires reached { ∥ Reached core ∥₁ }
+        ensures { IfOk result (λ cycle. cycle.core.value ≡ core.entry) }
+    {
+        let round = Round::new(alloc, core.site())?;
+        Ok(ScanCycle {
+            core: Box::new(alloc, core)?,
+            round,
+            may_write: false,
+            phase: Phase::Resting,
+            lost: 0,
+            writes: 0,
+            refused: 0,
+        })
+    }
+
+    pub(crate) fn core(&self) -> &Core<DEPTH>
+        ensures { ∥ Reached result.now ∥₁ }
+    {
+        &self.core
+    }
+
+    pub(crate) fn phase(&self) -> Phase {
+        self.phase
+    }
+
+    /// How many wanted blocks were lost in this round.
+    pub(crate) fn lost(&self) -> usize {
+        self.lost
+    }
+
+    /// How many devices there are.
+    pub(crate) fn devices(&self) -> usize
+        ensures { result ≡ length self.now.core.value.site.devices }
+    {
+        self.core.site().devices().len()
+    }
+
+    /// Whether the device has a map.
+    pub(crate) fn is_mapped(&self, device: usize) -> bool {
+        has_map(&self.core, device)
+    }
+
+    /// From now on the turn is a client's that may write, or may not.
+    pub(crate) fn turn_to(&mut self, may_write: bool)
+        ensures { self.new ≡ record self.old { may_write = may_write } }
+    {
+        self.may_write = may_write;
+    }
+
+    /// From now on this is the device's map, or it has none.
+    #[tactic(auto, using(crate::proofs::Runs::reached_learn))]
+    pub(crate) fn learn(&mut self, device: usize, map: Option<Map>) {
+        if device < self.devices() {
+            self.core.learn(device, map);
+        }
+    }
+
+    /// What was known of a device is known no more: it has no map, and its blocks are lost.
+    pub(crate) fn forget(&mut self, device: usize) {
+        self.learn(device, None);
+        for i in 0..self.core.site().wants().len() {
+            self.forget_block(device, i);
+        }
+    }
+
+    fn forget_block(&mut self, device: usize, i: usize) {
+        let want = match self.core.site().wants().get(i) {
+            Some(want) => *want,
+            None => return,
+        };
+        if want.0 == device {
+            self.step(Event::Lost(want.0, want.1));
+        }
+    }
+
+    /// Begins the next round.
+    pub(crate) fn begin(&mut self) {
+        self.round.begin(self.core.site());
+        self.phase = Phase::Reading;
+        self.lost = 0;
+        self.writes = 0;
+        self.refused = 0;
+    }
+
+    /// The next request to the device; wanted blocks that there is none for are lost.
+    #[tactic(auto, using(crate::proofs::Rightful::of_round))]
+    pub(crate) fn next(&mut self, device: usize) -> Option<Call>
+        ensures asked { IfSome result (λ call. ∥ MayBeAsked device call.request ∥₁) }
+        ensures quantity { IfSome result (λ call. HasQuantity call.request) }
+    {
+        self.next_call(device)
+    }
+
+    #[tactic(auto, using(crate::proofs::Calls::opened_call))]
+    fn next_call(&mut self, device: usize) -> Option<Call>
+        ensures reached { ∥ Reached self.new.core.value ∥₁ }
+        ensures called { IfSome result (IsCallOf self.new.core.value device) }
+        ensures quantity { IfSome result (λ call. HasQuantity call.request) }
+    {
+        for _ in 0..self.requests() {
+            match self.round.open(&self.core, device) {
+                Turn::Ask(call) => return Some(call),
+                Turn::Tell(event) => self.tell(event),
+                Turn::Rest => return None,
+            }
+        }
+        None
+    }
+
+    /// What became of a device's request; whether the words that came are no block of its model.
+    pub(crate) fn close(&mut self, device: usize, fate: Fate) -> bool {
+        let event = match self.round.take(self.core.site(), device, fate) {
+            Some(event) => event,
+            None => return false,
+        };
+        let foreign = is_foreign(&event);
+        self.tell(event);
+        foreign
+    }
+
+    /// All that the round still has for a device is given up: what is wanted of it is lost, and it is written nothing.
+    pub(crate) fn give_up(&mut self, device: usize) {
+        self.close(device, Fate::Lost);
+        for _ in 0..self.requests() {
+            if !self.give_up_next(device) {
+                return;
+            }
+        }
+    }
+
+    // Whether there may be more.
+    fn give_up_next(&mut self, device: usize) -> bool {
+        match self.round.open(&self.core, device) {
+            Turn::Tell(event) => {
+                self.tell(event);
+                true
+            }
+            Turn::Ask(_) => {
+                self.close(device, Fate::Lost);
+                true
+            }
+            Turn::Rest => self.phase == Phase::Writing,
+        }
+    }
+
+    fn tell(&mut self, event: Event) {
+        if is_lost(&event) {
+            self.lost = self.lost.saturating_add(1);
+        }
+        self.step(event);
+    }
+
+    #[tactic(auto, using(crate::proofs::Runs::reached_step))]
+    fn step(&mut self, event: Event) {
+        self.core.step(event);
+    }
+
+    // More than a device has.
+    fn requests(&self) -> usize {
+        let site = self.core.site();
+        site.wants().len().saturating_add(site.outs().len())
+    }
+
+    /// Runs the program, where each wanted block was told; whether it did.
+    pub(crate) fn scan(&mut self) -> bool {
+        if self.phase != Phase::Reading || !self.round.is_read() {
+            return false;
+        }
+        self.round.scan(&mut self.core);
+        self.phase = Phase::Writing;
+        true
+    }
+
+    /// The number of the output that is written to the device.
+    pub(crate) fn output(&self, device: usize) -> Option<usize> {
+        self.round.output(device)
+    }
+
+    /// A write went out, and this came of it.
+    pub(crate) fn wrote(&mut self, is_done: bool) {
+        self.writes = self.writes.saturating_add(1);
+        if !is_done {
+            self.refused = self.refused.saturating_add(1);
+        }
+    }
+
+    /// Ends the round, where nothing is left to be written, and tells what it did.
+    pub(crate) fn end(&mut self) -> Option<Report> {
+        if self.phase != Phase::Writing || !self.round.is_complete() {
+            return None;
+        }
+        Some(self.cut())
+    }
+
+    /// Ends the round, and tells what it did.
+    pub(crate) fn cut(&mut self) -> Report {
+        self.phase = Phase::Resting;
+        Report {
+            steps: self.core.steps(),
+            writes: self.writes,
+            refused: self.refused,
+            lost: self.lost,
+        }
+    }
+}
+
+impl<const DEPTH: usize> Responder for ScanCycle<DEPTH> {
+    ghost use Rattle.std.specs.Prelude.{◌≡◌};
+    ghost use Rattle.gateway.specs.Control.{AnswersFrame};
+    ghost use Rattle.service.specs.Guarding.{Guards};
+
+    ghost answers = { λ old frame bytes goes_on new. (new.may_write ≡ old.may_write) × (new.round ≡ old.round)
+        × Guards AnswersFrame old.may_write old.core.value frame bytes goes_on new.core.value };
+
+    fn answer(&mut self, frame: &Frame) -> FrameReply {
+        if !self.may_write && is_write(&frame.pdu) {
+            return refusal(frame);
+        }
+        self.core.answer(frame)
+    }
+}
+
+fn has_map<const DEPTH: usize>(core: &Core<DEPTH>, device: usize) -> bool {
+    match core.maps().get(device) {
+        Some(Some(_)) => true,
+        _ => false,
+    }
+}
+
+fn is_lost(event: &Event) -> bool {
+    match event {
+        Event::Lost(_, _) => true,
+        _ => false,
+    }
+}
+
+/// Whether words don't begin with their model's ID.
+fn is_foreign(event: &Event) -> bool {
+    match event {
+        Event::Block(_, model, words) => match words.as_slice() {
+            [first, ..] => first != model,
+            [] => true,
+        },
+        _ => false,
+    }
+}

@@ -1,0 +1,56 @@
+//! A service of a gateway.
+ghost use Rattle.service_core.specs.Course.{Reached};
+
+use crate::client_place::ClientPlace;
+use crate::device::Device;
+use crate::limits::Limits;
+use crate::note::Note;
+use crate::notes::Notes;
+use crate::output::Output;
+use crate::scan_cycle::ScanCycle;
+use crate::wire::Wire;
+use gateway::Core;
+
+/// A service of a gateway: its core, connections to devices, clients, and what happened. It takes memory when it is made
+/// alone.
+#[derive(Drop)]
+pub struct Service<const DEPTH: usize> {
+    pub(crate) cycle: ScanCycle<DEPTH>,
+    pub(crate) wires: Vec<Wire>,
+    pub(crate) devices: Vec<Device>,
+    pub(crate) outputs: Vec<Output>,
+    pub(crate) places: Vec<ClientPlace>,
+    pub(crate) notes: Notes,
+    pub(crate) limits: Limits,
+    pub(crate) now: u64,
+    /// When the next round begins.
+    pub(crate) next_round: u64,
+    /// Until when wanted blocks are waited for.
+    pub(crate) deadline: u64,
+    pub(crate) scans: u64,
+}
+
+impl<const DEPTH: usize> Service<DEPTH> {
+    /// What happened, the oldest first.
+    pub fn next_note(&mut self) -> Option<Note> {
+        self.notes.next()
+    }
+
+    /// The core. Events and learned maps alone brought it to where it stands, whatever came from clients, devices and the
+    /// clock.
+    pub fn core(&self) -> &Core<DEPTH>
+        ensures { ∥ Reached result.now ∥₁ }
+    {
+        self.cycle.core()
+    }
+
+    /// How many times the program ran.
+    pub fn scans(&self) -> u64 {
+        self.scans
+    }
+
+    /// Time goes up.
+    pub(crate) fn turn_to(&mut self, now: u64) {
+        self.now = self.now.max(now);
+    }
+}

@@ -1,0 +1,311 @@
+//! A connection to devices.
+ghost use Rattle.std.specs.Prelude.{◌≡◌, ◌<◌, ◌≤◌, ℕ, [], drop, length, slice_get, IfSome, IsSome, IsTrue, None, Some};
+ghost use Rattle.modbus_frame.specs.Message.{HasQuantity};
+ghost use Rattle.service_core.specs.Requests.{IsRightful, MayBeAsked};
+
+use crate::limits::{Limits, LinkDevice};
+use crate::times::longer;
+use arrayvec::ArrayVec;
+use modbus_frame::Request;
+use service::{Fate, Inquiry};
+
+/// What a request is made for.
+#[derive(Clone, Copy, Debug, PartialEq, Eq)]
+pub(crate) enum Aim {
+    /// A map.
+    Map,
+    /// A wanted block.
+    Block,
+    /// The output of this number.
+    Output(usize),
+    /// A round that is over.
+    Past,
+}
+
+/// The request that is under way.
+#[derive(Clone, Copy, Debug, PartialEq, Eq)]
+pub(crate) struct Asked {
+    pub(crate) device: usize,
+    pub(crate) aim: Aim,
+    pub(crate) since: u64,
+    pub(crate) until: u64,
+}
+
+/// A connection to devices, up or down, with the request that is under way on it.
+#[derive(Drop)]
+pub(crate) struct Wire {
+    inquiry: Inquiry,
+    /// What is still to be written of the request.
+    out: ArrayVec<u8, 260>,
+    asked: Option<Asked>,
+    id: u16,
+    is_up: bool,
+    is_bad: bool,
+    /// Its devices, in the order of their numbers.
+    devices: Vec<LinkDevice>,
+    /// Before this time there is nothing to ask over it, unless something happens.
+    rest_until: u64,
+    /// So many requests in a row had no answer.
+    silent: usize,
+    /// The number of the device from which on the next one is asked.
+    turn: usize,
+    dial_at: u64,
+    /// Until when the dial that is under way may take.
+    dial_until: Option<u64>,
+    /// Its last back-off; 0 where a device answered since.
+    wait: u64,
+    ghost rightful: { ∥ IsRightful devices.items out.items ∥₁ },
+}
+
+impl Wire {
+    /// One to these devices that is down.
+    #[tactic(auto, using(crate::proofs::Rightful::nothing))]
+    pub(crate) fn new(devices: Vec<LinkDevice>) -> Wire {
+        Wire {
+            inquiry: Inquiry::new(),
+            out: ArrayVec::new(),
+            asked: None,
+            id: 0,
+            is_up: false,
+            is_bad: false,
+            devices,
+            rest_until: 0,
+            silent: 0,
+            turn: 0,
+            dial_at: 0,
+            dial_until: None,
+            wait: 0,
+        }
+    }
+
+    pub(crate) fn is_up(&self) -> bool {
+        self.is_up
+    }
+
+    /// Whether it is up, and nothing is wrong with it.
+    pub(crate) fn is_well(&self) -> bool {
+        self.is_up && !self.is_bad
+    }
+
+    /// Whether a request may begin.
+    pub(crate) fn is_free(&self) -> bool
+        ensures none { IsTrue result → self.now.asked ≡ None }
+        ensures sent { IsTrue result → self.now.out.items ≡ [] }
+    {
+        self.is_up && !self.is_bad && self.asked.is_none() && self.out.is_empty()
+    }
+
+    /// Whether it is to be hung up.
+    pub(crate) fn is_bad(&self) -> bool {
+        self.is_up && self.is_bad
+    }
+
+    pub(crate) fn asked(&self) -> Option<Asked> {
+        self.asked
+    }
+
+    /// Its devices, in the order of their numbers.
+    pub(crate) fn devices(&self) -> &[LinkDevice] {
+        &self.devices
+    }
+
+    pub(crate) fn turn(&self) -> usize {
+        self.turn
+    }
+
+    /// Whether something may be to be asked at this time.
+    pub(crate) fn is_stirred(&self, now: u64) -> bool {
+        now >= self.rest_until
+    }
+
+    /// There is nothing to ask before this time, unless something happens.
+    pub(crate) fn rest_until(&mut self, until: u64) {
+        self.rest_until = until;
+    }
+
+    /// Something happened: there may be something to ask.
+    pub(crate) fn stir(&mut self) {
+        self.rest_until = 0;
+    }
+
+    /// Whether it is to be made: it is down, no dial is under way, and its back-off is over.
+    pub(crate) fn wants_dial(&self, now: u64) -> bool {
+        !self.is_up && self.dial_until.is_none() && now >= self.dial_at
+    }
+
+    /// A dial begins that may take until this time.
+    pub(crate) fn dial(&mut self, until: u64) {
+        if !self.is_up {
+            self.dial_until = Some(until);
+        }
+    }
+
+    /// Whether it is to be closed, or the dial that is under way to be given up.
+    pub(crate) fn wants_hang_up(&self, now: u64) -> bool {
+        match self.dial_until {
+            Some(until) => now >= until,
+            None => self.is_bad(),
+        }
+    }
+
+    /// When something is to be done about it: a wait or a dial ends, a dial is due, or a device may be asked again.
+    pub(crate) fn wakes_at(&self) -> u64 {
+        if !self.is_up {
+            return self.dial_until.unwrap_or(self.dial_at);
+        }
+        match self.asked {
+            Some(asked) => asked.until,
+            None if self.out.is_empty() => self.rest_until,
+            None => u64::MAX,
+        }
+    }
+
+    /// What is to be written.
+    pub(crate) fn out(&self) -> &[u8]
+        ensures { ∥ IsRightful self.now.devices.items result.now ∥₁ }
+    {
+        &self.out
+    }
+
+    /// So many bytes are written.
+    #[tactic(auto, using(crate::proofs::Rightful::what_is_left))]
+    pub(crate) fn sent(&mut self, n: usize) {
+        let n = n.min(self.out.len());
+        self.out = behind(&self.out, n);
+    }
+
+    /// It is up from now on: a new stream.
+    #[tactic(auto, using(crate::proofs::Rightful::nothing))]
+    pub(crate) fn come_up(&mut self) {
+        self.inquiry = Inquiry::new();
+        self.out = ArrayVec::new();
+        self.asked = None;
+        self.is_up = true;
+        self.is_bad = false;
+        self.dial_until = None;
+        self.rest_until = 0;
+        self.silent = 0;
+    }
+
+    /// It is down from now on, and isn't made again for a while.
+    #[tactic(auto, using(crate::proofs::Rightful::nothing))]
+    pub(crate) fn go_down(&mut self, now: u64, limits: &Limits) {
+        self.inquiry = Inquiry::new();
+        self.out = ArrayVec::new();
+        self.asked = None;
+        self.is_up = false;
+        self.is_bad = false;
+        self.dial_until = None;
+        self.wait = longer(self.wait, limits.period, limits.back_off_most);
+        self.dial_at = now.saturating_add(self.wait);
+    }
+
+    /// It is to be hung up.
+    pub(crate) fn spoil(&mut self) {
+        self.is_bad = true;
+    }
+
+    /// Begins a request to one of its devices, where the connection is free. What becomes of it may stand in the bytes
+    /// that came before.
+    pub(crate) fn begin(&mut self, asked: Asked, request: Request) -> Option<Fate>
+        requires quantity { HasQuantity request }
+        requires asked { ∥ MayBeAsked asked.device request ∥₁ }
+        ensures one { IsSome self.old.asked → self.new ≡ self.old }
+        ensures whole { 0 < length self.old.out.items → self.new ≡ self.old }
+    {
+        if !self.is_free() {
+            return None;
+        }
+        let unit = unit_of(&self.devices, asked.device)?;
+        self.start(asked, unit, request)
+    }
+
+    #[tactic(auto, using(crate::proofs::Rightful::whole_frame))]
+    fn start(&mut self, asked: Asked, unit: u8, request: Request) -> Option<Fate>
+        requires quantity { HasQuantity request }
+        requires asked { ∥ MayBeAsked asked.device request ∥₁ }
+        requires own { (i : ℕ) × (slice_get self.old.devices.items i ≡ Some (record { device = asked.device; unit = unit })) }
+    {
+        self.out = self.inquiry.begin(self.id, unit, request);
+        self.id = self.id.wrapping_add(1);
+        self.asked = Some(asked);
+        self.turn = asked.device.saturating_add(1);
+        self.inquiry.take(&[])
+    }
+
+    /// Takes bytes, as many as have room, and tells how many, and what became of the request.
+    pub(crate) fn take(&mut self, bytes: &[u8]) -> (usize, Option<Fate>) {
+        if !self.is_well() {
+            return (bytes.len(), None);
+        }
+        let n = self.inquiry.room().min(bytes.len());
+        (n, self.inquiry.take(bytes.split_at(n).0))
+    }
+
+    /// The request is over.
+    pub(crate) fn end(&mut self) -> Option<Asked> {
+        self.asked.take()
+    }
+
+    /// The request is given up. A part of its frame that wasn't written spoils the stream.
+    pub(crate) fn give_up(&mut self) {
+        self.asked = None;
+        let _ = self.inquiry.end();
+        if !self.out.is_empty() {
+            self.is_bad = true;
+        }
+    }
+
+    /// A device answered.
+    pub(crate) fn heard(&mut self) {
+        self.silent = 0;
+        self.wait = 0;
+    }
+
+    /// A device didn't answer. Behind one silent request and two for each device the connection itself is at fault.
+    pub(crate) fn missed(&mut self) {
+        self.silent = self.silent.saturating_add(1);
+        if self.silent >= self.devices.len().saturating_mul(2).saturating_add(1) {
+            self.is_bad = true;
+        }
+    }
+
+    /// A write of a round that is over.
+    pub(crate) fn outlive(&mut self) {
+        if let Some(asked) = self.asked {
+            self.asked = Some(Asked {
+                aim: past(asked.aim),
+                ..asked
+            });
+        }
+    }
+}
+
+/// The unit of one of these devices.
+fn unit_of(devices: &[LinkDevice], device: usize) -> Option<u8>
+    ensures { IfSome result (λ unit. (i : ℕ) × (slice_get devices.now i ≡ Some (record { device = device; unit = unit }))) }
+{
+    for found in devices {
+        if found.device == device {
+            return Some(found.unit);
+        }
+    }
+    None
+}
+
+/// What a request is made for once its round is over.
+fn past(aim: Aim) -> Aim {
+    match aim {
+        Aim::Map => Aim::Map,
+        _ => Aim::Past,
+    }
+}
+
+/// All but so many bytes at the front.
+fn behind(bytes: &[u8], n: usize) -> ArrayVec<u8, 260>
+    requires most { length bytes.now ≤ 260 }
+    requires within { n ≤ length bytes.now }
+    ensures { result.items ≡ drop n bytes.now }
+{
+    ArrayVec::try_from(bytes.split_at(n).1).unwrap()
+}

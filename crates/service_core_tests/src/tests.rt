@@ -1,0 +1,5 @@
+//! What the tests share.
+mod conversations;
+mod plant;
+mod steps;
+mod units;

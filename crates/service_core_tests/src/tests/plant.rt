@@ -1,0 +1,243 @@
+//! A service with three devices in memory, over two links, and what happens between them.
+
+use crate::tests::units::{Manner, Unit, answer, unit_of};
+use scan_code::Image;
+use scan_vm::Machine;
+use service_core::{Limits, Note, Service, Station};
+use std::alloc::Global;
+use std::process::Abort;
+use verifier::verify::verify;
+use worked_texts::sites::{SITE, edited, site_of};
+
+/// The program of the worked site, which adds the powers where both are there, and stores target in lim1 and TRUE in ena1.
+static LIMITER: [u8; 129] = [
+    0x49, 0x4C, 0x53, 0x43, 1, 0, 1, 0, 5, 0, 46, 5, 0x74, 0x6F, 0x74, 0x61, 0x6C, 3, 0, 0, 0, 0,
+    0, 0, 0, 0, 0, 0, 0, 0, 0, 3, 0x0D, 0x40, 0, 0, 0, 0, 0, 0, 0, 0, 6, 0x69, 0x6E, 0x76, 0x31,
+    0x5F, 0x77, 0, 3, 6, 0x69, 0x6E, 0x76, 0x32, 0x5F, 0x77, 0, 3, 6, 0x74, 0x61, 0x72, 0x67, 0x65,
+    0x74, 0, 2, 4, 0x6C, 0x69, 0x6D, 0x31, 1, 2, 4, 0x65, 0x6E, 0x61, 0x31, 1, 0, 3, 0, 0, 0x0C, 3,
+    0, 1, 0x0E, 0x23, 0, 34, 2, 0, 0, 0x0C, 2, 0, 1, 0x11, 0x0C, 5, 3, 0, 0, 0, 0, 0, 0, 0, 0,
+    0x1D, 6, 0, 0, 2, 0, 2, 7, 0, 3, 4, 1, 7, 0, 4, 0,
+];
+
+static SECOND: &str = r#"[[device]]
+name = "inv2"
+unit = 2
+"#;
+
+/// A third device, with a tag of its own.
+static THIRD: &str = r#"[[device]]
+name = "inv2"
+unit = 2
+
+[[device]]
+name = "inv3"
+unit = 3
+
+[[tag]]
+name = "inv3_w"
+access = "in"
+device = "inv3"
+model = 103
+point = "W"
+type = "DINT"
+exponent = 0
+low = -100000
+high = 100000
+"#;
+
+const LIMITS: Limits = Limits {
+    period: 1000,
+    timeout: 200,
+    clients: 2,
+    idle: 120_000,
+    back_off_most: 60_000,
+    search_again: 10_000,
+};
+
+/// The service of the worked site with a third inverter.
+fn service(rt: &impl Abort, alloc: Global) -> Service<32> {
+    let text = edited(alloc, SITE, SECOND, THIRD).expect(rt, "the second device");
+    let site = site_of(alloc, &text).expect(rt, "a site");
+    let image = Image::read(alloc, &LIMITER).expect(rt, "an image");
+    let verified = verify(alloc, image, &site).ok().expect(rt, "accepted");
+    let machine = Machine::new(alloc, verified).expect(rt, "memory");
+    Service::new(alloc, site, machine, 2, &STATIONS, LIMITS, 0).expect(rt, "a service")
+}
+
+/// A service, its devices, and what it told. Devices 0 and 1 are on link 0, device 2 is on link 1.
+#[derive(Drop)]
+pub(crate) struct Plant {
+    pub(crate) service: Service<32>,
+    pub(crate) units: Vec<Unit>,
+    pub(crate) notes: Vec<Note>,
+    /// A reply that is kept back.
+    pub(crate) late: Vec<u8>,
+    /// What came over each link and wasn't used yet.
+    waiting: Vec<Vec<u8>>,
+    pub(crate) now: u64,
+    /// Replies come in pieces of so many bytes.
+    pub(crate) piece: usize,
+    pub(crate) alloc: Global,
+}
+
+/// Where the devices are.
+static STATIONS: [Station; 3] = [
+    Station { link: 0, unit: 11 },
+    Station { link: 0, unit: 12 },
+    Station { link: 1, unit: 13 },
+];
+
+fn units_of(rt: &impl Abort, alloc: Global, manners: &[Manner; 3]) -> Vec<Unit> {
+    let mut units = Vec::new(alloc);
+    for (manner, station) in manners.iter().zip(STATIONS.iter()) {
+        units
+            .push(unit_of(rt, alloc, station.unit, *manner))
+            .expect(rt, "memory");
+    }
+    units
+}
+
+fn two_empty(rt: &impl Abort, alloc: Global) -> Vec<Vec<u8>> {
+    let mut both = Vec::new(alloc);
+    for _ in 0..2 {
+        both.push(Vec::new(alloc)).expect(rt, "memory");
+    }
+    both
+}
+
+pub(crate) fn new_plant(rt: &impl Abort, alloc: Global, manners: &[Manner; 3]) -> Plant {
+    Plant {
+        service: service(rt, alloc),
+        units: units_of(rt, alloc, manners),
+        notes: Vec::new(alloc),
+        late: Vec::new(alloc),
+        waiting: two_empty(rt, alloc),
+        now: 0,
+        piece: 300,
+        alloc,
+    }
+}
+
+impl Plant {
+    /// Takes what a link has to send; the reply to it.
+    pub(crate) fn reply(&mut self, rt: &impl Abort, link: usize) -> Vec<u8> {
+        let request = Vec::from_slice(self.alloc, self.service.to_link(link)).expect(rt, "memory");
+        self.service.sent_to_link(link, request.len());
+        let unit = request.get(6).copied().unwrap_or(0);
+        for of in self.units.iter_mut() {
+            if of.unit == unit {
+                return answer(rt, self.alloc, of, &request);
+            }
+        }
+        Vec::new(self.alloc)
+    }
+
+    /// Bytes come over a link.
+    pub(crate) fn give(&mut self, rt: &impl Abort, link: usize, bytes: &[u8]) {
+        if let Some(waiting) = self.waiting.get_mut(link) {
+            waiting.extend_from_slice(bytes).expect(rt, "memory");
+        }
+        self.offer(rt, link);
+    }
+
+    /// What came over a link is handed in, in pieces, as far as it is used.
+    fn offer(&mut self, rt: &impl Abort, link: usize) {
+        let came = self.take_waiting(link);
+        let mut rest: &[u8] = &came;
+        for _ in 0..2000 {
+            let n = self.piece.min(rest.len());
+            let used = self.service.from_link(link, rest.split_at(n).0, self.now);
+            if used == 0 {
+                break;
+            }
+            rest = rest.split_at(used.min(rest.len())).1;
+        }
+        if let Some(waiting) = self.waiting.get_mut(link) {
+            waiting.extend_from_slice(rest).expect(rt, "memory");
+        }
+    }
+
+    fn take_waiting(&mut self, link: usize) -> Vec<u8> {
+        let none = Vec::new(self.alloc);
+        match self.waiting.get_mut(link) {
+            Some(waiting) => std::mem::replace(waiting, none),
+            None => none,
+        }
+    }
+
+    /// A link comes up: a new stream.
+    pub(crate) fn come_up(&mut self, link: usize) {
+        let _ = self.take_waiting(link);
+        self.service.link_up(link, self.now);
+    }
+
+    /// One exchange on a link, a dial or a hang-up; whether there was one.
+    fn exchange(&mut self, rt: &impl Abort, link: usize) -> bool {
+        if self.service.wants_dial(link) {
+            self.service.dial_began(link, self.now);
+            return true;
+        }
+        if self.service.wants_hang_up(link) {
+            self.service.link_down(link, self.now);
+            return true;
+        }
+        if self.service.to_link(link).is_empty() {
+            self.offer(rt, link);
+            return false;
+        }
+        let reply = self.reply(rt, link);
+        self.give(rt, link, &reply);
+        true
+    }
+
+    /// One exchange on each link; whether there was one.
+    pub(crate) fn answer_one(&mut self, rt: &impl Abort) -> bool {
+        let first = self.exchange(rt, 0);
+        let second = self.exchange(rt, 1);
+        self.collect(rt);
+        first || second
+    }
+
+    /// Exchanges requests and replies, at this time, until there is none.
+    pub(crate) fn answer_all(&mut self, rt: &impl Abort) {
+        for _ in 0..2000 {
+            if !self.answer_one(rt) {
+                return;
+            }
+        }
+    }
+
+    fn collect(&mut self, rt: &impl Abort) {
+        for _ in 0..100 {
+            match self.service.next_note() {
+                Some(note) => self.notes.push(note).expect(rt, "memory"),
+                None => return,
+            }
+        }
+    }
+
+    /// The time is this.
+    pub(crate) fn tick(&mut self, now: u64) {
+        self.now = now;
+        self.service.tick(now);
+    }
+
+    /// Time passes to this one, from wake to wake; whether each wake was yet to come.
+    pub(crate) fn pass(&mut self, rt: &impl Abort, until: u64) -> bool {
+        self.answer_all(rt);
+        for _ in 0..4000 {
+            let at = self.service.wakes_at();
+            if at <= self.now {
+                return false;
+            }
+            if at > until {
+                break;
+            }
+            self.tick(at);
+            self.answer_all(rt);
+        }
+        self.tick(until);
+        self.answer_all(rt);
+        true
+    }
+}

@@ -1,0 +1,261 @@
+//! Conversations of a service with its devices and clients, as lists of steps.
+
+use crate::tests::plant::{Plant, new_plant};
+use crate::tests::units::{Manner, registers};
+use gateway::Report;
+use service_core::{Loss, Note, OutputState};
+use std::alloc::Global;
+use std::process::Abort;
+
+/// A step: what happens, or what holds then.
+#[derive(Clone, Copy)]
+pub(crate) enum Step {
+    /// A link comes up.
+    Up(usize),
+    /// A link goes down.
+    Down(usize),
+    /// Time passes to this one, from wake to wake; all requests are answered at once.
+    Pass(u64),
+    /// The time is this, and nothing is answered.
+    Tick(u64),
+    /// One request of each link is answered.
+    AnswerOne,
+    /// All requests are answered.
+    Answer,
+    /// The reply to the link's request is kept back.
+    KeepBack(usize),
+    /// The reply that was kept back comes.
+    GiveBack(usize),
+    /// A device answers so from now on.
+    Becomes(usize, Manner),
+    /// A device has a common model of this length from now on, and nothing was written to it.
+    Rebuilt(usize, u16),
+    /// What was told is forgotten.
+    Forget,
+    /// This was told so many times.
+    Told(Note, usize),
+    /// So many scans were done.
+    Scans(u64),
+    /// What the scan of this number lost, wrote, and was refused.
+    Reported(usize, (usize, usize, usize)),
+    /// No scan lost, wrote and was refused anything else.
+    AllReported((usize, usize, usize)),
+    /// These were written to a device, by address.
+    Wrote(usize, &'static [(u16, u16)]),
+    /// The function of the request that waits on a link.
+    Asks(usize, Option<u8>),
+    /// When something is to be done next.
+    Wakes(u64),
+    /// Whether a link is to be closed.
+    HangsUp(usize, bool),
+    /// How a device stands: whether it is up, has a map, is lost; why it was lost last.
+    Stands(usize, (bool, bool, bool), Option<Loss>),
+    /// How many requests a device got, and how often it was silent.
+    Counted(usize, (u64, u64)),
+    /// What became of an output.
+    Became(usize, Option<OutputState>),
+    /// The link's device sends so many bytes of its reply, and no more.
+    CutOff(usize, usize),
+    /// These bytes come over a link so many times, unasked.
+    Floods(usize, &'static [u8], usize),
+    /// A client that may write, or may not, gets this place.
+    Comes(bool, Option<usize>),
+    /// A client sends bytes, and so many of them are used.
+    Says(usize, &'static [u8], usize),
+    /// These wait to go out to a client.
+    Hears(usize, &'static [u8]),
+    /// So many bytes went out to a client.
+    Took(usize, usize),
+    /// A client is gone.
+    Leaves(usize),
+    /// Whether a client is to be closed.
+    Closes(usize, bool),
+}
+
+/// Plays the steps with devices of these manners, whose replies come in pieces of so many bytes.
+pub(crate) fn play(
+    rt: &impl Abort,
+    alloc: Global,
+    manners: &[Manner; 3],
+    piece: usize,
+    steps: &[Step],
+) {
+    let mut plant = new_plant(rt, alloc, manners);
+    plant.piece = piece;
+    play_on(rt, &mut plant, steps);
+}
+
+fn play_on(rt: &impl Abort, plant: &mut Plant, steps: &[Step]) {
+    for (i, step) in steps.iter().enumerate() {
+        let holds = take(rt, plant, *step);
+        assert_eq!(rt; (i, holds), (i, true));
+    }
+}
+
+/// Takes a step; whether it is as it says.
+fn take(rt: &impl Abort, plant: &mut Plant, step: Step) -> bool {
+    match step {
+        Step::Told(..) | Step::Scans(_) | Step::Reported(..) | Step::AllReported(_) => {
+            is_told(plant, step)
+        }
+        Step::Wrote(..) | Step::Asks(..) | Step::Wakes(_) | Step::HangsUp(..) => {
+            is_so(plant, step)
+        }
+        Step::Stands(..) | Step::Counted(..) | Step::Became(..) => { stands(plant, step) }
+        Step::Comes(..)
+        | Step::Says(..)
+        | Step::Hears(..)
+        | Step::Took(..)
+        | Step::Leaves(_)
+        | Step::Closes(..) => converse(plant, step),
+        Step::Pass(until) => plant.pass(rt, until),
+        _ => {
+            happen(rt, plant, step);
+            true
+        }
+    }
+}
+
+/// What happens to the devices and their links.
+fn happen(rt: &impl Abort, plant: &mut Plant, step: Step) {
+    match step {
+        Step::Up(link) => plant.come_up(link),
+        Step::Down(link) => plant.service.link_down(link, plant.now),
+        Step::Tick(now) => plant.tick(now),
+        Step::AnswerOne => {
+            plant.answer_one(rt);
+        }
+        Step::Answer => plant.answer_all(rt),
+        Step::KeepBack(link) => plant.late = plant.reply(rt, link),
+        Step::GiveBack(link) => give_back(rt, plant, link),
+        Step::CutOff(link, n) => cut_off(rt, plant, link, n),
+        Step::Floods(link, bytes, times) => flood(rt, plant, link, bytes, times),
+        Step::Becomes(device, manner) => become_so(plant, device, manner),
+        Step::Rebuilt(device, common) => rebuild(rt, plant, device, common),
+        Step::Forget => plant.notes.clear(),
+        _ => {}
+    }
+}
+
+fn give_back(rt: &impl Abort, plant: &mut Plant, link: usize) {
+    let late = std::mem::replace(&mut plant.late, Vec::new(plant.alloc));
+    plant.give(rt, link, &late);
+}
+
+fn cut_off(rt: &impl Abort, plant: &mut Plant, link: usize, n: usize) {
+    let reply = plant.reply(rt, link);
+    plant.give(rt, link, reply.split_at(n.min(reply.len())).0);
+}
+
+fn flood(rt: &impl Abort, plant: &mut Plant, link: usize, bytes: &[u8], times: usize) {
+    for _ in 0..times {
+        plant.give(rt, link, bytes);
+    }
+}
+
+fn become_so(plant: &mut Plant, device: usize, manner: Manner) {
+    if let Some(unit) = plant.units.get_mut(device) {
+        unit.manner = manner;
+    }
+}
+
+fn rebuild(rt: &impl Abort, plant: &mut Plant, device: usize, common: u16) {
+    if let Some(unit) = plant.units.get_mut(device) {
+        unit.words = registers(rt, plant.alloc, common);
+        unit.written.clear();
+    }
+}
+
+/// Whether this was told.
+fn is_told(plant: &Plant, step: Step) -> bool {
+    match step {
+        Step::Told(note, count) => plant.notes.iter().filter(|told| **told == note).count()
+            == count,
+        Step::Scans(count) => plant.service.scans() == count,
+        Step::Reported(n, counts) => nth_counts(plant, n) == Some(counts),
+        Step::AllReported(counts) => have_all_counts(plant, counts),
+        _ => false,
+    }
+}
+
+fn counts_of(report: &Report) -> (usize, usize, usize) {
+    (report.lost, report.writes, report.refused)
+}
+
+/// What the n-th scan lost, wrote and was refused.
+fn nth_counts(plant: &Plant, n: usize) -> Option<(usize, usize, usize)> {
+    let mut before: usize = 0;
+    for note in &plant.notes {
+        if let Note::Scanned(report) = note {
+            if before == n {
+                return Some(counts_of(report));
+            }
+            before = before.saturating_add(1);
+        }
+    }
+    None
+}
+
+fn have_all_counts(plant: &Plant, counts: (usize, usize, usize)) -> bool {
+    for note in &plant.notes {
+        if let Note::Scanned(report) = note {
+            if counts_of(report) != counts {
+                return false;
+            }
+        }
+    }
+    true
+}
+
+/// Whether this is so.
+fn is_so(plant: &Plant, step: Step) -> bool {
+    match step {
+        Step::Wrote(device, written) => match plant.units.get(device) {
+            Some(unit) => unit.written.as_slice() == written,
+            None => false,
+        },
+        Step::Asks(link, function) => plant.service.to_link(link).get(7).copied() == function,
+        Step::Wakes(at) => plant.service.wakes_at() == at,
+        Step::HangsUp(link, does) => plant.service.wants_hang_up(link) == does,
+        _ => false,
+    }
+}
+
+/// Whether the service says that it stands so.
+fn stands(plant: &Plant, step: Step) -> bool {
+    match step {
+        Step::Stands(device, how, loss) => match plant.service.device_status(device) {
+            Some(status) => {
+                (status.is_up, status.is_mapped, status.is_lost) == how && status.last_loss == loss
+            }
+            None => false,
+        },
+        Step::Counted(device, counts) => match plant.service.device_status(device) {
+            Some(status) => (status.counts.requests, status.counts.silent) == counts,
+            None => false,
+        },
+        Step::Became(output, state) => plant.service.output_state(output) == state,
+        _ => false,
+    }
+}
+
+/// What a client does; whether it gets this.
+fn converse(plant: &mut Plant, step: Step) -> bool {
+    match step {
+        Step::Comes(may_write, place) => plant.service.client_came(may_write, plant.now) == place,
+        Step::Says(place, bytes, used) => {
+            plant.service.from_client(place, bytes, plant.now) == used
+        }
+        Step::Hears(place, bytes) => plant.service.to_client(place) == bytes,
+        Step::Took(place, n) => {
+            plant.service.sent_to_client(place, n);
+            true
+        }
+        Step::Leaves(place) => {
+            plant.service.client_gone(place);
+            true
+        }
+        Step::Closes(place, does) => plant.service.wants_close(place) == does,
+        _ => false,
+    }
+}
