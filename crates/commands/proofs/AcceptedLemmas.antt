@@ -18,8 +18,8 @@ use Rattle.facts.specs.Word as verdict_word
 use Rattle.facts.specs.declared.refusal.Refusal.{Refusal}
 use Rattle.facts.specs.declared.refusal.RefusalKind.{RefusalKind}
 use Rattle.facts.specs.declared.refusal.RefusalKind.TheVariants as refusal
-use Rattle.gateway.specs.Core.{Gateway}
-use Rattle.gateway.specs.Polling.{Polling}
+use Rattle.gateway.specs.event_core.Core.{Gateway}
+use Rattle.gateway.specs.poller.Polling.{Polling}
 use Rattle.commands.specs.declared.accepted.Accepted.{Accepted}
 use Rattle.commands.specs.Accepted.{AcceptsProgram, Gives, GivesSite, GivesVerdict, GivesVerified, IsAcceptedOn, RefusesAssembled, RefusesVerdict, most_deferred}
 use Rattle.commands.specs.Check.{TellsInputs}

@@ -8,12 +8,12 @@ use Rattle.site_model.specs.declared.device.SiteDevice.{SiteDevice}
 use Rattle.site_model.specs.declared.site.Site.{Site}
 use Rattle.scan_vm.specs.Machine.{Running, opened}
 use Rattle.verifier.specs.Verified.{Acceptance, HasLinks}
-use Rattle.gateway.specs.Core.{Gateway}
-use Rattle.gateway.specs.Fault.{core_fault_word}
-use Rattle.gateway.specs.Finding.{FindsAll, StopsUnless}
-use Rattle.gateway.specs.Polling.{Polling}
-use Rattle.gateway.specs.declared.fault.CoreFault.{CoreFault}
-use Rattle.gateway.specs.declared.fault.CoreFault.TheVariants.{Foreign}
+use Rattle.gateway.specs.event_core.Core.{Gateway}
+use Rattle.gateway.specs.event_core.Fault.{core_fault_word}
+use Rattle.gateway.specs.poller.Finding.{FindsAll, StopsUnless}
+use Rattle.gateway.specs.poller.Polling.{Polling}
+use Rattle.gateway.specs.declared.event_core.fault.CoreFault.{CoreFault}
+use Rattle.gateway.specs.declared.event_core.fault.CoreFault.TheVariants.{Foreign}
 use Rattle.commands.specs.Report.{bad_core_line, link_line}
 use Rattle.commands.specs.Opening.{IsSearched, IsUnfound, MakesCore, OpensCore}
 use Rattle.commands.specs.Printed.{unlinked_with}

@@ -3,9 +3,9 @@ use Rattle.std.proofs.Common.{◌≡◌, suc, List, [], ◌∷◌, length, ap, �
 use Rattle.modbus_frame.specs.declared.link.LinkFault.{LinkFault}
 use Rattle.register_map.specs.Layout.{Layout}
 use Rattle.site_model.specs.declared.device.SiteDevice.{SiteDevice}
-use Rattle.gateway.specs.LinkRun.{Exchange}
-use Rattle.gateway.specs.Polling.{Polling}
-use Rattle.gateway.specs.Finding.{FindsAll, FindsMaps}
+use Rattle.gateway.specs.poller.LinkRun.{Exchange}
+use Rattle.gateway.specs.poller.Polling.{Polling}
+use Rattle.gateway.specs.poller.Finding.{FindsAll, FindsMaps}
 
 pub found_length : (devices : List SiteDevice) (es : List Exchange) (maps : List (Option Layout)) → FindsMaps devices es maps → length maps ≡ length devices
 found_length [] es maps f = ap length f.1

@@ -25,15 +25,15 @@ use Rattle.verifier.specs.Listing.{listing_of}
 use Rattle.verifier.specs.Verdict.{budgeted, judged, refusal_of}
 use Rattle.verifier.specs.Verified.{Acceptance, HasAlike, HasLinks, IsAlike, IsVerified}
 use Rattle.verifier.proofs.Images.{by_both, ok_is}
-use Rattle.gateway.specs.Control.{Advances, IsPlanned, steps_of}
-use Rattle.gateway.specs.Core.{Gateway, IsSame, gateway_of, numbers_of}
-use Rattle.gateway.specs.Cycle.{RunsTo, Scans, StopsBehind, StopsTaking, StopsWriting, TakesBlocks, WritesFirst}
-use Rattle.gateway.specs.Polling.{Polling}
-use Rattle.gateway.specs.SiteRun.{IsScan, Standing}
-use Rattle.gateway.specs.declared.cycle.Report.{Report}
-use Rattle.gateway.specs.declared.event.Answer.TheVariants as reply
-use Rattle.gateway.specs.declared.event.Event.{Event}
-use Rattle.gateway.specs.declared.event.Event.TheVariants as event
+use Rattle.gateway.specs.event_core.Control.{Advances, IsPlanned, steps_of}
+use Rattle.gateway.specs.event_core.Core.{Gateway, IsSame, gateway_of, numbers_of}
+use Rattle.gateway.specs.poller.Cycle.{RunsTo, Scans, StopsBehind, StopsTaking, StopsWriting, TakesBlocks, WritesFirst}
+use Rattle.gateway.specs.poller.Polling.{Polling}
+use Rattle.gateway.specs.event_core.SiteRun.{IsScan, Standing}
+use Rattle.gateway.specs.declared.poller.cycle.Report.{Report}
+use Rattle.gateway.specs.declared.event_core.event.Answer.TheVariants as reply
+use Rattle.gateway.specs.declared.event_core.event.Event.{Event}
+use Rattle.gateway.specs.declared.event_core.event.Event.TheVariants as event
 use Rattle.gateway.proofs.Parts.{same_then}
 use Rattle.commands.specs.Accepted.{Accepts, most_deferred}
 use Rattle.commands.specs.Headline.{AreWholeScans, DoesRun, DoesScan, EndsTold, IsAccepted, IsFailedScan, IsWholeScan}

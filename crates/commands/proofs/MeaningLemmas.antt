@@ -41,12 +41,12 @@ use Rattle.verifier.specs.Verdict.{judged}
 use Rattle.verifier.specs.Verified.{Acceptance, HasAlike, HasLinks, IsAlike}
 use Rattle.gateway.proofs.Scanning.{inputs_fit, none_in, stored_in}
 use Rattle.gateway.proofs.Settled.{reads_in_range, still_settings}
-use Rattle.gateway.specs.Core.{number_of, numbers_of}
-use Rattle.gateway.specs.SiteRun.{Does, IsScan, Replies, Runs, Sets, Standing, Steps, Writes, none_of, opened, reading_at}
-use Rattle.gateway.specs.declared.event.Answer.{Answer}
-use Rattle.gateway.specs.declared.event.Event.{Event}
-use Rattle.gateway.specs.declared.event.Event.TheVariants as event
-use Rattle.gateway.specs.declared.point.OwnPoint.{OwnPoint}
+use Rattle.gateway.specs.event_core.Core.{number_of, numbers_of}
+use Rattle.gateway.specs.event_core.SiteRun.{Does, IsScan, Replies, Runs, Sets, Standing, Steps, Writes, none_of, opened, reading_at}
+use Rattle.gateway.specs.declared.event_core.event.Answer.{Answer}
+use Rattle.gateway.specs.declared.event_core.event.Event.{Event}
+use Rattle.gateway.specs.declared.event_core.event.Event.TheVariants as event
+use Rattle.gateway.specs.declared.served.point.OwnPoint.{OwnPoint}
 use Rattle.commands.specs.Accepted.{most_deferred}
 use Rattle.commands.specs.Headline.{IsSafe, stored_of}
 use Rattle.commands.specs.Meant.{IsMeantScan, RunsAsMeant, StepsAsMeant}

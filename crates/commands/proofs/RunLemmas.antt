@@ -11,16 +11,16 @@ use Rattle.il_assemble.specs.Meaning.{Program}
 use Rattle.verifier.specs.Links.{links_from}
 use Rattle.verifier.specs.Verdict.{judged}
 use Rattle.verifier.specs.Verified.{Acceptance, HasLinks}
-use Rattle.gateway.specs.Control.{Advances, IsPlanned}
-use Rattle.gateway.specs.Core.{Gateway, gateway_of, numbers_of}
-use Rattle.gateway.specs.Cycle.{RunsTo, StopsTaking, StopsWriting, TakesBlocks, WritesFirst}
-use Rattle.gateway.specs.Finding.{FindsAll}
-use Rattle.gateway.specs.Polling.{Polling}
-use Rattle.gateway.specs.SiteRun.{IsScan, Standing, Steps, scanned}
-use Rattle.gateway.specs.declared.cycle.Report.{Report}
-use Rattle.gateway.specs.declared.event.Answer.{Answer}
-use Rattle.gateway.specs.declared.event.Event.{Event}
-use Rattle.gateway.specs.declared.event.Event.TheVariants as event
+use Rattle.gateway.specs.event_core.Control.{Advances, IsPlanned}
+use Rattle.gateway.specs.event_core.Core.{Gateway, gateway_of, numbers_of}
+use Rattle.gateway.specs.poller.Cycle.{RunsTo, StopsTaking, StopsWriting, TakesBlocks, WritesFirst}
+use Rattle.gateway.specs.poller.Finding.{FindsAll}
+use Rattle.gateway.specs.poller.Polling.{Polling}
+use Rattle.gateway.specs.event_core.SiteRun.{IsScan, Standing, Steps, scanned}
+use Rattle.gateway.specs.declared.poller.cycle.Report.{Report}
+use Rattle.gateway.specs.declared.event_core.event.Answer.{Answer}
+use Rattle.gateway.specs.declared.event_core.event.Event.{Event}
+use Rattle.gateway.specs.declared.event_core.event.Event.TheVariants as event
 use Rattle.commands.specs.Accepted.{most_deferred}
 use Rattle.commands.specs.Headline.{AreWholeScans, DoesRun, DoesScan, EndsTold, IsFailedScan, IsSafe, IsTextOf, IsWholeScan}
 use Rattle.commands.specs.Meant.{AdvancesAsMeant, StepsAsMeant}

@@ -4,15 +4,15 @@ use Rattle.std.specs.Io.KnownBytes.{Appends}
 use Rattle.std.proofs.KnownBytes.{Appends-nil, Appends-trans}
 use Rattle.std.proofs.lemmas.List.{append-nil, length-append}
 use Rattle.modbus_frame.specs.declared.link.LinkFault.{LinkFault}
-use Rattle.gateway.specs.Control.{Advances, IsPlanned, steps_of}
-use Rattle.gateway.specs.Core.{Gateway, IsSame, RunsFrom}
-use Rattle.gateway.specs.Cycle.{RunsTo, Scans, StopsScan}
-use Rattle.gateway.specs.Polling.{Polling}
-use Rattle.gateway.specs.SiteRun.{Standing}
-use Rattle.gateway.specs.declared.cycle.Report.{Report}
-use Rattle.gateway.specs.declared.event.Answer.{Answer}
-use Rattle.gateway.specs.declared.event.Event.{Event}
-use Rattle.gateway.specs.declared.event.Event.TheVariants as event
+use Rattle.gateway.specs.event_core.Control.{Advances, IsPlanned, steps_of}
+use Rattle.gateway.specs.event_core.Core.{Gateway, IsSame, RunsFrom}
+use Rattle.gateway.specs.poller.Cycle.{RunsTo, Scans, StopsScan}
+use Rattle.gateway.specs.poller.Polling.{Polling}
+use Rattle.gateway.specs.event_core.SiteRun.{Standing}
+use Rattle.gateway.specs.declared.poller.cycle.Report.{Report}
+use Rattle.gateway.specs.declared.event_core.event.Answer.{Answer}
+use Rattle.gateway.specs.declared.event_core.event.Event.{Event}
+use Rattle.gateway.specs.declared.event_core.event.Event.TheVariants as event
 use Rattle.gateway.proofs.Parts.{same_then, steps_same}
 use Rattle.commands.specs.Report.{no_memory_line, scan_line, scan_lines}
 use Rattle.commands.specs.Printed.{IsUnlinked, IsUnprinted}

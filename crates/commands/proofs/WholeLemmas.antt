@@ -6,14 +6,14 @@ use Rattle.il_assemble.proofs.Rules.{images_are_proper}
 use Rattle.il_assemble.specs.Correct.{DoesWhatItMeans}
 use Rattle.verifier.specs.Links.{links_from}
 use Rattle.verifier.specs.Verdict.{judged}
-use Rattle.gateway.specs.Control.{Advances}
+use Rattle.gateway.specs.event_core.Control.{Advances}
 use Rattle.register_map.specs.Layout.{Layout}
-use Rattle.gateway.specs.Core.{Gateway, IsSame, gateway_of}
-use Rattle.gateway.specs.Polling.{Polling}
+use Rattle.gateway.specs.event_core.Core.{Gateway, IsSame, gateway_of}
+use Rattle.gateway.specs.poller.Polling.{Polling}
 use Rattle.il_assemble.specs.Meaning.{Program}
 use Rattle.site_model.specs.declared.site.Site.{Site}
 use Rattle.verifier.specs.Verified.{Acceptance}
-use Rattle.gateway.specs.declared.event.Event.{Event}
+use Rattle.gateway.specs.declared.event_core.event.Event.{Event}
 use Rattle.commands.specs.Headline.{AreTextsOf, DoesRun, IsAccepted, RunsProgram}
 use Rattle.commands.specs.Opening.{OpensCore, StartsCore}
 use Rattle.commands.specs.Scans.{DoesScans, LeavesOff}

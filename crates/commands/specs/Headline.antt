@@ -21,13 +21,13 @@ use Rattle.il_reader.specs.Reading.{reading}
 use Rattle.verifier.specs.Links.{links_from}
 use Rattle.verifier.specs.Safe.{NeverGoesWrong}
 use Rattle.verifier.specs.Verified.{Acceptance}
-use Rattle.gateway.specs.Control.{Advances, IsPlanned}
-use Rattle.gateway.specs.Core.{Gateway, IsSame, gateway_of, numbers_of}
-use Rattle.gateway.specs.Cycle.{StopsTaking, StopsWriting, TakesBlocks, WritesFirst}
-use Rattle.gateway.specs.Finding.{FindsAll}
-use Rattle.gateway.specs.Polling.{Polling}
-use Rattle.gateway.specs.SiteRun.{none_of, reading_at, scanned, stored_at}
-use Rattle.gateway.specs.declared.cycle.Report.{Report}
+use Rattle.gateway.specs.event_core.Control.{Advances, IsPlanned}
+use Rattle.gateway.specs.event_core.Core.{Gateway, IsSame, gateway_of, numbers_of}
+use Rattle.gateway.specs.poller.Cycle.{StopsTaking, StopsWriting, TakesBlocks, WritesFirst}
+use Rattle.gateway.specs.poller.Finding.{FindsAll}
+use Rattle.gateway.specs.poller.Polling.{Polling}
+use Rattle.gateway.specs.event_core.SiteRun.{none_of, reading_at, scanned, stored_at}
+use Rattle.gateway.specs.declared.poller.cycle.Report.{Report}
 use Rattle.commands.specs.Defined.{AreDefined}
 use Rattle.commands.specs.Printed.{AreAllDone, IsLineLost, IsUnlinked}
 use Rattle.commands.specs.Report.{scan_lines}

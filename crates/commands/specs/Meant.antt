@@ -4,12 +4,12 @@ use Rattle.std.specs.Prelude.{◌≡◌, List, [], ◌∷◌, length, map}
 use Rattle.site_model.specs.declared.site.Site.{Site}
 use Rattle.il_assemble.specs.Meaning.{Program, Done, meaning}
 use Rattle.verifier.specs.Verified.{Acceptance}
-use Rattle.gateway.specs.Core.{Gateway, IsSame, numbers_of}
-use Rattle.gateway.specs.SiteRun.{IsScan, Standing, Steps, reading_at}
-use Rattle.gateway.specs.declared.event.Answer.{Answer}
-use Rattle.gateway.specs.declared.event.Answer.TheVariants as answer
-use Rattle.gateway.specs.declared.event.Event.{Event}
-use Rattle.gateway.specs.declared.event.Event.TheVariants as event
+use Rattle.gateway.specs.event_core.Core.{Gateway, IsSame, numbers_of}
+use Rattle.gateway.specs.event_core.SiteRun.{IsScan, Standing, Steps, reading_at}
+use Rattle.gateway.specs.declared.event_core.event.Answer.{Answer}
+use Rattle.gateway.specs.declared.event_core.event.Answer.TheVariants as answer
+use Rattle.gateway.specs.declared.event_core.event.Event.{Event}
+use Rattle.gateway.specs.declared.event_core.event.Event.TheVariants as event
 
 -- On what is known and set the scan ends without a trap and within the budget, and leaves the variables and the outputs
 -- that the program means on this scan's readings.

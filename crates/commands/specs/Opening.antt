@@ -10,11 +10,11 @@ use Rattle.site_model.specs.declared.site.Site.{Site}
 use Rattle.il_assemble.specs.Meaning.{Program}
 use Rattle.scan_vm.specs.Machine.{Running, opened}
 use Rattle.verifier.specs.Verified.{Acceptance, HasLinks}
-use Rattle.gateway.specs.Core.{Gateway, gateway_of}
-use Rattle.gateway.specs.Fault.{core_fault_word}
-use Rattle.gateway.specs.Finding.{FindsAll, StopsUnless}
-use Rattle.gateway.specs.Polling.{Polling}
-use Rattle.gateway.specs.declared.fault.CoreFault.TheVariants.{Foreign}
+use Rattle.gateway.specs.event_core.Core.{Gateway, gateway_of}
+use Rattle.gateway.specs.event_core.Fault.{core_fault_word}
+use Rattle.gateway.specs.poller.Finding.{FindsAll, StopsUnless}
+use Rattle.gateway.specs.poller.Polling.{Polling}
+use Rattle.gateway.specs.declared.event_core.fault.CoreFault.TheVariants.{Foreign}
 use Rattle.commands.specs.Accepted.{Accepts, Refuses}
 use Rattle.commands.specs.Printed.{unlinked_with}
 use Rattle.commands.specs.Report.{bad_core_line, link_line, no_memory_line}

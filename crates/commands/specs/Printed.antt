@@ -4,9 +4,9 @@ use Rattle.std.specs.Prelude.{◌≡◌, ◌⊎◌, ℕ, ◌≤◌, List, [], �
 use Rattle.std.specs.Io.KnownBytes.{Appends}
 use Rattle.modbus_frame.specs.Fault.{link_fault_word}
 use Rattle.modbus_frame.specs.declared.link.LinkFault.{LinkFault}
-use Rattle.gateway.specs.Core.{Gateway}
-use Rattle.gateway.specs.Polling.{Polling}
-use Rattle.gateway.specs.declared.cycle.Report.{Report}
+use Rattle.gateway.specs.event_core.Core.{Gateway}
+use Rattle.gateway.specs.poller.Polling.{Polling}
+use Rattle.gateway.specs.declared.poller.cycle.Report.{Report}
 use Rattle.commands.specs.Report.{link_line, no_memory_line, scan_line, scan_lines}
 use Rattle.commands.specs.Told.{IsCut, IsTold, Told, refused_with}
 

@@ -6,7 +6,7 @@ use Rattle.point_types.specs.declared.il_type.IlType.{IlType}
 use Rattle.point_types.specs.declared.variable.Var.{Var}
 use Rattle.point_types.specs.Value.{is_bool, int_eq}
 use Rattle.scan_code.specs.declared.image.Tag.{Tag}
-use Rattle.gateway.specs.declared.cycle.Report.{Report}
+use Rattle.gateway.specs.declared.poller.cycle.Report.{Report}
 
 -- a value: TRUE or FALSE for a BOOL, else a decimal
 abbrev pub shown : IlType → ℤ → List ℕ

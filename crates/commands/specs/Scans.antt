@@ -9,16 +9,16 @@ use Rattle.il_assemble.specs.Meaning.{Program}
 use Rattle.scan_code.specs.Table.{start_of}
 use Rattle.scan_vm.specs.Machine.{opened}
 use Rattle.verifier.specs.Verified.{Acceptance, IsVerified}
-use Rattle.gateway.specs.Control.{Advances, IsPlanned, steps_of}
-use Rattle.gateway.specs.Core.{Gateway, IsSame, gateway_of}
-use Rattle.gateway.specs.Cycle.{Scans, StopsBehind, StopsTaking}
-use Rattle.gateway.specs.Finding.{FindsAll}
-use Rattle.gateway.specs.Polling.{Polling}
-use Rattle.gateway.specs.SiteRun as run
-use Rattle.gateway.specs.declared.cycle.Report.{Report}
-use Rattle.gateway.specs.declared.event.Answer.{Answer}
-use Rattle.gateway.specs.declared.event.Event.{Event}
-use Rattle.gateway.specs.declared.event.Event.TheVariants as event
+use Rattle.gateway.specs.event_core.Control.{Advances, IsPlanned, steps_of}
+use Rattle.gateway.specs.event_core.Core.{Gateway, IsSame, gateway_of}
+use Rattle.gateway.specs.poller.Cycle.{Scans, StopsBehind, StopsTaking}
+use Rattle.gateway.specs.poller.Finding.{FindsAll}
+use Rattle.gateway.specs.poller.Polling.{Polling}
+use Rattle.gateway.specs.event_core.SiteRun as run
+use Rattle.gateway.specs.declared.poller.cycle.Report.{Report}
+use Rattle.gateway.specs.declared.event_core.event.Answer.{Answer}
+use Rattle.gateway.specs.declared.event_core.event.Event.{Event}
+use Rattle.gateway.specs.declared.event_core.event.Event.TheVariants as event
 use Rattle.commands.specs.Accepted.{Accepts, most_deferred}
 use Rattle.commands.specs.Headline.{IsAccepted, RunsProgram}
 use Rattle.commands.specs.Meant.{AdvancesAsMeant, RunsAsMeant}

@@ -36,7 +36,7 @@ pub struct Accepted {
 /// The program of a text that is accepted for the site of a text, by the shipped model definitions and those of the
 /// texts `defs`, of which the last one of an ID counts; or what is told of the first refusal, of the definitions, the
 /// site and the program in this order.
-pub(crate) fn accept(
+pub fn accept(
     alloc: Global,
     site: &str,
     program: &str,

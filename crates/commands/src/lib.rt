@@ -25,6 +25,7 @@ mod writing;
 // a program by itself
 pub use trial_scan::{trial, try_input};
 // a program and a site
+pub use accepted::{Accepted, accept};
 pub use explained::explain;
 pub use verdict::{check, judge};
 // a plant of simulated inverters
@@ -37,4 +38,4 @@ pub use unit_points::probe;
 pub use outcome::{
     FAILED_LINK, Outcome, tell_no_memory, tell_unlinked, tell_unusable, write_lines,
 };
-pub use report::listening;
+pub use report::{listening, no_core, scanned};

@@ -188,14 +188,14 @@ pub(crate) fn push_end(lines: &mut Vec<u8>, alloc: Global, addr: u16) -> Result<
 }
 
 /// The line `refused: core KIND`.
-pub(crate) fn no_core(alloc: Global, kind: &str) -> Result<String, AllocError>
+pub fn no_core(alloc: Global, kind: &str) -> Result<String, AllocError>
     ensures ok { IfOk result (λ text. string_bytes text ≡ report.bad_core_line kind.now) }
 {
     with_word(alloc, "refused: core ", kind)
 }
 
 /// The line `scan K steps S writes W refused R lost T`.
-pub fn scanned(alloc: Global, k: u32, report: &Report) -> Result<String, AllocError>
+pub fn scanned(alloc: Global, k: u64, report: &Report) -> Result<String, AllocError>
     ensures ok { IfOk result (λ text. string_bytes text ≡ scan_line k report.now) }
 {
     let mut line = steps_of_scan(alloc, k, report.steps)?;
@@ -206,7 +206,7 @@ pub fn scanned(alloc: Global, k: u32, report: &Report) -> Result<String, AllocEr
     Ok(line)
 }
 
-fn steps_of_scan(alloc: Global, k: u32, steps: u32) -> Result<String, AllocError>
+fn steps_of_scan(alloc: Global, k: u64, steps: u32) -> Result<String, AllocError>
     ensures ok { IfOk result (λ text. string_bytes text ≡ codes "scan " ++ decimal k ++ codes " steps " ++ decimal steps) }
 {
     let text = format!(in alloc; "scan {k} steps {steps}")?;

@@ -1,7 +1,7 @@
 //! The scans of a program on a site, whose devices are asked over a poller.
 ghost use Rattle.std.specs.Prelude.{◌≡◌, ◌≢◌, length, map, Err, None, string_bytes, IfNone, IfOk, IfSome, OnErr};
-ghost use Rattle.gateway.specs.Fault.{core_fault_word};
-ghost use Rattle.gateway.specs.declared.fault.CoreFault.TheVariants.{Foreign};
+ghost use Rattle.gateway.specs.event_core.Fault.{core_fault_word};
+ghost use Rattle.gateway.specs.declared.event_core.fault.CoreFault.TheVariants.{Foreign};
 ghost use Rattle.modbus_frame.specs.Fault.{link_fault_word};
 ghost use Rattle.modbus_frame.specs.declared.link.LinkFault.TheVariants as link;
 ghost use Rattle.scan_vm.specs.Machine as vm;
@@ -111,7 +111,7 @@ fn scan_once<L: Link, W: Write>(
     ensures last { result ≢ 0 → IsLast k poller.old core.old poller.new core.new (W.contents out.old) (W.contents out.new) result }
 {
     match run_scan(core, poller) {
-        Ok(report) => match scanned(alloc, k, &report) {
+        Ok(report) => match scanned(alloc, u64::from(k), &report) {
             Ok(line) => write_lines(out, line.as_bytes(), 0),
             Err(_) => tell_no_memory(out),
         },

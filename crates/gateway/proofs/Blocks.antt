@@ -13,13 +13,13 @@ use Rattle.site_model.specs.declared.site.Site.{Site}
 use Rattle.site_model.specs.Wants.{Want}
 use Rattle.point_writer.specs.declared.write.Write.{Write}
 use Rattle.point_writer.specs.declared.write.NoWrite.{NoWrite}
-use Rattle.gateway.specs.declared.event.Event.{Event}
-use Rattle.gateway.specs.declared.event.Answer.{Answer}
-use Rattle.gateway.specs.declared.outcome.Outcome.{Outcome}
-use Rattle.gateway.specs.declared.cycle.Call.{Call}
-use Rattle.gateway.specs.LinkRun.{Exchange}
-use Rattle.gateway.specs.Polling.{Polling, Decides, Talks}
-use Rattle.gateway.specs.Cycle.{read_of, write_of, event_by, is_lost, is_refused, is_refusal, ReadsBlock, ReadsBlocks, TakesBlock, TakesBlocks, StopsAt, StopsTaking, WritesBy, WritesPoint, WritesPoints, WritesFirst, StopsWriting, RunsTo, ArePlans}
+use Rattle.gateway.specs.declared.event_core.event.Event.{Event}
+use Rattle.gateway.specs.declared.event_core.event.Answer.{Answer}
+use Rattle.gateway.specs.declared.poller.outcome.Outcome.{Outcome}
+use Rattle.gateway.specs.declared.poller.cycle.Call.{Call}
+use Rattle.gateway.specs.poller.LinkRun.{Exchange}
+use Rattle.gateway.specs.poller.Polling.{Polling, Decides, Talks}
+use Rattle.gateway.specs.poller.Cycle.{read_of, write_of, event_by, is_lost, is_refused, is_refusal, ReadsBlock, ReadsBlocks, TakesBlock, TakesBlocks, StopsAt, StopsTaking, WritesBy, WritesPoint, WritesPoints, WritesFirst, StopsWriting, RunsTo, ArePlans}
 use Rattle.gateway.proofs.Talking.{talks_none, talks_first, talks_behind, exchange_of}
 
 -- ---- one call

@@ -15,10 +15,10 @@ use Rattle.modbus_frame.specs.Message.{response_of}
 use Rattle.modbus_frame.specs.Reading.{Reading}
 use Rattle.modbus_frame.proofs.Answering.{came_more, is_in_part}
 use Rattle.modbus_frame.proofs.Sending.{FailsBy-then}
-use Rattle.gateway.specs.declared.outcome.Outcome.TheVariants as outcome
-use Rattle.gateway.specs.LinkRun.{Asked, is_reply, outcome_by, decided_by, decided_within}
-use Rattle.gateway.specs.Polling.{EndsWaiting}
-use Rattle.gateway.specs.Waiting.{Gets, Misses, CountsWaited}
+use Rattle.gateway.specs.declared.poller.outcome.Outcome.TheVariants as outcome
+use Rattle.gateway.specs.poller.LinkRun.{Asked, is_reply, outcome_by, decided_by, decided_within}
+use Rattle.gateway.specs.poller.Polling.{EndsWaiting}
+use Rattle.gateway.specs.poller.Waiting.{Gets, Misses, CountsWaited}
 use Rattle.modbus_frame.proofs.Streams.{AllByRecursion-more as each_more}
 
 -- These frames were dropped, and so many more may be.

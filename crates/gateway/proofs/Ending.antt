@@ -4,15 +4,15 @@ use Rattle.std.specs.Prelude.{IfOk, IfErr}
 use Rattle.modbus_frame.specs.declared.link.LinkFault.{LinkFault}
 use Rattle.register_map.specs.Layout.{Layout}
 use Rattle.site_model.specs.declared.site.Site.{Site}
-use Rattle.gateway.specs.declared.event.Event.{Event}
-use Rattle.gateway.specs.declared.event.Event.TheVariants as event
-use Rattle.gateway.specs.declared.event.Answer.{Answer}
-use Rattle.gateway.specs.declared.cycle.Report.{Report}
-use Rattle.gateway.specs.Control.{Advances, IsPlanned, steps_of}
-use Rattle.gateway.specs.Core.{Gateway, IsSame, RunsFrom}
-use Rattle.gateway.specs.Cycle.{RunsTo, Scans, StopsScan}
+use Rattle.gateway.specs.declared.event_core.event.Event.{Event}
+use Rattle.gateway.specs.declared.event_core.event.Event.TheVariants as event
+use Rattle.gateway.specs.declared.event_core.event.Answer.{Answer}
+use Rattle.gateway.specs.declared.poller.cycle.Report.{Report}
+use Rattle.gateway.specs.event_core.Control.{Advances, IsPlanned, steps_of}
+use Rattle.gateway.specs.event_core.Core.{Gateway, IsSame, RunsFrom}
+use Rattle.gateway.specs.poller.Cycle.{RunsTo, Scans, StopsScan}
 use Rattle.gateway.specs.Laws.{ScansFollowTheSiteRun}
-use Rattle.gateway.specs.Polling.{Polling}
+use Rattle.gateway.specs.poller.Polling.{Polling}
 use Rattle.gateway.proofs.Parts.{same_then, steps_same}
 
 same_self : (s t : Gateway) → s ≡ t → IsSame s t

@@ -6,12 +6,12 @@ use Rattle.point_types.specs.declared.kind.Kind.{Kind}
 use Rattle.point_types.specs.declared.reading.Reading.{Reading}
 use Rattle.point_types.proofs.RoundTrips.{at_most_one_encoding}
 use Rattle.site_model.specs.declared.site.Site.{Site}
-use Rattle.gateway.specs.declared.amount.Amount.{Amount}
-use Rattle.gateway.specs.declared.point.OwnPoint.{OwnPoint}
-use Rattle.gateway.specs.declared.point.OwnPoint.TheVariants as own
+use Rattle.gateway.specs.declared.served.amount.Amount.{Amount}
+use Rattle.gateway.specs.declared.served.point.OwnPoint.{OwnPoint}
+use Rattle.gateway.specs.declared.served.point.OwnPoint.TheVariants as own
 use Rattle.gateway.specs.Laws.{AtMostOneServedImage}
-use Rattle.gateway.specs.Points.{own_points}
-use Rattle.gateway.specs.ServedImage.{amount_from, ArePointWords, AreServed, AreWordsOf}
+use Rattle.gateway.specs.served.Points.{own_points}
+use Rattle.gateway.specs.served.ServedImage.{amount_from, ArePointWords, AreServed, AreWordsOf}
 use Rattle.point_writer.proofs.Plans.{same_ok}
 
 one_number : (kind : Kind) (o : Option Amount) (a b : List ℕ) → AreWordsOf kind o a → AreWordsOf kind o b → a ≡ b

@@ -5,9 +5,9 @@ use Rattle.std.proofs.lemmas.List.{append-nil}
 use Rattle.modbus_frame.specs.declared.link.LinkFault.{LinkFault}
 use Rattle.register_map.specs.Layout.{Layout}
 use Rattle.site_model.specs.declared.device.SiteDevice.{SiteDevice}
-use Rattle.gateway.specs.LinkRun.{Exchange}
-use Rattle.gateway.specs.Polling.{Polling}
-use Rattle.gateway.specs.Finding.{FindsMap, FindsMaps, FindsOne, FindsAll, StopsSearch, StopsFinding}
+use Rattle.gateway.specs.poller.LinkRun.{Exchange}
+use Rattle.gateway.specs.poller.Polling.{Polling}
+use Rattle.gateway.specs.poller.Finding.{FindsMap, FindsMaps, FindsOne, FindsAll, StopsSearch, StopsFinding}
 use Rattle.gateway.proofs.Talking.{talks_behind}
 
 -- the device at a place, and those behind it

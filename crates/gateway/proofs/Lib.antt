@@ -16,3 +16,4 @@ pub mod Talking
 pub mod Reading
 pub mod Found
 pub mod Blocks
+pub mod SetAgain

@@ -11,18 +11,18 @@ use Rattle.site_model.specs.Readings.{AreSettings}
 use Rattle.verifier.specs.declared.tag_link.TagLink.{TagLink}
 use Rattle.facts.specs.declared.refusal.Refusal.{Refusal}
 use Rattle.verifier.specs.Links.{links_from, link_of, refused_at}
-use Rattle.gateway.specs.declared.memory.Memory.{Memory}
-use Rattle.gateway.specs.declared.point.OwnPoint.{OwnPoint}
-use Rattle.gateway.specs.declared.event.Event.{Event}
-use Rattle.gateway.specs.declared.event.Answer.{Answer}
+use Rattle.gateway.specs.declared.event_core.memory.Memory.{Memory}
+use Rattle.gateway.specs.declared.served.point.OwnPoint.{OwnPoint}
+use Rattle.gateway.specs.declared.event_core.event.Event.{Event}
+use Rattle.gateway.specs.declared.event_core.event.Answer.{Answer}
 use Rattle.register_map.specs.Layout.{Layout}
 use Rattle.scan_vm.specs.Machine.{Running}
 use Rattle.verifier.specs.Verified.{Acceptance, HasLinks}
-use Rattle.gateway.specs.declared.opening.Opening.{Opening}
-use Rattle.gateway.specs.Core.{Gateway, IsCore, IsKnown, IsOpening, IsReady, IsSame, numbers_of, standing_of}
-use Rattle.gateway.specs.Points.{own_points}
-use Rattle.gateway.specs.ServedImage.{AreServed, IsServedImage}
-use Rattle.gateway.specs.SiteRun.{Standing, Steps, none_of, opened, unread}
+use Rattle.gateway.specs.declared.event_core.opening.Opening.{Opening}
+use Rattle.gateway.specs.event_core.Core.{Gateway, IsCore, IsKnown, IsOpening, IsReady, IsSame, numbers_of, standing_of}
+use Rattle.gateway.specs.served.Points.{own_points}
+use Rattle.gateway.specs.served.ServedImage.{AreServed, IsServedImage}
+use Rattle.gateway.specs.event_core.SiteRun.{Standing, Steps, none_of, opened, unread}
 use Rattle.gateway.proofs.Scanning.{none_in}
 
 pub served_again : (site : Site) (outputs : List (Option ℤ)) (readings : List Reading) (sets : List (Option ℤ)) (points given : List OwnPoint) (image kept : List ℕ) → given ≡ points → points ≡ own_points site → kept ≡ image →

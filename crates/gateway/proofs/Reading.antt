@@ -15,11 +15,11 @@ use Rattle.register_map.specs.Layout.{Layout}
 use Rattle.register_map.specs.Reads.{Answer, RegisterRead, Runs, TakesNext}
 use Rattle.register_map.specs.Search.{IsSearch, all_registers}
 use Rattle.site_model.specs.declared.device.SiteDevice.{SiteDevice}
-use Rattle.gateway.specs.declared.outcome.Outcome.{Outcome}
-use Rattle.gateway.specs.LinkRun.{Exchange}
-use Rattle.gateway.specs.Polling.{Polling, Decides, Fails, Talks}
-use Rattle.gateway.specs.Asking.{Asking, AsksOnce, AsksUnless, Turned}
-use Rattle.gateway.specs.Finding.{ReadsLine, AreReadsBy, answer_by, bases_by, FindsOne, StopsSearch}
+use Rattle.gateway.specs.declared.poller.outcome.Outcome.{Outcome}
+use Rattle.gateway.specs.poller.LinkRun.{Exchange}
+use Rattle.gateway.specs.poller.Polling.{Polling, Decides, Fails, Talks}
+use Rattle.gateway.specs.poller.Asking.{Asking, AsksOnce, AsksUnless, Turned}
+use Rattle.gateway.specs.poller.Finding.{ReadsLine, AreReadsBy, answer_by, bases_by, FindsOne, StopsSearch}
 use Rattle.gateway.proofs.Searched.{AreSent, search_sent}
 use Rattle.gateway.proofs.Talking.{talks_none, talks_first, exchange_of}
 

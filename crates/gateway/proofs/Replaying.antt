@@ -2,10 +2,10 @@
 use Rattle.std.proofs.Common.{◌≡◌, ℕ, ◌+◌, ◌<◌, ◌≤◌, List, [], ◌∷◌, ◌++◌, length, take, drop, get_or, refl, sym, ap, subst, ◌∙◌, arith, append_assoc}
 use Rattle.std.specs.Prelude.{slice_set}
 use Rattle.std.proofs.lemmas.List.{drop_more, drop_all, take_all, take_more_set, append-nil}
-use Rattle.gateway.specs.declared.event.Event.{Event}
-use Rattle.gateway.specs.declared.event.Answer.{Answer}
-use Rattle.gateway.specs.Core.{Gateway, RunsFrom, numbers_of}
-use Rattle.gateway.specs.SiteRun.{Standing, Steps}
+use Rattle.gateway.specs.declared.event_core.event.Event.{Event}
+use Rattle.gateway.specs.declared.event_core.event.Answer.{Answer}
+use Rattle.gateway.specs.event_core.Core.{Gateway, RunsFrom, numbers_of}
+use Rattle.gateway.specs.event_core.SiteRun.{Standing, Steps}
 
 module _ (old : Gateway) (events : List Event) (i : ℕ) (answers : List Answer) (s : Standing) (so_far : (rest : List Answer) (end : Standing) → RunsFrom old s (drop i events) rest end → RunsFrom old old.standing events (take i answers ++ rest) end) where
   pub runs_more : (e : Event) (a : Answer) (next : Standing) → i < length events → e ≡ get_or events i e → length answers ≡ length events

@@ -11,10 +11,10 @@ use Rattle.modbus_frame.specs.Frame.{frame_bytes}
 use Rattle.modbus_frame.specs.Link.{Failures, FailsBy, FailsWith}
 use Rattle.modbus_frame.proofs.Answering.{keeps_left, failed_sending}
 use Rattle.modbus_frame.proofs.Sending.{FailsBy-none, FailsBy-then}
-use Rattle.gateway.specs.declared.outcome.Outcome.{Outcome}
-use Rattle.gateway.specs.LinkRun.{frame_of, next_id}
-use Rattle.gateway.specs.Polling.{Polling, Asks, Fails, FailsAt, BreaksOff, StaysOpen, fault_of}
-use Rattle.gateway.specs.Waiting.{Waits, CountsWaited}
+use Rattle.gateway.specs.declared.poller.outcome.Outcome.{Outcome}
+use Rattle.gateway.specs.poller.LinkRun.{frame_of, next_id}
+use Rattle.gateway.specs.poller.Polling.{Polling, Asks, Fails, FailsAt, BreaksOff, StaysOpen, fault_of}
+use Rattle.gateway.specs.poller.Waiting.{Waits, CountsWaited}
 
 consumes_later : (a b c : Option (List ℕ)) (bytes : List ℕ) → Keeps a b → Consumes b c bytes → Consumes a c bytes
 consumes_later a b c bytes kept later = Consumes-trans a b c [] bytes (Consumes-kept a a b [] (Consumes-nil a) kept) later

@@ -12,8 +12,8 @@ use Rattle.verifier.specs.Listing.{is_there}
 use Rattle.verifier.specs.Ranges.{range_of}
 use Rattle.verifier.specs.Sound.{IsInputOf, IsReadingOf, OutputInRange}
 use Rattle.verifier.specs.Verified.{Acceptance, HasAlike, HasLinks, IsAlike}
-use Rattle.gateway.specs.Core.{number_of, numbers_of}
-use Rattle.gateway.specs.SiteRun.{Standing, none_of, reading_at, stored_at}
+use Rattle.gateway.specs.event_core.Core.{number_of, numbers_of}
+use Rattle.gateway.specs.event_core.SiteRun.{Standing, none_of, reading_at, stored_at}
 use Rattle.gateway.proofs.Filling.{map_alike}
 use Rattle.gateway.proofs.Settled.{set-cases, still_settings}
 

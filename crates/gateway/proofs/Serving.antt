@@ -7,9 +7,9 @@ use Rattle.std.proofs.lemmas.Slice.{take-put_mid, overwrites}
 use borrow.Rule.Slice.PartMut.{put_mid}
 use Rattle.point_types.specs.declared.reading.Reading.{Reading}
 use Rattle.site_model.specs.declared.site.Site.{Site}
-use Rattle.gateway.specs.declared.point.OwnPoint.{OwnPoint}
-use Rattle.gateway.specs.Points.{registers_of, all_registers}
-use Rattle.gateway.specs.ServedImage.{ArePointWords, AreServed}
+use Rattle.gateway.specs.declared.served.point.OwnPoint.{OwnPoint}
+use Rattle.gateway.specs.served.Points.{registers_of, all_registers}
+use Rattle.gateway.specs.served.ServedImage.{ArePointWords, AreServed}
 
 pub length_put : (xs ys : List ℕ) (a n : ℕ) → length ys ≡ n → a + n ≤ length xs → length (put_mid a (a + n - a) xs ys) ≡ length xs
 length_put xs ys a n h l = search (rules, overwrites)

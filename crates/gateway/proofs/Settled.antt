@@ -10,11 +10,11 @@ use Rattle.point_types.specs.Reading.{IsScaled, ReadsBy, IsReading, factor_of}
 use Rattle.point_types.proofs.Uniqueness.{at_most_one_reading}
 use Rattle.site_model.specs.declared.tag.SiteTag.{SiteTag}
 use Rattle.site_model.specs.Readings.{AreSettings}
-use Rattle.gateway.specs.declared.point.OwnPoint.{OwnPoint}
-use Rattle.gateway.specs.declared.point.OwnPoint.TheVariants as own
-use Rattle.gateway.specs.ServedImage.{own_value}
-use Rattle.gateway.specs.SiteRun.{IsNumberIn, ReadsBack, Sets, SetsOne, are_settings, setting_of}
-use Rattle.gateway.specs.Points.{registers_of}
+use Rattle.gateway.specs.declared.served.point.OwnPoint.{OwnPoint}
+use Rattle.gateway.specs.declared.served.point.OwnPoint.TheVariants as own
+use Rattle.gateway.specs.served.ServedImage.{own_value}
+use Rattle.gateway.specs.event_core.SiteRun.{IsNumberIn, ReadsBack, Sets, SetsOne, are_settings, setting_of}
+use Rattle.gateway.specs.served.Points.{registers_of}
 
 same_some : {X : Type 0} {o : Option X} {a b : X} → o ≡ Some a → o ≡ Some b → a ≡ b
 same_some p q = cc

@@ -35,7 +35,7 @@ out_there n (u ∷ ts) i number e = go (λ k p. out_there (n + 1) ts k number p)
 
 -- ---- the words of a set point
 
-size_within : (k : Kind) → (1 ≤ size_of k) × (size_of k ≤ 123)
+pub size_within : (k : Kind) → (1 ≤ size_of k) × (size_of k ≤ 123)
 size_within kind.Int16 = (omega arith, omega arith)
 size_within kind.Uint16 = (omega arith, omega arith)
 size_within kind.Acc16 = (omega arith, omega arith)

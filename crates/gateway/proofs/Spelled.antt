@@ -6,7 +6,7 @@ use Rattle.point_types.specs.declared.kind.Kind.{Kind}
 use Rattle.point_types.specs.declared.encoding.Unencodable.{Unencodable}
 use Rattle.point_types.specs.Encoding.{IsEncoding}
 use Rattle.point_types.proofs.RoundTrips.{at_most_one_encoding}
-use Rattle.gateway.specs.ServedImage.{text_words, first_word, behind_word}
+use Rattle.gateway.specs.served.ServedImage.{text_words, first_word, behind_word}
 
 -- words and a refusal don't go together
 pub not_both : (k : Kind) (v e : ℤ) (f : Option ℤ) (fault : Unencodable) → IsEncoding k v e f (Err fault) → (ws : List ℕ) → IsEncoding k v e f (Ok ws) → ⊥

@@ -7,9 +7,9 @@ use Rattle.std.specs.List.{flat_map}
 use Rattle.modbus_frame.specs.declared.message.Request.{Request}
 use Rattle.modbus_frame.specs.Frame.{frame_bytes}
 use Rattle.modbus_frame.proofs.Sending.{FailsBy-none, FailsBy-then}
-use Rattle.gateway.specs.declared.outcome.Outcome.{Outcome}
-use Rattle.gateway.specs.LinkRun.{Exchange, AreDecided, bytes_out, bytes_in, id_after, next_id, frame_of, asked_in}
-use Rattle.gateway.specs.Polling.{Polling, Decides, Talks, asked_next, stream}
+use Rattle.gateway.specs.declared.poller.outcome.Outcome.{Outcome}
+use Rattle.gateway.specs.poller.LinkRun.{Exchange, AreDecided, bytes_out, bytes_in, id_after, next_id, frame_of, asked_in}
+use Rattle.gateway.specs.poller.Polling.{Polling, Decides, Talks, asked_next, stream}
 
 -- before the first request
 pub talks_none : (p : Polling) → p.fault ≡ None → Talks p [] p

@@ -4,7 +4,7 @@ use Rattle.std.specs.Prelude.{ℤ, pos, neg_ℤ, ◌+ℤ◌, ◌≤ℤ◌, slice
 use Rattle.std.proofs.lemmas.Int.{ints}
 use Rattle.std.proofs.lemmas.List.{at_drop_more}
 use Rattle.point_types.specs.declared.reading.Reading.{Reading}
-use Rattle.gateway.specs.ServedImage.{own_value, total_over}
+use Rattle.gateway.specs.served.ServedImage.{own_value, total_over}
 
 pub total_more : (t v u : ℤ) (readings : List Reading) (parts : List ℕ) (i : ℕ) → i < length parts → option_and_then own_value (slice_get readings (get_or parts i 0)) ≡ Some v → u ≡ (t +ℤ v) →
     total_over t readings (drop i parts) ≡ total_over u readings (drop (i + 1) parts)

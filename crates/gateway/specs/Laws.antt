@@ -5,16 +5,16 @@ use Rattle.register_map.specs.Layout.{Layout}
 use Rattle.site_model.specs.declared.tag.SiteTag.{SiteTag}
 use Rattle.point_writer.specs.declared.write.Write.{Write}
 use Rattle.point_writer.specs.SetPoint.{IsSetPoint}
-use Rattle.gateway.specs.declared.cycle.Report.{Report}
-use Rattle.gateway.specs.declared.event.Event.TheVariants as event
-use Rattle.gateway.specs.declared.event.Answer.{Answer}
-use Rattle.gateway.specs.Control.{Advances, IsPlanned, steps_of}
-use Rattle.gateway.specs.Core.{Gateway, RunsOn}
-use Rattle.gateway.specs.Cycle.{Scans}
-use Rattle.gateway.specs.Polling.{Polling}
+use Rattle.gateway.specs.declared.poller.cycle.Report.{Report}
+use Rattle.gateway.specs.declared.event_core.event.Event.TheVariants as event
+use Rattle.gateway.specs.declared.event_core.event.Answer.{Answer}
+use Rattle.gateway.specs.event_core.Control.{Advances, IsPlanned, steps_of}
+use Rattle.gateway.specs.event_core.Core.{Gateway, RunsOn}
+use Rattle.gateway.specs.poller.Cycle.{Scans}
+use Rattle.gateway.specs.poller.Polling.{Polling}
 use Rattle.point_types.specs.declared.reading.Reading.{Reading}
 use Rattle.site_model.specs.declared.site.Site.{Site}
-use Rattle.gateway.specs.ServedImage.{IsServedImage}
+use Rattle.gateway.specs.served.ServedImage.{IsServedImage}
 
 -- a site, the last scan and the settings have one served image at most
 abbrev pub AtMostOneServedImage : Type 0

@@ -4,8 +4,8 @@ use Rattle.std.specs.Prelude.{◌≡◌, ℕ, [], ◌∷◌, replicate, None, So
 use Rattle.modbus_frame.specs.declared.frame.Frame.{Frame}
 use Rattle.modbus_frame.specs.declared.message.Request.TheVariants.{Read, WriteOne, WriteMany}
 use Rattle.modbus_frame.specs.Message.{request_bytes}
-use Rattle.gateway.specs.declared.outcome.Outcome.TheVariants as outcome
-use Rattle.gateway.specs.LinkRun.{Asked, decided_by, next_id}
+use Rattle.gateway.specs.declared.poller.outcome.Outcome.TheVariants as outcome
+use Rattle.gateway.specs.poller.LinkRun.{Asked, decided_by, next_id}
 
 -- the seventh request reads one register of unit 1
 abbrev seventh : Asked

@@ -3,23 +3,34 @@ ghost use Rattle.std.specs.Prelude.{◌≡◌, ◌<◌, ◌≤◌, ℕ, length, 
 ghost use Rattle.std.specs.List.{position};
 ghost use Rattle.site_model.specs.Readings.{known_at};
 ghost use Rattle.site_model.specs.Wants.{same_want};
-ghost use Rattle.gateway.specs.SiteRun.{told, with_block};
+ghost use Rattle.gateway.specs.event_core.SiteRun.{told, with_block};
 
-use crate::event::{Answer, Event};
-use crate::fault::CoreFault;
-use crate::memory::Memory;
-use crate::opening::opening_for;
-use crate::point::OwnPoint;
-use crate::request::read;
-use crate::scan::scan;
-use crate::served::serve;
-use crate::setting::write;
+mod answering;
+mod event;
+mod fault;
+mod memory;
+mod opening;
+mod request;
+mod restoring;
+mod scan;
+mod setting;
+
+use crate::served::{OwnPoint, serve};
+pub use answering::serve_client;
+pub use event::{Answer, Event};
+pub use fault::CoreFault;
+pub(crate) use memory::Memory;
 use modbus_frame::{Exception, Pdu, Request, Response, exception_pdu, parse_request, response_pdu};
+use opening::opening_for;
 use point_types::{Items, Reading};
 use point_writer::plan::plan;
 use point_writer::{NoWrite, Write};
 use register_map::Map;
+use request::read;
+use restoring::request_to_set;
+use scan::scan;
 use scan_vm::Machine;
+use setting::write;
 use site_model::{Site, Words};
 use std::alloc::Global;
 use std::marker::Model;
@@ -57,7 +68,7 @@ impl<const DEPTH: usize> Drop for Core<DEPTH> {
 }
 
 impl<const DEPTH: usize> Model for Core<DEPTH> {
-    ghost use Rattle.gateway.specs.Core.{Gateway, IsCore, standing_of};
+    ghost use Rattle.gateway.specs.event_core.Core.{Gateway, IsCore, standing_of};
 
     ghost Value = { Gateway };
 
@@ -69,13 +80,14 @@ impl<const DEPTH: usize> Model for Core<DEPTH> {
 impl<const DEPTH: usize> Core<DEPTH> {
     ghost use Rattle.std.specs.Prelude.{◌≡◌, ◌<◌, ◌≤◌, length, set, ℕ, None, IsSome, IfOk, IfErr, IfSome, OnOk};
     ghost use Rattle.verifier.specs.Verified.{HasLinks};
-    ghost use Rattle.gateway.specs.declared.fault.CoreFault.TheVariants.{Foreign, OutOfMemory};
+    ghost use Rattle.gateway.specs.declared.event_core.fault.CoreFault.TheVariants.{Foreign, OutOfMemory};
     ghost use Rattle.modbus_frame.specs.Message.{request_of, IsAnswerTo, IsRequest};
     ghost use Rattle.point_writer.specs.SetPoint.{IsPlanFor, WritesASetPoint};
     ghost use Rattle.site_model.specs.Readings.{AreSettings, known_at};
-    ghost use Rattle.gateway.specs.Core.{IsSame, RunsOn, StepsOn, gateway_of, numbers_of};
-    ghost use Rattle.gateway.specs.Driving.{Drives, ScansOnce};
-    ghost use Rattle.gateway.specs.SiteRun.{Does, IsScan, Replies, SaysWrote, WritesAt, after_block};
+    ghost use Rattle.gateway.specs.event_core.Core.{IsSame, RunsOn, StepsOn, gateway_of, numbers_of};
+    ghost use Rattle.gateway.specs.event_core.Driving.{Drives, ScansOnce};
+    ghost use Rattle.gateway.specs.event_core.Restoring.{NothingSets, SetsAlone};
+    ghost use Rattle.gateway.specs.event_core.SiteRun.{Does, IsScan, Replies, SaysWrote, WritesAt, after_block};
 
     /// A core on which nothing happened yet; all memory that its events need is taken here. `maps` has an entry for each
     /// of the site's devices. Foreign: the program was accepted for tags that the site doesn't have so; that comes before
@@ -225,6 +237,16 @@ impl<const DEPTH: usize> Core<DEPTH> {
         ensures { result.now ≡ self.now.standing.sets }
     {
         self.known.sets.as_slice()
+    }
+
+    /// The request by which a client sets a tag alone to this number, as one that was set before a restart. None where no
+    /// client can: the site has no such `set` tag, or no words of its point read as the number, exactly and in its range.
+    pub fn request_to_set(&self, tag: usize, number: i64) -> Option<Request>
+        ensures request { IfSome result IsRequest }
+        ensures sets { IfSome result (SetsAlone self.now.site tag number) }
+        ensures none { result ≡ None → NothingSets self.now.site tag number }
+    {
+        request_to_set(&self.site, self.points.as_slice(), tag, number)
     }
 
     /// How many instructions the last scan took; 0 before any.

@@ -2,13 +2,23 @@
 ghost use Rattle.std.specs.Prelude.{◌≡◌, [], None, Err, IfSome, IfOk, IfErr};
 ghost use Rattle.modbus_frame.specs.Link.{CountsCalls};
 ghost use Rattle.modbus_frame.specs.Message.{HasQuantity};
-ghost use Rattle.gateway.specs.Finding.{FindsAll, StopsUnless};
-ghost use Rattle.gateway.specs.LinkRun.{Suits};
-ghost use Rattle.gateway.specs.Polling.{Asks};
+ghost use Rattle.gateway.specs.poller.Finding.{FindsAll, StopsUnless};
+ghost use Rattle.gateway.specs.poller.LinkRun.{Suits};
+ghost use Rattle.gateway.specs.poller.Polling.{Asks};
 
-use crate::line::Line;
-use crate::outcome::Outcome;
+mod cycle;
+mod exchange;
+mod finding;
+mod line;
+mod outcome;
+mod polled;
+
+pub use cycle::{Call, Report, event_by, read_of, write_of};
+pub use exchange::{MOST_DROPPED, is_reply, request_frame};
+use line::Line;
 use modbus_frame::{Link, LinkFault, MOST_CALLS, Request};
+pub use outcome::Outcome;
+pub use polled::run_scan;
 use register_map::Map;
 use site_model::Site;
 use std::alloc::Global;
@@ -23,7 +33,7 @@ pub struct Poller<L: Link> {
 }
 
 impl<L: Link> Model for Poller<L> {
-    ghost use Rattle.gateway.specs.Polling.{Polling};
+    ghost use Rattle.gateway.specs.poller.Polling.{Polling};
 
     ghost Value = { Polling };
 

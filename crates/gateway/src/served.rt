@@ -1,12 +1,20 @@
 //! The served image: what each register of the gateway reads.
 ghost use Rattle.std.specs.Prelude.{◌≡◌, length};
-ghost use Rattle.gateway.specs.Points.{all_registers};
-ghost use Rattle.gateway.specs.ServedImage.{AreServed};
+ghost use Rattle.gateway.specs.served.Points.{all_registers};
+ghost use Rattle.gateway.specs.served.ServedImage.{AreServed};
 
-use crate::memory::Memory;
-use crate::point::OwnPoint;
-use crate::words::put_point;
+mod amount;
+mod point;
+mod points;
+mod words;
+
+use crate::event_core::Memory;
+pub(crate) use amount::own_value;
+pub(crate) use point::{OwnPoint, Source};
+pub(crate) use points::own_points;
 use site_model::Site;
+use words::put_point;
+pub(crate) use words::words_to_read;
 
 /// Puts what each point reads into its registers, which stand side by side.
 pub(crate) fn serve(points: &[OwnPoint], site: &Site, known: &Memory, image: &mut [u16])

@@ -11,8 +11,8 @@ use Rattle.modbus_frame.specs.Held.{Held}
 use Rattle.modbus_frame.specs.Message.{response_of}
 use Rattle.modbus_frame.specs.Reading.{Reading}
 use Rattle.modbus_frame.proofs.Streams.{AllByRecursion-more as each_more}
-use Rattle.gateway.specs.declared.outcome.Outcome.TheVariants as outcome
-use Rattle.gateway.specs.LinkRun.{is_reply, outcome_by, decided_within}
+use Rattle.gateway.specs.declared.poller.outcome.Outcome.TheVariants as outcome
+use Rattle.gateway.specs.poller.LinkRun.{is_reply, outcome_by, decided_within}
 use Rattle.service.specs.Hearing.{Wait, unused, Settles, StaysOpen, MeetsFault}
 
 -- These frames were dropped, and so many more may be.

@@ -5,9 +5,9 @@ use Rattle.std.proofs.lemmas.Option.{slice_get-map}
 use Rattle.site_model.specs.Wants.{Want}
 use Rattle.point_writer.specs.declared.write.Write.{Write}
 use Rattle.point_writer.specs.declared.write.NoWrite.{NoWrite}
-use Rattle.gateway.specs.declared.cycle.Call.{Call}
-use Rattle.gateway.specs.Core.{Gateway}
-use Rattle.gateway.specs.Cycle.{read_of}
+use Rattle.gateway.specs.declared.poller.cycle.Call.{Call}
+use Rattle.gateway.specs.event_core.Core.{Gateway}
+use Rattle.gateway.specs.poller.Cycle.{read_of}
 use Rattle.service.specs.declared.round.Turn.{Turn}
 use Rattle.service.specs.declared.round.Turn.TheVariants as turn
 use Rattle.service.specs.declared.task.Mark.{Mark}

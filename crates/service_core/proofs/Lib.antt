@@ -1,4 +1,6 @@
+pub mod Sought
 pub mod Runs
 pub mod Calls
 pub mod Rightful
 pub mod Opening
+pub mod Heard

@@ -7,15 +7,17 @@ use Rattle.site_model.specs.declared.site.Site.{Site}
 use Rattle.scan_code.specs.Image.{Image}
 use Rattle.verifier.specs.Verified.{Acceptance}
 use Rattle.modbus_frame.specs.declared.frame.Frame.{Frame}
-use Rattle.gateway.specs.declared.event.Event.{Event}
-use Rattle.gateway.specs.declared.event.Answer.{Answer}
-use Rattle.gateway.specs.declared.event.Event.TheVariants as event
-use Rattle.gateway.specs.declared.event.Answer.TheVariants as answer
-use Rattle.gateway.specs.Control.{Advances, AnswersFrame}
-use Rattle.gateway.specs.Core.{Gateway, IsSame, StepsOn, numbers_of}
-use Rattle.gateway.specs.SiteRun.{Runs, Standing, Steps}
+use Rattle.gateway.specs.declared.event_core.event.Event.{Event}
+use Rattle.gateway.specs.declared.event_core.event.Answer.{Answer}
+use Rattle.gateway.specs.declared.event_core.event.Event.TheVariants as event
+use Rattle.gateway.specs.declared.event_core.event.Answer.TheVariants as answer
+use Rattle.gateway.specs.event_core.Control.{Advances, AnswersFrame}
+use Rattle.gateway.specs.event_core.Core.{Gateway, IsSame, StepsOn, numbers_of}
+use Rattle.gateway.specs.event_core.SiteRun.{Runs, Standing, Steps}
 use Rattle.service.specs.Rounds.{IsRoundFor, Progress}
+use Rattle.service.specs.Searches.{Sought}
 use Rattle.service_core.specs.Course.{CoursesAreSiteRuns, IsNew, Reached, stays, steps, learns}
+use Rattle.service_core.specs.Seeking.{AreOf, IsFound}
 
 runs_then : (site : Site) (image : Image) (links : List ℕ) (budget : ℕ) (s : Standing) (es : List Event) (answers : List Answer) (t : Standing) (e : Event) (a : Answer) (u : Standing)
     → Runs site image links budget s es answers t → Steps site image links budget t e a u → Runs site image links budget s (es ++ e ∷ []) (answers ++ a ∷ []) u
@@ -32,7 +34,7 @@ moved g h e a i site accepted step =
 
 pub courses_are_site_runs : CoursesAreSiteRuns
 courses_are_site_runs g h (stays s) = ([], [], (refl, refl), refl, refl)
-courses_are_site_runs g h (learns {h = middle} before device found) = courses_are_site_runs g middle before
+courses_are_site_runs g h (learns {h = middle} before device found is) = courses_are_site_runs g middle before
 courses_are_site_runs g h (steps {h = middle} before e a i one) =
     let (es, answers, run, site, accepted) = courses_are_site_runs g middle before in (
       es ++ e ∷ [],
@@ -45,8 +47,8 @@ courses_are_site_runs g h (steps {h = middle} before e a i one) =
 step_on : (g : Gateway) (e : Event) (a : Answer) (h : Gateway) → Reached g → StepsOn g e a h → IsSame g h → Reached h
 step_on g e a h from step same = record { first = from.first; opening = from.opening; goes = steps from.goes e a h (step, same) }
 
-learn_on : (g : Gateway) (device : ℕ) (found : Option Layout) (h : Gateway) → Reached g → h ≡ record g { maps = set g.maps device found } → Reached h
-learn_on g device found h from is = subst Reached (sym is) (record { first = from.first; opening = from.opening; goes = learns from.goes device found })
+learn_on : (g : Gateway) (device : ℕ) (found : Option Layout) (h : Gateway) → Reached g → IsFound g.site device found → h ≡ record g { maps = set g.maps device found } → Reached h
+learn_on g device found h from own is = subst Reached (sym is) (record { first = from.first; opening = from.opening; goes = learns from.goes device found own })
 
 answer_on : (g : Gateway) (frame : Frame) (bytes : List ℕ) (goes_on : Bool) (h : Gateway) → Reached g → AnswersFrame g frame bytes goes_on h → Reached h
 answer_on g frame bytes goes_on h from answers = go (eqb_tells frame.unit g.site.unit)
@@ -70,8 +72,8 @@ reached_opening g opening = ∣ record { first = g; opening = opening; goes = st
 pub reached_step : (g : Gateway) (e : Event) (a : Answer) (h : Gateway) → ∥ Reached g ∥₁ → StepsOn g e a h → IsSame g h → ∥ Reached h ∥₁
 reached_step g e a h from step same = ∥∥₁_elim from ∥∥₁_prop (λ r. ∣ step_on g e a h r step same ∣₁)
 
-pub reached_learn : (g : Gateway) (device : ℕ) (found : Option Layout) (h : Gateway) → ∥ Reached g ∥₁ → h ≡ record g { maps = set g.maps device found } → ∥ Reached h ∥₁
-reached_learn g device found h from is = ∥∥₁_elim from ∥∥₁_prop (λ r. ∣ learn_on g device found h r is ∣₁)
+pub reached_learn : (g : Gateway) (device : ℕ) (found : Option Layout) (h : Gateway) → ∥ Reached g ∥₁ → ∥ IsFound g.site device found ∥₁ → h ≡ record g { maps = set g.maps device found } → ∥ Reached h ∥₁
+reached_learn g device found h from own is = ∥∥₁_elim from ∥∥₁_prop (λ r. ∥∥₁_elim own ∥∥₁_prop (λ o. ∣ learn_on g device found h r o is ∣₁))
 
 pub reached_answer : (g : Gateway) (frame : Frame) (bytes : List ℕ) (goes_on : Bool) (h : Gateway) → ∥ Reached g ∥₁ → AnswersFrame g frame bytes goes_on h → ∥ Reached h ∥₁
 reached_answer g frame bytes goes_on h from answers = ∥∥₁_elim from ∥∥₁_prop (λ r. ∣ answer_on g frame bytes goes_on h r answers ∣₁)
@@ -92,3 +94,14 @@ reached_behind g m frame bytes goes_on h from same answers = reached_answer m fr
 
 pub round_behind : (g m : Gateway) (frame : Frame) (bytes : List ℕ) (goes_on : Bool) (h : Gateway) (p : Progress) → IsRoundFor g.site p → m ≡ g → AnswersFrame m frame bytes goes_on h → IsRoundFor h.site p
 round_behind g m frame bytes goes_on h p fits same answers = round_stays m frame bytes goes_on h p (subst (λ (x : Gateway). IsRoundFor x.site p) (sym same) fits) answers
+
+-- ---- the searches are for the same site
+
+sought_stays : (g : Gateway) (h : Gateway) (searches : List Sought) → AreOf g.site searches → h.site ≡ g.site → AreOf h.site searches
+sought_stays g h searches own same = subst (λ (s : Site). AreOf s searches) (sym same) own
+
+pub sought_after : (g m : Gateway) (e : Event) (a : Answer) (h : Gateway) (searches : List Sought) → AreOf g.site searches → m ≡ g → Advances m e a h → AreOf h.site searches
+sought_after g m e a h searches own same one = sought_stays m h searches (subst (λ (x : Gateway). AreOf x.site searches) (sym same) own) (one.1).site
+
+pub sought_behind : (g m : Gateway) (frame : Frame) (bytes : List ℕ) (goes_on : Bool) (h : Gateway) (searches : List Sought) → AreOf g.site searches → m ≡ g → AnswersFrame m frame bytes goes_on h → AreOf h.site searches
+sought_behind g m frame bytes goes_on h searches own same answers = sought_stays m h searches (subst (λ (x : Gateway). AreOf x.site searches) (sym same) own) (same_site m frame bytes goes_on h answers)

@@ -3,10 +3,10 @@ use Rattle.std.specs.Prelude.{◌≡◌, ◌⊎◌, ℕ, Some, Result, slice_get
 use Rattle.site_model.specs.Wants.{Want}
 use Rattle.point_writer.specs.declared.write.Write.{Write}
 use Rattle.point_writer.specs.declared.write.NoWrite.{NoWrite}
-use Rattle.gateway.specs.declared.cycle.Call.{Call}
-use Rattle.gateway.specs.Control.{IsPlanned}
-use Rattle.gateway.specs.Core.{Gateway}
-use Rattle.gateway.specs.Cycle.{read_of}
+use Rattle.gateway.specs.declared.poller.cycle.Call.{Call}
+use Rattle.gateway.specs.event_core.Control.{IsPlanned}
+use Rattle.gateway.specs.event_core.Core.{Gateway}
+use Rattle.gateway.specs.poller.Cycle.{read_of}
 use Rattle.service.specs.Rounds.{write_to}
 
 -- It reads one of the blocks that are wanted of the device, by the map that this has now.

@@ -1,4 +1,6 @@
+pub mod Seeking
 pub mod Course
 pub mod Calls
 pub mod Requests
 pub mod Counting
+pub mod Clients

@@ -1,7 +1,9 @@
 //! What is asked of devices next.
-ghost use Rattle.std.specs.Prelude.{IfSome};
+ghost use Rattle.std.specs.Prelude.{◌≡◌, ◌<◌, ℕ, IfSome, Some, length, set, slice_get};
 ghost use Rattle.modbus_frame.specs.Message.{HasQuantity};
-ghost use Rattle.service_core.specs.Requests.{MayBeAsked};
+ghost use Rattle.service.specs.declared.search.Step.TheVariants.{Found};
+ghost use Rattle.service_core.specs.Requests.{MayGoOver};
+ghost use Rattle.service_core.specs.Seeking.{IsSought};
 
 use crate::note::Note;
 use crate::service_state::Service;
@@ -9,7 +11,7 @@ use crate::times::sooner;
 use crate::wire::{Aim, Asked};
 use modbus_frame::Request;
 use register_map::Map;
-use service::Step;
+use service::{Fate, Step};
 
 /// A request that may begin.
 #[derive(Drop)]
@@ -29,14 +31,20 @@ enum Purpose {
 
 impl<const DEPTH: usize> Service<DEPTH> {
     /// Begins requests on all connections that are free.
-    pub(crate) fn ask_all(&mut self) {
+    pub(crate) fn ask_all(&mut self)
+        ensures links { self.new.lines.links ≡ self.old.lines.links }
+        ensures places { self.new.places.items ≡ self.old.places.items }
+    {
         for link in 0..self.wires.len() {
             self.ask(link);
         }
     }
 
     /// Begins requests on a connection until one is under way, or none is left to begin.
-    fn ask(&mut self, link: usize) {
+    fn ask(&mut self, link: usize)
+        ensures links { self.new.lines.links ≡ self.old.lines.links }
+        ensures places { self.new.places.items ≡ self.old.places.items }
+    {
         for _ in 0..self.devices.len().saturating_add(64) {
             if !self.may_ask(link) {
                 return;
@@ -51,13 +59,16 @@ impl<const DEPTH: usize> Service<DEPTH> {
     /// Whether a connection is free, and may have something to ask.
     fn may_ask(&self, link: usize) -> bool {
         match self.wires.get(link) {
-            Some(wire) => wire.is_free() && wire.is_stirred(self.now),
+            Some(wire) => wire.is_stirred(self.now) && self.is_free(link),
             None => false,
         }
     }
 
     /// There is nothing to ask over the connection before one of its devices may be asked again, or something happens.
-    fn rest_link(&mut self, link: usize) {
+    fn rest_link(&mut self, link: usize)
+        ensures links { self.new.lines.links ≡ self.old.lines.links }
+        ensures places { self.new.places.items ≡ self.old.places.items }
+    {
         let mut until = u64::MAX;
         for i in 0..self.device_count(link) {
             until = self.asked_again_by(link, i, until);
@@ -88,12 +99,14 @@ impl<const DEPTH: usize> Service<DEPTH> {
 
     /// The number of a connection's device.
     fn device_at(&self, link: usize, i: usize) -> Option<usize> {
-        let found = self.wires.get(link)?.devices().get(i)?;
-        Some(found.device)
+        self.wires.get(link)?.devices().get(i).copied()
     }
 
     /// Asks the next device in turn that there is something to ask of; whether there is one.
-    fn ask_for(&mut self, link: usize, purpose: Purpose) -> bool {
+    fn ask_for(&mut self, link: usize, purpose: Purpose) -> bool
+        ensures links { self.new.lines.links ≡ self.old.lines.links }
+        ensures places { self.new.places.items ≡ self.old.places.items }
+    {
         let turn = match self.wires.get(link) {
             Some(wire) => wire.turn(),
             None => return false,
@@ -103,7 +116,10 @@ impl<const DEPTH: usize> Service<DEPTH> {
     }
 
     /// The same among the devices with these numbers.
-    fn ask_between(&mut self, link: usize, purpose: Purpose, first: usize, end: usize) -> bool {
+    fn ask_between(&mut self, link: usize, purpose: Purpose, first: usize, end: usize) -> bool
+        ensures links { self.new.lines.links ≡ self.old.lines.links }
+        ensures places { self.new.places.items ≡ self.old.places.items }
+    {
         for i in 0..self.device_count(link) {
             if let Some(device) = self.device_at(link, i) {
                 if first <= device && device < end && self.ask_device(link, device, purpose) {
@@ -114,11 +130,14 @@ impl<const DEPTH: usize> Service<DEPTH> {
         false
     }
 
-    fn ask_device(&mut self, link: usize, device: usize, purpose: Purpose) -> bool {
+    fn ask_device(&mut self, link: usize, device: usize, purpose: Purpose) -> bool
+        ensures links { self.new.lines.links ≡ self.old.lines.links }
+        ensures places { self.new.places.items ≡ self.old.places.items }
+    {
         if !self.is_rested(device) {
             return false;
         }
-        match self.wish_of(device, purpose) {
+        match self.wish_of(link, device, purpose) {
             Some(wish) => {
                 self.begin(link, device, wish);
                 true
@@ -127,28 +146,37 @@ impl<const DEPTH: usize> Service<DEPTH> {
         }
     }
 
-    fn is_rested(&self, device: usize) -> bool {
+    pub(crate) fn is_rested(&self, device: usize) -> bool {
         match self.devices.get(device) {
             Some(found) => found.is_rested(self.now),
             None => false,
         }
     }
 
-    fn wish_of(&mut self, device: usize, purpose: Purpose) -> Option<Wish>
+    fn wish_of(&mut self, link: usize, device: usize, purpose: Purpose) -> Option<Wish>
         ensures quantity { IfSome result (λ wish. HasQuantity wish.request) }
-        ensures asked { IfSome result (λ wish. ∥ MayBeAsked device wish.request ∥₁) }
+        ensures asked { IfSome result (λ wish. MayGoOver self.new.cycle.core.value self.new.lines.links.numbers.items self.new.lines.found_on.items link device wish.request) }
+        ensures links { self.new.lines.links ≡ self.old.lines.links }
+        ensures places { self.new.places.items ≡ self.old.places.items }
     {
         match (self.cycle.is_mapped(device), purpose) {
-            (true, Purpose::Round) => self.wish_of_round(device),
-            (false, Purpose::Search) => self.wish_of_search(device),
+            (true, Purpose::Round) => self.wish_of_round(link, device),
+            (false, Purpose::Search) => self.wish_of_search(link, device),
             _ => None,
         }
     }
 
-    fn wish_of_round(&mut self, device: usize) -> Option<Wish>
+    /// A request of the round, by the map that was found over this very connection.
+    #[tactic(auto, using(crate::proofs::Rightful::round_over))]
+    fn wish_of_round(&mut self, link: usize, device: usize) -> Option<Wish>
         ensures quantity { IfSome result (λ wish. HasQuantity wish.request) }
-        ensures asked { IfSome result (λ wish. ∥ MayBeAsked device wish.request ∥₁) }
+        ensures asked { IfSome result (λ wish. MayGoOver self.new.cycle.core.value self.new.lines.links.numbers.items self.new.lines.found_on.items link device wish.request) }
+        ensures links { self.new.lines.links ≡ self.old.lines.links }
+        ensures places { self.new.places.items ≡ self.old.places.items }
     {
+        if !self.lines.is_found(link, device) {
+            return None;
+        }
         let call = self.cycle.next(device)?;
         let aim = self.aim_of(device);
         Some(Wish {
@@ -164,22 +192,23 @@ impl<const DEPTH: usize> Service<DEPTH> {
         }
     }
 
-    #[tactic(auto, using(crate::proofs::Rightful::next_read))]
-    fn wish_of_search(&mut self, device: usize) -> Option<Wish>
+    #[tactic(auto, using(crate::proofs::Rightful::search_over))]
+    fn wish_of_search(&mut self, link: usize, device: usize) -> Option<Wish>
         ensures quantity { IfSome result (λ wish. HasQuantity wish.request) }
-        ensures asked { IfSome result (λ wish. ∥ MayBeAsked device wish.request ∥₁) }
+        ensures asked { IfSome result (λ wish. MayGoOver self.new.cycle.core.value self.new.lines.links.numbers.items self.new.lines.found_on.items link device wish.request) }
+        ensures links { self.new.lines.links ≡ self.old.lines.links }
+        ensures places { self.new.places.items ≡ self.old.places.items }
     {
-        let found = self.devices.get(device)?;
-        if !found.is_sought(self.now) {
+        if !self.is_sought(device) {
             return None;
         }
-        match found.seek() {
+        match self.cycle.seek(device)? {
             Step::Ask(request) => Some(Wish {
                 aim: Aim::Map,
                 request,
             }),
             Step::Found(map) => {
-                self.find(device, map);
+                self.find(link, device, map);
                 None
             }
             Step::NoMap => {
@@ -189,16 +218,35 @@ impl<const DEPTH: usize> Service<DEPTH> {
         }
     }
 
-    fn find(&mut self, device: usize, map: Map) {
+    fn is_sought(&self, device: usize) -> bool {
+        match self.devices.get(device) {
+            Some(found) => found.is_sought(self.now),
+            None => false,
+        }
+    }
+
+    fn find(&mut self, link: usize, device: usize, map: Map)
+        requires { ∥ IsSought self.old.cycle.core.value.site device (Found map) ∥₁ }
+        ensures learned { device < length self.old.cycle.core.value.site.devices → self.new.cycle.core.value.maps ≡ set self.old.cycle.core.value.maps device (Some map) }
+        ensures found { (number : ℕ) (unit : ℕ) → slice_get self.old.lines.links.numbers.items link ≡ Some number → slice_get self.old.lines.links.stations.items device ≡ Some (record { link = link; unit = unit })
+            → device < length self.old.lines.found_on.items → self.new.lines.found_on.items ≡ set self.old.lines.found_on.items device (Some number) }
+        ensures links { self.new.lines.links ≡ self.old.lines.links }
+        ensures places { self.new.places.items ≡ self.old.places.items }
+    {
         self.cycle.learn(device, Some(map));
+        self.lines.find(link, device);
         if let Some(found) = self.devices.get_mut(device) {
             found.is_lost = false;
         }
         self.notes.add(Note::Found(device));
     }
 
-    fn find_none(&mut self, device: usize) {
+    fn find_none(&mut self, device: usize)
+        ensures links { self.new.lines.links ≡ self.old.lines.links }
+        ensures places { self.new.places.items ≡ self.old.places.items }
+    {
         let again = self.now.saturating_add(self.limits.search_again);
+        self.cycle.seek_anew(device);
         if let Some(found) = self.devices.get_mut(device) {
             found.seek_from(again);
         }
@@ -207,7 +255,9 @@ impl<const DEPTH: usize> Service<DEPTH> {
 
     fn begin(&mut self, link: usize, device: usize, wish: Wish)
         requires quantity { HasQuantity wish.request }
-        requires asked { ∥ MayBeAsked device wish.request ∥₁ }
+        requires asked { MayGoOver self.old.cycle.core.value self.old.lines.links.numbers.items self.old.lines.found_on.items link device wish.request }
+        ensures links { self.new.lines.links ≡ self.old.lines.links }
+        ensures places { self.new.places.items ≡ self.old.places.items }
     {
         let asked = Asked {
             device,
@@ -215,16 +265,31 @@ impl<const DEPTH: usize> Service<DEPTH> {
             since: self.now,
             until: self.until(wish.aim),
         };
-        let fate = match self.wires.get_mut(link) {
-            Some(wire) => wire.begin(asked, wish.request),
-            None => return,
-        };
+        let fate = self.start(link, asked, wish.request);
         if let Some(found) = self.devices.get_mut(device) {
             found.counts.ask();
         }
         if let Some(fate) = fate {
             self.settle(link, fate);
         }
+    }
+
+    /// Begins a request, where the connection is free. What becomes of it may stand in the bytes that came before.
+    #[tactic(auto, using(crate::proofs::Rightful::whole_frame))]
+    fn start(&mut self, link: usize, asked: Asked, request: Request) -> Option<Fate>
+        requires quantity { HasQuantity request }
+        requires asked { MayGoOver self.old.cycle.core.value self.old.lines.links.numbers.items self.old.lines.found_on.items link asked.device request }
+        ensures links { self.new.lines.links ≡ self.old.lines.links }
+        ensures places { self.new.places.items ≡ self.old.places.items }
+    {
+        let unit = self.lines.unit_at(asked.device, link)?;
+        if !self.lines.is_sent(link) {
+            return None;
+        }
+        let wire = self.wires.get_mut(link)?;
+        let bytes = wire.begin(asked, unit, request)?;
+        self.lines.put(link, bytes);
+        wire.fate()
     }
 
     /// Until when an answer is waited for. A search takes nothing of the next round.

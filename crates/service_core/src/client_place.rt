@@ -1,5 +1,5 @@
 //! A place for a client.
-ghost use Rattle.std.specs.Prelude.{◌≡◌, ◌≤◌, length, take};
+ghost use Rattle.std.specs.Prelude.{◌≡◌, ◌≤◌, ◌↔◌, length, take, IsTrue, true, false};
 ghost use Rattle.service.specs.Sessions.{ServesOn};
 
 use crate::scan_cycle::ScanCycle;
@@ -26,6 +26,8 @@ pub(crate) struct ClientPlace {
 }
 
 impl ClientPlace {
+    ghost use Rattle.service_core.specs.Clients.{Hears, IsDeaf, IsOpen, Sends, ready_of};
+
     pub(crate) fn new() -> ClientPlace {
         ClientPlace {
             session: Session::new(),
@@ -54,7 +56,9 @@ impl ClientPlace {
     }
 
     /// A client comes.
-    pub(crate) fn open(&mut self, may_write: bool, now: u64) {
+    pub(crate) fn open(&mut self, may_write: bool, now: u64)
+        ensures { IsOpen may_write self.new }
+    {
         self.session = Session::new();
         self.may_write = may_write;
         self.start = 0;
@@ -65,13 +69,18 @@ impl ClientPlace {
     }
 
     /// Its client is gone.
-    pub(crate) fn leave(&mut self) {
+    pub(crate) fn leave(&mut self)
+        ensures { self.new.is_taken ≡ false }
+    {
         self.open(false, 0);
         self.is_taken = false;
     }
 
     /// Its client is to be closed.
-    pub(crate) fn close(&mut self) {
+    pub(crate) fn close(&mut self)
+        ensures closing { self.new.is_closing ≡ true }
+        ensures rest { self.new ≡ record self.old { is_closing = self.new.is_closing } }
+    {
         self.is_closing = true;
     }
 
@@ -80,12 +89,16 @@ impl ClientPlace {
     }
 
     /// The bytes that are to go out.
-    pub(crate) fn out(&self) -> &[u8] {
+    pub(crate) fn out(&self) -> &[u8]
+        ensures { result.now ≡ ready_of self.now }
+    {
         &self.out[self.start..self.end]
     }
 
     /// So many bytes are gone; what still waits takes their place once all are.
-    pub(crate) fn sent(&mut self, n: usize) {
+    pub(crate) fn sent(&mut self, n: usize)
+        ensures { Sends self.old n self.new }
+    {
         self.start += n.min(self.end - self.start);
         if self.start == self.end {
             let end = self.session.put(&mut self.out);
@@ -94,16 +107,30 @@ impl ClientPlace {
         }
     }
 
-    /// Takes bytes of the client, and answers frames in them, at most 8; how many bytes it used.
+    /// Whether nothing more is heard of its client: nobody is there, it is to be closed, or its stream is over.
+    fn is_deaf(&self) -> bool
+        ensures { IsTrue result ↔ IsDeaf self.now }
+    {
+        !self.is_taken || self.is_closing || self.session.is_over()
+    }
+
+    /// Takes bytes of the client, and answers frames in them, at most 8; how many bytes it used: none while answers are to
+    /// go out, and all that come once nothing more is heard of it.
     pub(crate) fn take<const DEPTH: usize>(
         &mut self,
         cycle: &mut ScanCycle<DEPTH>,
         bytes: &[u8],
         now: u64,
-    ) -> usize {
-        if !self.is_taken || self.is_closing || self.session.is_over() {
+    ) -> usize
+        ensures used { result ≤ length bytes.now }
+        ensures hears { (IsDeaf self.old → ⊥) → Hears ⟦<ScanCycle<DEPTH> as Responder>⟧.answers (record cycle.old { may_write = self.old.may_write })
+            self.old (take result bytes.now) cycle.new self.new }
+        ensures deaf { IsDeaf self.old → (self.new ≡ self.old) × (cycle.new ≡ cycle.old) }
+    {
+        if self.is_deaf() {
             return bytes.len();
         }
+        cycle.turn_to(self.may_write);
         if self.start < self.end {
             return 0;
         }
@@ -117,12 +144,11 @@ impl ClientPlace {
 
     // One turn of the client.
     fn serve<const DEPTH: usize>(&mut self, cycle: &mut ScanCycle<DEPTH>, bytes: &[u8]) -> usize
-        ensures serves { ServesOn ⟦<ScanCycle<DEPTH> as Responder>⟧.answers 8 (record cycle.old { may_write = self.old.may_write })
+        ensures serves { ServesOn ⟦<ScanCycle<DEPTH> as Responder>⟧.answers 8 cycle.old
             self.old.session (take result bytes.now) (take self.new.end self.new.out) cycle.new self.new.session }
         ensures used { result ≤ length bytes.now }
         ensures front { self.new.start ≡ 0 }
     {
-        cycle.turn_to(self.may_write);
         let turned = self.session.turn(cycle, bytes, &mut self.out);
         self.start = 0;
         self.end = turned.put;

@@ -1,5 +1,11 @@
 //! The clients' side.
+ghost use Rattle.std.specs.Prelude.{◌≡◌, ◌≤◌, List, [], length, take, slice_get, Some, IfSome, false};
+ghost use Rattle.service_core.specs.declared.client_place.ClientPlace.{ClientPlace as Place};
+ghost use Rattle.service_core.specs.Clients.{DoesAt, Hears, IsDeaf, IsOpen, OthersStay, PlacesStay, Sends, ready_of};
+
+use crate::scan_cycle::ScanCycle;
 use crate::service_state::Service;
+use modbus_frame::Responder;
 
 /// A client that was silent for more than this may lose its place to another one.
 const GIVES_WAY: u64 = 30_000;
@@ -7,7 +13,11 @@ const GIVES_WAY: u64 = 30_000;
 impl<const DEPTH: usize> Service<DEPTH> {
     /// A client came: its place, or none where it is to be closed. That may be the place of the one that was silent
     /// longest, for over half a minute: that one's connection is to be closed.
-    pub fn client_came(&mut self, may_write: bool, now: u64) -> Option<usize> {
+    pub fn client_came(&mut self, may_write: bool, now: u64) -> Option<usize>
+        ensures links { self.new.lines.links ≡ self.old.lines.links }
+        ensures open { IfSome result (λ place. (c : Place) × (slice_get self.new.places.items place ≡ Some c) × IsOpen may_write c) }
+        ensures others { IfSome result (λ place. OthersStay self.old.places.items place self.new.places.items) }
+    {
         self.turn_to(now);
         let place = match self.free_place() {
             Some(place) => place,
@@ -40,7 +50,10 @@ impl<const DEPTH: usize> Service<DEPTH> {
     }
 
     /// The client at the place is gone.
-    pub fn client_gone(&mut self, place: usize) {
+    pub fn client_gone(&mut self, place: usize)
+        ensures links { self.new.lines.links ≡ self.old.lines.links }
+        ensures gone { DoesAt (λ c d. d.is_taken ≡ false) self.old.places.items place self.new.places.items }
+    {
         if let Some(client) = self.places.get_mut(place) {
             client.leave();
         }
@@ -48,9 +61,14 @@ impl<const DEPTH: usize> Service<DEPTH> {
 
     /// Bytes of a client; how many of them were used: none while its answers wait, and at most 8 frames. The rest is to be
     /// given again.
-    pub fn from_client(&mut self, place: usize, bytes: &[u8], now: u64) -> usize {
-        self.turn_to(now);
-        let now = self.now;
+    pub fn from_client(&mut self, place: usize, bytes: &[u8], now: u64) -> usize
+        ensures links { self.new.lines.links ≡ self.old.lines.links }
+        ensures used { result ≤ length bytes.now }
+        ensures hears { DoesAt (λ c d. (IsDeaf c → ⊥) → Hears ⟦<ScanCycle<DEPTH> as Responder>⟧.answers (record self.old.cycle { may_write = c.may_write })
+            c (take result bytes.now) self.new.cycle d) self.old.places.items place self.new.places.items }
+    {
+        let now = self.now.max(now);
+        self.now = now;
         match self.places.get_mut(place) {
             Some(client) => client.take(&mut self.cycle, bytes, now),
             None => bytes.len(),
@@ -58,7 +76,9 @@ impl<const DEPTH: usize> Service<DEPTH> {
     }
 
     /// What is to be written to a client.
-    pub fn to_client(&self, place: usize) -> &[u8] {
+    pub fn to_client(&self, place: usize) -> &[u8]
+        ensures { (c : Place) → slice_get self.entry.now.places.items place ≡ Some c → result.now ≡ ready_of c }
+    {
         match self.places.get(place) {
             Some(client) => client.out(),
             None => &[],
@@ -66,7 +86,10 @@ impl<const DEPTH: usize> Service<DEPTH> {
     }
 
     /// So many bytes are written to a client.
-    pub fn sent_to_client(&mut self, place: usize, n: usize) {
+    pub fn sent_to_client(&mut self, place: usize, n: usize)
+        ensures links { self.new.lines.links ≡ self.old.lines.links }
+        ensures sends { DoesAt (λ c d. Sends c n d) self.old.places.items place self.new.places.items }
+    {
         if let Some(client) = self.places.get_mut(place) {
             client.sent(n);
         }
@@ -81,19 +104,34 @@ impl<const DEPTH: usize> Service<DEPTH> {
     }
 
     /// Clients that were silent for too long are to be closed.
-    pub(crate) fn close_idle(&mut self) {
+    pub(crate) fn close_idle(&mut self)
+        ensures links { self.new.lines.links ≡ self.old.lines.links }
+        ensures places { PlacesStay self.old.places.items self.new.places.items }
+    {
         for place in 0..self.places.len() {
             self.close_if_idle(place);
         }
     }
 
-    fn close_if_idle(&mut self, place: usize) {
-        let now = self.now;
-        let idle = self.limits.idle;
+    fn close_if_idle(&mut self, place: usize)
+        ensures links { self.new.lines.links ≡ self.old.lines.links }
+        ensures places { PlacesStay self.old.places.items self.new.places.items }
+    {
+        if !self.is_idle(place) {
+            return;
+        }
         if let Some(client) = self.places.get_mut(place) {
-            if client.is_waited_for() && now >= client.last().saturating_add(idle) {
-                client.close();
+            client.close();
+        }
+    }
+
+    /// Whether a client was silent for too long.
+    fn is_idle(&self, place: usize) -> bool {
+        match self.places.get(place) {
+            Some(client) => {
+                client.is_waited_for() && self.now >= client.last().saturating_add(self.limits.idle)
             }
+            None => false,
         }
     }
 }

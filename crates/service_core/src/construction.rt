@@ -1,14 +1,15 @@
 //! A service is made.
-ghost use Rattle.std.specs.Prelude.{◌≡◌, ◌≤◌, IfErr, IfOk, OnOk};
+ghost use Rattle.std.specs.Prelude.{◌≡◌, ◌≤◌, replicate, IfErr, IfOk, OnOk};
 ghost use Rattle.verifier.specs.Verified.{HasLinks};
-ghost use Rattle.gateway.specs.declared.fault.CoreFault.TheVariants.{Foreign};
-ghost use Rattle.gateway.specs.Core.{gateway_of};
-ghost use Rattle.gateway.specs.SiteRun.{none_of};
+ghost use Rattle.gateway.specs.declared.event_core.fault.CoreFault.TheVariants.{Foreign};
+ghost use Rattle.gateway.specs.event_core.Core.{gateway_of};
+ghost use Rattle.gateway.specs.event_core.SiteRun.{none_of};
 ghost use Rattle.service_core.specs.Course.{IsNew};
 
 use crate::client_place::ClientPlace;
 use crate::device::Device;
-use crate::limits::{Limits, LinkDevice, Station};
+use crate::limits::{Limits, Station};
+use crate::lines::Lines;
 use crate::notes::Notes;
 use crate::output::Output;
 use crate::scan_cycle::ScanCycle;
@@ -19,12 +20,6 @@ use register_map::Map;
 use scan_vm::Machine;
 use site_model::{Site, SiteDevice};
 use std::alloc::{AllocError, Global};
-
-/// Where a device is that has no station: over no connection.
-const NOWHERE: Station = Station {
-    link: usize::MAX,
-    unit: 0,
-};
 
 impl<const DEPTH: usize> Service<DEPTH> {
     /// A service for a site and the program that runs, over so many connections, all of them down; no device has a map
@@ -43,6 +38,8 @@ impl<const DEPTH: usize> Service<DEPTH> {
         requires { DEPTH ≤ 65536 }
         ensures opened { IfOk result (λ service. service.cycle.core.value ≡ gateway_of site (none_of site.devices) machine.entry) }
         ensures matched { OnOk result (HasLinks site.tags machine.entry.accepted.links) }
+        ensures stations { IfOk result (λ service. service.lines.links.stations.items ≡ stations.now) }
+        ensures numbers { IfOk result (λ service. service.lines.links.numbers.items ≡ replicate links 0) }
         ensures foreign { IfErr result (λ e. e ≡ Foreign → HasLinks site.tags machine.entry.accepted.links → ⊥) }
     {
         let maps = no_maps(alloc, site.devices())?;
@@ -64,16 +61,20 @@ impl<const DEPTH: usize> Service<DEPTH> {
     ) -> Result<Service<DEPTH>, AllocError>
         requires small { DEPTH ≤ 65536 }
         requires opened { IsNew core }
-        ensures { IfOk result (λ service. service.cycle.core.value ≡ core.entry) }
+        ensures opened { IfOk result (λ service. service.cycle.core.value ≡ core.entry) }
+        ensures stations { IfOk result (λ service. service.lines.links.stations.items ≡ stations.now) }
+        ensures numbers { IfOk result (λ service. service.lines.links.numbers.items ≡ replicate links 0) }
     {
-        let devices = devices_at(alloc, core.site().devices(), stations)?;
+        let devices = devices_of(alloc, core.site().devices().len())?;
         let outputs = outputs_of(alloc, core.site().outs())?;
-        let wires = wires_to(alloc, links, &devices)?;
+        let wires = wires_to(alloc, links, stations, devices.len())?;
+        let lines = Lines::new(alloc, links, stations)?;
         let places = places_for(alloc, limits.clients)?;
         let notes = Notes::new(alloc, most_notes(devices.len(), outputs.len()))?;
         let cycle = ScanCycle::new(alloc, core)?;
         Ok(Service {
             cycle,
+            lines,
             wires,
             devices,
             outputs,
@@ -102,23 +103,12 @@ fn most_notes(devices: usize, outputs: usize) -> usize {
         .saturating_add(16)
 }
 
-fn devices_at(
-    alloc: Global,
-    of: &[SiteDevice],
-    stations: &[Station],
-) -> Result<Vec<Device>, AllocError> {
+fn devices_of(alloc: Global, count: usize) -> Result<Vec<Device>, AllocError> {
     let mut devices = Vec::new(alloc);
-    for (i, device) in of.iter().enumerate() {
-        devices.push(Device::new(station_at(stations, i), device.base))?;
+    for _ in 0..count {
+        devices.push(Device::new())?;
     }
     Ok(devices)
-}
-
-fn station_at(stations: &[Station], i: usize) -> Station {
-    match stations.get(i) {
-        Some(station) => *station,
-        None => NOWHERE,
-    }
 }
 
 fn outputs_of(alloc: Global, outs: &[usize]) -> Result<Vec<Output>, AllocError> {
@@ -129,27 +119,30 @@ fn outputs_of(alloc: Global, outs: &[usize]) -> Result<Vec<Output>, AllocError> 
     Ok(outputs)
 }
 
-fn wires_to(alloc: Global, links: usize, devices: &[Device]) -> Result<Vec<Wire>, AllocError> {
+fn wires_to(
+    alloc: Global,
+    links: usize,
+    stations: &[Station],
+    devices: usize,
+) -> Result<Vec<Wire>, AllocError> {
     let mut wires = Vec::new(alloc);
     for link in 0..links {
-        wires.push(Wire::new(devices_of(alloc, link, devices)?))?;
+        wires.push(Wire::new(devices_on(alloc, link, stations, devices)?))?;
     }
     Ok(wires)
 }
 
-/// The devices of a connection.
-fn devices_of(
+/// Which of so many devices are reached over a connection.
+fn devices_on(
     alloc: Global,
     link: usize,
-    devices: &[Device],
-) -> Result<Vec<LinkDevice>, AllocError> {
+    stations: &[Station],
+    devices: usize,
+) -> Result<Vec<usize>, AllocError> {
     let mut found = Vec::new(alloc);
-    for (i, device) in devices.iter().enumerate() {
-        if device.station.link == link {
-            found.push(LinkDevice {
-                device: i,
-                unit: device.station.unit,
-            })?;
+    for (device, station) in stations.iter().enumerate() {
+        if device < devices && station.link == link {
+            found.push(device)?;
         }
     }
     Ok(found)

@@ -1,19 +1,12 @@
 //! What is known of a device, apart from its map.
-ghost use Rattle.service.specs.Searches.{HasStepQuantity, IsNext};
-
 use crate::counts::Counts;
-use crate::limits::{Limits, Station};
+use crate::limits::Limits;
 use crate::note::Loss;
 use crate::times::longer;
-use gateway::Outcome;
-use service::{Search, Step};
 
-/// A device: where it is, and when it may be asked.
+/// A device: when it may be asked, and whether it is lost.
 #[derive(Drop)]
 pub(crate) struct Device {
-    pub(crate) station: Station,
-    base: Option<u16>,
-    search: Search,
     /// Before this time no search begins.
     search_at: u64,
     /// Before this time it isn't asked.
@@ -27,11 +20,8 @@ pub(crate) struct Device {
 }
 
 impl Device {
-    pub(crate) fn new(station: Station, base: Option<u16>) -> Device {
+    pub(crate) fn new() -> Device {
         Device {
-            station,
-            base,
-            search: Search::new(base),
             search_at: 0,
             rest_until: 0,
             wait: 0,
@@ -56,24 +46,8 @@ impl Device {
         self.rest_until.max(self.search_at)
     }
 
-    /// The next step of its search.
-    pub(crate) fn seek(&self) -> Step
-        ensures next { IsNext self.now.search result }
-        ensures quantity { HasStepQuantity result }
-    {
-        self.search.next()
-    }
-
-    /// Takes what came of a read of its search.
-    pub(crate) fn learn(&mut self, outcome: &Outcome) {
-        if !self.search.is_full() {
-            self.search.take(outcome);
-        }
-    }
-
-    /// From this time on it is searched from the start.
+    /// From this time on it is searched.
     pub(crate) fn seek_from(&mut self, at: u64) {
-        self.search = Search::new(self.base);
         self.search_at = at;
     }
 
@@ -81,7 +55,6 @@ impl Device {
     pub(crate) fn rest(&mut self, now: u64, limits: &Limits) {
         self.wait = longer(self.wait, limits.period, limits.back_off_most);
         self.rest_until = now.saturating_add(self.wait);
-        self.search = Search::new(self.base);
     }
 
     /// It is lost; whether it wasn't before.

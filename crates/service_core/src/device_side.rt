@@ -1,12 +1,11 @@
 //! The devices' side: connections, and what comes over them.
-ghost use Rattle.std.specs.Prelude.{◌≡◌, slice_get, Some};
-ghost use Rattle.service_core.specs.declared.wire.Wire.{Wire as WireValue};
+ghost use Rattle.std.specs.Prelude.{◌≡◌, ◌+◌, ◌<◌, ◌^◌, ℕ, Some, set, slice_get};
 ghost use Rattle.service_core.specs.Requests.{IsRightful};
 
 use crate::note::{Loss, Note, Unwritten};
 use crate::output::OutputState;
 use crate::service_state::Service;
-use crate::wire::{Aim, Asked};
+use crate::wire::{Aim, Asked, Wire};
 use gateway::Outcome;
 use service::Fate;
 
@@ -20,7 +19,10 @@ impl<const DEPTH: usize> Service<DEPTH> {
     }
 
     /// A dial began. It may take as long as a device may take to answer; then it is to be given up, and told as down.
-    pub fn dial_began(&mut self, link: usize, now: u64) {
+    pub fn dial_began(&mut self, link: usize, now: u64)
+        ensures links { self.new.lines.links ≡ self.old.lines.links }
+        ensures places { self.new.places.items ≡ self.old.places.items }
+    {
         self.turn_to(now);
         let until = self.now.saturating_add(self.limits.timeout);
         if let Some(wire) = self.wires.get_mut(link) {
@@ -28,24 +30,50 @@ impl<const DEPTH: usize> Service<DEPTH> {
         }
     }
 
-    /// A connection is up: its devices have no map, until a search finds one.
-    pub fn link_up(&mut self, link: usize, now: u64) {
+    /// A connection is up: its devices have no map, until a search finds one. It has the next number of its link.
+    pub fn link_up(&mut self, link: usize, now: u64)
+        ensures stations { self.new.lines.links.stations ≡ self.old.lines.links.stations }
+        ensures next { (number : ℕ) → slice_get self.old.lines.links.numbers.items link ≡ Some number → number + 1 < 2 ^ 64
+            → self.new.lines.links.numbers.items ≡ set self.old.lines.links.numbers.items link (number + 1) }
+        ensures places { self.new.places.items ≡ self.old.places.items }
+    {
         self.turn_to(now);
+        if self.lines.come_up(link) {
+            self.begin_anew(link);
+        }
+    }
+
+    /// A link has a new connection: what was known of its devices isn't known any more.
+    fn begin_anew(&mut self, link: usize)
+        ensures links { self.new.lines.links ≡ self.old.lines.links }
+        ensures places { self.new.places.items ≡ self.old.places.items }
+    {
         if let Some(wire) = self.wires.get_mut(link) {
             wire.come_up();
         }
-        for device in 0..self.devices.len() {
-            if self.is_at(device, link) {
-                self.forget(device);
-            }
-        }
+        self.forget_all(link);
         self.go_on();
     }
 
+    fn forget_all(&mut self, link: usize)
+        ensures links { self.new.lines.links ≡ self.old.lines.links }
+        ensures places { self.new.places.items ≡ self.old.places.items }
+    {
+        for device in 0..self.devices.len() {
+            if self.lines.is_at(device, link) {
+                self.forget(device);
+            }
+        }
+    }
+
     /// A connection is down: a dial failed, the peer ended it, or there was an error.
-    pub fn link_down(&mut self, link: usize, now: u64) {
+    pub fn link_down(&mut self, link: usize, now: u64)
+        ensures links { self.new.lines.links ≡ self.old.lines.links }
+        ensures places { self.new.places.items ≡ self.old.places.items }
+    {
         self.turn_to(now);
         let now = self.now;
+        self.lines.go_down(link);
         if let Some(wire) = self.wires.get_mut(link) {
             wire.go_down(now, &self.limits);
         }
@@ -69,7 +97,10 @@ impl<const DEPTH: usize> Service<DEPTH> {
     }
 
     /// Bytes of a connection; how many of them were used. The rest is to be given again.
-    pub fn from_link(&mut self, link: usize, bytes: &[u8], now: u64) -> usize {
+    pub fn from_link(&mut self, link: usize, bytes: &[u8], now: u64) -> usize
+        ensures links { self.new.lines.links ≡ self.old.lines.links }
+        ensures places { self.new.places.items ≡ self.old.places.items }
+    {
         self.turn_to(now);
         let (used, fate) = match self.wires.get_mut(link) {
             Some(wire) => wire.take(bytes),
@@ -82,44 +113,48 @@ impl<const DEPTH: usize> Service<DEPTH> {
         used
     }
 
-    /// What is to be written to a connection: the rest of the frame of a request that one of its devices may be asked, to
-    /// that device's unit there.
+    /// What is to be written to a connection: the rest of the frame of a request that a device may be asked whose station
+    /// is there, for its unit. A round asks and writes by a map that was found over this very connection.
     pub fn to_link(&self, link: usize) -> &[u8]
-        ensures { (wire : WireValue) → slice_get self.entry.now.wires.items link ≡ Some wire → ∥ IsRightful wire.devices.items result.now ∥₁ }
+        ensures { (number : ℕ) → slice_get self.entry.now.lines.links.numbers.items link ≡ Some number →
+            ∥ IsRightful self.entry.now.lines.links.stations.items self.entry.now.lines.found_on.items link number result.now ∥₁ }
     {
-        match self.wires.get(link) {
-            Some(wire) => wire.out(),
-            None => &[],
-        }
+        self.lines.out(link)
     }
 
     /// So many bytes are written to a connection.
-    pub fn sent_to_link(&mut self, link: usize, n: usize) {
-        let is_free = match self.wires.get_mut(link) {
-            Some(wire) => {
-                wire.sent(n);
-                wire.is_free()
-            }
-            None => false,
-        };
+    pub fn sent_to_link(&mut self, link: usize, n: usize)
+        ensures links { self.new.lines.links ≡ self.old.lines.links }
+        ensures places { self.new.places.items ≡ self.old.places.items }
+    {
+        self.lines.sent(link, n);
         // a request that was given up before all of it was written
-        if is_free {
+        if self.is_free(link) {
             self.go_on();
         }
     }
 
-    /// Whether a device is reached over a connection.
-    pub(crate) fn is_at(&self, device: usize, link: usize) -> bool {
-        match self.devices.get(device) {
-            Some(device) => device.station.link == link,
+    /// Whether a request may begin on a connection.
+    pub(crate) fn is_free(&self, link: usize) -> bool {
+        match self.wires.get(link) {
+            Some(wire) => wire.is_free() && self.lines.is_sent(link),
             None => false,
         }
     }
 
+    /// The connection over which a device is reached.
+    pub(crate) fn wire_of(&self, device: usize) -> Option<&Wire> {
+        self.wires.get(self.lines.station(device)?.link)
+    }
+
     /// A device's map is forgotten, and it is searched from now on.
-    pub(crate) fn forget(&mut self, device: usize) {
+    pub(crate) fn forget(&mut self, device: usize)
+        ensures links { self.new.lines.links ≡ self.old.lines.links }
+        ensures places { self.new.places.items ≡ self.old.places.items }
+    {
         self.cycle.forget(device);
         self.cycle.give_up(device);
+        self.cycle.seek_anew(device);
         let now = self.now;
         if let Some(device) = self.devices.get_mut(device) {
             device.seek_from(now);
@@ -127,21 +162,30 @@ impl<const DEPTH: usize> Service<DEPTH> {
     }
 
     /// All devices of a connection are lost.
-    pub(crate) fn lose_all(&mut self, link: usize, loss: Loss) {
+    pub(crate) fn lose_all(&mut self, link: usize, loss: Loss)
+        ensures links { self.new.lines.links ≡ self.old.lines.links }
+        ensures places { self.new.places.items ≡ self.old.places.items }
+    {
         for device in 0..self.devices.len() {
-            if self.is_at(device, link) {
+            if self.lines.is_at(device, link) {
                 self.lose(device, loss);
             }
         }
     }
 
     /// A device is lost: it is asked nothing more in this round.
-    pub(crate) fn lose(&mut self, device: usize, loss: Loss) {
+    pub(crate) fn lose(&mut self, device: usize, loss: Loss)
+        ensures links { self.new.lines.links ≡ self.old.lines.links }
+        ensures places { self.new.places.items ≡ self.old.places.items }
+    {
         self.cycle.give_up(device);
         self.tell_lost(device, loss);
     }
 
-    fn tell_lost(&mut self, device: usize, loss: Loss) {
+    fn tell_lost(&mut self, device: usize, loss: Loss)
+        ensures links { self.new.lines.links ≡ self.old.lines.links }
+        ensures places { self.new.places.items ≡ self.old.places.items }
+    {
         if let Some(found) = self.devices.get_mut(device) {
             if found.lose(loss) {
                 self.notes.add(Note::Lost(device, loss));
@@ -150,7 +194,10 @@ impl<const DEPTH: usize> Service<DEPTH> {
     }
 
     /// This became of the request that is under way on a connection.
-    pub(crate) fn settle(&mut self, link: usize, fate: Fate) {
+    pub(crate) fn settle(&mut self, link: usize, fate: Fate)
+        ensures links { self.new.lines.links ≡ self.old.lines.links }
+        ensures places { self.new.places.items ≡ self.old.places.items }
+    {
         let asked = match self.wires.get_mut(link) {
             Some(wire) => {
                 wire.stir();
@@ -163,7 +210,10 @@ impl<const DEPTH: usize> Service<DEPTH> {
         }
     }
 
-    fn settle_asked(&mut self, link: usize, asked: Asked, fate: Fate) {
+    fn settle_asked(&mut self, link: usize, asked: Asked, fate: Fate)
+        ensures links { self.new.lines.links ≡ self.old.lines.links }
+        ensures places { self.new.places.items ≡ self.old.places.items }
+    {
         match fate {
             Fate::Lost => {
                 self.lose_write(asked.aim);
@@ -181,14 +231,20 @@ impl<const DEPTH: usize> Service<DEPTH> {
     }
 
     /// A write that went out had no answer.
-    fn lose_write(&mut self, aim: Aim) {
+    fn lose_write(&mut self, aim: Aim)
+        ensures links { self.new.lines.links ≡ self.old.lines.links }
+        ensures places { self.new.places.items ≡ self.old.places.items }
+    {
         if let Aim::Output(_) = aim {
             self.cycle.wrote(false);
         }
     }
 
     /// What came over a connection is no frame.
-    fn spoil(&mut self, link: usize) {
+    fn spoil(&mut self, link: usize)
+        ensures links { self.new.lines.links ≡ self.old.lines.links }
+        ensures places { self.new.places.items ≡ self.old.places.items }
+    {
         if let Some(wire) = self.wires.get_mut(link) {
             wire.spoil();
         }
@@ -196,7 +252,10 @@ impl<const DEPTH: usize> Service<DEPTH> {
     }
 
     /// A device answered.
-    fn hear(&mut self, link: usize, device: usize) {
+    fn hear(&mut self, link: usize, device: usize)
+        ensures links { self.new.lines.links ≡ self.old.lines.links }
+        ensures places { self.new.places.items ≡ self.old.places.items }
+    {
         if let Some(wire) = self.wires.get_mut(link) {
             wire.heard();
         }
@@ -210,11 +269,15 @@ impl<const DEPTH: usize> Service<DEPTH> {
     }
 
     /// A device didn't answer: it isn't asked for a while.
-    fn miss(&mut self, link: usize, device: usize, loss: Loss) {
+    fn miss(&mut self, link: usize, device: usize, loss: Loss)
+        ensures links { self.new.lines.links ≡ self.old.lines.links }
+        ensures places { self.new.places.items ≡ self.old.places.items }
+    {
         let now = self.now;
         if let Some(found) = self.devices.get_mut(device) {
             found.rest(now, &self.limits);
         }
+        self.cycle.seek_anew(device);
         self.lose(device, loss);
         if let Some(wire) = self.wires.get_mut(link) {
             wire.missed();
@@ -224,26 +287,31 @@ impl<const DEPTH: usize> Service<DEPTH> {
         }
     }
 
-    fn take(&mut self, asked: Asked, outcome: Outcome) {
+    fn take(&mut self, asked: Asked, outcome: Outcome)
+        ensures links { self.new.lines.links ≡ self.old.lines.links }
+        ensures places { self.new.places.items ≡ self.old.places.items }
+    {
         match asked.aim {
-            Aim::Map => {
-                if let Some(found) = self.devices.get_mut(asked.device) {
-                    found.learn(&outcome);
-                }
-            }
+            Aim::Map => self.cycle.answered(asked.device, &outcome),
             Aim::Block => self.take_block(asked.device, outcome),
             Aim::Output(output) => self.take_write(asked.device, output, outcome),
             Aim::Past => {}
         }
     }
 
-    fn take_block(&mut self, device: usize, outcome: Outcome) {
+    fn take_block(&mut self, device: usize, outcome: Outcome)
+        ensures links { self.new.lines.links ≡ self.old.lines.links }
+        ensures places { self.new.places.items ≡ self.old.places.items }
+    {
         if self.cycle.close(device, Fate::Told(outcome)) {
             self.forget(device);
         }
     }
 
-    fn take_write(&mut self, device: usize, output: usize, outcome: Outcome) {
+    fn take_write(&mut self, device: usize, output: usize, outcome: Outcome)
+        ensures links { self.new.lines.links ≡ self.old.lines.links }
+        ensures places { self.new.places.items ≡ self.old.places.items }
+    {
         let is_done = outcome == Outcome::Wrote;
         self.cycle.wrote(is_done);
         self.settle_output(output, state_by(is_done));
@@ -251,13 +319,19 @@ impl<const DEPTH: usize> Service<DEPTH> {
     }
 
     /// The time of each request that is over ends its wait.
-    pub(crate) fn end_waits(&mut self) {
+    pub(crate) fn end_waits(&mut self)
+        ensures links { self.new.lines.links ≡ self.old.lines.links }
+        ensures places { self.new.places.items ≡ self.old.places.items }
+    {
         for link in 0..self.wires.len() {
             self.end_wait(link);
         }
     }
 
-    fn end_wait(&mut self, link: usize) {
+    fn end_wait(&mut self, link: usize)
+        ensures links { self.new.lines.links ≡ self.old.lines.links }
+        ensures places { self.new.places.items ≡ self.old.places.items }
+    {
         let asked = match self.wires.get(link) {
             Some(wire) => wire.asked(),
             None => None,
@@ -269,10 +343,14 @@ impl<const DEPTH: usize> Service<DEPTH> {
         }
     }
 
-    fn give_up(&mut self, link: usize, asked: Asked) {
+    fn give_up(&mut self, link: usize, asked: Asked)
+        ensures links { self.new.lines.links ≡ self.old.lines.links }
+        ensures places { self.new.places.items ≡ self.old.places.items }
+    {
+        let is_sent = self.lines.is_sent(link);
         if let Some(wire) = self.wires.get_mut(link) {
             wire.stir();
-            wire.give_up();
+            wire.give_up(is_sent);
         }
         self.lose_write(asked.aim);
         if self.had_time(asked.since) {

@@ -17,15 +17,6 @@ pub struct Limits {
     pub search_again: u64,
 }
 
-/// A device of a connection.
-#[derive(Clone, Copy, Debug, PartialEq, Eq)]
-pub(crate) struct LinkDevice {
-    /// Its number.
-    pub(crate) device: usize,
-    /// Its unit there.
-    pub(crate) unit: u8,
-}
-
 /// Where a device is reached.
 #[derive(Clone, Copy, Debug, PartialEq, Eq)]
 pub struct Station {

@@ -1,4 +1,7 @@
 //! Rounds, by the time.
+ghost use Rattle.std.specs.Prelude.{◌≡◌};
+ghost use Rattle.service_core.specs.Clients.{PlacesStay};
+
 use crate::note::{Loss, Note, Unwritten};
 use crate::output::OutputState;
 use crate::scan_cycle::Phase;
@@ -8,7 +11,10 @@ use point_writer::NoWrite;
 
 impl<const DEPTH: usize> Service<DEPTH> {
     /// The time is this: ends waits, begins rounds. It is to be called behind each wait.
-    pub fn tick(&mut self, now: u64) {
+    pub fn tick(&mut self, now: u64)
+        ensures links { self.new.lines.links ≡ self.old.lines.links }
+        ensures places { PlacesStay self.old.places.items self.new.places.items }
+    {
         self.turn_to(now);
         self.end_waits();
         self.close_idle();
@@ -18,7 +24,10 @@ impl<const DEPTH: usize> Service<DEPTH> {
     }
 
     /// Asks what can be asked, runs the program once all is read, and ends the round once all is written.
-    pub(crate) fn go_on(&mut self) {
+    pub(crate) fn go_on(&mut self)
+        ensures links { self.new.lines.links ≡ self.old.lines.links }
+        ensures places { self.new.places.items ≡ self.old.places.items }
+    {
         self.ask_all();
         if self.scan() {
             self.ask_all();
@@ -29,19 +38,28 @@ impl<const DEPTH: usize> Service<DEPTH> {
     }
 
     /// At its deadline a round waits for nothing more.
-    fn end_reading(&mut self) {
+    fn end_reading(&mut self)
+        ensures links { self.new.lines.links ≡ self.old.lines.links }
+        ensures places { self.new.places.items ≡ self.old.places.items }
+    {
         if self.cycle.phase() == Phase::Reading && self.now >= self.deadline {
             self.cut_off_all();
         }
     }
 
-    fn cut_off_all(&mut self) {
+    fn cut_off_all(&mut self)
+        ensures links { self.new.lines.links ≡ self.old.lines.links }
+        ensures places { self.new.places.items ≡ self.old.places.items }
+    {
         for device in 0..self.cycle.devices() {
             self.cut_off(device);
         }
     }
 
-    fn cut_off(&mut self, device: usize) {
+    fn cut_off(&mut self, device: usize)
+        ensures links { self.new.lines.links ≡ self.old.lines.links }
+        ensures places { self.new.places.items ≡ self.old.places.items }
+    {
         let lost = self.cycle.lost();
         self.cycle.give_up(device);
         if self.cycle.lost() > lost {
@@ -50,7 +68,10 @@ impl<const DEPTH: usize> Service<DEPTH> {
     }
 
     /// Begins the next round at its time.
-    fn begin_round(&mut self) {
+    fn begin_round(&mut self)
+        ensures links { self.new.lines.links ≡ self.old.lines.links }
+        ensures places { self.new.places.items ≡ self.old.places.items }
+    {
         if self.now < self.next_round {
             return;
         }
@@ -63,7 +84,10 @@ impl<const DEPTH: usize> Service<DEPTH> {
     }
 
     /// The last round is over, whatever is left of it.
-    fn end_round(&mut self) {
+    fn end_round(&mut self)
+        ensures links { self.new.lines.links ≡ self.old.lines.links }
+        ensures places { self.new.places.items ≡ self.old.places.items }
+    {
         // a round whose deadline is behind the next one's start
         if self.cycle.phase() == Phase::Reading {
             self.cut_off_all();
@@ -78,14 +102,20 @@ impl<const DEPTH: usize> Service<DEPTH> {
         }
     }
 
-    fn outlive(&mut self, link: usize) {
+    fn outlive(&mut self, link: usize)
+        ensures links { self.new.lines.links ≡ self.old.lines.links }
+        ensures places { self.new.places.items ≡ self.old.places.items }
+    {
         if let Some(wire) = self.wires.get_mut(link) {
             wire.outlive();
         }
     }
 
     /// The round is over: what was still to be written isn't.
-    fn finish(&mut self, report: Report) {
+    fn finish(&mut self, report: Report)
+        ensures links { self.new.lines.links ≡ self.old.lines.links }
+        ensures places { self.new.places.items ≡ self.old.places.items }
+    {
         for output in 0..self.outputs.len() {
             if self.is_awaited(output) {
                 let state = OutputState::Unwritten(Unwritten::Unanswered);
@@ -103,7 +133,10 @@ impl<const DEPTH: usize> Service<DEPTH> {
     }
 
     /// This became of an output; it is told where it is new.
-    pub(crate) fn settle_output(&mut self, output: usize, state: OutputState) {
+    pub(crate) fn settle_output(&mut self, output: usize, state: OutputState)
+        ensures links { self.new.lines.links ≡ self.old.lines.links }
+        ensures places { self.new.places.items ≡ self.old.places.items }
+    {
         let is_new = match self.outputs.get_mut(output) {
             Some(found) => found.settle(state),
             None => false,
@@ -116,7 +149,10 @@ impl<const DEPTH: usize> Service<DEPTH> {
         }
     }
 
-    fn note_late(&mut self) {
+    fn note_late(&mut self)
+        ensures links { self.new.lines.links ≡ self.old.lines.links }
+        ensures places { self.new.places.items ≡ self.old.places.items }
+    {
         if self.now > self.next_round.saturating_add(self.limits.period) {
             let late = self.now.saturating_sub(self.next_round);
             self.notes.add(Note::Late(late));
@@ -124,7 +160,10 @@ impl<const DEPTH: usize> Service<DEPTH> {
         }
     }
 
-    fn plan_next(&mut self) {
+    fn plan_next(&mut self)
+        ensures links { self.new.lines.links ≡ self.old.lines.links }
+        ensures places { self.new.places.items ≡ self.old.places.items }
+    {
         self.deadline = self.now.saturating_add(self.limits.period / 2);
         self.next_round = self.next_round.saturating_add(self.limits.period);
         if self.next_round <= self.now {
@@ -133,7 +172,10 @@ impl<const DEPTH: usize> Service<DEPTH> {
     }
 
     /// What can't be asked now isn't waited for.
-    fn leave_out_all(&mut self) {
+    fn leave_out_all(&mut self)
+        ensures links { self.new.lines.links ≡ self.old.lines.links }
+        ensures places { self.new.places.items ≡ self.old.places.items }
+    {
         for device in 0..self.cycle.devices() {
             if !self.is_there(device) {
                 self.cycle.give_up(device);
@@ -142,7 +184,10 @@ impl<const DEPTH: usize> Service<DEPTH> {
     }
 
     /// There may be something to ask over each connection.
-    fn stir_all(&mut self) {
+    fn stir_all(&mut self)
+        ensures links { self.new.lines.links ≡ self.old.lines.links }
+        ensures places { self.new.places.items ≡ self.old.places.items }
+    {
         for wire in self.wires.iter_mut() {
             wire.stir();
         }
@@ -150,20 +195,19 @@ impl<const DEPTH: usize> Service<DEPTH> {
 
     /// Whether a device may be asked: its connection is well, it has a map, and its back-off is over.
     fn is_there(&self, device: usize) -> bool {
-        let found = match self.devices.get(device) {
-            Some(found) => found,
-            None => return false,
-        };
-        match self.wires.get(found.station.link) {
+        match self.wire_of(device) {
             Some(wire) => {
-                wire.is_well() && found.is_rested(self.now) && self.cycle.is_mapped(device)
+                wire.is_well() && self.is_rested(device) && self.cycle.is_mapped(device)
             }
             None => false,
         }
     }
 
     /// Runs the program, where all is read; whether it did.
-    fn scan(&mut self) -> bool {
+    fn scan(&mut self) -> bool
+        ensures links { self.new.lines.links ≡ self.old.lines.links }
+        ensures places { self.new.places.items ≡ self.old.places.items }
+    {
         if !self.cycle.scan() {
             return false;
         }
@@ -177,7 +221,10 @@ impl<const DEPTH: usize> Service<DEPTH> {
     }
 
     /// An output's write is waited for from now on, where there is one.
-    fn await_output(&mut self, output: usize) {
+    fn await_output(&mut self, output: usize)
+        ensures links { self.new.lines.links ≡ self.old.lines.links }
+        ensures places { self.new.places.items ≡ self.old.places.items }
+    {
         match cause_at(self.cycle.core(), output) {
             Some(cause) => {
                 let state = OutputState::Unwritten(Unwritten::NoSetPoint(cause));

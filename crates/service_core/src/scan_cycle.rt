@@ -1,15 +1,18 @@
-//! The core with its round.
-ghost use Rattle.std.specs.Prelude.{◌≡◌, ◌≤◌, length, IfOk, IfSome};
+//! The core with its round and its searches.
+ghost use Rattle.std.specs.Prelude.{◌≡◌, ◌<◌, ◌≤◌, [], length, map, set, IfOk, IfSome};
 ghost use Rattle.modbus_frame.specs.Message.{HasQuantity};
 ghost use Rattle.service.specs.Rounds.{IsRoundFor};
+ghost use Rattle.service.specs.Searches.{HasStepQuantity};
 ghost use Rattle.service_core.specs.Calls.{IsCallOf};
 ghost use Rattle.service_core.specs.Course.{Reached};
-ghost use Rattle.service_core.specs.Requests.{MayBeAsked};
+ghost use Rattle.service_core.specs.Requests.{IsOfRound};
+ghost use Rattle.service_core.specs.Seeking.{AreOf, IsFound, IsSought};
 
-use gateway::{Call, Core, Event, Report};
+use gateway::{Call, Core, Event, Outcome, Report};
 use modbus_frame::{Frame, FrameReply, Responder};
 use register_map::Map;
-use service::{Fate, Round, Turn, is_write, refusal};
+use service::{Fate, Round, Search, Step, Turn, is_write, refusal};
+use site_model::SiteDevice;
 use std::alloc::{AllocError, Global};
 
 /// How far a round is.
@@ -23,11 +26,13 @@ pub(crate) enum Phase {
     Resting,
 }
 
-/// The core, behind its guard, with the round that is under way, and what that did.
+/// The core, behind its guard, with the round that is under way, what that did, and the searches for its devices' maps.
 #[derive(Drop)]
 pub(crate) struct ScanCycle<const DEPTH: usize> {
     core: Box<Core<DEPTH>>,
     round: Round,
+    /// One for each device.
+    searches: Vec<Search>,
     phase: Phase,
     lost: usize,
     writes: usize,
@@ -37,6 +42,7 @@ pub(crate) struct ScanCycle<const DEPTH: usize> {
     ghost small: { DEPTH ≤ 65536 },
     ghost reached: { ∥ Reached core.value ∥₁ },
     ghost fits: { IsRoundFor core.value.site round },
+    ghost sought: { AreOf core.value.site searches.items },
 }
 
 impl<const DEPTH: usize> ScanCycle<DEPTH> {
@@ -46,9 +52,11 @@ impl<const DEPTH: usize> ScanCycle<DEPTH> {
         ensures { IfOk result (λ cycle. cycle.core.value ≡ core.entry) }
     {
         let round = Round::new(alloc, core.site())?;
+        let searches = searches_for(alloc, core.site().devices())?;
         Ok(ScanCycle {
             core: Box::new(alloc, core)?,
             round,
+            searches,
             may_write: false,
             phase: Phase::Resting,
             lost: 0,
@@ -91,9 +99,12 @@ impl<const DEPTH: usize> ScanCycle<DEPTH> {
         self.may_write = may_write;
     }
 
-    /// From now on this is the device's map, or it has none.
+    /// From now on this is the device's map, which its search found, or it has none.
     #[tactic(auto, using(crate::proofs::Runs::reached_learn))]
-    pub(crate) fn learn(&mut self, device: usize, map: Option<Map>) {
+    pub(crate) fn learn(&mut self, device: usize, map: Option<Map>)
+        requires { ∥ IsFound self.old.core.value.site device map ∥₁ }
+        ensures { device < length self.old.core.value.site.devices → self.new.core.value ≡ record self.old.core.value { maps = set self.old.core.value.maps device map } }
+    {
         if device < self.devices() {
             self.core.learn(device, map);
         }
@@ -117,6 +128,33 @@ impl<const DEPTH: usize> ScanCycle<DEPTH> {
         }
     }
 
+    /// What comes next in the search for a device's map.
+    pub(crate) fn seek(&self, device: usize) -> Option<Step>
+        ensures sought { IfSome result (λ step. ∥ IsSought self.now.core.value.site device step ∥₁) }
+        ensures quantity { IfSome result HasStepQuantity }
+    {
+        let search = self.searches.get(device)?;
+        Some(search.next())
+    }
+
+    /// Takes what came of a read of a device's search.
+    pub(crate) fn answered(&mut self, device: usize, outcome: &Outcome) {
+        if let Some(search) = self.searches.get_mut(device) {
+            take(search, outcome);
+        }
+    }
+
+    /// From now on the device's map is searched from the start.
+    pub(crate) fn seek_anew(&mut self, device: usize) {
+        let base = match self.core.site().devices().get(device) {
+            Some(own) => own.base,
+            None => return,
+        };
+        if let Some(search) = self.searches.get_mut(device) {
+            *search = Search::new(base);
+        }
+    }
+
     /// Begins the next round.
     pub(crate) fn begin(&mut self) {
         self.round.begin(self.core.site());
@@ -129,7 +167,7 @@ impl<const DEPTH: usize> ScanCycle<DEPTH> {
     /// The next request to the device; wanted blocks that there is none for are lost.
     #[tactic(auto, using(crate::proofs::Rightful::of_round))]
     pub(crate) fn next(&mut self, device: usize) -> Option<Call>
-        ensures asked { IfSome result (λ call. ∥ MayBeAsked device call.request ∥₁) }
+        ensures asked { IfSome result (λ call. IsOfRound self.new.core.value device call.request) }
         ensures quantity { IfSome result (λ call. HasQuantity call.request) }
     {
         self.next_call(device)
@@ -137,7 +175,6 @@ impl<const DEPTH: usize> ScanCycle<DEPTH> {
 
     #[tactic(auto, using(crate::proofs::Calls::opened_call))]
     fn next_call(&mut self, device: usize) -> Option<Call>
-        ensures reached { ∥ Reached self.new.core.value ∥₁ }
         ensures called { IfSome result (IsCallOf self.new.core.value device) }
         ensures quantity { IfSome result (λ call. HasQuantity call.request) }
     {
@@ -250,7 +287,7 @@ impl<const DEPTH: usize> ScanCycle<DEPTH> {
 
 impl<const DEPTH: usize> Responder for ScanCycle<DEPTH> {
     ghost use Rattle.std.specs.Prelude.{◌≡◌};
-    ghost use Rattle.gateway.specs.Control.{AnswersFrame};
+    ghost use Rattle.gateway.specs.event_core.Control.{AnswersFrame};
     ghost use Rattle.service.specs.Guarding.{Guards};
 
     ghost answers = { λ old frame bytes goes_on new. (new.may_write ≡ old.may_write) × (new.round ≡ old.round)
@@ -261,6 +298,25 @@ impl<const DEPTH: usize> Responder for ScanCycle<DEPTH> {
             return refusal(frame);
         }
         self.core.answer(frame)
+    }
+}
+
+/// A search for each device's map.
+fn searches_for(alloc: Global, devices: &[SiteDevice]) -> Result<Vec<Search>, AllocError>
+    ensures { IfOk result (λ searches. searches.items ≡ map (λ own. record { base = own.base; answers = [] }) devices.now) }
+{
+    devices
+        .iter()
+        .map(|own| Search::new(own.base))
+        .collect(alloc)
+}
+
+/// Takes the outcome of a search's read, where it takes more.
+fn take(search: &mut Search, outcome: &Outcome)
+    ensures { search.new.base ≡ search.old.base }
+{
+    if !search.is_full() {
+        search.take(outcome);
     }
 }
 

@@ -1,9 +1,11 @@
 //! A service of a gateway.
+ghost use Rattle.std.specs.Prelude.{◌≡◌};
 ghost use Rattle.service_core.specs.Course.{Reached};
 
 use crate::client_place::ClientPlace;
 use crate::device::Device;
 use crate::limits::Limits;
+use crate::lines::Lines;
 use crate::note::Note;
 use crate::notes::Notes;
 use crate::output::Output;
@@ -16,6 +18,7 @@ use gateway::Core;
 #[derive(Drop)]
 pub struct Service<const DEPTH: usize> {
     pub(crate) cycle: ScanCycle<DEPTH>,
+    pub(crate) lines: Lines,
     pub(crate) wires: Vec<Wire>,
     pub(crate) devices: Vec<Device>,
     pub(crate) outputs: Vec<Output>,
@@ -32,7 +35,10 @@ pub struct Service<const DEPTH: usize> {
 
 impl<const DEPTH: usize> Service<DEPTH> {
     /// What happened, the oldest first.
-    pub fn next_note(&mut self) -> Option<Note> {
+    pub fn next_note(&mut self) -> Option<Note>
+        ensures links { self.new.lines.links ≡ self.old.lines.links }
+        ensures places { self.new.places.items ≡ self.old.places.items }
+    {
         self.notes.next()
     }
 
@@ -50,7 +56,10 @@ impl<const DEPTH: usize> Service<DEPTH> {
     }
 
     /// Time goes up.
-    pub(crate) fn turn_to(&mut self, now: u64) {
+    pub(crate) fn turn_to(&mut self, now: u64)
+        ensures links { self.new.lines.links ≡ self.old.lines.links }
+        ensures places { self.new.places.items ≡ self.old.places.items }
+    {
         self.now = self.now.max(now);
     }
 }

@@ -23,7 +23,7 @@ impl<const DEPTH: usize> Service<DEPTH> {
     /// How a device stands, by its number; None where the site has no such device.
     pub fn device_status(&self, device: usize) -> Option<DeviceStatus> {
         let found = self.devices.get(device)?;
-        let is_up = match self.wires.get(found.station.link) {
+        let is_up = match self.wire_of(device) {
             Some(wire) => wire.is_up(),
             None => false,
         };

@@ -16,8 +16,8 @@ impl<const DEPTH: usize> Service<DEPTH> {
 
     fn wakes_for_wires(&self, at: u64) -> u64 {
         let mut at = at;
-        for wire in &self.wires {
-            at = at.min(wire.wakes_at());
+        for (link, wire) in self.wires.iter().enumerate() {
+            at = at.min(wire.wakes_at(self.lines.is_sent(link)));
         }
         at
     }

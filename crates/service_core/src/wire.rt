@@ -1,9 +1,10 @@
 //! A connection to devices.
-ghost use Rattle.std.specs.Prelude.{◌≡◌, ◌<◌, ◌≤◌, ℕ, [], drop, length, slice_get, IfSome, IsSome, IsTrue, None, Some};
+ghost use Rattle.std.specs.Prelude.{◌≡◌, IfSome, IsSome, IsTrue, None};
+ghost use Rattle.modbus_frame.specs.Frame.{frame_bytes};
 ghost use Rattle.modbus_frame.specs.Message.{HasQuantity};
-ghost use Rattle.service_core.specs.Requests.{IsRightful, MayBeAsked};
+ghost use Rattle.gateway.specs.poller.LinkRun.{frame_of};
 
-use crate::limits::{Limits, LinkDevice};
+use crate::limits::Limits;
 use crate::times::longer;
 use arrayvec::ArrayVec;
 use modbus_frame::Request;
@@ -35,14 +36,12 @@ pub(crate) struct Asked {
 #[derive(Drop)]
 pub(crate) struct Wire {
     inquiry: Inquiry,
-    /// What is still to be written of the request.
-    out: ArrayVec<u8, 260>,
     asked: Option<Asked>,
     id: u16,
     is_up: bool,
     is_bad: bool,
-    /// Its devices, in the order of their numbers.
-    devices: Vec<LinkDevice>,
+    /// The numbers of its devices, the lowest first.
+    devices: Vec<usize>,
     /// Before this time there is nothing to ask over it, unless something happens.
     rest_until: u64,
     /// So many requests in a row had no answer.
@@ -54,16 +53,13 @@ pub(crate) struct Wire {
     dial_until: Option<u64>,
     /// Its last back-off; 0 where a device answered since.
     wait: u64,
-    ghost rightful: { ∥ IsRightful devices.items out.items ∥₁ },
 }
 
 impl Wire {
     /// One to these devices that is down.
-    #[tactic(auto, using(crate::proofs::Rightful::nothing))]
-    pub(crate) fn new(devices: Vec<LinkDevice>) -> Wire {
+    pub(crate) fn new(devices: Vec<usize>) -> Wire {
         Wire {
             inquiry: Inquiry::new(),
-            out: ArrayVec::new(),
             asked: None,
             id: 0,
             is_up: false,
@@ -87,12 +83,11 @@ impl Wire {
         self.is_up && !self.is_bad
     }
 
-    /// Whether a request may begin.
+    /// Whether it is well, and no request is under way.
     pub(crate) fn is_free(&self) -> bool
-        ensures none { IsTrue result → self.now.asked ≡ None }
-        ensures sent { IsTrue result → self.now.out.items ≡ [] }
+        ensures { IsTrue result → self.now.asked ≡ None }
     {
-        self.is_up && !self.is_bad && self.asked.is_none() && self.out.is_empty()
+        self.is_up && !self.is_bad && self.asked.is_none()
     }
 
     /// Whether it is to be hung up.
@@ -104,8 +99,8 @@ impl Wire {
         self.asked
     }
 
-    /// Its devices, in the order of their numbers.
-    pub(crate) fn devices(&self) -> &[LinkDevice] {
+    /// The numbers of its devices, the lowest first.
+    pub(crate) fn devices(&self) -> &[usize] {
         &self.devices
     }
 
@@ -148,37 +143,22 @@ impl Wire {
         }
     }
 
-    /// When something is to be done about it: a wait or a dial ends, a dial is due, or a device may be asked again.
-    pub(crate) fn wakes_at(&self) -> u64 {
+    /// When something is to be done about it: a wait or a dial ends, a dial is due, or, once all is written, a device may
+    /// be asked again.
+    pub(crate) fn wakes_at(&self, is_sent: bool) -> u64 {
         if !self.is_up {
             return self.dial_until.unwrap_or(self.dial_at);
         }
         match self.asked {
             Some(asked) => asked.until,
-            None if self.out.is_empty() => self.rest_until,
+            None if is_sent => self.rest_until,
             None => u64::MAX,
         }
     }
 
-    /// What is to be written.
-    pub(crate) fn out(&self) -> &[u8]
-        ensures { ∥ IsRightful self.now.devices.items result.now ∥₁ }
-    {
-        &self.out
-    }
-
-    /// So many bytes are written.
-    #[tactic(auto, using(crate::proofs::Rightful::what_is_left))]
-    pub(crate) fn sent(&mut self, n: usize) {
-        let n = n.min(self.out.len());
-        self.out = behind(&self.out, n);
-    }
-
     /// It is up from now on: a new stream.
-    #[tactic(auto, using(crate::proofs::Rightful::nothing))]
     pub(crate) fn come_up(&mut self) {
         self.inquiry = Inquiry::new();
-        self.out = ArrayVec::new();
         self.asked = None;
         self.is_up = true;
         self.is_bad = false;
@@ -188,10 +168,8 @@ impl Wire {
     }
 
     /// It is down from now on, and isn't made again for a while.
-    #[tactic(auto, using(crate::proofs::Rightful::nothing))]
     pub(crate) fn go_down(&mut self, now: u64, limits: &Limits) {
         self.inquiry = Inquiry::new();
-        self.out = ArrayVec::new();
         self.asked = None;
         self.is_up = false;
         self.is_bad = false;
@@ -205,31 +183,29 @@ impl Wire {
         self.is_bad = true;
     }
 
-    /// Begins a request to one of its devices, where the connection is free. What becomes of it may stand in the bytes
-    /// that came before.
-    pub(crate) fn begin(&mut self, asked: Asked, request: Request) -> Option<Fate>
+    /// Begins a request to a device at this unit, where none is under way, and gives the bytes of its frame.
+    pub(crate) fn begin(
+        &mut self,
+        asked: Asked,
+        unit: u8,
+        request: Request,
+    ) -> Option<ArrayVec<u8, 260>>
         requires quantity { HasQuantity request }
-        requires asked { ∥ MayBeAsked asked.device request ∥₁ }
         ensures one { IsSome self.old.asked → self.new ≡ self.old }
-        ensures whole { 0 < length self.old.out.items → self.new ≡ self.old }
+        ensures frame { IfSome result (λ bytes. bytes.items ≡ frame_bytes (frame_of (record { id = self.old.id; unit = unit; request = request }))) }
     {
         if !self.is_free() {
             return None;
         }
-        let unit = unit_of(&self.devices, asked.device)?;
-        self.start(asked, unit, request)
-    }
-
-    #[tactic(auto, using(crate::proofs::Rightful::whole_frame))]
-    fn start(&mut self, asked: Asked, unit: u8, request: Request) -> Option<Fate>
-        requires quantity { HasQuantity request }
-        requires asked { ∥ MayBeAsked asked.device request ∥₁ }
-        requires own { (i : ℕ) × (slice_get self.old.devices.items i ≡ Some (record { device = asked.device; unit = unit })) }
-    {
-        self.out = self.inquiry.begin(self.id, unit, request);
-        self.id = self.id.wrapping_add(1);
+        let id = self.id;
+        self.id = id.wrapping_add(1);
         self.asked = Some(asked);
         self.turn = asked.device.saturating_add(1);
+        Some(self.inquiry.begin(id, unit, request))
+    }
+
+    /// What became of the request that is under way, where the bytes that came before it tell.
+    pub(crate) fn fate(&mut self) -> Option<Fate> {
         self.inquiry.take(&[])
     }
 
@@ -248,10 +224,10 @@ impl Wire {
     }
 
     /// The request is given up. A part of its frame that wasn't written spoils the stream.
-    pub(crate) fn give_up(&mut self) {
+    pub(crate) fn give_up(&mut self, is_sent: bool) {
         self.asked = None;
         let _ = self.inquiry.end();
-        if !self.out.is_empty() {
+        if !is_sent {
             self.is_bad = true;
         }
     }
@@ -281,31 +257,10 @@ impl Wire {
     }
 }
 
-/// The unit of one of these devices.
-fn unit_of(devices: &[LinkDevice], device: usize) -> Option<u8>
-    ensures { IfSome result (λ unit. (i : ℕ) × (slice_get devices.now i ≡ Some (record { device = device; unit = unit }))) }
-{
-    for found in devices {
-        if found.device == device {
-            return Some(found.unit);
-        }
-    }
-    None
-}
-
 /// What a request is made for once its round is over.
 fn past(aim: Aim) -> Aim {
     match aim {
         Aim::Map => Aim::Map,
         _ => Aim::Past,
     }
-}
-
-/// All but so many bytes at the front.
-fn behind(bytes: &[u8], n: usize) -> ArrayVec<u8, 260>
-    requires most { length bytes.now ≤ 260 }
-    requires within { n ≤ length bytes.now }
-    ensures { result.items ≡ drop n bytes.now }
-{
-    ArrayVec::try_from(bytes.split_at(n).1).unwrap()
 }

@@ -4,6 +4,7 @@ use crate::tests::running::registers;
 use crate::tests::sites::{IDLE, LIMITER, WIDE_SITE, core_of, edited_site};
 use crate::tests::{assert_same, pdu};
 use gateway::{Answer, Core, CoreFault, Event};
+use modbus_frame::Request;
 use point_writer::{NoWrite, Write};
 use site_model::Words;
 use std::alloc::Global;
@@ -31,6 +32,10 @@ enum Step {
     Unwritten(NoWrite),
     /// Seven percent is to be written to the first device.
     SevenPercent,
+    /// A client sets the target to this number by writing this word to its register.
+    SetsBy(i64, u16),
+    /// No request sets the tag with this name to this number.
+    NothingSets(&'static str, i64),
 }
 
 fn assert_step(rt: &impl Abort, core: &mut Core<32>, step: &Step) {
@@ -50,6 +55,15 @@ fn assert_step(rt: &impl Abort, core: &mut Core<32>, step: &Step) {
         Step::Budget(budget) => assert_same(rt, &core.machine().verified().budget(), budget),
         Step::Unwritten(reason) => assert_same(rt, &first_write(rt, core), &Err(*reason)),
         Step::SevenPercent => assert_same(rt, &first_write(rt, core), &Ok(seven_percent(rt))),
+        Step::SetsBy(number, word) => {
+            let words = Words::from_slice(&[*word]).expect(rt, "a word");
+            let request = Request::WriteMany {
+                addr: 0x9CBF,
+                words,
+            };
+            assert_set_by(rt, core, ("target", *number), &Some(request));
+        }
+        Step::NothingSets(tag, number) => assert_set_by(rt, core, (*tag, *number), &None),
     }
 }
 
@@ -70,6 +84,12 @@ fn power(rt: &impl Abort, watts: u16, factor: u16) -> Words {
     words[14] = watts;
     words[15] = factor;
     Words::from_slice(&words).expect(rt, "few words")
+}
+
+/// The request by which a client sets a tag, by its name, to a number.
+fn assert_set_by(rt: &impl Abort, core: &Core<32>, set: (&str, i64), request: &Option<Request>) {
+    let tag = core.site().tag(set.0).expect(rt, "a tag");
+    assert_same(rt, &core.request_to_set(tag, set.1), request);
 }
 
 fn assert_steps(rt: &impl Abort, core: &mut Core<32>, steps: &[Step]) {
@@ -187,6 +207,20 @@ fn a_reading_rounded_down_is_part_of_a_sum(rt: HostRuntime) {
     let rounded = rounded.as_str();
     assert_on(&rt, rt.alloc(), &LIMITER, rounded, &[], &ROUNDED);
     assert_on(&rt, rt.alloc(), &LIMITER, SITE, &[], &INEXACT);
+}
+
+/// In its range 0 to 100, the target is the word of its register; what devices give isn't set.
+static SET_AGAIN: [Step; 5] = [
+    Step::SetsBy(60, 60),
+    Step::SetsBy(100, 100),
+    Step::NothingSets("target", 101),
+    Step::NothingSets("target", -1),
+    Step::NothingSets("inv1_w", 60),
+];
+
+#[test]
+fn what_a_client_set_has_its_request(rt: HostRuntime) {
+    assert_on(&rt, rt.alloc(), &LIMITER, SITE, &[], &SET_AGAIN);
 }
 
 fn assert_replayed(rt: &impl Abort, core: &mut Core<32>) {

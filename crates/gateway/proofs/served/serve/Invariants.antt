@@ -1,6 +1,6 @@
 use Rattle.std.proofs.Common.{◌≡◌, ◌+◌, ◌++◌, ℕ, List, length, take, drop}
-use Rattle.gateway.specs.Points.{all_registers}
-use Rattle.gateway.specs.ServedImage.{AreServed}
+use Rattle.gateway.specs.served.Points.{all_registers}
+use Rattle.gateway.specs.served.ServedImage.{AreServed}
 use Rattle.gateway.proofs.served.serve.Given as goal
 
 -- whatever serves the points behind, the whole is served by what stands so far and that

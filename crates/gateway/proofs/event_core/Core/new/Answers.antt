@@ -1,7 +1,7 @@
 use Rattle.std.proofs.Common.{◌≡◌, length, subst}
 use Rattle.scan_vm.specs.Machine.{Running}
 use Rattle.verifier.specs.Verified.{Acceptance, HasLinks}
-use Rattle.gateway.specs.Core.{IsReady}
+use Rattle.gateway.specs.event_core.Core.{IsReady}
 use Rattle.gateway.proofs.Parts.{links_length, ready_core}
 use Rattle.gateway.proofs.event_core.Core.new.Goals as goal
 

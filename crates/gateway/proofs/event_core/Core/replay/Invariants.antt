@@ -1,7 +1,7 @@
 use Rattle.std.proofs.Common.{◌≡◌, ◌++◌, List, length, take, drop}
-use Rattle.gateway.specs.declared.event.Answer.{Answer}
-use Rattle.gateway.specs.Core.{IsSame, RunsFrom}
-use Rattle.gateway.specs.SiteRun.{Standing}
+use Rattle.gateway.specs.declared.event_core.event.Answer.{Answer}
+use Rattle.gateway.specs.event_core.Core.{IsSame, RunsFrom}
+use Rattle.gateway.specs.event_core.SiteRun.{Standing}
 use Rattle.gateway.proofs.event_core.Core.replay.Given as goal
 
 -- whatever the events behind lead to, all of them lead to, with the answers so far in front

@@ -1,6 +1,0 @@
-use Rattle.std.proofs.Common.{◌≡◌, ◌++◌, length, take, drop}
-use Rattle.gateway.specs.SiteRun.{none_of}
-use Rattle.gateway.proofs.scan.clear.Given as goal
-
-abbrev pub invariant-loop-output : goal.invariant-loop-output
-invariant-loop-output l = (none_of l.initial.outputs ≡ take l.output-index l.outputs ++ none_of (drop l.output-index l.initial.outputs)) × (length l.outputs ≡ length l.initial.outputs)

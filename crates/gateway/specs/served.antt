@@ -1,0 +1,3 @@
+-- The image that clients read.
+pub mod Points
+pub mod ServedImage

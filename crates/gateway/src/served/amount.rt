@@ -1,0 +1,179 @@
+//! What there is to say of a point of the gateway's own map.
+ghost use Rattle.std.specs.Prelude.{◌≡◌, ◌+ℤ◌, ◌≤ℤ◌, ◌^◌, neg_ℤ, pos, IfSome, option_and_then, slice_get};
+ghost use Rattle.point_types.specs.Reading.{IsExponent};
+ghost use Rattle.gateway.specs.served.ServedImage.{amount_from, amount_given, amount_of_tag, in_lint, number_of_tag, own_value, sum_of, sum_with, total_of, total_over};
+
+use crate::event_core::Memory;
+use crate::served::point::Source;
+use point_types::Reading;
+use site_model::{Access, Site, SiteTag, Source as Given};
+
+/// A value: `number * 10^exponent`, to be served by a scale factor, None where that is absent.
+#[derive(Clone, Copy)]
+pub(crate) struct Amount {
+    pub number: i64,
+    /// In -10..10.
+    pub exponent: i8,
+    pub factor: Option<i16>,
+}
+
+/// The value of a point that is served by a factor: what the site file gives it, the total of some readings, what the
+/// program stored, or what clients set.
+pub(crate) fn amount_from(
+    site: &Site,
+    known: &Memory,
+    factor: Option<i16>,
+    source: Source,
+) -> Option<Amount>
+    ensures value { result ≡ amount_from site.now known.now.outputs.items known.now.readings.items known.now.sets.items factor source }
+    ensures scalable { IfSome result (λ a. IsExponent a.exponent) }
+{
+    match source {
+        Source::Nothing => None,
+        Source::Entry(n) => amount_given(
+            site.tags(),
+            &known.readings,
+            factor,
+            &site.served().get(n)?.source,
+        ),
+        Source::Tag(n) => amount_of_tag(known, factor, n, site.tags().get(n)?),
+    }
+}
+
+/// A raw number is scaled by nothing.
+fn amount_given(
+    tags: &[SiteTag],
+    readings: &[Reading],
+    factor: Option<i16>,
+    given: &Given,
+) -> Option<Amount>
+    ensures value { result ≡ amount_given tags.now readings.now factor given.now }
+    ensures scalable { IfSome result (λ a. IsExponent a.exponent) }
+{
+    match given {
+        Given::Raw(n) => Some(Amount {
+            number: *n,
+            exponent: 0,
+            factor: Some(0),
+        }),
+        Given::Text(_) => None,
+        Given::Sum(parts) => sum_of(tags, readings, factor, parts.as_slice()),
+    }
+}
+
+/// The total of some tags, which all have the exponent of the first.
+fn sum_of(
+    tags: &[SiteTag],
+    readings: &[Reading],
+    factor: Option<i16>,
+    parts: &[usize],
+) -> Option<Amount>
+    ensures value { result ≡ sum_of tags.now readings.now factor parts.now }
+    ensures scalable { IfSome result (λ a. IsExponent a.exponent) }
+{
+    match parts {
+        [first, ..] => match tags.get(*first) {
+            Some(tag) => sum_with(readings, factor, parts, tag),
+            None => None,
+        },
+        [] => None,
+    }
+}
+
+fn sum_with(
+    readings: &[Reading],
+    factor: Option<i16>,
+    parts: &[usize],
+    tag: &SiteTag,
+) -> Option<Amount>
+    ensures value { result ≡ sum_with readings.now factor parts.now tag.now }
+    ensures scalable { IfSome result (λ a. IsExponent a.exponent) }
+{
+    let number = total_of(readings, parts)?;
+    Some(Amount {
+        number,
+        exponent: tag.exponent,
+        factor,
+    })
+}
+
+/// The total of some tags' readings, where each has a value of its own and the total lies in LINT's range.
+fn total_of(readings: &[Reading], parts: &[usize]) -> Option<i64>
+    ensures { result ≡ total_of readings.now parts.now }
+{
+    in_lint(whole_total(readings, parts)?)
+}
+
+fn whole_total(readings: &[Reading], parts: &[usize]) -> Option<i128>
+    ensures { result ≡ total_over (pos 0) readings.now parts.now }
+{
+    let mut total: i128 = 0;
+    for part in parts {
+        let Some(n) = value_at(readings, *part) else {
+            return None;
+        };
+        total = added(total, n);
+    }
+    Some(total)
+}
+
+fn added(total: i128, n: i64) -> i128
+    requires least { neg_ℤ (pos (2 ^ 126)) ≤ℤ total }
+    requires most { total ≤ℤ pos (2 ^ 126) }
+    ensures value { result ≡ total +ℤ n }
+    ensures least { neg_ℤ (pos (2 ^ 63)) ≤ℤ n }
+    ensures most { n ≤ℤ pos (2 ^ 63) }
+{
+    total + i128::from(n)
+}
+
+fn value_at(readings: &[Reading], i: usize) -> Option<i64>
+    ensures { result ≡ option_and_then own_value (slice_get readings.now i) }
+{
+    match readings.get(i) {
+        Some(reading) => own_value(*reading),
+        None => None,
+    }
+}
+
+/// A value of its own, which a default isn't.
+pub(crate) fn own_value(reading: Reading) -> Option<i64>
+    ensures { result ≡ own_value reading }
+{
+    match reading {
+        Reading::Value(n) => Some(n),
+        Reading::Default(..) | Reading::Absent(_) => None,
+    }
+}
+
+fn in_lint(n: i128) -> Option<i64>
+    ensures { result ≡ in_lint n }
+{
+    if i128::from(i64::MIN) <= n && n <= i128::from(i64::MAX) {
+        Some(n as i64)
+    } else {
+        None
+    }
+}
+
+fn amount_of_tag(known: &Memory, factor: Option<i16>, n: usize, tag: &SiteTag) -> Option<Amount>
+    ensures value { result ≡ amount_of_tag known.now.outputs.items known.now.sets.items factor n tag.now }
+    ensures scalable { IfSome result (λ a. IsExponent a.exponent) }
+{
+    let number = number_of_tag(known, tag.access, n)?;
+    Some(Amount {
+        number,
+        exponent: tag.exponent,
+        factor,
+    })
+}
+
+fn number_of_tag(known: &Memory, access: Access, n: usize) -> Option<i64>
+    ensures { result ≡ number_of_tag known.now.outputs.items known.now.sets.items access n }
+{
+    match access {
+        Access::Shown => *known.outputs.get(n)?,
+        Access::Setting => *known.sets.get(n)?,
+        Access::Input | Access::Output => None,
+    }
+}

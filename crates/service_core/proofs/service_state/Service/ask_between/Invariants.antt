@@ -1,0 +1,5 @@
+use Rattle.std.proofs.Common.{◌≡◌}
+use Rattle.service_core.proofs.service_state.Service.ask_between.Given as goal
+
+abbrev pub invariant-loop-i : goal.invariant-loop-i
+invariant-loop-i g l = (l.self.lines.links ≡ l.fn.self.lines.links) × (l.self.places.items ≡ l.fn.self.places.items)

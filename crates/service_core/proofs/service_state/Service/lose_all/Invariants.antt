@@ -1,0 +1,5 @@
+use Rattle.std.proofs.Common.{◌≡◌}
+use Rattle.service_core.proofs.service_state.Service.lose_all.Given as goal
+
+abbrev pub invariant-loop-device : goal.invariant-loop-device
+invariant-loop-device g l = (l.self.lines.links ≡ l.fn.self.lines.links) × (l.self.places.items ≡ l.fn.self.places.items)

@@ -1,0 +1,63 @@
+-- What a client gets, over all calls: the answers to its frames, in order, each at its place in the run.
+-- MODBUS Messaging on TCP/IP Implementation Guide, section 4.4.2.
+use Rattle.std.specs.Prelude.{◌≡◌, ◌⊎◌, ◌≤◌, ◌-◌, ℕ, Bool, true, false, List, [], ◌++◌, length, take, drop, Some, slice_get}
+use Rattle.modbus_frame.specs.declared.frame.Frame.{Frame}
+use Rattle.modbus_frame.specs.Framing.{IsRead}
+use Rattle.service.specs.Sessions.{AnsweredTo, IsChain, IsOver, Puts, Serving, Turn, frames_in, fresh}
+use Rattle.service_core.specs.declared.client_place.ClientPlace.{ClientPlace}
+
+-- the bytes of answers that are to go out now
+abbrev pub ready_of : ClientPlace → List ℕ
+ready_of c = take (c.end - c.start) (drop c.start c.out)
+
+-- Nothing more is heard of it: nobody is there, it is to be closed, or its stream is over.
+abbrev pub IsDeaf : ClientPlace → Type 0
+IsDeaf c = (c.is_taken ≡ false) ⊎ (c.is_closing ≡ true) ⊎ IsOver c.session
+
+-- A client came that may write, or may not: its stream begins, and nothing is to go out.
+pub record IsOpen (may_write : Bool) (c : ClientPlace) : Type 0 where
+  pub taken : c.is_taken ≡ true
+  pub stays : c.is_closing ≡ false
+  pub begins : c.session ≡ fresh
+  pub ready : ready_of c ≡ []
+  pub right : c.may_write ≡ may_write
+
+-- So many of the ready bytes went out, and the session may have put more behind them.
+pub record Sends (old : ClientPlace) (n : ℕ) (new : ClientPlace) : Type 0 where
+  pub put : List ℕ
+  pub puts : Puts old.session put new.session
+  pub ready : ready_of old ++ put ≡ take n (ready_of old) ++ ready_of new
+
+-- `Answers` says which bytes answer a frame, whether more may be answered behind them, and what that leaves.
+module _ {S : Type 0} (Answers : S → Frame → List ℕ → Bool → S → Type 0) where
+  -- So far: the turns of its frames, the bytes that were taken of it, those that went out to it, and what answers now.
+  abbrev pub IsServed : List (Turn S) → (stream gone : List ℕ) → S → ClientPlace → Type 0
+  IsServed turns stream gone s c = Serving Answers turns stream (gone ++ ready_of c) s c.session
+
+  -- These bytes are taken, by at most 8 turns in a row.
+  abbrev pub Hears : S → ClientPlace → (bytes : List ℕ) → S → ClientPlace → Type 0
+  Hears s old bytes t new = (turns : List (Turn S)) (stream gone : List ℕ) → IsServed turns stream gone s old →
+      (more : List (Turn S)) × (length more ≤ 8) × IsChain s more t × IsServed (turns ++ more) (stream ++ bytes) gone t new
+
+  -- Whatever calls there were: what went out, what is to go out and what waits are the answers to the client's frames, in
+  -- order, each at its turn. A client that came begins so, bytes that go out leave it so, and so does whatever happens
+  -- between two of its calls to what answers.
+  pub record ClientsAreAnswered : Type 0 where
+    pub answered : (turns : List (Turn S)) (stream gone : List ℕ) (s : S) (c : ClientPlace) → IsServed turns stream gone s c →
+        IsRead stream (frames_in turns) c.session.held × AnsweredTo Answers c.session.goes_on turns (gone ++ (ready_of c ++ c.session.waiting))
+    pub begins : (may_write : Bool) (s : S) (c : ClientPlace) → IsOpen may_write c → IsServed [] [] [] s c
+    pub goes_out : (turns : List (Turn S)) (stream gone : List ℕ) (s : S) (old new : ClientPlace) (n : ℕ) → Sends old n new → IsServed turns stream gone s old →
+        IsServed turns stream (gone ++ take n (ready_of old)) s new
+    pub between : (turns : List (Turn S)) (stream gone : List ℕ) (s t : S) (c : ClientPlace) → IsServed turns stream gone s c → IsServed turns stream gone t c
+
+-- No other place changes.
+abbrev pub OthersStay : List ClientPlace → ℕ → List ClientPlace → Type 0
+OthersStay old place new = (other : ℕ) → (other ≡ place → ⊥) → slice_get new other ≡ slice_get old other
+
+-- `Does` says what becomes of the client at a place, where one of this number is; no other place changes.
+abbrev pub DoesAt : (Does : ClientPlace → ClientPlace → Type 0) → List ClientPlace → ℕ → List ClientPlace → Type 0
+DoesAt Does old place new = ((c : ClientPlace) → slice_get old place ≡ Some c → (d : ClientPlace) × (slice_get new place ≡ Some d) × Does c d) × OthersStay old place new
+
+-- At each place the same client stands as before; it may be to be closed from now on.
+abbrev pub PlacesStay : List ClientPlace → List ClientPlace → Type 0
+PlacesStay old new = (place : ℕ) (c : ClientPlace) → slice_get old place ≡ Some c → (d : ClientPlace) × (slice_get new place ≡ Some d) × (d ≡ record c { is_closing = d.is_closing })
