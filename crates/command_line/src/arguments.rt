@@ -1,5 +1,6 @@
 //! The words that a command line may have.
 use crate::help;
+use crate::serve_words::serve_command;
 use clap::builder::ValueParser;
 use clap::{Arg, ArgAction, Command};
 use std::alloc::{AllocError, Global};
@@ -17,6 +18,7 @@ pub fn command<'a>(alloc: Global) -> Result<Command<'a>, AllocError> {
     let command = with_subcommand(command, explain_command(alloc))?;
     let command = with_subcommand(command, simulate_command(alloc))?;
     let command = with_subcommand(command, run_command(alloc))?;
+    let command = with_subcommand(command, serve_command(alloc))?;
     with_subcommand(command, probe_command(alloc))
 }
 
@@ -83,11 +85,11 @@ fn probe_command<'a>(alloc: Global) -> Result<Command<'a>, AllocError> {
         .arg(unit_option(alloc))
 }
 
-fn site_file<'a>(alloc: Global) -> Arg<'a> {
+pub(crate) fn site_file<'a>(alloc: Global) -> Arg<'a> {
     word(alloc, "SITE", "the site file (TOML)")
 }
 
-fn program_file<'a>(alloc: Global) -> Arg<'a> {
+pub(crate) fn program_file<'a>(alloc: Global) -> Arg<'a> {
     word(alloc, "PROGRAM", "the program (Instruction List)")
 }
 
@@ -107,7 +109,7 @@ fn scans_option<'a>(alloc: Global) -> Arg<'a> {
         .value_parser(ValueParser::unsigned(1, 1000))
 }
 
-fn exe_option<'a>(alloc: Global) -> Arg<'a> {
+pub(crate) fn exe_option<'a>(alloc: Global) -> Arg<'a> {
     option(
         alloc,
         "exe",
@@ -122,14 +124,14 @@ fn unit_option<'a>(alloc: Global) -> Arg<'a> {
         .default_value("1")
 }
 
-fn quiet_flag<'a>(alloc: Global) -> Arg<'a> {
+pub(crate) fn quiet_flag<'a>(alloc: Global) -> Arg<'a> {
     Arg::new(alloc, "quiet")
         .long("quiet")
         .action(ArgAction::SetTrue)
         .help("no explanation of a refusal on standard error")
 }
 
-fn definition_files<'a>(alloc: Global) -> Arg<'a> {
+pub(crate) fn definition_files<'a>(alloc: Global) -> Arg<'a> {
     option(
         alloc,
         "def",
@@ -145,7 +147,7 @@ fn word<'a>(alloc: Global, name: &'a str, help: &'a str) -> Arg<'a> {
 }
 
 /// An option that takes a value.
-fn option<'a>(alloc: Global, name: &'a str, value: &'a str, help: &'a str) -> Arg<'a> {
+pub(crate) fn option<'a>(alloc: Global, name: &'a str, value: &'a str, help: &'a str) -> Arg<'a> {
     Arg::new(alloc, name)
         .long(name)
         .value_name(value)

@@ -2,6 +2,8 @@
 use crate::arguments::command;
 use crate::plant_run::{PlantRun, run_plant};
 use crate::plant_server::simulate;
+use crate::serve_words::{devices_of, listen_address, service_limits, serving_of, writers_of};
+use crate::service_run::{ServiceRun, run_service};
 use crate::socket::{SocketLink, loopback};
 use crate::source::{SourceFault, read_text};
 use crate::sources::{Refusal, Sources, read_plant, read_sources};
@@ -11,11 +13,13 @@ use clap::{ArgMatches, Error};
 use commands::{explain, judge, probe, tell_no_memory, tell_unlinked, try_input, write_lines};
 use modbus_frame::LinkFault;
 use refusal_notes::{Cause, Notes, explain_unusable};
+use site_service::Serving;
 use std::alloc::{AllocError, Global};
 use std::io::Write;
 use std::net::{Net, TcpStream};
 use std::process::Processes;
 use std::rt::{Env, Files};
+use std::time::Clock;
 use std::{env, io};
 
 /// The status of a command line that isn't one.
@@ -27,7 +31,7 @@ const QUIET: &str = "--quiet";
 /// Does what the words of the program's own command line ask for, or without words a trial of the program on standard
 /// input. Gives the exit status.
 pub fn obey_command_line(
-    rt: &(impl Input + Print + Eprint + AllocGlobal + Env + Files + Net + Processes),
+    rt: &(impl Input + Print + Eprint + AllocGlobal + Env + Files + Clock + Net + Processes),
 ) -> u8 {
     let mut out = io::writer(rt);
     match words(rt) {
@@ -37,7 +41,7 @@ pub fn obey_command_line(
 }
 
 fn obey_words<W: Write>(
-    rt: &(impl Input + Print + Eprint + AllocGlobal + Files + Net + Processes),
+    rt: &(impl Input + Print + Eprint + AllocGlobal + Files + Clock + Net + Processes),
     words: &[String],
     out: &mut W,
 ) -> u8 {
@@ -74,7 +78,7 @@ fn trial_of_input<W: Write>(
 /// Obeys the words of a command line, of which the first is the program's path, and prints what the command prints to
 /// `out`. A command line that isn't one, or that asks for help, is told by `clap`. Gives the exit status.
 pub fn obey<W: Write>(
-    rt: &(impl Input + Print + Eprint + AllocGlobal + Files + Net + Processes),
+    rt: &(impl Input + Print + Eprint + AllocGlobal + Files + Clock + Net + Processes),
     words: &[String],
     out: &mut W,
 ) -> u8 {
@@ -98,7 +102,12 @@ fn tell_usage<W: Write>(rt: &(impl Print + Eprint), fault: &Error, out: &mut W) 
 }
 
 /// Has `clap` tell why the words are no command line, and gives the status.
-fn tell_misuse<W: Write>(rt: &(impl Print + Eprint), alloc: Global, why: &str, out: &mut W) -> u8 {
+pub(crate) fn tell_misuse<W: Write>(
+    rt: &(impl Print + Eprint),
+    alloc: Global,
+    why: &str,
+    out: &mut W,
+) -> u8 {
     match misuse_fault(alloc, why) {
         Ok(fault) => tell_usage(rt, &fault, out),
         Err(AllocError) => tell_no_memory(out),
@@ -112,7 +121,7 @@ fn misuse_fault(alloc: Global, why: &str) -> Result<Error, AllocError> {
 
 /// Does what the command asks for.
 fn obey_matches<W: Write>(
-    rt: &(impl Input + Print + Eprint + AllocGlobal + Files + Net + Processes),
+    rt: &(impl Input + Print + Eprint + AllocGlobal + Files + Clock + Net + Processes),
     alloc: Global,
     words: &[String],
     matches: &ArgMatches<'_>,
@@ -129,6 +138,7 @@ fn obey_matches<W: Write>(
         "explain" => explained(rt, alloc, matches, out),
         "simulate" => simulated(rt, alloc, matches, out),
         "run" => ran(rt, alloc, path_of(words), matches, out),
+        "serve" => served(rt, alloc, path_of(words), matches, out),
         "probe" => probed(rt, alloc, matches, out),
         _ => BAD_COMMAND_LINE,
     }
@@ -305,6 +315,81 @@ fn ran_on<W: Write>(
         exe,
     };
     run_plant(rt, alloc, &run, out)
+}
+
+/// Runs `serve` on the files that are named; `itself` is this program's path.
+fn served<W: Write>(
+    rt: &(impl Input + Print + Eprint + AllocGlobal + Files + Clock + Net + Processes),
+    alloc: Global,
+    itself: &str,
+    matches: &ArgMatches<'_>,
+    out: &mut W,
+) -> u8 {
+    match read_sources(rt, alloc, matches) {
+        Ok(sources) => served_on(rt, alloc, itself, matches, &sources, out),
+        Err(refusal) => unread(rt, alloc, matches, refusal, out),
+    }
+}
+
+/// Runs `serve` on the texts of the files.
+fn served_on<W: Write>(
+    rt: &(impl Print + Eprint + AllocGlobal + Clock + Net + Processes),
+    alloc: Global,
+    itself: &str,
+    matches: &ArgMatches<'_>,
+    sources: &Sources,
+    out: &mut W,
+) -> u8 {
+    let Some(listen) = listen_address(rt, matches) else {
+        return tell_misuse(rt, alloc, "'--listen' is no HOST:PORT that is known", out);
+    };
+    match writers_of(alloc, matches) {
+        Ok(Some(writers)) => {
+            let serving = serving_of(matches, listen, writers.as_slice());
+            served_with(rt, alloc, itself, matches, sources, serving, out)
+        }
+        Ok(None) => tell_misuse(rt, alloc, "'--write-from' is no IP address", out),
+        Err(AllocError) => tell_no_memory(out),
+    }
+}
+
+fn served_with<W: Write>(
+    rt: &(impl Print + Eprint + AllocGlobal + Clock + Net + Processes),
+    alloc: Global,
+    itself: &str,
+    matches: &ArgMatches<'_>,
+    sources: &Sources,
+    serving: Serving<'_>,
+    out: &mut W,
+) -> u8 {
+    match devices_of(matches) {
+        Ok(devices) => {
+            let exe = matches.get_str("exe").unwrap_or(itself);
+            let site_path = matches.get_str("SITE").unwrap_or(STANDARD_INPUT);
+            let program_path = matches.get_str("PROGRAM").unwrap_or(STANDARD_INPUT);
+            let def_paths = matches.get_strs("def").unwrap_or(&[]);
+            let notes = Notes {
+                quiet: matches.get_flag("quiet"),
+                site_path,
+                site: sources.site.as_str(),
+                program_path,
+                program: sources.program.as_str(),
+                plant_path: "",
+                plant: "",
+                def_paths,
+                defs: sources.defs.as_slice(),
+            };
+            let run = ServiceRun {
+                notes,
+                devices,
+                exe,
+                limits: service_limits(matches),
+                serving,
+            };
+            run_service(rt, alloc, &run, out)
+        }
+        Err(why) => tell_misuse(rt, alloc, why, out),
+    }
 }
 
 /// Runs `probe` on the port that is named.

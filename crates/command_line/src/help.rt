@@ -1,7 +1,7 @@
 //! What the helps of the commands say behind their words and options.
 
 /// The version of the program, and the kit that proves and builds it.
-pub(crate) const VERSION: &str = "0.1.0 (rattle-kit-13b logic dac8208d650f15bf)";
+pub(crate) const VERSION: &str = "0.1.0 (rattle-kit-13f logic dac8208d650f15bf)";
 
 pub const PROGRAM: &str =
     "Without words it reads a program (Instruction List) from standard input, and behind END_PROGRAM a
@@ -36,6 +36,13 @@ standard input:
   sunsite run examples/site.toml examples/limiter.il --plant examples/plant.toml --scans 3
 
 Status: 0 well; 1 refused; 2 no such command line; 3 a link failed";
+
+pub(crate) const SERVE: &str =
+    "Prints 'accepted', 'budget N' and 'listening ADDR', and then a line for each change, behind the seconds since the start.
+It ends behind --scans N, or by a signal. SITE or PROGRAM can be '-', standard input:
+  sunsite serve examples/site.toml examples/limiter.il --plant examples/plant.toml
+
+Status: 0 well; 1 refused; 2 no such command line; 3 the clock or a socket can't be had";
 
 pub(crate) const PROBE: &str = "Prints each model with its points that are present, and 'end ADDR':
   sunsite probe 40123 --unit 1

@@ -9,6 +9,8 @@ mod help;
 mod link_cause;
 mod plant_run;
 mod plant_server;
+mod serve_words;
+mod service_run;
 mod socket;
 mod source;
 mod sources;
@@ -22,6 +24,8 @@ pub use dispatch::{obey, obey_command_line};
 pub use plant_server::simulate;
 // a plant, scans of it, and a probe of the gateway behind them
 pub use plant_run::{PlantRun, run_plant};
+// a service on a site
+pub use service_run::{Devices, ServiceRun, run_service};
 // why a link failed
 pub use link_cause::cause_of_link;
 pub use watched_link::WatchedLink;

@@ -38,7 +38,7 @@ pub fn run_plant<R: Net + Processes + Eprint + AllocGlobal, W: Write>(
     run: &PlantRun<'_, '_>,
     out: &mut W,
 ) -> u8 {
-    match start_plant(rt, alloc, run) {
+    match start_plant(rt, alloc, &run.notes, run.plant, run.exe) {
         Ok(plant) => run_started(rt, alloc, run, plant, out),
         Err(fault) => no_start(alloc, run.exe, &fault, out),
     }
@@ -254,17 +254,20 @@ fn status_of(code: Option<i32>) -> u8 {
     }
 }
 
-fn start_plant<R: Processes>(
+/// Starts a plant by the program at a path. What it prints can be read.
+pub(crate) fn start_plant<R: Processes>(
     rt: &R,
     alloc: Global,
-    run: &PlantRun<'_, '_>,
+    notes: &Notes<'_>,
+    plant: &str,
+    exe: &str,
 ) -> io::Result<Child<R::Started>> {
-    let def_paths = run.notes.def_paths;
-    if run.notes.quiet {
-        let words = ["simulate", "--quiet", run.plant];
-        return start(rt, alloc, run.exe, &words, def_paths);
+    let def_paths = notes.def_paths;
+    if notes.quiet {
+        let words = ["simulate", "--quiet", plant];
+        return start(rt, alloc, exe, &words, def_paths);
     }
-    start(rt, alloc, run.exe, &["simulate", run.plant], def_paths)
+    start(rt, alloc, exe, &["simulate", plant], def_paths)
 }
 
 fn start_probe<R: Processes>(
@@ -321,7 +324,7 @@ fn push_def_paths(command: &mut Command, paths: &[&str]) -> io::Result<()> {
 }
 
 /// The bytes up to the first line feed, and with it.
-fn first_line<R: Read>(alloc: Global, reader: &mut R) -> io::Result<Vec<u8>> {
+pub(crate) fn first_line<R: Read>(alloc: Global, reader: &mut R) -> io::Result<Vec<u8>> {
     let mut line = Vec::new(alloc);
     push_line(&mut line, reader)?;
     Ok(line)
@@ -342,7 +345,7 @@ fn push_line<R: Read>(line: &mut Vec<u8>, reader: &mut R) -> io::Result<()> {
 }
 
 /// The port in the line `listening PORT`.
-fn port_in(line: &[u8]) -> Option<u16> {
+pub(crate) fn port_in(line: &[u8]) -> Option<u16> {
     let line = str::from_utf8(line).ok()?;
     line.strip_prefix("listening ")?
         .trim_end()
@@ -351,7 +354,7 @@ fn port_in(line: &[u8]) -> Option<u16> {
 }
 
 /// Tells that the program at the path can't be started.
-fn no_start<W: Write>(alloc: Global, path: &str, fault: &io::Error, out: &mut W) -> u8 {
+pub(crate) fn no_start<W: Write>(alloc: Global, path: &str, fault: &io::Error, out: &mut W) -> u8 {
     match fault.kind() {
         ErrorKind::OutOfMemory => tell_no_memory(out),
         _ => tell_unusable(alloc, path, out),
@@ -359,7 +362,7 @@ fn no_start<W: Write>(alloc: Global, path: &str, fault: &io::Error, out: &mut W)
 }
 
 /// Tells that a process or a connection gives nothing.
-fn tell_unreached<R: Eprint + AllocGlobal, W: Write>(
+pub(crate) fn tell_unreached<R: Eprint + AllocGlobal, W: Write>(
     rt: &R,
     alloc: Global,
     notes: &Notes<'_>,
@@ -373,7 +376,7 @@ fn tell_unreached<R: Eprint + AllocGlobal, W: Write>(
 }
 
 /// Tells that a link failed, and explains it.
-fn tell_lost<R: Eprint + AllocGlobal, W: Write>(
+pub(crate) fn tell_lost<R: Eprint + AllocGlobal, W: Write>(
     rt: &R,
     alloc: Global,
     notes: &Notes<'_>,

@@ -10,7 +10,8 @@ pub(crate) fn misuse(command: &str, matches: &ArgMatches<'_>) -> Option<&'static
     let plant = file(matches, "plant");
     let defs = matches.get_strs("def").unwrap_or(&[]);
     let handed_on = inputs(&[plant]).saturating_add(inputs(defs));
-    if command == "run" && handed_on > 0 {
+    let hands_on = command == "run" || command == "serve" && !plant.is_empty();
+    if hands_on && handed_on > 0 {
         return Some(
             "'-' can't be the plant or a definition of a run, which a second process reads too",
         );

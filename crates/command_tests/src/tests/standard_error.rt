@@ -13,6 +13,7 @@ use std::io::{ErrorKind, Lines};
 use std::net::{Net, SocketAddr};
 use std::process::{Child, Command, Processes, Stdio};
 use std::rt::Files;
+use std::time::{Clock, Duration};
 
 /// A runtime whose standard error counts what is printed on it, and takes it or fails.
 #[derive(Drop)]
@@ -119,6 +120,16 @@ impl Files for Screen {
 
     fn remove_dir_all<B: Allocator>(&self, _alloc: B, _path: &str) -> io::Result<()> {
         Err(io::Error::from(ErrorKind::Unsupported))
+    }
+}
+
+impl Clock for Screen {
+    fn monotonic(&self) -> io::Result<Duration> {
+        self.rt.monotonic()
+    }
+
+    fn since_1970(&self) -> io::Result<Duration> {
+        self.rt.since_1970()
     }
 }
 

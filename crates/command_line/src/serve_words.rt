@@ -1,0 +1,189 @@
+//! The words of the command `serve`.
+use crate::arguments::{definition_files, exe_option, option, program_file, quiet_flag, site_file};
+use crate::help;
+use crate::service_run::Devices;
+use clap::builder::ValueParser;
+use clap::{Arg, ArgAction, ArgMatches, Command};
+use service_core::Limits;
+use site_service::{Serving, has_port, limits};
+use std::alloc::{AllocError, Global};
+use std::net::{IpAddr, Ipv4Addr, Net, SocketAddr, ToSocketAddrs};
+
+/// Where clients come to, where no other address is asked for.
+const USUAL_DOOR: &str = "127.0.0.1:1502";
+
+/// From one scan to the next, and the longest wait for a device's reply, where no other is asked for, in milliseconds.
+const USUAL: &str = "1000";
+
+pub(crate) fn serve_command<'a>(alloc: Global) -> Result<Command<'a>, AllocError> {
+    let command = Command::new(alloc, "serve")
+        .about("Runs a program on a site by the clock, over connections to its devices")
+        .after_help(help::SERVE)
+        .arg(site_file(alloc))?
+        .arg(program_file(alloc))?
+        .arg(devices_option(alloc))?
+        .arg(plant_option(alloc))?;
+    with_times(alloc, command)
+}
+
+fn with_times<'a>(alloc: Global, command: Command<'a>) -> Result<Command<'a>, AllocError> {
+    let command = command
+        .arg(listen_option(alloc))?
+        .arg(every_option(alloc))?
+        .arg(timeout_option(alloc))?
+        .arg(clients_option(alloc))?
+        .arg(writers_option(alloc))?;
+    with_ways(alloc, command)
+}
+
+fn with_ways<'a>(alloc: Global, command: Command<'a>) -> Result<Command<'a>, AllocError> {
+    command
+        .arg(scans_option(alloc))?
+        .arg(verbose_flag(alloc))?
+        .arg(exe_option(alloc))?
+        .arg(quiet_flag(alloc))?
+        .arg(definition_files(alloc))
+}
+
+fn devices_option<'a>(alloc: Global) -> Arg<'a> {
+    option(
+        alloc,
+        "devices",
+        "HOST:PORT",
+        "where all devices are; else the site file has the address of each",
+    )
+}
+
+fn plant_option<'a>(alloc: Global) -> Arg<'a> {
+    option(
+        alloc,
+        "plant",
+        "PLANT",
+        "the plant file (TOML) of simulated devices, in place of others",
+    )
+}
+
+fn listen_option<'a>(alloc: Global) -> Arg<'a> {
+    option(alloc, "listen", "HOST:PORT", "where clients come to").default_value(USUAL_DOOR)
+}
+
+fn clients_option<'a>(alloc: Global) -> Arg<'a> {
+    option(alloc, "clients", "N", "the most clients at once")
+        .value_parser(ValueParser::unsigned(1, 1024))
+        .default_value("32")
+}
+
+fn writers_option<'a>(alloc: Global) -> Arg<'a> {
+    option(
+        alloc,
+        "write-from",
+        "ADDR",
+        "an address whose clients may write; 127.0.0.1 alone where none is given",
+    )
+    .action(ArgAction::Append)
+}
+
+fn every_option<'a>(alloc: Global) -> Arg<'a> {
+    option(alloc, "every", "MS", "from one scan to the next")
+        .value_parser(ValueParser::unsigned(50, 3_600_000))
+        .default_value(USUAL)
+}
+
+fn timeout_option<'a>(alloc: Global) -> Arg<'a> {
+    option(
+        alloc,
+        "timeout",
+        "MS",
+        "the longest wait for a device's reply, at most half of a period",
+    )
+    .value_parser(ValueParser::unsigned(1, 3_600_000))
+    .default_value(USUAL)
+}
+
+fn scans_option<'a>(alloc: Global) -> Arg<'a> {
+    option(alloc, "scans", "N", "ends behind so many scans").value_parser(ValueParser::unsigned(
+        1,
+        1_000_000_000,
+    ))
+}
+
+fn verbose_flag<'a>(alloc: Global) -> Arg<'a> {
+    Arg::new(alloc, "verbose")
+        .long("verbose")
+        .action(ArgAction::SetTrue)
+        .help("prints a line for each scan")
+}
+
+/// Where the devices are, or why the words don't say it.
+pub(crate) fn devices_of<'a>(matches: &ArgMatches<'a>) -> Result<Devices<'a>, &'static str> {
+    match (matches.get_str("devices"), matches.get_str("plant")) {
+        (None, None) => Ok(Devices::BySite),
+        (None, Some(plant)) => Ok(Devices::Plant(plant)),
+        (Some(address), None) if has_port(address) => Ok(Devices::Behind(address)),
+        (Some(_), None) => Err("'--devices' is no HOST:PORT"),
+        (Some(_), Some(_)) => Err("'--devices' and '--plant' don't go together"),
+    }
+}
+
+/// How long the service waits.
+pub(crate) fn service_limits(matches: &ArgMatches<'_>) -> Limits {
+    limits(
+        milliseconds(matches, "every"),
+        milliseconds(matches, "timeout"),
+        most_clients(matches),
+    )
+}
+
+fn milliseconds(matches: &ArgMatches<'_>, name: &str) -> u64 {
+    matches.get_one(name).unwrap_or(1000)
+}
+
+fn most_clients(matches: &ArgMatches<'_>) -> usize {
+    matches.get_one("clients").unwrap_or(32)
+}
+
+/// What the service is to do, behind a socket for clients at this address.
+pub(crate) fn serving_of<'a>(
+    matches: &ArgMatches<'_>,
+    listen: SocketAddr,
+    writers: &'a [IpAddr],
+) -> Serving<'a> {
+    Serving {
+        listen,
+        clients: most_clients(matches),
+        writers,
+        scans: matches.get_one("scans"),
+        is_verbose: matches.get_flag("verbose"),
+    }
+}
+
+/// The address that clients come to; none where the word is none that is known.
+pub(crate) fn listen_address<R: Net>(rt: &R, matches: &ArgMatches<'_>) -> Option<SocketAddr> {
+    match matches
+        .get_str("listen")
+        .unwrap_or(USUAL_DOOR)
+        .to_socket_addrs(rt)
+    {
+        Ok(mut found) => found.next(),
+        Err(_) => None,
+    }
+}
+
+/// The addresses whose clients may write; none where one of the words is none.
+pub(crate) fn writers_of(
+    alloc: Global,
+    matches: &ArgMatches<'_>,
+) -> Result<Option<Vec<IpAddr>>, AllocError> {
+    let words = matches.get_strs("write-from").unwrap_or(&[]);
+    let mut writers = Vec::new(alloc);
+    for word in words {
+        match word.parse::<IpAddr>() {
+            Ok(address) => writers.push(address.to_canonical())?,
+            Err(_) => return Ok(None),
+        }
+    }
+    if words.is_empty() {
+        writers.push(IpAddr::V4(Ipv4Addr::LOCALHOST))?;
+    }
+    Ok(Some(writers))
+}

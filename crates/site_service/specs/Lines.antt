@@ -1,0 +1,35 @@
+-- The lines that a service tells. No standard says what is printed; these lines are this project's.
+use Rattle.std.specs.Prelude.{ℕ, List, ◌++◌, ◌/◌, ◌%◌, codes}
+use Rattle.std.specs.Fmt.{decimal}
+
+-- the seconds since the start, to the thousandth, of so many milliseconds
+abbrev pub stamp : ℕ → List ℕ
+stamp now = decimal (now / 1000) ++ codes "." ++ decimal (now / 100 % 10) ++ decimal (now / 10 % 10) ++ decimal (now % 10)
+
+-- a line behind the time
+abbrev pub stamped_line : ℕ → List ℕ → List ℕ
+stamped_line now line = stamp now ++ codes " " ++ line ++ codes "\n"
+
+-- device NAME lost KIND
+abbrev pub lost_line : (name kind : List ℕ) → List ℕ
+lost_line name kind = codes "device " ++ name ++ codes " lost " ++ kind
+
+-- device NAME found MODELS, or device NAME back
+abbrev pub device_line : (name what : List ℕ) → List ℕ
+device_line name what = codes "device " ++ name ++ codes " " ++ what
+
+-- output NAME written
+abbrev pub written_line : (name : List ℕ) → List ℕ
+written_line name = codes "output " ++ name ++ codes " written"
+
+-- output NAME unwritten CAUSE
+abbrev pub unwritten_line : (name cause : List ℕ) → List ℕ
+unwritten_line name cause = codes "output " ++ name ++ codes " unwritten " ++ cause
+
+-- late N
+abbrev pub late_line : ℕ → List ℕ
+late_line late = codes "late " ++ decimal late
+
+-- left out N
+abbrev pub left_out_line : ℕ → List ℕ
+left_out_line n = codes "left out " ++ decimal n

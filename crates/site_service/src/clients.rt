@@ -1,0 +1,166 @@
+//! The clients' connections.
+use crate::client::Client;
+use crate::door::Door;
+use crate::journal::Journal;
+use crate::writers::may_write;
+use commands::DEPTH;
+use mio::net::TcpStream;
+use mio::{Registry, Token};
+use service_core::Service;
+use std::alloc::{AllocError, Global};
+use std::io::Write;
+use std::net::{IpAddr, SocketAddr};
+
+/// The most connections that are taken in one turn.
+const MOST_TAKEN: u32 = 64;
+
+/// The clients' connections, each at its place, under its token behind the first.
+#[derive(Drop)]
+pub(crate) struct Clients {
+    first: usize,
+    places: Vec<Option<Client>>,
+}
+
+impl Clients {
+    /// Places for so many, all of them free.
+    pub(crate) fn new(alloc: Global, first: usize, most: usize) -> Result<Clients, AllocError> {
+        let mut places = Vec::new(alloc);
+        for _ in 0..most {
+            places.push(None)?;
+        }
+        Ok(Clients { first, places })
+    }
+
+    /// The system says of a token that there is something to do.
+    pub(crate) fn wake(&mut self, token: usize) {
+        if let Some(Some(client)) = self.places.get_mut(token.saturating_sub(self.first)) {
+            client.wake();
+        }
+    }
+
+    /// Whether there is something to do without a wait.
+    pub(crate) fn is_busy(&self, service: &Service<DEPTH>) -> bool {
+        for (place, client) in self.places.iter().enumerate() {
+            if let Some(client) = client {
+                if client.is_busy(service.to_client(place).len()) {
+                    return true;
+                }
+            }
+        }
+        false
+    }
+
+    /// Takes in those who wait, where the service has a place for them; those at `writers` may write.
+    pub(crate) fn take_in<W: Write>(
+        &mut self,
+        registry: &Registry,
+        door: &mut Door,
+        writers: &[IpAddr],
+        service: &mut Service<DEPTH>,
+        journal: &mut Journal<'_, W>,
+    ) {
+        for _ in 0..MOST_TAKEN {
+            let Some((stream, address)) = door.next() else {
+                return;
+            };
+            self.join(registry, stream, address, writers, service, journal);
+        }
+    }
+
+    fn join<W: Write>(
+        &mut self,
+        registry: &Registry,
+        stream: TcpStream,
+        address: SocketAddr,
+        writers: &[IpAddr],
+        service: &mut Service<DEPTH>,
+        journal: &mut Journal<'_, W>,
+    ) {
+        let is_writer = may_write(writers, address.ip().to_canonical());
+        match service.client_came(is_writer, journal.now()) {
+            Some(place) => {
+                // the one who was silent longest, where there was no free place
+                self.leave(place, journal);
+                let token = Token(self.first.saturating_add(place));
+                let client = Client::new(registry, token, stream, address);
+                self.put(place, client, service, journal);
+            }
+            None => journal.tell_client(address, "refused"),
+        }
+    }
+
+    // Puts a client to a place; it is gone already where there is none.
+    fn put<W: Write>(
+        &mut self,
+        place: usize,
+        client: Option<Client>,
+        service: &mut Service<DEPTH>,
+        journal: &mut Journal<'_, W>,
+    ) {
+        match &client {
+            Some(client) => journal.tell_client(client.address, "joined"),
+            None => service.client_gone(place),
+        }
+        self.set(place, client);
+    }
+
+    fn set(&mut self, place: usize, client: Option<Client>) {
+        if let Some(there) = self.places.get_mut(place) {
+            *there = client;
+        }
+    }
+
+    // Closes the connection at a place, where there is one.
+    fn leave<W: Write>(&mut self, place: usize, journal: &mut Journal<'_, W>) {
+        if let Some(address) = self.address_at(place) {
+            self.set(place, None);
+            journal.tell_client(address, "left");
+        }
+    }
+
+    fn address_at(&self, place: usize) -> Option<SocketAddr> {
+        match self.places.get(place) {
+            Some(Some(client)) => Some(client.address),
+            _ => None,
+        }
+    }
+
+    /// Hands over what came.
+    pub(crate) fn receive(&mut self, service: &mut Service<DEPTH>, now: u64) {
+        for (place, client) in self.places.iter_mut().enumerate() {
+            if let Some(client) = client {
+                client.receive(service, place, now);
+            }
+        }
+    }
+
+    /// Sends what waits.
+    pub(crate) fn send(&mut self, service: &mut Service<DEPTH>) {
+        for (place, client) in self.places.iter_mut().enumerate() {
+            if let Some(client) = client {
+                client.send(service, place);
+            }
+        }
+    }
+
+    /// Closes the connections that are over, or are to be closed.
+    pub(crate) fn close<W: Write>(
+        &mut self,
+        service: &mut Service<DEPTH>,
+        journal: &mut Journal<'_, W>,
+    ) {
+        for place in 0..self.places.len() {
+            if self.is_over(service, place) {
+                self.leave(place, journal);
+                service.client_gone(place);
+            }
+        }
+    }
+
+    fn is_over(&self, service: &Service<DEPTH>, place: usize) -> bool {
+        match self.places.get(place) {
+            Some(Some(client)) => client.is_over(service, place),
+            _ => false,
+        }
+    }
+}

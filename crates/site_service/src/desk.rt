@@ -1,0 +1,138 @@
+//! All that a service has beside what decides.
+use crate::journal::Journal;
+use crate::lines::{late_line, listening_line};
+use crate::room::Room;
+use crate::serving::{End, Serving};
+use crate::sockets::Sockets;
+use crate::telling::{tell, tell_scan};
+use commands::DEPTH;
+use service_core::{Note, Service};
+use site_model::Text;
+use std::alloc::Global;
+use std::io;
+use std::io::Write;
+use std::net::Net;
+use std::time::{Clock, Duration, Instant};
+
+/// The sockets of a service, its clock, and where it tells.
+#[derive(Drop)]
+pub(crate) struct Desk<'a, W: Write> {
+    alloc: Global,
+    sockets: Sockets,
+    journal: Journal<'a, W>,
+    start: Instant,
+    /// How many rounds began late.
+    late: u64,
+}
+
+impl<'a, W: Write> Desk<'a, W> {
+    pub(crate) fn new<R: Net + Clock>(
+        rt: &R,
+        alloc: Global,
+        serving: &Serving<'_>,
+        links: &[Text],
+        out: &'a mut W,
+    ) -> Result<Desk<'a, W>, End> {
+        let sockets = Sockets::new(rt, alloc, serving, links)?;
+        match Desk::over(rt, alloc, sockets, out) {
+            Ok(desk) => Ok(desk),
+            Err(fault) => Err(End::by(&fault)),
+        }
+    }
+
+    fn over<R: Net + Clock>(
+        rt: &R,
+        alloc: Global,
+        sockets: Sockets,
+        out: &'a mut W,
+    ) -> io::Result<Desk<'a, W>> {
+        Ok(Desk {
+            alloc,
+            sockets,
+            journal: Journal::new(alloc, out, Room::new(rt, alloc)?),
+            start: Instant::now(rt)?,
+            late: 0,
+        })
+    }
+
+    /// Tells where clients come to.
+    pub(crate) fn tell_address(&mut self) {
+        if let Ok(address) = self.sockets.address() {
+            self.journal.tell_plain(listening_line(self.alloc, address));
+        }
+    }
+
+    /// One turn; whether the last scan is done.
+    pub(crate) fn turn<R: Net + Clock>(
+        &mut self,
+        rt: &R,
+        serving: &Serving<'_>,
+        service: &mut Service<DEPTH>,
+    ) -> Result<bool, End> {
+        let now = self.now(rt)?;
+        self.journal.turn_to(now);
+        service.tick(now);
+        self.sockets.take(rt, serving, service, &mut self.journal);
+        self.sockets.give(service, &mut self.journal);
+        Ok(self.tell(serving, service))
+    }
+
+    // The milliseconds since the start.
+    fn now<R: Clock>(&self, rt: &R) -> Result<u64, End> {
+        match self.start.elapsed(rt) {
+            Ok(spent) => Ok(milliseconds(spent)),
+            Err(fault) => Err(End::by(&fault)),
+        }
+    }
+
+    // Tells what happened; whether the last scan is done.
+    fn tell(&mut self, serving: &Serving<'_>, service: &mut Service<DEPTH>) -> bool {
+        for _ in 0..u64::MAX {
+            let Some(note) = service.next_note() else {
+                return false;
+            };
+            if self.tell_note(serving, service, &note) {
+                return true;
+            }
+        }
+        false
+    }
+
+    fn tell_note(&mut self, serving: &Serving<'_>, service: &Service<DEPTH>, note: &Note) -> bool {
+        match note {
+            Note::Scanned(report) => {
+                let scans = service.scans();
+                if serving.is_verbose {
+                    tell_scan(self.alloc, scans, report, &mut self.journal);
+                }
+                serving.is_done(scans)
+            }
+            Note::Late(_) => {
+                self.late = self.late.saturating_add(1);
+                self.journal.tell(late_line(self.alloc, self.late));
+                false
+            }
+            _ => {
+                tell(self.alloc, note, service.core(), &mut self.journal);
+                false
+            }
+        }
+    }
+
+    /// Waits until there is something to do.
+    pub(crate) fn wait<R: Clock>(&mut self, rt: &R, service: &Service<DEPTH>) -> Result<(), End> {
+        let most = service.wakes_at().saturating_sub(self.now(rt)?);
+        let most = self.sockets.longest_wait(service, most);
+        match self.sockets.wait(most) {
+            Ok(()) => Ok(()),
+            Err(fault) => Err(End::by(&fault)),
+        }
+    }
+}
+
+fn milliseconds(spent: Duration) -> u64 {
+    spent
+        .as_secs()
+        .saturating_mul(1000)
+        .saturating_add(u64::from(spent.subsec_millis()))
+}

@@ -1,0 +1,33 @@
+//! The gateway as a service over sockets: one thread, and one wait a turn. What is done is decided by `service_core`;
+//! here connections are made and closed as it says, bytes are moved, and lines written of what it tells.
+#![tactic(auto)]
+
+mod addresses;
+mod client;
+mod clients;
+mod connection;
+mod desk;
+mod device_places;
+mod door;
+mod journal;
+mod lines;
+mod link;
+mod links;
+mod room;
+mod serving;
+mod sockets;
+mod telling;
+mod turns;
+mod waiting;
+mod writers;
+
+// where the devices are
+pub use addresses::{Addresses, has_port};
+pub use device_places::{AddressFault, DevicePlace, read_places};
+// which clients may write
+pub use writers::may_write;
+// how long is waited
+pub use waiting::limits;
+// the service itself
+pub use serving::{End, Serving};
+pub use turns::serve_site;

@@ -1,0 +1,87 @@
+//! The connections to the devices.
+use crate::link::Link;
+use commands::DEPTH;
+use mio::{Registry, Token};
+use service_core::Service;
+use site_model::Text;
+use std::alloc::{AllocError, Global};
+use std::net::Net;
+
+/// The connections to the devices, each under its token behind the first.
+#[derive(Drop)]
+pub(crate) struct Links {
+    first: usize,
+    links: Vec<Link>,
+}
+
+impl Links {
+    /// Those to these addresses; none is made yet.
+    pub(crate) fn new(
+        alloc: Global,
+        first: usize,
+        addresses: &[Text],
+    ) -> Result<Links, AllocError> {
+        let mut links = Vec::new(alloc);
+        for address in addresses {
+            links.push(Link::new(alloc, address.as_str())?)?;
+        }
+        Ok(Links { first, links })
+    }
+
+    /// The system says of a token that there is something to do.
+    pub(crate) fn wake(&mut self, token: usize) {
+        if let Some(link) = self.links.get_mut(token.saturating_sub(self.first)) {
+            link.wake();
+        }
+    }
+
+    /// Whether there is something to do without a wait.
+    pub(crate) fn is_busy(&self, service: &Service<DEPTH>) -> bool {
+        for (number, link) in self.links.iter().enumerate() {
+            if link.is_busy(service.to_link(number).len()) {
+                return true;
+            }
+        }
+        false
+    }
+
+    /// Hands over what came, and tells of connections that stand now, or ended.
+    pub(crate) fn receive(&mut self, service: &mut Service<DEPTH>, now: u64) {
+        for (number, link) in self.links.iter_mut().enumerate() {
+            link.receive(service, number, now);
+        }
+    }
+
+    /// Closes those that are to be closed.
+    pub(crate) fn hang_up(&mut self, service: &mut Service<DEPTH>, now: u64) {
+        for (number, link) in self.links.iter_mut().enumerate() {
+            if service.wants_hang_up(number) {
+                link.close(service, number, now);
+            }
+        }
+    }
+
+    /// Begins the connections that are wanted.
+    pub(crate) fn dial<R: Net>(
+        &mut self,
+        rt: &R,
+        registry: &Registry,
+        service: &mut Service<DEPTH>,
+        now: u64,
+    ) {
+        let first = self.first;
+        for (number, link) in self.links.iter_mut().enumerate() {
+            if service.wants_dial(number) {
+                let token = Token(first.saturating_add(number));
+                link.dial(rt, registry, token, service, number, now);
+            }
+        }
+    }
+
+    /// Sends what waits.
+    pub(crate) fn send(&mut self, service: &mut Service<DEPTH>) {
+        for (number, link) in self.links.iter_mut().enumerate() {
+            link.send(service, number);
+        }
+    }
+}

@@ -1,0 +1,58 @@
+//! What a service is to do, and how it ends.
+use std::io;
+use std::io::ErrorKind;
+use std::net::{IpAddr, SocketAddr};
+
+/// What a service is to do.
+#[derive(Clone, Copy)]
+pub struct Serving<'a> {
+    /// Where clients come to.
+    pub listen: SocketAddr,
+    /// The most clients at once.
+    pub clients: usize,
+    /// The addresses of the clients that may write.
+    pub writers: &'a [IpAddr],
+    /// How many scans; none for ever.
+    pub scans: Option<u64>,
+    /// Whether each scan has its line.
+    pub is_verbose: bool,
+}
+
+/// Why a service can't begin, or doesn't go on.
+#[derive(Clone, Copy)]
+pub enum End {
+    /// Nothing can be served at the address, for this cause.
+    Listen(ErrorKind),
+    /// The clock, or the wait for sockets, failed.
+    System,
+    /// Memory was refused.
+    OutOfMemory,
+}
+
+impl End {
+    /// The end that a fault of the system is.
+    pub(crate) fn by(fault: &io::Error) -> End {
+        match fault.kind() {
+            ErrorKind::OutOfMemory => End::OutOfMemory,
+            _ => End::System,
+        }
+    }
+
+    /// The end that a fault of the socket for clients is.
+    pub(crate) fn at_door(fault: &io::Error) -> End {
+        match fault.kind() {
+            ErrorKind::OutOfMemory => End::OutOfMemory,
+            kind => End::Listen(kind),
+        }
+    }
+}
+
+impl Serving<'_> {
+    /// Whether so many scans are all that were asked for.
+    pub(crate) fn is_done(&self, scans: u64) -> bool {
+        match self.scans {
+            Some(most) => scans >= most,
+            None => false,
+        }
+    }
+}

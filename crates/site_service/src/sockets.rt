@@ -1,0 +1,152 @@
+//! All sockets of a service, and the wait for them.
+use crate::clients::Clients;
+use crate::door::Door;
+use crate::journal::Journal;
+use crate::links::Links;
+use crate::serving::{End, Serving};
+use commands::DEPTH;
+use mio::{Events, Poll, Token};
+use service_core::Service;
+use site_model::Text;
+use std::alloc::Global;
+use std::io;
+use std::io::Write;
+use std::net::{Net, SocketAddr};
+use std::time::Duration;
+
+/// The token of the door; those of the links follow, and then those of the clients.
+const DOOR: usize = 0;
+
+/// The longest wait while one at the door couldn't be taken in, in milliseconds.
+const TRY_AGAIN: u64 = 1000;
+
+/// All sockets of a service.
+#[derive(Drop)]
+pub(crate) struct Sockets {
+    poll: Poll,
+    events: Events,
+    door: Door,
+    links: Links,
+    clients: Clients,
+    first_client: usize,
+}
+
+impl Sockets {
+    /// The socket that clients come to, and no connection yet.
+    pub(crate) fn new<R: Net>(
+        rt: &R,
+        alloc: Global,
+        serving: &Serving<'_>,
+        links: &[Text],
+    ) -> Result<Sockets, End> {
+        let poll = poll_of(rt)?;
+        let door = door_of(rt, &poll, serving.listen)?;
+        match Sockets::over(alloc, poll, door, serving.clients, links) {
+            Ok(sockets) => Ok(sockets),
+            Err(fault) => Err(End::by(&fault)),
+        }
+    }
+
+    fn over(
+        alloc: Global,
+        poll: Poll,
+        door: Door,
+        clients: usize,
+        links: &[Text],
+    ) -> io::Result<Sockets> {
+        let first_link = DOOR + 1;
+        let first_client = links.len().saturating_add(first_link);
+        let links = Links::new(alloc, first_link, links)?;
+        let most = first_client.saturating_add(clients);
+        let clients = Clients::new(alloc, first_client, clients)?;
+        Ok(Sockets {
+            events: Events::with_capacity(alloc, most)?,
+            poll,
+            door,
+            links,
+            clients,
+            first_client,
+        })
+    }
+
+    /// The address that clients come to.
+    pub(crate) fn address(&self) -> io::Result<SocketAddr> {
+        self.door.address()
+    }
+
+    /// Takes in clients who wait, hands over what came, and makes and closes connections to devices.
+    pub(crate) fn take<R: Net, W: Write>(
+        &mut self,
+        rt: &R,
+        serving: &Serving<'_>,
+        service: &mut Service<DEPTH>,
+        journal: &mut Journal<'_, W>,
+    ) {
+        let now = journal.now();
+        let registry = self.poll.registry();
+        self.clients.take_in(registry, &mut self.door, serving.writers, service, journal);
+        self.links.receive(service, now);
+        self.clients.receive(service, now);
+        self.links.hang_up(service, now);
+        self.links.dial(rt, registry, service, now);
+    }
+
+    /// Sends what waits, and closes clients' connections that are over.
+    pub(crate) fn give<W: Write>(
+        &mut self,
+        service: &mut Service<DEPTH>,
+        journal: &mut Journal<'_, W>,
+    ) {
+        self.links.send(service);
+        self.clients.send(service);
+        self.clients.close(service, journal);
+    }
+
+    /// The longest wait, where there is something to do in so many milliseconds at the latest.
+    pub(crate) fn longest_wait(&self, service: &Service<DEPTH>, most: u64) -> u64 {
+        if self.door.is_busy() || self.links.is_busy(service) || self.clients.is_busy(service) {
+            return 0;
+        }
+        if self.door.is_stuck() {
+            most.min(TRY_AGAIN)
+        } else {
+            most
+        }
+    }
+
+    /// Waits until the system says that there is something to do, at most so many milliseconds.
+    pub(crate) fn wait(&mut self, most: u64) -> io::Result<()> {
+        let most = Duration::from_millis(most);
+        self.poll.poll(&mut self.events, Some(most))?;
+        self.wake();
+        Ok(())
+    }
+
+    // Marks those of whom the system says that there is something to do. It says so once.
+    fn wake(&mut self) {
+        for event in self.events.iter() {
+            let token = event.token().0;
+            if token == DOOR {
+                self.door.wake();
+            } else if token < self.first_client {
+                self.links.wake(token);
+            } else {
+                self.clients.wake(token);
+            }
+        }
+    }
+}
+
+fn poll_of<R: Net>(rt: &R) -> Result<Poll, End> {
+    match Poll::new(rt) {
+        Ok(poll) => Ok(poll),
+        Err(fault) => Err(End::by(&fault)),
+    }
+}
+
+fn door_of<R: Net>(rt: &R, poll: &Poll, listen: SocketAddr) -> Result<Door, End> {
+    match Door::new(rt, poll.registry(), Token(DOOR), listen) {
+        Ok(door) => Ok(door),
+        Err(fault) => Err(End::at_door(&fault)),
+    }
+}

@@ -1,0 +1,33 @@
+//! The turns of a service: the clock, bytes in, bytes out, what is told, and a wait.
+use crate::desk::Desk;
+use crate::serving::{End, Serving};
+use commands::DEPTH;
+use service_core::Service;
+use site_model::Text;
+use std::alloc::Global;
+use std::io::Write;
+use std::net::Net;
+use std::time::Clock;
+
+/// Serves a site, of which nothing was asked yet, until the scans that were asked for are done. `links` has
+/// the address of each of the service's connections, whose time begins at 0. Nothing that a peer does ends it. Listen: nothing can be served at the
+/// address for clients; System: the clock or
+/// the wait for sockets failed; OutOfMemory: memory was refused at the start.
+pub fn serve_site<R: Net + Clock, W: Write>(
+    rt: &R,
+    alloc: Global,
+    serving: &Serving<'_>,
+    links: &[Text],
+    service: &mut Service<DEPTH>,
+    out: &mut W,
+) -> Result<(), End> {
+    let mut desk = Desk::new(rt, alloc, serving, links, out)?;
+    desk.tell_address();
+    for _ in 0..u64::MAX {
+        if desk.turn(rt, serving, service)? {
+            return Ok(());
+        }
+        desk.wait(rt, service)?;
+    }
+    Ok(())
+}
