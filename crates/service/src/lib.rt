@@ -24,5 +24,5 @@ pub use search::{Search, Step};
 pub use round::{Round, Turn};
 // clients
 pub use guard::{is_write, refusal};
-pub use session::Session;
+pub use session::{Session, Taken};
 pub use turn::Turned;

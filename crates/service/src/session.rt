@@ -21,6 +21,15 @@ pub struct Session {
     answer: FrameReply,
 }
 
+/// What a session took of a piece.
+#[derive(Clone, Copy, Debug, PartialEq, Eq)]
+pub struct Taken {
+    /// How many bytes were used.
+    pub used: usize,
+    /// How many frames were answered, one at most.
+    pub frames: usize,
+}
+
 impl Model for Session {
     ghost use Rattle.std.specs.Prelude.{◌≡◌, ◌≤◌, ◌++◌, [], drop, length};
     ghost use Rattle.modbus_frame.specs.Frame.{IsRest};
@@ -67,20 +76,26 @@ impl Session {
 
     /// Takes the next piece of the stream, up to the end of the first frame that is whole now, and answers that frame; the
     /// caller gives the others again. A fault uses up all of the piece, and stays.
-    pub fn take<R: Responder>(&mut self, responder: &mut R, piece: &[u8]) -> usize
+    pub fn take<R: Responder>(&mut self, responder: &mut R, piece: &[u8]) -> Taken
         requires { IsFree self.old }
         ensures takes { TakesPiece R.answers responder.old self.old piece.now result responder.new self.new }
-        ensures used { result ≤ length piece.now }
-        ensures some { 0 < length piece.now → 0 < result }
+        ensures used { result.used ≤ length piece.now }
+        ensures one { result.frames ≤ 1 }
+        ensures some { 0 < length piece.now → 0 < result.used }
     {
         match self.framer.feed(piece) {
             Ok(fed) => {
-                if let Some(frame) = &fed.frame {
-                    self.hold(responder.answer(frame));
-                }
-                fed.used
+                let used = fed.used;
+                let Some(frame) = &fed.frame else {
+                    return Taken { used, frames: 0 };
+                };
+                self.hold(responder.answer(frame));
+                Taken { used, frames: 1 }
             }
-            Err(_) => piece.len(),
+            Err(_) => Taken {
+                used: piece.len(),
+                frames: 0,
+            },
         }
     }
 

@@ -1,6 +1,6 @@
 -- What is said of a client's place, call by call.
-use Rattle.std.proofs.Common.{◌≡◌, ℕ, zero, suc, ◌+◌, ◌-◌, ◌≤◌, ◌≢◌, ◌⊎◌, inl, inr, Bool, true, false, eqb, List, [], ◌∷◌, ◌++◌, Option, None, Some, take, drop, refl, sym, ap, subst, ◌∙◌, arith, append_assoc}
-use Rattle.std.specs.Prelude.{slice_get, slice_set}
+use Rattle.std.proofs.Common.{◌≡◌, ℕ, zero, suc, ◌+◌, ◌-◌, ◌≤◌, ◌≢◌, ◌⊎◌, inl, inr, Bool, true, false, eqb, List, [], ◌∷◌, ◌++◌, Option, None, Some, take, drop, refl, sym, ap, subst, ◌∙◌, arith, append_assoc, ◌<◌}
+use Rattle.std.specs.Prelude.{min, slice_get, slice_set, ◌^◌}
 use Rattle.std.proofs.lemmas.List.{append-nil, drop-drop, take-take}
 use Rattle.std.proofs.Math.Seq.{take-add}
 use Rattle.std.proofs.lemmas.Bool.Decides.{eqb_tells}
@@ -10,25 +10,40 @@ use Rattle.service.specs.Sessions.{AnsweredTo, Puts, Serving, ServesOn, Turn, fr
 use Rattle.service.proofs.Talking.{any_cut_is_answered}
 use Rattle.service.specs.Talk.{Talk}
 use Rattle.service_core.specs.declared.client_place.ClientPlace.{ClientPlace}
+use Rattle.service_core.specs.Counting.{more_by}
 use Rattle.service_core.specs.Clients.{ClientsAreAnswered, DoesAt, Hears, IsOpen, IsServed, OthersStay, PlacesStay, Sends, ready_of}
+
+pub counted : (k n r : ℕ) → n < 2 ^ 64 → r ≡ min (n + k) (2 ^ 64 - 1) → r ≡ more_by k n
+counted zero n r fits is = omega (arith, fits, is)
+counted (suc k) n r fits is = is
 
 module _ {S : Type 0} (Answers : S → Frame → List ℕ → Bool → S → Type 0) where
   -- a turn puts its answers where nothing was to go out
-  pub hears_turn : (s t : S) (old new : ClientPlace) (bytes out : List ℕ) → ServesOn Answers 8 s old.session bytes out t new.session → ready_of old ≡ [] → ready_of new ≡ out → Hears Answers s old bytes t new
-  hears_turn s t old new bytes out serves none ready turns stream gone before =
-      let empty : gone ++ ready_of old ≡ gone = ap (λ l. gone ++ l) none ∙ append-nil gone in
-      let one = serves turns stream gone (subst (λ l. Serving Answers turns stream l s old.session) empty before) in
-      (one.0, one.1, one.2, subst (λ r. Serving Answers (turns ++ one.0) (stream ++ bytes) (gone ++ r) t new.session) (sym ready) one.3)
+  pub hears_turn : (s t : S) (old new : ClientPlace) (bytes out : List ℕ) (frames : ℕ) → ServesOn Answers frames s old.session bytes out t new.session → frames ≤ 8
+      → ready_of old ≡ [] → ready_of new ≡ out → new.requests ≡ more_by frames old.requests → Hears Answers s old bytes t new
+  hears_turn s t old new bytes out frames serves few none ready count = record {
+    turns = serves.turns;
+    few = subst (λ n. n ≤ 8) (sym serves.count) few;
+    chain = serves.chain;
+    count = count ∙ ap (λ n. more_by n old.requests) (sym serves.count);
+    served = λ before stream gone is.
+        let empty : gone ++ ready_of old ≡ gone = ap (λ l. gone ++ l) none ∙ append-nil gone in
+        subst (λ r. Serving Answers (before ++ serves.turns) (stream ++ bytes) (gone ++ r) t new.session) (sym ready)
+        (serves.serves before stream gone (subst (λ l. Serving Answers before stream l s old.session) empty is));
+  }
 
   -- nothing is taken while answers are to go out
-  pub hears_nothing : (s : S) (c : ClientPlace) → Hears Answers s c [] s c
-  hears_nothing s c turns stream gone before = (
-    [],
-    omega arith,
-    refl,
-    subst (λ ts. Serving Answers ts (stream ++ []) (gone ++ ready_of c) s c.session) (sym (append-nil turns))
-        (subst (λ l. Serving Answers turns l (gone ++ ready_of c) s c.session) (sym (append-nil stream)) before),
-  )
+  pub hears_nothing : (s t : S) (c : ClientPlace) → t ≡ s → Hears Answers s c [] t c
+  hears_nothing s t c same = record {
+    turns = [];
+    few = omega arith;
+    chain = same;
+    count = refl;
+    served = λ before stream gone is.
+        subst (λ ts. Serving Answers ts (stream ++ []) (gone ++ ready_of c) t c.session) (sym (append-nil before))
+        (subst (λ l. Serving Answers before l (gone ++ ready_of c) t c.session) (sym (append-nil stream))
+        (subst (λ u. Serving Answers before stream (gone ++ ready_of c) u c.session) (sym same) is));
+  }
 
   -- what went out is what was served, in order
   pub served_on : (turns : List (Turn S)) (stream gone : List ℕ) (s : S) (old new : ClientPlace) (n : ℕ) → Sends old n new → IsServed Answers turns stream gone s old → IsServed Answers turns stream (gone ++ take n (ready_of old)) s new
@@ -55,8 +70,8 @@ module _ {S : Type 0} (Answers : S → Frame → List ℕ → Bool → S → Typ
   }
 
 -- some more of the ready bytes are gone, and not all
-pub sends_some : (old new : ClientPlace) (n : ℕ) → old.start + n ≤ old.end → new.session ≡ old.session → new.out ≡ old.out → new.start ≡ old.start + n → new.end ≡ old.end → Sends old n new
-sends_some old new n some session out start end_ =
+pub sends_some : (old new : ClientPlace) (n : ℕ) → old.start + n ≤ old.end → new.session ≡ old.session → new.out ≡ old.out → new.start ≡ old.start + n → new.end ≡ old.end → new.requests ≡ old.requests → Sends old n new
+sends_some old new n some session out start end_ count =
     let all : ℕ = old.end - old.start in
     let here : List ℕ = drop old.start old.out in
     let ready : ready_of new ≡ take (all - n) (drop n here) =
@@ -68,6 +83,7 @@ sends_some old new n some session out start end_ =
     record {
       put = [];
       puts = subst (λ (s : Talk). Puts old.session [] s) (sym session) (record { front = refl; held = refl; goes_on = refl });
+      count = count;
       ready = append-nil (ready_of old) ∙ sym both ∙ ap (λ (l : List ℕ). l ++ take (all - n) (drop n here)) (sym front) ∙ ap (λ (l : List ℕ). take n (ready_of old) ++ l) (sym ready);
     }
   where
@@ -102,6 +118,9 @@ done_at Does places now place old new same at does = (
   (λ c is. (new, there now place old new at, subst (λ x. Does x new) (same_some at (ap (λ (l : List ClientPlace). slice_get l place) same ∙ is)) does)),
   others_stay places now place new same,
 )
+
+pub that_one : (P : ClientPlace → Type 0) (places : List ClientPlace) (place : ℕ) (old : ClientPlace) → slice_get places place ≡ Some old → P old → (c : ClientPlace) → slice_get places place ≡ Some c → P c
+that_one P places place old at is c here = subst P (same_some at here) is
 
 pub nobody_at : (Does : ClientPlace → ClientPlace → Type 0) (places now : List ClientPlace) (place : ℕ) → now ≡ places → slice_get now place ≡ None → DoesAt Does places place now
 nobody_at Does places now place same none = (

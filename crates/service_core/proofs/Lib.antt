@@ -4,3 +4,5 @@ pub mod Calls
 pub mod Rightful
 pub mod Opening
 pub mod Heard
+pub mod Restored
+pub mod Whole

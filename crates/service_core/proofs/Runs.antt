@@ -1,5 +1,5 @@
 -- A core's course is a site run.
-use Rattle.std.proofs.Common.{◌≡◌, ◌≢◌, ◌⊎◌, inl, inr, ℕ, Bool, true, false, eqb, List, [], ◌∷◌, ◌++◌, Option, set, refl, sym, ap, subst, ◌∙◌}
+use Rattle.std.proofs.Common.{◌≡◌, ◌≢◌, ◌⊎◌, inl, inr, ℕ, Bool, true, false, eqb, not, ◌&&◌, List, [], ◌∷◌, ◌++◌, Option, set, refl, sym, ap, subst, ◌∙◌}
 use Rattle.std.proofs.lemmas.Bool.Decides.{eqb_tells}
 use Rattle.std.proofs.Math.Logic.{∥∥₁_elim, ∥∥₁_prop}
 use Rattle.register_map.specs.Layout.{Layout}
@@ -14,9 +14,11 @@ use Rattle.gateway.specs.declared.event_core.event.Answer.TheVariants as answer
 use Rattle.gateway.specs.event_core.Control.{Advances, AnswersFrame}
 use Rattle.gateway.specs.event_core.Core.{Gateway, IsSame, StepsOn, numbers_of}
 use Rattle.gateway.specs.event_core.SiteRun.{Runs, Standing, Steps}
+use Rattle.service.specs.Guarding.{AnswersUnless, Guards, is_write}
 use Rattle.service.specs.Rounds.{IsRoundFor, Progress}
 use Rattle.service.specs.Searches.{Sought}
-use Rattle.service_core.specs.Course.{CoursesAreSiteRuns, IsNew, Reached, stays, steps, learns}
+use Rattle.service.specs.Sessions.{IsChain, Turn}
+use Rattle.service_core.specs.Course.{CoursesAreSiteRuns, Goes, LeadsOn, IsNew, Reached, stays, steps, learns}
 use Rattle.service_core.specs.Seeking.{AreOf, IsFound}
 
 runs_then : (site : Site) (image : Image) (links : List ℕ) (budget : ℕ) (s : Standing) (es : List Event) (answers : List Answer) (t : Standing) (e : Event) (a : Answer) (u : Standing)
@@ -105,3 +107,37 @@ sought_after g m e a h searches own same one = sought_stays m h searches (subst 
 
 pub sought_behind : (g m : Gateway) (frame : Frame) (bytes : List ℕ) (goes_on : Bool) (h : Gateway) (searches : List Sought) → AreOf g.site searches → m ≡ g → AnswersFrame m frame bytes goes_on h → AreOf h.site searches
 sought_behind g m frame bytes goes_on h searches own same answers = sought_stays m h searches (subst (λ (x : Gateway). AreOf x.site searches) (sym same) own) (same_site m frame bytes goes_on h answers)
+
+-- ---- each goes on
+
+pub goes_step : (g : Gateway) (e : Event) (a : Answer) (h : Gateway) → StepsOn g e a h → IsSame g h → LeadsOn g h
+goes_step g e a h step same from before = ∥∥₁_elim before ∥∥₁_prop (λ b. ∣ steps b e a h (step, same) ∣₁)
+
+pub goes_learn : (g : Gateway) (device : ℕ) (found : Option Layout) (h : Gateway) → ∥ IsFound g.site device found ∥₁ → h ≡ record g { maps = set g.maps device found } → LeadsOn g h
+goes_learn g device found h own is from before = ∥∥₁_elim before ∥∥₁_prop (λ b. ∥∥₁_elim own ∥∥₁_prop (λ o. ∣ subst (Goes from) (sym is) (learns b device found o) ∣₁))
+
+pub goes_after : (g m : Gateway) (e : Event) (a : Answer) (h : Gateway) → m ≡ g → Advances m e a h → LeadsOn g h
+goes_after g m e a h same one = subst (λ x. LeadsOn x h) same (goes_step m e a h one.0 one.1)
+
+goes_answer : (g : Gateway) (frame : Frame) (bytes : List ℕ) (goes_on : Bool) (h : Gateway) → AnswersFrame g frame bytes goes_on h → LeadsOn g h
+goes_answer g frame bytes goes_on h answers = go (eqb_tells frame.unit g.site.unit)
+  where
+    go : ((eqb frame.unit g.site.unit ≡ true) × (frame.unit ≡ g.site.unit)) ⊎ ((eqb frame.unit g.site.unit ≡ false) × (frame.unit ≢ g.site.unit)) → LeadsOn g h
+    go (inl own) = let on = (answers.answers).own own.1 in goes_step g (event.Client frame.pdu) (answer.Reply answers.pdu) h on.0 on.1
+    go (inr other) = subst (LeadsOn g) (sym ((answers.answers).other other.1).1) (λ from before. before)
+
+guarded : (refused : Bool) (g : Gateway) (frame : Frame) (bytes : List ℕ) (goes_on : Bool) (h : Gateway) → AnswersUnless AnswersFrame refused g frame bytes goes_on h → LeadsOn g h
+guarded true g frame bytes goes_on h (bytes_are, more, same) = subst (LeadsOn g) (sym same) (λ from before. before)
+guarded false g frame bytes goes_on h answers = goes_answer g frame bytes goes_on h answers
+
+pub goes_guarded : (may_write : Bool) (g : Gateway) (frame : Frame) (bytes : List ℕ) (goes_on : Bool) (h : Gateway) → Guards AnswersFrame may_write g frame bytes goes_on h → LeadsOn g h
+goes_guarded may_write g frame bytes goes_on h answers = guarded (not may_write && is_write frame.pdu) g frame bytes goes_on h answers
+
+-- frames that are answered in a row
+module _ {S : Type 0} (Answers : S → Frame → List ℕ → Bool → S → Type 0) (core_of : S → Gateway)
+    (each : (s : S) (frame : Frame) (bytes : List ℕ) (goes_on : Bool) (t : S) → Answers s frame bytes goes_on t → LeadsOn (core_of s) (core_of t)) where
+  pub goes_chain : (s : S) (turns : List (Turn S)) (t : S) → IsChain Answers s turns t → LeadsOn (core_of s) (core_of t)
+  goes_chain s [] t same = subst (λ x. LeadsOn (core_of s) (core_of x)) (sym same) (λ from before. before)
+  goes_chain s (turn ∷ turns) t (first, (bytes, goes_on, answered), rest) =
+      let here : LeadsOn (core_of s) (core_of turn.after) = subst (λ x. LeadsOn (core_of x) (core_of turn.after)) first (each turn.before turn.frame bytes goes_on turn.after answered) in
+      λ from before. goes_chain turn.after turns t rest from (here from before)

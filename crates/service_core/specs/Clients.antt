@@ -5,6 +5,7 @@ use Rattle.modbus_frame.specs.declared.frame.Frame.{Frame}
 use Rattle.modbus_frame.specs.Framing.{IsRead}
 use Rattle.service.specs.Sessions.{AnsweredTo, IsChain, IsOver, Puts, Serving, Turn, frames_in, fresh}
 use Rattle.service_core.specs.declared.client_place.ClientPlace.{ClientPlace}
+use Rattle.service_core.specs.Counting.{more_by}
 
 -- the bytes of answers that are to go out now
 abbrev pub ready_of : ClientPlace → List ℕ
@@ -21,12 +22,14 @@ pub record IsOpen (may_write : Bool) (c : ClientPlace) : Type 0 where
   pub begins : c.session ≡ fresh
   pub ready : ready_of c ≡ []
   pub right : c.may_write ≡ may_write
+  pub count : c.requests ≡ 0
 
 -- So many of the ready bytes went out, and the session may have put more behind them.
 pub record Sends (old : ClientPlace) (n : ℕ) (new : ClientPlace) : Type 0 where
   pub put : List ℕ
   pub puts : Puts old.session put new.session
   pub ready : ready_of old ++ put ≡ take n (ready_of old) ++ ready_of new
+  pub count : new.requests ≡ old.requests
 
 -- `Answers` says which bytes answer a frame, whether more may be answered behind them, and what that leaves.
 module _ {S : Type 0} (Answers : S → Frame → List ℕ → Bool → S → Type 0) where
@@ -34,10 +37,13 @@ module _ {S : Type 0} (Answers : S → Frame → List ℕ → Bool → S → Typ
   abbrev pub IsServed : List (Turn S) → (stream gone : List ℕ) → S → ClientPlace → Type 0
   IsServed turns stream gone s c = Serving Answers turns stream (gone ++ ready_of c) s c.session
 
-  -- These bytes are taken, by at most 8 turns in a row.
-  abbrev pub Hears : S → ClientPlace → (bytes : List ℕ) → S → ClientPlace → Type 0
-  Hears s old bytes t new = (turns : List (Turn S)) (stream gone : List ℕ) → IsServed turns stream gone s old →
-      (more : List (Turn S)) × (length more ≤ 8) × IsChain s more t × IsServed (turns ++ more) (stream ++ bytes) gone t new
+  -- These bytes are taken, and at most 8 frames answered in a row, each in the state that the one before it left.
+  pub record Hears (s : S) (old : ClientPlace) (bytes : List ℕ) (t : S) (new : ClientPlace) : Type 0 where
+    pub turns : List (Turn S)
+    pub few : length turns ≤ 8
+    pub chain : IsChain Answers s turns t
+    pub count : new.requests ≡ more_by (length turns) old.requests
+    pub served : (before : List (Turn S)) (stream gone : List ℕ) → IsServed before stream gone s old → IsServed (before ++ turns) (stream ++ bytes) gone t new
 
   -- Whatever calls there were: what went out, what is to go out and what waits are the answers to the client's frames, in
   -- order, each at its turn. A client that came begins so, bytes that go out leave it so, and so does whatever happens

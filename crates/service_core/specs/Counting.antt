@@ -1,5 +1,5 @@
--- How often a device was asked and lost. No standard says what is counted; it is this project's.
-use Rattle.std.specs.Prelude.{ℕ, ◌+◌, ◌-◌, ◌^◌, min}
+-- How often devices were asked and lost, and clients answered. No standard says what is counted; it is this project's.
+use Rattle.std.specs.Prelude.{ℕ, zero, suc, ◌+◌, ◌-◌, ◌^◌, min}
 use Rattle.service_core.specs.declared.counts.Counts.{Counts}
 use Rattle.service_core.specs.declared.note.Loss.{Loss}
 use Rattle.service_core.specs.declared.note.Loss.TheVariants as loss
@@ -7,6 +7,10 @@ use Rattle.service_core.specs.declared.note.Loss.TheVariants as loss
 -- a count that is full stays
 abbrev pub one_more : ℕ → ℕ
 one_more n = min (n + 1) (2 ^ 64 - 1)
+
+abbrev pub more_by : ℕ → ℕ → ℕ
+more_by zero n = n
+more_by (suc k) n = min (n + suc k) (2 ^ 64 - 1)
 
 abbrev pub asked_once_more : Counts → Counts
 asked_once_more c = record c { requests = one_more c.requests }

@@ -16,6 +16,10 @@ pub data Goes : Gateway → Gateway → Type 0 where
   steps : {g h : Gateway} → Goes g h → (e : Event) (a : Answer) (i : Gateway) → Advances h e a i → Goes g i
   learns : {g h : Gateway} → Goes g h → (device : ℕ) (found : Option Layout) → IsFound h.site device found → Goes g (record h { maps = set h.maps device found })
 
+-- Whatever led to the one state leads to the other: events and learned maps alone lie between.
+abbrev pub LeadsOn : Gateway → Gateway → Type 0
+LeadsOn old new = (from : Gateway) → ∥ Goes from old ∥₁ → ∥ Goes from new ∥₁
+
 -- A core on which nothing happened.
 pub record IsNew (g : Gateway) : Type 0 where
   pub site : Site

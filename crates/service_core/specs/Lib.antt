@@ -4,3 +4,4 @@ pub mod Calls
 pub mod Requests
 pub mod Counting
 pub mod Clients
+pub mod Whole

@@ -8,8 +8,9 @@ use Rattle.gateway.specs.poller.LinkRun.{frame_of}
 use Rattle.service.specs.declared.search.Step.TheVariants as step
 use Rattle.service_core.specs.declared.limits.Station.{Station}
 use Rattle.service_core.specs.declared.line.Line.{Line}
+use Rattle.service_core.specs.declared.lines.Lines.{Lines}
 use Rattle.service_core.specs.Calls.{IsCallOf}
-use Rattle.service_core.specs.Course.{Reached}
+use Rattle.service_core.specs.Course.{Goes, Reached}
 use Rattle.service_core.specs.Seeking.{IsSought}
 
 -- It reads a block that is wanted of the device, or writes what is planned for it, by this state of the core.
@@ -26,26 +27,40 @@ IsFoundOn found_on number device = slice_get found_on device ≡ Some (Some numb
 abbrev pub MayBeAsked : Gateway → List (Option ℕ) → ℕ → ℕ → Request → Type 0
 MayBeAsked core found_on number device request = (IsOfRound core device request × IsFoundOn found_on number device) ⊎ IsSought core.site device (step.Ask request)
 
--- These bytes are the rest of the frame of a request that the device may be asked by a state that the core came to, over
--- the connection with this number. The device's station is on this link, and the frame is for its unit there.
-pub record IsRest (stations : List Station) (found_on : List (Option ℕ)) (link number : ℕ) (bytes : List ℕ) : Type 0 where
+-- These bytes are the rest of the frame of a request that the device may be asked over the connection with this number, by
+-- a state of the core from which events and learned maps led to the one of now. The device's station is on this link, and
+-- the frame is for its unit there.
+pub record IsRest (now : Gateway) (stations : List Station) (found_on : List (Option ℕ)) (link number : ℕ) (bytes : List ℕ) : Type 0 where
   pub device : ℕ
   pub unit : ℕ
   pub station : slice_get stations device ≡ Some (record { link = link; unit = unit })
   pub core : Gateway
   pub reached : Reached core
+  pub since : Goes core now
   pub request : Request
   pub asked : MayBeAsked core found_on number device request
   pub id : ℕ
   pub gone : List ℕ
   pub whole : gone ++ bytes ≡ frame_bytes (frame_of (record { id = id; unit = unit; request = request }))
 
-abbrev pub IsRightful : List Station → List (Option ℕ) → ℕ → ℕ → List ℕ → Type 0
-IsRightful stations found_on link number bytes = (bytes ≡ []) ⊎ IsRest stations found_on link number bytes
+abbrev pub IsRightful : Gateway → List Station → List (Option ℕ) → ℕ → ℕ → List ℕ → Type 0
+IsRightful now stations found_on link number bytes = (bytes ≡ []) ⊎ IsRest now stations found_on link number bytes
 
 -- What is still to be written over each link is so, by the number of the connection that it has now.
-abbrev pub AreRightful : List Station → List ℕ → List (Option ℕ) → List Line → Type 0
-AreRightful stations numbers found_on lines = (link number : ℕ) (line : Line) → slice_get numbers link ≡ Some number → slice_get lines link ≡ Some line → ∥ IsRightful stations found_on link number line.out.items ∥₁
+abbrev pub AreRightful : Gateway → List Station → List ℕ → List (Option ℕ) → List Line → Type 0
+AreRightful now stations numbers found_on lines =
+    (link number : ℕ) (line : Line) → slice_get numbers link ≡ Some number → slice_get lines link ≡ Some line → ∥ IsRightful now stations found_on link number line.out.items ∥₁
+
+abbrev pub IsRightfulOn : Gateway → Lines → ℕ → List ℕ → Type 0
+IsRightfulOn now lines link bytes =
+    (number : ℕ) → slice_get lines.links.numbers.items link ≡ Some number → ∥ IsRightful now lines.links.stations.items lines.found_on.items link number bytes ∥₁
+
+abbrev pub AreRightfulBy : Gateway → Lines → Type 0
+AreRightfulBy now lines = AreRightful now lines.links.stations.items lines.links.numbers.items lines.found_on.items lines.lines.items
+
+-- What was rightful, by whatever state, stays so.
+abbrev pub StayRightful : Lines → Lines → Type 0
+StayRightful old new = (now : Gateway) → AreRightfulBy now old → AreRightfulBy now new
 
 -- It may be asked over the connection that a link has now.
 abbrev pub MayGoOver : Gateway → List ℕ → List (Option ℕ) → ℕ → ℕ → Request → Type 0

@@ -2,6 +2,7 @@
 ghost use Rattle.std.specs.Prelude.{◌≡◌, ◌<◌, ℕ, IfSome, Some, length, set, slice_get};
 ghost use Rattle.modbus_frame.specs.Message.{HasQuantity};
 ghost use Rattle.service.specs.declared.search.Step.TheVariants.{Found};
+ghost use Rattle.service_core.specs.Course.{LeadsOn};
 ghost use Rattle.service_core.specs.Requests.{MayGoOver};
 ghost use Rattle.service_core.specs.Seeking.{IsSought};
 
@@ -33,6 +34,7 @@ impl<const DEPTH: usize> Service<DEPTH> {
     /// Begins requests on all connections that are free.
     pub(crate) fn ask_all(&mut self)
         ensures links { self.new.lines.links ≡ self.old.lines.links }
+        ensures goes { LeadsOn self.old.cycle.core.value self.new.cycle.core.value }
         ensures places { self.new.places.items ≡ self.old.places.items }
     {
         for link in 0..self.wires.len() {
@@ -43,6 +45,7 @@ impl<const DEPTH: usize> Service<DEPTH> {
     /// Begins requests on a connection until one is under way, or none is left to begin.
     fn ask(&mut self, link: usize)
         ensures links { self.new.lines.links ≡ self.old.lines.links }
+        ensures goes { LeadsOn self.old.cycle.core.value self.new.cycle.core.value }
         ensures places { self.new.places.items ≡ self.old.places.items }
     {
         for _ in 0..self.devices.len().saturating_add(64) {
@@ -67,6 +70,7 @@ impl<const DEPTH: usize> Service<DEPTH> {
     /// There is nothing to ask over the connection before one of its devices may be asked again, or something happens.
     fn rest_link(&mut self, link: usize)
         ensures links { self.new.lines.links ≡ self.old.lines.links }
+        ensures goes { LeadsOn self.old.cycle.core.value self.new.cycle.core.value }
         ensures places { self.new.places.items ≡ self.old.places.items }
     {
         let mut until = u64::MAX;
@@ -105,6 +109,7 @@ impl<const DEPTH: usize> Service<DEPTH> {
     /// Asks the next device in turn that there is something to ask of; whether there is one.
     fn ask_for(&mut self, link: usize, purpose: Purpose) -> bool
         ensures links { self.new.lines.links ≡ self.old.lines.links }
+        ensures goes { LeadsOn self.old.cycle.core.value self.new.cycle.core.value }
         ensures places { self.new.places.items ≡ self.old.places.items }
     {
         let turn = match self.wires.get(link) {
@@ -118,6 +123,7 @@ impl<const DEPTH: usize> Service<DEPTH> {
     /// The same among the devices with these numbers.
     fn ask_between(&mut self, link: usize, purpose: Purpose, first: usize, end: usize) -> bool
         ensures links { self.new.lines.links ≡ self.old.lines.links }
+        ensures goes { LeadsOn self.old.cycle.core.value self.new.cycle.core.value }
         ensures places { self.new.places.items ≡ self.old.places.items }
     {
         for i in 0..self.device_count(link) {
@@ -132,6 +138,7 @@ impl<const DEPTH: usize> Service<DEPTH> {
 
     fn ask_device(&mut self, link: usize, device: usize, purpose: Purpose) -> bool
         ensures links { self.new.lines.links ≡ self.old.lines.links }
+        ensures goes { LeadsOn self.old.cycle.core.value self.new.cycle.core.value }
         ensures places { self.new.places.items ≡ self.old.places.items }
     {
         if !self.is_rested(device) {
@@ -157,6 +164,7 @@ impl<const DEPTH: usize> Service<DEPTH> {
         ensures quantity { IfSome result (λ wish. HasQuantity wish.request) }
         ensures asked { IfSome result (λ wish. MayGoOver self.new.cycle.core.value self.new.lines.links.numbers.items self.new.lines.found_on.items link device wish.request) }
         ensures links { self.new.lines.links ≡ self.old.lines.links }
+        ensures goes { LeadsOn self.old.cycle.core.value self.new.cycle.core.value }
         ensures places { self.new.places.items ≡ self.old.places.items }
     {
         match (self.cycle.is_mapped(device), purpose) {
@@ -172,6 +180,7 @@ impl<const DEPTH: usize> Service<DEPTH> {
         ensures quantity { IfSome result (λ wish. HasQuantity wish.request) }
         ensures asked { IfSome result (λ wish. MayGoOver self.new.cycle.core.value self.new.lines.links.numbers.items self.new.lines.found_on.items link device wish.request) }
         ensures links { self.new.lines.links ≡ self.old.lines.links }
+        ensures goes { LeadsOn self.old.cycle.core.value self.new.cycle.core.value }
         ensures places { self.new.places.items ≡ self.old.places.items }
     {
         if !self.lines.is_found(link, device) {
@@ -197,6 +206,7 @@ impl<const DEPTH: usize> Service<DEPTH> {
         ensures quantity { IfSome result (λ wish. HasQuantity wish.request) }
         ensures asked { IfSome result (λ wish. MayGoOver self.new.cycle.core.value self.new.lines.links.numbers.items self.new.lines.found_on.items link device wish.request) }
         ensures links { self.new.lines.links ≡ self.old.lines.links }
+        ensures goes { LeadsOn self.old.cycle.core.value self.new.cycle.core.value }
         ensures places { self.new.places.items ≡ self.old.places.items }
     {
         if !self.is_sought(device) {
@@ -231,6 +241,7 @@ impl<const DEPTH: usize> Service<DEPTH> {
         ensures found { (number : ℕ) (unit : ℕ) → slice_get self.old.lines.links.numbers.items link ≡ Some number → slice_get self.old.lines.links.stations.items device ≡ Some (record { link = link; unit = unit })
             → device < length self.old.lines.found_on.items → self.new.lines.found_on.items ≡ set self.old.lines.found_on.items device (Some number) }
         ensures links { self.new.lines.links ≡ self.old.lines.links }
+        ensures goes { LeadsOn self.old.cycle.core.value self.new.cycle.core.value }
         ensures places { self.new.places.items ≡ self.old.places.items }
     {
         self.cycle.learn(device, Some(map));
@@ -243,6 +254,7 @@ impl<const DEPTH: usize> Service<DEPTH> {
 
     fn find_none(&mut self, device: usize)
         ensures links { self.new.lines.links ≡ self.old.lines.links }
+        ensures goes { LeadsOn self.old.cycle.core.value self.new.cycle.core.value }
         ensures places { self.new.places.items ≡ self.old.places.items }
     {
         let again = self.now.saturating_add(self.limits.search_again);
@@ -257,6 +269,7 @@ impl<const DEPTH: usize> Service<DEPTH> {
         requires quantity { HasQuantity wish.request }
         requires asked { MayGoOver self.old.cycle.core.value self.old.lines.links.numbers.items self.old.lines.found_on.items link device wish.request }
         ensures links { self.new.lines.links ≡ self.old.lines.links }
+        ensures goes { LeadsOn self.old.cycle.core.value self.new.cycle.core.value }
         ensures places { self.new.places.items ≡ self.old.places.items }
     {
         let asked = Asked {
@@ -280,6 +293,7 @@ impl<const DEPTH: usize> Service<DEPTH> {
         requires quantity { HasQuantity request }
         requires asked { MayGoOver self.old.cycle.core.value self.old.lines.links.numbers.items self.old.lines.found_on.items link asked.device request }
         ensures links { self.new.lines.links ≡ self.old.lines.links }
+        ensures goes { LeadsOn self.old.cycle.core.value self.new.cycle.core.value }
         ensures places { self.new.places.items ≡ self.old.places.items }
     {
         let unit = self.lines.unit_at(asked.device, link)?;

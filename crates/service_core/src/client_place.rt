@@ -1,10 +1,12 @@
 //! A place for a client.
-ghost use Rattle.std.specs.Prelude.{◌≡◌, ◌≤◌, ◌↔◌, length, take, IsTrue, true, false};
-ghost use Rattle.service.specs.Sessions.{ServesOn};
+ghost use Rattle.std.specs.Prelude.{◌≡◌, ◌≤◌, ◌<◌, ◌↔◌, [], length, take, IsTrue, true, false};
+ghost use Rattle.service.specs.Sessions.{IsFree, ServesOn};
+ghost use Rattle.service_core.specs.Counting.{more_by};
+ghost use Rattle.service_core.specs.Course.{LeadsOn};
 
 use crate::scan_cycle::ScanCycle;
 use modbus_frame::Responder;
-use service::Session;
+use service::{Session, Turned};
 
 /// Room for the answers of one turn.
 const ROOM: usize = 2080;
@@ -21,8 +23,11 @@ pub(crate) struct ClientPlace {
     is_closing: bool,
     /// When it came, or its last whole frame.
     last: u64,
+    /// How many of its frames were answered.
+    requests: u64,
     ghost begins: { start ≤ end },
     ghost room: { end ≤ 2080 },
+    ghost quiet: { start ≡ end → session.waiting ≡ [] },
 }
 
 impl ClientPlace {
@@ -38,11 +43,19 @@ impl ClientPlace {
             is_taken: false,
             is_closing: false,
             last: 0,
+            requests: 0,
         }
     }
 
     pub(crate) fn is_taken(&self) -> bool {
         self.is_taken
+    }
+
+    /// How many of its frames were answered.
+    pub(crate) fn requests(&self) -> u64
+        ensures { result ≡ self.now.requests }
+    {
+        self.requests
     }
 
     /// When its client came, or sent its last whole frame.
@@ -66,6 +79,7 @@ impl ClientPlace {
         self.is_taken = true;
         self.is_closing = false;
         self.last = now;
+        self.requests = 0;
     }
 
     /// Its client is gone.
@@ -125,6 +139,8 @@ impl ClientPlace {
         ensures used { result ≤ length bytes.now }
         ensures hears { (IsDeaf self.old → ⊥) → Hears ⟦<ScanCycle<DEPTH> as Responder>⟧.answers (record cycle.old { may_write = self.old.may_write })
             self.old (take result bytes.now) cycle.new self.new }
+        ensures takes { (IsDeaf self.old → ⊥) → ready_of self.old ≡ [] → 0 < length bytes.now → 0 < result }
+        ensures goes { LeadsOn cycle.old.core.value cycle.new.core.value }
         ensures deaf { IsDeaf self.old → (self.new ≡ self.old) × (cycle.new ≡ cycle.old) }
     {
         if self.is_deaf() {
@@ -134,24 +150,29 @@ impl ClientPlace {
         if self.start < self.end {
             return 0;
         }
-        let used = self.serve(cycle, bytes);
-        // an answer waits where a frame was whole
-        if self.end > 0 {
+        let turned = self.serve(cycle, bytes);
+        if turned.frames > 0 {
             self.last = now;
         }
-        used
+        turned.used
     }
 
     // One turn of the client.
-    fn serve<const DEPTH: usize>(&mut self, cycle: &mut ScanCycle<DEPTH>, bytes: &[u8]) -> usize
-        ensures serves { ServesOn ⟦<ScanCycle<DEPTH> as Responder>⟧.answers 8 cycle.old
-            self.old.session (take result bytes.now) (take self.new.end self.new.out) cycle.new self.new.session }
-        ensures used { result ≤ length bytes.now }
+    #[tactic(auto, using(crate::proofs::Heard::counted))]
+    fn serve<const DEPTH: usize>(&mut self, cycle: &mut ScanCycle<DEPTH>, bytes: &[u8]) -> Turned
+        ensures serves { ServesOn ⟦<ScanCycle<DEPTH> as Responder>⟧.answers result.frames cycle.old
+            self.old.session (take result.used bytes.now) (take self.new.end self.new.out) cycle.new self.new.session }
+        ensures few { result.frames ≤ 8 }
+        ensures goes { LeadsOn cycle.old.core.value cycle.new.core.value }
+        ensures used { result.used ≤ length bytes.now }
+        ensures takes { IsFree self.old.session → 0 < length bytes.now → 0 < result.used }
         ensures front { self.new.start ≡ 0 }
+        ensures count { self.new.requests ≡ more_by result.frames self.old.requests }
     {
         let turned = self.session.turn(cycle, bytes, &mut self.out);
         self.start = 0;
         self.end = turned.put;
-        turned.used
+        self.requests = self.requests.saturating_add(turned.frames as u64);
+        turned
     }
 }

@@ -1,5 +1,6 @@
 //! The clients' side.
-ghost use Rattle.std.specs.Prelude.{◌≡◌, ◌≤◌, List, [], length, take, slice_get, Some, IfSome, false};
+ghost use Rattle.std.specs.Prelude.{◌≡◌, ◌≤◌, ◌<◌, List, [], length, take, slice_get, Some, IfNone, IfSome, false};
+ghost use Rattle.service_core.specs.Course.{LeadsOn};
 ghost use Rattle.service_core.specs.declared.client_place.ClientPlace.{ClientPlace as Place};
 ghost use Rattle.service_core.specs.Clients.{DoesAt, Hears, IsDeaf, IsOpen, OthersStay, PlacesStay, Sends, ready_of};
 
@@ -15,6 +16,8 @@ impl<const DEPTH: usize> Service<DEPTH> {
     /// longest, for over half a minute: that one's connection is to be closed.
     pub fn client_came(&mut self, may_write: bool, now: u64) -> Option<usize>
         ensures links { self.new.lines.links ≡ self.old.lines.links }
+        ensures goes { LeadsOn self.old.cycle.core.value self.new.cycle.core.value }
+        ensures refused { IfNone result (self.new.places.items ≡ self.old.places.items) }
         ensures open { IfSome result (λ place. (c : Place) × (slice_get self.new.places.items place ≡ Some c) × IsOpen may_write c) }
         ensures others { IfSome result (λ place. OthersStay self.old.places.items place self.new.places.items) }
     {
@@ -52,6 +55,7 @@ impl<const DEPTH: usize> Service<DEPTH> {
     /// The client at the place is gone.
     pub fn client_gone(&mut self, place: usize)
         ensures links { self.new.lines.links ≡ self.old.lines.links }
+        ensures goes { LeadsOn self.old.cycle.core.value self.new.cycle.core.value }
         ensures gone { DoesAt (λ c d. d.is_taken ≡ false) self.old.places.items place self.new.places.items }
     {
         if let Some(client) = self.places.get_mut(place) {
@@ -63,7 +67,9 @@ impl<const DEPTH: usize> Service<DEPTH> {
     /// given again.
     pub fn from_client(&mut self, place: usize, bytes: &[u8], now: u64) -> usize
         ensures links { self.new.lines.links ≡ self.old.lines.links }
+        ensures goes { LeadsOn self.old.cycle.core.value self.new.cycle.core.value }
         ensures used { result ≤ length bytes.now }
+        ensures takes { (c : Place) → slice_get self.old.places.items place ≡ Some c → (IsDeaf c → ⊥) → ready_of c ≡ [] → 0 < length bytes.now → 0 < result }
         ensures hears { DoesAt (λ c d. (IsDeaf c → ⊥) → Hears ⟦<ScanCycle<DEPTH> as Responder>⟧.answers (record self.old.cycle { may_write = c.may_write })
             c (take result bytes.now) self.new.cycle d) self.old.places.items place self.new.places.items }
     {
@@ -72,6 +78,16 @@ impl<const DEPTH: usize> Service<DEPTH> {
         match self.places.get_mut(place) {
             Some(client) => client.take(&mut self.cycle, bytes, now),
             None => bytes.len(),
+        }
+    }
+
+    /// How many frames of the client at the place were answered; 0 where nobody was there yet.
+    pub fn client_requests(&self, place: usize) -> u64
+        ensures { (c : Place) → slice_get self.entry.now.places.items place ≡ Some c → result ≡ c.requests }
+    {
+        match self.places.get(place) {
+            Some(client) => client.requests(),
+            None => 0,
         }
     }
 
@@ -88,6 +104,7 @@ impl<const DEPTH: usize> Service<DEPTH> {
     /// So many bytes are written to a client.
     pub fn sent_to_client(&mut self, place: usize, n: usize)
         ensures links { self.new.lines.links ≡ self.old.lines.links }
+        ensures goes { LeadsOn self.old.cycle.core.value self.new.cycle.core.value }
         ensures sends { DoesAt (λ c d. Sends c n d) self.old.places.items place self.new.places.items }
     {
         if let Some(client) = self.places.get_mut(place) {
@@ -106,6 +123,7 @@ impl<const DEPTH: usize> Service<DEPTH> {
     /// Clients that were silent for too long are to be closed.
     pub(crate) fn close_idle(&mut self)
         ensures links { self.new.lines.links ≡ self.old.lines.links }
+        ensures goes { LeadsOn self.old.cycle.core.value self.new.cycle.core.value }
         ensures places { PlacesStay self.old.places.items self.new.places.items }
     {
         for place in 0..self.places.len() {
@@ -115,6 +133,7 @@ impl<const DEPTH: usize> Service<DEPTH> {
 
     fn close_if_idle(&mut self, place: usize)
         ensures links { self.new.lines.links ≡ self.old.lines.links }
+        ensures goes { LeadsOn self.old.cycle.core.value self.new.cycle.core.value }
         ensures places { PlacesStay self.old.places.items self.new.places.items }
     {
         if !self.is_idle(place) {

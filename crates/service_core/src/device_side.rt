@@ -1,6 +1,7 @@
 //! The devices' side: connections, and what comes over them.
 ghost use Rattle.std.specs.Prelude.{◌≡◌, ◌+◌, ◌<◌, ◌^◌, ℕ, Some, set, slice_get};
-ghost use Rattle.service_core.specs.Requests.{IsRightful};
+ghost use Rattle.service_core.specs.Course.{LeadsOn};
+ghost use Rattle.service_core.specs.Requests.{IsRightfulOn};
 
 use crate::note::{Loss, Note, Unwritten};
 use crate::output::OutputState;
@@ -21,6 +22,7 @@ impl<const DEPTH: usize> Service<DEPTH> {
     /// A dial began. It may take as long as a device may take to answer; then it is to be given up, and told as down.
     pub fn dial_began(&mut self, link: usize, now: u64)
         ensures links { self.new.lines.links ≡ self.old.lines.links }
+        ensures goes { LeadsOn self.old.cycle.core.value self.new.cycle.core.value }
         ensures places { self.new.places.items ≡ self.old.places.items }
     {
         self.turn_to(now);
@@ -33,6 +35,7 @@ impl<const DEPTH: usize> Service<DEPTH> {
     /// A connection is up: its devices have no map, until a search finds one. It has the next number of its link.
     pub fn link_up(&mut self, link: usize, now: u64)
         ensures stations { self.new.lines.links.stations ≡ self.old.lines.links.stations }
+        ensures goes { LeadsOn self.old.cycle.core.value self.new.cycle.core.value }
         ensures next { (number : ℕ) → slice_get self.old.lines.links.numbers.items link ≡ Some number → number + 1 < 2 ^ 64
             → self.new.lines.links.numbers.items ≡ set self.old.lines.links.numbers.items link (number + 1) }
         ensures places { self.new.places.items ≡ self.old.places.items }
@@ -46,6 +49,7 @@ impl<const DEPTH: usize> Service<DEPTH> {
     /// A link has a new connection: what was known of its devices isn't known any more.
     fn begin_anew(&mut self, link: usize)
         ensures links { self.new.lines.links ≡ self.old.lines.links }
+        ensures goes { LeadsOn self.old.cycle.core.value self.new.cycle.core.value }
         ensures places { self.new.places.items ≡ self.old.places.items }
     {
         if let Some(wire) = self.wires.get_mut(link) {
@@ -57,6 +61,7 @@ impl<const DEPTH: usize> Service<DEPTH> {
 
     fn forget_all(&mut self, link: usize)
         ensures links { self.new.lines.links ≡ self.old.lines.links }
+        ensures goes { LeadsOn self.old.cycle.core.value self.new.cycle.core.value }
         ensures places { self.new.places.items ≡ self.old.places.items }
     {
         for device in 0..self.devices.len() {
@@ -69,6 +74,7 @@ impl<const DEPTH: usize> Service<DEPTH> {
     /// A connection is down: a dial failed, the peer ended it, or there was an error.
     pub fn link_down(&mut self, link: usize, now: u64)
         ensures links { self.new.lines.links ≡ self.old.lines.links }
+        ensures goes { LeadsOn self.old.cycle.core.value self.new.cycle.core.value }
         ensures places { self.new.places.items ≡ self.old.places.items }
     {
         self.turn_to(now);
@@ -99,6 +105,7 @@ impl<const DEPTH: usize> Service<DEPTH> {
     /// Bytes of a connection; how many of them were used. The rest is to be given again.
     pub fn from_link(&mut self, link: usize, bytes: &[u8], now: u64) -> usize
         ensures links { self.new.lines.links ≡ self.old.lines.links }
+        ensures goes { LeadsOn self.old.cycle.core.value self.new.cycle.core.value }
         ensures places { self.new.places.items ≡ self.old.places.items }
     {
         self.turn_to(now);
@@ -114,10 +121,10 @@ impl<const DEPTH: usize> Service<DEPTH> {
     }
 
     /// What is to be written to a connection: the rest of the frame of a request that a device may be asked whose station
-    /// is there, for its unit. A round asks and writes by a map that was found over this very connection.
+    /// is there, for its unit, by a state that this service's core came through. A round asks and writes by a map that was
+    /// found over this very connection.
     pub fn to_link(&self, link: usize) -> &[u8]
-        ensures { (number : ℕ) → slice_get self.entry.now.lines.links.numbers.items link ≡ Some number →
-            ∥ IsRightful self.entry.now.lines.links.stations.items self.entry.now.lines.found_on.items link number result.now ∥₁ }
+        ensures { IsRightfulOn self.entry.now.cycle.core.value self.entry.now.lines link result.now }
     {
         self.lines.out(link)
     }
@@ -125,6 +132,7 @@ impl<const DEPTH: usize> Service<DEPTH> {
     /// So many bytes are written to a connection.
     pub fn sent_to_link(&mut self, link: usize, n: usize)
         ensures links { self.new.lines.links ≡ self.old.lines.links }
+        ensures goes { LeadsOn self.old.cycle.core.value self.new.cycle.core.value }
         ensures places { self.new.places.items ≡ self.old.places.items }
     {
         self.lines.sent(link, n);
@@ -150,6 +158,7 @@ impl<const DEPTH: usize> Service<DEPTH> {
     /// A device's map is forgotten, and it is searched from now on.
     pub(crate) fn forget(&mut self, device: usize)
         ensures links { self.new.lines.links ≡ self.old.lines.links }
+        ensures goes { LeadsOn self.old.cycle.core.value self.new.cycle.core.value }
         ensures places { self.new.places.items ≡ self.old.places.items }
     {
         self.cycle.forget(device);
@@ -164,6 +173,7 @@ impl<const DEPTH: usize> Service<DEPTH> {
     /// All devices of a connection are lost.
     pub(crate) fn lose_all(&mut self, link: usize, loss: Loss)
         ensures links { self.new.lines.links ≡ self.old.lines.links }
+        ensures goes { LeadsOn self.old.cycle.core.value self.new.cycle.core.value }
         ensures places { self.new.places.items ≡ self.old.places.items }
     {
         for device in 0..self.devices.len() {
@@ -176,6 +186,7 @@ impl<const DEPTH: usize> Service<DEPTH> {
     /// A device is lost: it is asked nothing more in this round.
     pub(crate) fn lose(&mut self, device: usize, loss: Loss)
         ensures links { self.new.lines.links ≡ self.old.lines.links }
+        ensures goes { LeadsOn self.old.cycle.core.value self.new.cycle.core.value }
         ensures places { self.new.places.items ≡ self.old.places.items }
     {
         self.cycle.give_up(device);
@@ -184,6 +195,7 @@ impl<const DEPTH: usize> Service<DEPTH> {
 
     fn tell_lost(&mut self, device: usize, loss: Loss)
         ensures links { self.new.lines.links ≡ self.old.lines.links }
+        ensures goes { LeadsOn self.old.cycle.core.value self.new.cycle.core.value }
         ensures places { self.new.places.items ≡ self.old.places.items }
     {
         if let Some(found) = self.devices.get_mut(device) {
@@ -196,6 +208,7 @@ impl<const DEPTH: usize> Service<DEPTH> {
     /// This became of the request that is under way on a connection.
     pub(crate) fn settle(&mut self, link: usize, fate: Fate)
         ensures links { self.new.lines.links ≡ self.old.lines.links }
+        ensures goes { LeadsOn self.old.cycle.core.value self.new.cycle.core.value }
         ensures places { self.new.places.items ≡ self.old.places.items }
     {
         let asked = match self.wires.get_mut(link) {
@@ -212,6 +225,7 @@ impl<const DEPTH: usize> Service<DEPTH> {
 
     fn settle_asked(&mut self, link: usize, asked: Asked, fate: Fate)
         ensures links { self.new.lines.links ≡ self.old.lines.links }
+        ensures goes { LeadsOn self.old.cycle.core.value self.new.cycle.core.value }
         ensures places { self.new.places.items ≡ self.old.places.items }
     {
         match fate {
@@ -233,6 +247,7 @@ impl<const DEPTH: usize> Service<DEPTH> {
     /// A write that went out had no answer.
     fn lose_write(&mut self, aim: Aim)
         ensures links { self.new.lines.links ≡ self.old.lines.links }
+        ensures goes { LeadsOn self.old.cycle.core.value self.new.cycle.core.value }
         ensures places { self.new.places.items ≡ self.old.places.items }
     {
         if let Aim::Output(_) = aim {
@@ -243,6 +258,7 @@ impl<const DEPTH: usize> Service<DEPTH> {
     /// What came over a connection is no frame.
     fn spoil(&mut self, link: usize)
         ensures links { self.new.lines.links ≡ self.old.lines.links }
+        ensures goes { LeadsOn self.old.cycle.core.value self.new.cycle.core.value }
         ensures places { self.new.places.items ≡ self.old.places.items }
     {
         if let Some(wire) = self.wires.get_mut(link) {
@@ -254,6 +270,7 @@ impl<const DEPTH: usize> Service<DEPTH> {
     /// A device answered.
     fn hear(&mut self, link: usize, device: usize)
         ensures links { self.new.lines.links ≡ self.old.lines.links }
+        ensures goes { LeadsOn self.old.cycle.core.value self.new.cycle.core.value }
         ensures places { self.new.places.items ≡ self.old.places.items }
     {
         if let Some(wire) = self.wires.get_mut(link) {
@@ -271,6 +288,7 @@ impl<const DEPTH: usize> Service<DEPTH> {
     /// A device didn't answer: it isn't asked for a while.
     fn miss(&mut self, link: usize, device: usize, loss: Loss)
         ensures links { self.new.lines.links ≡ self.old.lines.links }
+        ensures goes { LeadsOn self.old.cycle.core.value self.new.cycle.core.value }
         ensures places { self.new.places.items ≡ self.old.places.items }
     {
         let now = self.now;
@@ -289,6 +307,7 @@ impl<const DEPTH: usize> Service<DEPTH> {
 
     fn take(&mut self, asked: Asked, outcome: Outcome)
         ensures links { self.new.lines.links ≡ self.old.lines.links }
+        ensures goes { LeadsOn self.old.cycle.core.value self.new.cycle.core.value }
         ensures places { self.new.places.items ≡ self.old.places.items }
     {
         match asked.aim {
@@ -301,6 +320,7 @@ impl<const DEPTH: usize> Service<DEPTH> {
 
     fn take_block(&mut self, device: usize, outcome: Outcome)
         ensures links { self.new.lines.links ≡ self.old.lines.links }
+        ensures goes { LeadsOn self.old.cycle.core.value self.new.cycle.core.value }
         ensures places { self.new.places.items ≡ self.old.places.items }
     {
         if self.cycle.close(device, Fate::Told(outcome)) {
@@ -310,6 +330,7 @@ impl<const DEPTH: usize> Service<DEPTH> {
 
     fn take_write(&mut self, device: usize, output: usize, outcome: Outcome)
         ensures links { self.new.lines.links ≡ self.old.lines.links }
+        ensures goes { LeadsOn self.old.cycle.core.value self.new.cycle.core.value }
         ensures places { self.new.places.items ≡ self.old.places.items }
     {
         let is_done = outcome == Outcome::Wrote;
@@ -321,6 +342,7 @@ impl<const DEPTH: usize> Service<DEPTH> {
     /// The time of each request that is over ends its wait.
     pub(crate) fn end_waits(&mut self)
         ensures links { self.new.lines.links ≡ self.old.lines.links }
+        ensures goes { LeadsOn self.old.cycle.core.value self.new.cycle.core.value }
         ensures places { self.new.places.items ≡ self.old.places.items }
     {
         for link in 0..self.wires.len() {
@@ -330,6 +352,7 @@ impl<const DEPTH: usize> Service<DEPTH> {
 
     fn end_wait(&mut self, link: usize)
         ensures links { self.new.lines.links ≡ self.old.lines.links }
+        ensures goes { LeadsOn self.old.cycle.core.value self.new.cycle.core.value }
         ensures places { self.new.places.items ≡ self.old.places.items }
     {
         let asked = match self.wires.get(link) {
@@ -345,6 +368,7 @@ impl<const DEPTH: usize> Service<DEPTH> {
 
     fn give_up(&mut self, link: usize, asked: Asked)
         ensures links { self.new.lines.links ≡ self.old.lines.links }
+        ensures goes { LeadsOn self.old.cycle.core.value self.new.cycle.core.value }
         ensures places { self.new.places.items ≡ self.old.places.items }
     {
         let is_sent = self.lines.is_sent(link);

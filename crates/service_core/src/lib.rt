@@ -17,6 +17,7 @@ mod links;
 mod note;
 mod notes;
 mod output;
+mod restoring;
 mod round_times;
 mod scan_cycle;
 mod service_state;

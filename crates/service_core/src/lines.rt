@@ -1,7 +1,8 @@
 //! What goes out to devices.
 ghost use Rattle.std.specs.Prelude.{◌≡◌, ◌+◌, ◌<◌, ◌^◌, ℕ, All, slice_get, [], length, replicate, set, IfNone, IfOk, IfSome, IsTrue, Some};
 ghost use Rattle.service_core.specs.declared.line.Line.{Line as LineValue};
-ghost use Rattle.service_core.specs.Requests.{AreRightful, IsFoundOn, IsRightful};
+ghost use Rattle.gateway.specs.event_core.Core.{Gateway};
+ghost use Rattle.service_core.specs.Requests.{AreRightfulBy, IsFoundOn, IsRightfulOn, StayRightful};
 
 use crate::limits::Station;
 use crate::line::Line;
@@ -17,7 +18,6 @@ pub(crate) struct Lines {
     found_on: Vec<Option<u64>>,
     /// One for each link.
     lines: Vec<Line>,
-    ghost rightful: { AreRightful links.stations.items links.numbers.items found_on.items lines.items },
 }
 
 impl Lines {
@@ -28,6 +28,7 @@ impl Lines {
         links: usize,
         stations: &[Station],
     ) -> Result<Lines, AllocError>
+        ensures rightful { IfOk result (λ lines. (now : Gateway) → AreRightfulBy now lines) }
         ensures stations { IfOk result (λ lines. lines.links.stations.items ≡ stations.now) }
         ensures numbers { IfOk result (λ lines. lines.links.numbers.items ≡ replicate links 0) }
     {
@@ -75,6 +76,7 @@ impl Lines {
 
     /// The map of a device on this link is found, over the connection that the link has now.
     pub(crate) fn find(&mut self, link: usize, device: usize)
+        ensures rightful { StayRightful self.old self.new }
         ensures links { self.new.links ≡ self.old.links }
         ensures found { (number : ℕ) (unit : ℕ) → slice_get self.old.links.numbers.items link ≡ Some number → slice_get self.old.links.stations.items device ≡ Some (record { link = link; unit = unit })
             → device < length self.old.found_on.items → self.new.found_on.items ≡ set self.old.found_on.items device (Some number) }
@@ -92,6 +94,7 @@ impl Lines {
     fn find_on(&mut self, link: usize, device: usize, unit: u8, number: u64)
         requires station { slice_get self.old.links.stations.items device ≡ Some (record { link = link; unit = unit }) }
         requires number { slice_get self.old.links.numbers.items link ≡ Some number }
+        ensures rightful { StayRightful self.old self.new }
         ensures links { self.new.links ≡ self.old.links }
         ensures found { device < length self.old.found_on.items → self.new.found_on.items ≡ set self.old.found_on.items device (Some number) }
     {
@@ -109,7 +112,7 @@ impl Lines {
 
     /// What is to be written over a link.
     pub(crate) fn out(&self, link: usize) -> &[u8]
-        ensures { (number : ℕ) → slice_get self.now.links.numbers.items link ≡ Some number → ∥ IsRightful self.now.links.stations.items self.now.found_on.items link number result.now ∥₁ }
+        ensures { (now : Gateway) → AreRightfulBy now self.now → IsRightfulOn now self.now link result.now }
     {
         match self.lines.get(link) {
             Some(line) => line.out(),
@@ -129,10 +132,9 @@ impl Lines {
 
     /// These bytes are to be written over a link, on which nothing waits.
     pub(crate) fn put(&mut self, link: usize, bytes: ArrayVec<u8, 260>)
-        requires rightful { (number : ℕ) → slice_get self.old.links.numbers.items link ≡ Some number →
-            ∥ IsRightful self.old.links.stations.items self.old.found_on.items link number bytes.items ∥₁ }
-        requires sent { (line : LineValue) → slice_get self.old.lines.items link ≡ Some line → line.out.items ≡ [] }
-        ensures { self.new.links ≡ self.old.links }
+        requires { (line : LineValue) → slice_get self.old.lines.items link ≡ Some line → line.out.items ≡ [] }
+        ensures rightful { (now : Gateway) → AreRightfulBy now self.old → IsRightfulOn now self.old link bytes.items → AreRightfulBy now self.new }
+        ensures links { self.new.links ≡ self.old.links }
     {
         if let Some(line) = self.lines.get_mut(link) {
             line.put(bytes);
@@ -141,7 +143,8 @@ impl Lines {
 
     /// So many bytes are written over a link.
     pub(crate) fn sent(&mut self, link: usize, n: usize)
-        ensures { self.new.links ≡ self.old.links }
+        ensures rightful { StayRightful self.old self.new }
+        ensures links { self.new.links ≡ self.old.links }
     {
         if let Some(line) = self.lines.get_mut(link) {
             line.sent(n);
@@ -150,6 +153,7 @@ impl Lines {
 
     /// A link has a new connection, with the next number, on which nothing waits; whether there is a number for it.
     pub(crate) fn come_up(&mut self, link: usize) -> bool
+        ensures rightful { StayRightful self.old self.new }
         ensures stations { self.new.links.stations ≡ self.old.links.stations }
         ensures next { (number : ℕ) → slice_get self.old.links.numbers.items link ≡ Some number → number + 1 < 2 ^ 64
             → IsTrue result × (self.new.links.numbers.items ≡ set self.old.links.numbers.items link (number + 1)) }
@@ -168,6 +172,7 @@ impl Lines {
     #[tactic(auto, using(crate::proofs::Rightful::with_next))]
     fn renumber(&mut self, link: usize, number: u64)
         requires { (line : LineValue) → slice_get self.old.lines.items link ≡ Some line → line.out.items ≡ [] }
+        ensures rightful { StayRightful self.old self.new }
         ensures stations { self.new.links.stations ≡ self.old.links.stations }
         ensures next { link < length self.old.links.numbers.items → self.new.links.numbers.items ≡ set self.old.links.numbers.items link number }
     {
@@ -179,6 +184,7 @@ impl Lines {
     /// The connection of a link ended: nothing waits on it any more.
     #[tactic(auto, using(crate::proofs::Rightful::with_line_clear))]
     pub(crate) fn go_down(&mut self, link: usize)
+        ensures rightful { StayRightful self.old self.new }
         ensures links { self.new.links ≡ self.old.links }
         ensures quiet { (line : LineValue) → slice_get self.new.lines.items link ≡ Some line → line.out.items ≡ [] }
     {

@@ -1,5 +1,6 @@
 //! Rounds, by the time.
 ghost use Rattle.std.specs.Prelude.{◌≡◌};
+ghost use Rattle.service_core.specs.Course.{LeadsOn};
 ghost use Rattle.service_core.specs.Clients.{PlacesStay};
 
 use crate::note::{Loss, Note, Unwritten};
@@ -13,6 +14,7 @@ impl<const DEPTH: usize> Service<DEPTH> {
     /// The time is this: ends waits, begins rounds. It is to be called behind each wait.
     pub fn tick(&mut self, now: u64)
         ensures links { self.new.lines.links ≡ self.old.lines.links }
+        ensures goes { LeadsOn self.old.cycle.core.value self.new.cycle.core.value }
         ensures places { PlacesStay self.old.places.items self.new.places.items }
     {
         self.turn_to(now);
@@ -26,12 +28,21 @@ impl<const DEPTH: usize> Service<DEPTH> {
     /// Asks what can be asked, runs the program once all is read, and ends the round once all is written.
     pub(crate) fn go_on(&mut self)
         ensures links { self.new.lines.links ≡ self.old.lines.links }
+        ensures goes { LeadsOn self.old.cycle.core.value self.new.cycle.core.value }
         ensures places { self.new.places.items ≡ self.old.places.items }
     {
         self.ask_all();
         if self.scan() {
             self.ask_all();
         }
+        self.end_if_complete();
+    }
+
+    fn end_if_complete(&mut self)
+        ensures links { self.new.lines.links ≡ self.old.lines.links }
+        ensures goes { LeadsOn self.old.cycle.core.value self.new.cycle.core.value }
+        ensures places { self.new.places.items ≡ self.old.places.items }
+    {
         if let Some(report) = self.cycle.end() {
             self.finish(report);
         }
@@ -40,6 +51,7 @@ impl<const DEPTH: usize> Service<DEPTH> {
     /// At its deadline a round waits for nothing more.
     fn end_reading(&mut self)
         ensures links { self.new.lines.links ≡ self.old.lines.links }
+        ensures goes { LeadsOn self.old.cycle.core.value self.new.cycle.core.value }
         ensures places { self.new.places.items ≡ self.old.places.items }
     {
         if self.cycle.phase() == Phase::Reading && self.now >= self.deadline {
@@ -49,6 +61,7 @@ impl<const DEPTH: usize> Service<DEPTH> {
 
     fn cut_off_all(&mut self)
         ensures links { self.new.lines.links ≡ self.old.lines.links }
+        ensures goes { LeadsOn self.old.cycle.core.value self.new.cycle.core.value }
         ensures places { self.new.places.items ≡ self.old.places.items }
     {
         for device in 0..self.cycle.devices() {
@@ -58,6 +71,7 @@ impl<const DEPTH: usize> Service<DEPTH> {
 
     fn cut_off(&mut self, device: usize)
         ensures links { self.new.lines.links ≡ self.old.lines.links }
+        ensures goes { LeadsOn self.old.cycle.core.value self.new.cycle.core.value }
         ensures places { self.new.places.items ≡ self.old.places.items }
     {
         let lost = self.cycle.lost();
@@ -70,6 +84,7 @@ impl<const DEPTH: usize> Service<DEPTH> {
     /// Begins the next round at its time.
     fn begin_round(&mut self)
         ensures links { self.new.lines.links ≡ self.old.lines.links }
+        ensures goes { LeadsOn self.old.cycle.core.value self.new.cycle.core.value }
         ensures places { self.new.places.items ≡ self.old.places.items }
     {
         if self.now < self.next_round {
@@ -78,14 +93,23 @@ impl<const DEPTH: usize> Service<DEPTH> {
         self.end_round();
         self.note_late();
         self.plan_next();
-        self.cycle.begin();
+        self.begin_reading();
         self.leave_out_all();
         self.stir_all();
+    }
+
+    fn begin_reading(&mut self)
+        ensures links { self.new.lines.links ≡ self.old.lines.links }
+        ensures goes { LeadsOn self.old.cycle.core.value self.new.cycle.core.value }
+        ensures places { self.new.places.items ≡ self.old.places.items }
+    {
+        self.cycle.begin();
     }
 
     /// The last round is over, whatever is left of it.
     fn end_round(&mut self)
         ensures links { self.new.lines.links ≡ self.old.lines.links }
+        ensures goes { LeadsOn self.old.cycle.core.value self.new.cycle.core.value }
         ensures places { self.new.places.items ≡ self.old.places.items }
     {
         // a round whose deadline is behind the next one's start
@@ -94,16 +118,25 @@ impl<const DEPTH: usize> Service<DEPTH> {
             self.scan();
         }
         if self.cycle.phase() == Phase::Writing {
-            let report = self.cycle.cut();
-            self.finish(report);
+            self.cut_short();
         }
         for link in 0..self.wires.len() {
             self.outlive(link);
         }
     }
 
+    fn cut_short(&mut self)
+        ensures links { self.new.lines.links ≡ self.old.lines.links }
+        ensures goes { LeadsOn self.old.cycle.core.value self.new.cycle.core.value }
+        ensures places { self.new.places.items ≡ self.old.places.items }
+    {
+        let report = self.cycle.cut();
+        self.finish(report);
+    }
+
     fn outlive(&mut self, link: usize)
         ensures links { self.new.lines.links ≡ self.old.lines.links }
+        ensures goes { LeadsOn self.old.cycle.core.value self.new.cycle.core.value }
         ensures places { self.new.places.items ≡ self.old.places.items }
     {
         if let Some(wire) = self.wires.get_mut(link) {
@@ -114,6 +147,7 @@ impl<const DEPTH: usize> Service<DEPTH> {
     /// The round is over: what was still to be written isn't.
     fn finish(&mut self, report: Report)
         ensures links { self.new.lines.links ≡ self.old.lines.links }
+        ensures goes { LeadsOn self.old.cycle.core.value self.new.cycle.core.value }
         ensures places { self.new.places.items ≡ self.old.places.items }
     {
         for output in 0..self.outputs.len() {
@@ -135,6 +169,7 @@ impl<const DEPTH: usize> Service<DEPTH> {
     /// This became of an output; it is told where it is new.
     pub(crate) fn settle_output(&mut self, output: usize, state: OutputState)
         ensures links { self.new.lines.links ≡ self.old.lines.links }
+        ensures goes { LeadsOn self.old.cycle.core.value self.new.cycle.core.value }
         ensures places { self.new.places.items ≡ self.old.places.items }
     {
         let is_new = match self.outputs.get_mut(output) {
@@ -151,6 +186,7 @@ impl<const DEPTH: usize> Service<DEPTH> {
 
     fn note_late(&mut self)
         ensures links { self.new.lines.links ≡ self.old.lines.links }
+        ensures goes { LeadsOn self.old.cycle.core.value self.new.cycle.core.value }
         ensures places { self.new.places.items ≡ self.old.places.items }
     {
         if self.now > self.next_round.saturating_add(self.limits.period) {
@@ -162,6 +198,7 @@ impl<const DEPTH: usize> Service<DEPTH> {
 
     fn plan_next(&mut self)
         ensures links { self.new.lines.links ≡ self.old.lines.links }
+        ensures goes { LeadsOn self.old.cycle.core.value self.new.cycle.core.value }
         ensures places { self.new.places.items ≡ self.old.places.items }
     {
         self.deadline = self.now.saturating_add(self.limits.period / 2);
@@ -174,18 +211,28 @@ impl<const DEPTH: usize> Service<DEPTH> {
     /// What can't be asked now isn't waited for.
     fn leave_out_all(&mut self)
         ensures links { self.new.lines.links ≡ self.old.lines.links }
+        ensures goes { LeadsOn self.old.cycle.core.value self.new.cycle.core.value }
         ensures places { self.new.places.items ≡ self.old.places.items }
     {
         for device in 0..self.cycle.devices() {
-            if !self.is_there(device) {
-                self.cycle.give_up(device);
-            }
+            self.leave_out(device);
+        }
+    }
+
+    fn leave_out(&mut self, device: usize)
+        ensures links { self.new.lines.links ≡ self.old.lines.links }
+        ensures goes { LeadsOn self.old.cycle.core.value self.new.cycle.core.value }
+        ensures places { self.new.places.items ≡ self.old.places.items }
+    {
+        if !self.is_there(device) {
+            self.cycle.give_up(device);
         }
     }
 
     /// There may be something to ask over each connection.
     fn stir_all(&mut self)
         ensures links { self.new.lines.links ≡ self.old.lines.links }
+        ensures goes { LeadsOn self.old.cycle.core.value self.new.cycle.core.value }
         ensures places { self.new.places.items ≡ self.old.places.items }
     {
         for wire in self.wires.iter_mut() {
@@ -206,12 +253,12 @@ impl<const DEPTH: usize> Service<DEPTH> {
     /// Runs the program, where all is read; whether it did.
     fn scan(&mut self) -> bool
         ensures links { self.new.lines.links ≡ self.old.lines.links }
+        ensures goes { LeadsOn self.old.cycle.core.value self.new.cycle.core.value }
         ensures places { self.new.places.items ≡ self.old.places.items }
     {
-        if !self.cycle.scan() {
+        if !self.run() {
             return false;
         }
-        self.scans = self.scans.saturating_add(1);
         for output in 0..self.outputs.len() {
             self.await_output(output);
         }
@@ -220,9 +267,22 @@ impl<const DEPTH: usize> Service<DEPTH> {
         true
     }
 
+    fn run(&mut self) -> bool
+        ensures links { self.new.lines.links ≡ self.old.lines.links }
+        ensures goes { LeadsOn self.old.cycle.core.value self.new.cycle.core.value }
+        ensures places { self.new.places.items ≡ self.old.places.items }
+    {
+        let has_run = self.cycle.scan();
+        if has_run {
+            self.scans = self.scans.saturating_add(1);
+        }
+        has_run
+    }
+
     /// An output's write is waited for from now on, where there is one.
     fn await_output(&mut self, output: usize)
         ensures links { self.new.lines.links ≡ self.old.lines.links }
+        ensures goes { LeadsOn self.old.cycle.core.value self.new.cycle.core.value }
         ensures places { self.new.places.items ≡ self.old.places.items }
     {
         match cause_at(self.cycle.core(), output) {

@@ -1,15 +1,16 @@
 //! The core with its round and its searches.
-ghost use Rattle.std.specs.Prelude.{◌≡◌, ◌<◌, ◌≤◌, [], length, map, set, IfOk, IfSome};
-ghost use Rattle.modbus_frame.specs.Message.{HasQuantity};
+ghost use Rattle.std.specs.Prelude.{◌≡◌, ◌<◌, ◌≤◌, [], length, map, set, slice_set, IfOk, IfSome, None, Some};
+ghost use Rattle.modbus_frame.specs.Message.{HasQuantity, IsRequest};
+ghost use Rattle.gateway.specs.event_core.Restoring.{NothingSets, SetsAlone};
 ghost use Rattle.service.specs.Rounds.{IsRoundFor};
 ghost use Rattle.service.specs.Searches.{HasStepQuantity};
 ghost use Rattle.service_core.specs.Calls.{IsCallOf};
-ghost use Rattle.service_core.specs.Course.{Reached};
+ghost use Rattle.service_core.specs.Course.{LeadsOn, Reached};
 ghost use Rattle.service_core.specs.Requests.{IsOfRound};
 ghost use Rattle.service_core.specs.Seeking.{AreOf, IsFound, IsSought};
 
 use gateway::{Call, Core, Event, Outcome, Report};
-use modbus_frame::{Frame, FrameReply, Responder};
+use modbus_frame::{Frame, FrameReply, Request, Responder, request_pdu};
 use register_map::Map;
 use service::{Fate, Round, Search, Step, Turn, is_write, refusal};
 use site_model::SiteDevice;
@@ -100,10 +101,11 @@ impl<const DEPTH: usize> ScanCycle<DEPTH> {
     }
 
     /// From now on this is the device's map, which its search found, or it has none.
-    #[tactic(auto, using(crate::proofs::Runs::reached_learn))]
+    #[tactic(auto, using(crate::proofs::Runs::reached_learn, crate::proofs::Runs::goes_learn))]
     pub(crate) fn learn(&mut self, device: usize, map: Option<Map>)
         requires { ∥ IsFound self.old.core.value.site device map ∥₁ }
-        ensures { device < length self.old.core.value.site.devices → self.new.core.value ≡ record self.old.core.value { maps = set self.old.core.value.maps device map } }
+        ensures goes { LeadsOn self.old.core.value self.new.core.value }
+        ensures learned { device < length self.old.core.value.site.devices → self.new.core.value ≡ record self.old.core.value { maps = set self.old.core.value.maps device map } }
     {
         if device < self.devices() {
             self.core.learn(device, map);
@@ -111,14 +113,18 @@ impl<const DEPTH: usize> ScanCycle<DEPTH> {
     }
 
     /// What was known of a device is known no more: it has no map, and its blocks are lost.
-    pub(crate) fn forget(&mut self, device: usize) {
+    pub(crate) fn forget(&mut self, device: usize)
+        ensures goes { LeadsOn self.old.core.value self.new.core.value }
+    {
         self.learn(device, None);
         for i in 0..self.core.site().wants().len() {
             self.forget_block(device, i);
         }
     }
 
-    fn forget_block(&mut self, device: usize, i: usize) {
+    fn forget_block(&mut self, device: usize, i: usize)
+        ensures goes { LeadsOn self.old.core.value self.new.core.value }
+    {
         let want = match self.core.site().wants().get(i) {
             Some(want) => *want,
             None => return,
@@ -138,14 +144,18 @@ impl<const DEPTH: usize> ScanCycle<DEPTH> {
     }
 
     /// Takes what came of a read of a device's search.
-    pub(crate) fn answered(&mut self, device: usize, outcome: &Outcome) {
+    pub(crate) fn answered(&mut self, device: usize, outcome: &Outcome)
+        ensures goes { LeadsOn self.old.core.value self.new.core.value }
+    {
         if let Some(search) = self.searches.get_mut(device) {
             take(search, outcome);
         }
     }
 
     /// From now on the device's map is searched from the start.
-    pub(crate) fn seek_anew(&mut self, device: usize) {
+    pub(crate) fn seek_anew(&mut self, device: usize)
+        ensures goes { LeadsOn self.old.core.value self.new.core.value }
+    {
         let base = match self.core.site().devices().get(device) {
             Some(own) => own.base,
             None => return,
@@ -156,7 +166,9 @@ impl<const DEPTH: usize> ScanCycle<DEPTH> {
     }
 
     /// Begins the next round.
-    pub(crate) fn begin(&mut self) {
+    pub(crate) fn begin(&mut self)
+        ensures goes { LeadsOn self.old.core.value self.new.core.value }
+    {
         self.round.begin(self.core.site());
         self.phase = Phase::Reading;
         self.lost = 0;
@@ -167,6 +179,7 @@ impl<const DEPTH: usize> ScanCycle<DEPTH> {
     /// The next request to the device; wanted blocks that there is none for are lost.
     #[tactic(auto, using(crate::proofs::Rightful::of_round))]
     pub(crate) fn next(&mut self, device: usize) -> Option<Call>
+        ensures goes { LeadsOn self.old.core.value self.new.core.value }
         ensures asked { IfSome result (λ call. IsOfRound self.new.core.value device call.request) }
         ensures quantity { IfSome result (λ call. HasQuantity call.request) }
     {
@@ -175,6 +188,7 @@ impl<const DEPTH: usize> ScanCycle<DEPTH> {
 
     #[tactic(auto, using(crate::proofs::Calls::opened_call))]
     fn next_call(&mut self, device: usize) -> Option<Call>
+        ensures goes { LeadsOn self.old.core.value self.new.core.value }
         ensures called { IfSome result (IsCallOf self.new.core.value device) }
         ensures quantity { IfSome result (λ call. HasQuantity call.request) }
     {
@@ -189,7 +203,9 @@ impl<const DEPTH: usize> ScanCycle<DEPTH> {
     }
 
     /// What became of a device's request; whether the words that came are no block of its model.
-    pub(crate) fn close(&mut self, device: usize, fate: Fate) -> bool {
+    pub(crate) fn close(&mut self, device: usize, fate: Fate) -> bool
+        ensures goes { LeadsOn self.old.core.value self.new.core.value }
+    {
         let event = match self.round.take(self.core.site(), device, fate) {
             Some(event) => event,
             None => return false,
@@ -200,7 +216,9 @@ impl<const DEPTH: usize> ScanCycle<DEPTH> {
     }
 
     /// All that the round still has for a device is given up: what is wanted of it is lost, and it is written nothing.
-    pub(crate) fn give_up(&mut self, device: usize) {
+    pub(crate) fn give_up(&mut self, device: usize)
+        ensures goes { LeadsOn self.old.core.value self.new.core.value }
+    {
         self.close(device, Fate::Lost);
         for _ in 0..self.requests() {
             if !self.give_up_next(device) {
@@ -210,7 +228,9 @@ impl<const DEPTH: usize> ScanCycle<DEPTH> {
     }
 
     // Whether there may be more.
-    fn give_up_next(&mut self, device: usize) -> bool {
+    fn give_up_next(&mut self, device: usize) -> bool
+        ensures goes { LeadsOn self.old.core.value self.new.core.value }
+    {
         match self.round.open(&self.core, device) {
             Turn::Tell(event) => {
                 self.tell(event);
@@ -224,16 +244,40 @@ impl<const DEPTH: usize> ScanCycle<DEPTH> {
         }
     }
 
-    fn tell(&mut self, event: Event) {
+    fn tell(&mut self, event: Event)
+        ensures goes { LeadsOn self.old.core.value self.new.core.value }
+    {
         if is_lost(&event) {
             self.lost = self.lost.saturating_add(1);
         }
         self.step(event);
     }
 
-    #[tactic(auto, using(crate::proofs::Runs::reached_step))]
-    fn step(&mut self, event: Event) {
+    #[tactic(auto, using(crate::proofs::Runs::reached_step, crate::proofs::Runs::goes_step))]
+    fn step(&mut self, event: Event)
+        ensures goes { LeadsOn self.old.core.value self.new.core.value }
+    {
         self.core.step(event);
+    }
+
+    /// The request by which a client sets a tag to this number, and nothing else.
+    pub(crate) fn request_to_set(&self, tag: usize, number: i64) -> Option<Request>
+        ensures request { IfSome result IsRequest }
+        ensures alone { IfSome result (SetsAlone self.now.core.value.site tag number) }
+        ensures none { result ≡ None → NothingSets self.now.core.value.site tag number }
+    {
+        self.core.request_to_set(tag, number)
+    }
+
+    /// A tag is set by the request that does so, as a client's.
+    #[tactic(auto, using(crate::proofs::Restored::set_alone))]
+    pub(crate) fn set(&mut self, request: &Request, tag: usize, number: i64)
+        requires request { IsRequest request.now }
+        requires alone { SetsAlone self.old.core.value.site tag number request.now }
+        ensures goes { LeadsOn self.old.core.value self.new.core.value }
+        ensures sets { self.new.core.value.standing ≡ record self.old.core.value.standing { sets = slice_set self.old.core.value.standing.sets tag (Some number) } }
+    {
+        self.core.step(Event::Client(request_pdu(request)));
     }
 
     // More than a device has.
@@ -243,7 +287,9 @@ impl<const DEPTH: usize> ScanCycle<DEPTH> {
     }
 
     /// Runs the program, where each wanted block was told; whether it did.
-    pub(crate) fn scan(&mut self) -> bool {
+    pub(crate) fn scan(&mut self) -> bool
+        ensures goes { LeadsOn self.old.core.value self.new.core.value }
+    {
         if self.phase != Phase::Reading || !self.round.is_read() {
             return false;
         }
@@ -258,7 +304,9 @@ impl<const DEPTH: usize> ScanCycle<DEPTH> {
     }
 
     /// A write went out, and this came of it.
-    pub(crate) fn wrote(&mut self, is_done: bool) {
+    pub(crate) fn wrote(&mut self, is_done: bool)
+        ensures goes { LeadsOn self.old.core.value self.new.core.value }
+    {
         self.writes = self.writes.saturating_add(1);
         if !is_done {
             self.refused = self.refused.saturating_add(1);
@@ -266,7 +314,9 @@ impl<const DEPTH: usize> ScanCycle<DEPTH> {
     }
 
     /// Ends the round, where nothing is left to be written, and tells what it did.
-    pub(crate) fn end(&mut self) -> Option<Report> {
+    pub(crate) fn end(&mut self) -> Option<Report>
+        ensures goes { LeadsOn self.old.core.value self.new.core.value }
+    {
         if self.phase != Phase::Writing || !self.round.is_complete() {
             return None;
         }
@@ -274,7 +324,9 @@ impl<const DEPTH: usize> ScanCycle<DEPTH> {
     }
 
     /// Ends the round, and tells what it did.
-    pub(crate) fn cut(&mut self) -> Report {
+    pub(crate) fn cut(&mut self) -> Report
+        ensures goes { LeadsOn self.old.core.value self.new.core.value }
+    {
         self.phase = Phase::Resting;
         Report {
             steps: self.core.steps(),

@@ -1,6 +1,7 @@
 //! A service of a gateway.
 ghost use Rattle.std.specs.Prelude.{◌≡◌};
-ghost use Rattle.service_core.specs.Course.{Reached};
+ghost use Rattle.service_core.specs.Course.{LeadsOn, Reached};
+ghost use Rattle.service_core.specs.Requests.{AreRightfulBy};
 
 use crate::client_place::ClientPlace;
 use crate::device::Device;
@@ -31,12 +32,14 @@ pub struct Service<const DEPTH: usize> {
     /// Until when wanted blocks are waited for.
     pub(crate) deadline: u64,
     pub(crate) scans: u64,
+    ghost rightful: { AreRightfulBy cycle.core.value lines },
 }
 
 impl<const DEPTH: usize> Service<DEPTH> {
     /// What happened, the oldest first.
     pub fn next_note(&mut self) -> Option<Note>
         ensures links { self.new.lines.links ≡ self.old.lines.links }
+        ensures goes { LeadsOn self.old.cycle.core.value self.new.cycle.core.value }
         ensures places { self.new.places.items ≡ self.old.places.items }
     {
         self.notes.next()
@@ -58,6 +61,7 @@ impl<const DEPTH: usize> Service<DEPTH> {
     /// Time goes up.
     pub(crate) fn turn_to(&mut self, now: u64)
         ensures links { self.new.lines.links ≡ self.old.lines.links }
+        ensures goes { LeadsOn self.old.cycle.core.value self.new.cycle.core.value }
         ensures places { self.new.places.items ≡ self.old.places.items }
     {
         self.now = self.now.max(now);

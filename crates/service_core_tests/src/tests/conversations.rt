@@ -1,9 +1,9 @@
 //! Whole services: two links with three devices, and clients.
 
 use crate::tests::steps::Step::{
-    AllReported, Answer, AnswerOne, Asks, Became, Becomes, Closes, Comes, Counted, CutOff, Down,
-    Floods, Forget, GiveBack, HangsUp, Hears, KeepBack, Leaves, Pass, Rebuilt, Reported, Says,
-    Scans, Stands, Tick, Told, Took, Up, Wakes, Wrote,
+    AllReported, Answer, AnswerOne, Answered, Asks, Became, Becomes, Closes, Comes, Counted,
+    CutOff, Down, Floods, Forget, GiveBack, HangsUp, Hears, IsSet, KeepBack, Leaves, Pass, Rebuilt,
+    Reported, Restores, Says, Scans, Stands, Tick, Told, Took, Up, Wakes, Wrote,
 };
 use crate::tests::steps::{Step, play};
 use crate::tests::units::Manner;
@@ -344,9 +344,11 @@ const CLIENTS: &[Step] = &[
     Says(0, READS, 0),
     Took(0, 26),
     Hears(0, &[]),
+    Answered(0, 2),
     Says(0, WRITE, 12),
     Hears(0, REFUSED),
     Took(0, 9),
+    Answered(0, 3),
     Answer,
     Scans(1),
     Comes(true, Some(1)),
@@ -356,6 +358,7 @@ const CLIENTS: &[Step] = &[
     Leaves(1),
     Pass(2000),
     Comes(true, Some(1)),
+    Answered(1, 0),
     Pass(31_500),
     // the one that was silent longest gives way
     Comes(true, Some(0)),
@@ -372,4 +375,24 @@ const CLIENTS: &[Step] = &[
 #[test]
 fn clients_in_between(rt: HostRuntime) {
     play(&rt, rt.alloc(), &WELL, 300, CLIENTS);
+}
+
+/// The target of the worked site is the tag behind the three powers, and clients set it from 0 to 100.
+const RESTORED: &[Step] = &[
+    IsSet(3, None),
+    Restores(3, 70, true),
+    IsSet(3, Some(70)),
+    Restores(3, 101, false),
+    Restores(3, -1, false),
+    // no client sets what is measured, or what isn't there
+    Restores(0, 70, false),
+    Restores(99, 70, false),
+    IsSet(3, Some(70)),
+    Restores(3, 0, true),
+    IsSet(3, Some(0)),
+];
+
+#[test]
+fn what_was_set_is_set_again(rt: HostRuntime) {
+    play(&rt, rt.alloc(), &WELL, 300, RESTORED);
 }

@@ -70,6 +70,12 @@ pub(crate) enum Step {
     Leaves(usize),
     /// Whether a client is to be closed.
     Closes(usize, bool),
+    /// How many frames of a client were answered.
+    Answered(usize, u64),
+    /// A tag is set to a number as before a restart; whether some client's write does so.
+    Restores(usize, i64, bool),
+    /// What clients set a tag to.
+    IsSet(usize, Option<i64>),
 }
 
 /// Plays the steps with devices of these manners, whose replies come in pieces of so many bytes.
@@ -101,7 +107,12 @@ fn take(rt: &impl Abort, plant: &mut Plant, step: Step) -> bool {
         Step::Wrote(..) | Step::Asks(..) | Step::Wakes(_) | Step::HangsUp(..) => {
             is_so(plant, step)
         }
-        Step::Stands(..) | Step::Counted(..) | Step::Became(..) => { stands(plant, step) }
+        Step::Stands(..)
+        | Step::Counted(..)
+        | Step::Became(..)
+        | Step::Answered(..)
+        | Step::IsSet(..) => stands(plant, step),
+        Step::Restores(tag, number, does) => plant.service.restore(tag, number) == does,
         Step::Comes(..)
         | Step::Says(..)
         | Step::Hears(..)
@@ -235,6 +246,10 @@ fn stands(plant: &Plant, step: Step) -> bool {
             None => false,
         },
         Step::Became(output, state) => plant.service.output_state(output) == state,
+        Step::Answered(place, count) => plant.service.client_requests(place) == count,
+        Step::IsSet(tag, number) => {
+            plant.service.core().settings().get(tag).copied().flatten() == number
+        }
         _ => false,
     }
 }

@@ -127,7 +127,7 @@ fn where_a_stream_is_over(rt: HostRuntime) {
 fn one_answer_at_a_time(rt: HostRuntime) {
     let mut session = Session::new();
     let mut counter = Counter::new(0);
-    assert_true(&rt, session.take(&mut counter, &STREAM) == 8);
+    assert_true(&rt, session.take(&mut counter, &STREAM).used == 8);
     assert_true(&rt, !session.is_free());
     let mut buffer = [0; 8];
     assert_true(&rt, session.put(&mut buffer) == 8);
@@ -153,12 +153,21 @@ fn eight_frames_a_turn(rt: HostRuntime) {
     let mut counter = Counter::new(0);
     let mut out = [0; 100];
     let first = session.turn(&mut counter, &stream, &mut out);
-    assert_true(&rt, first.used == 64 && first.put == 72);
+    assert_true(
+        &rt,
+        first.used == 64 && first.put == 72 && first.frames == 8,
+    );
     assert_true(&rt, out[71] == 8);
     let second = session.turn(&mut counter, stream.split_at(64).1, &mut out);
-    assert_true(&rt, second.used == 16 && second.put == 18);
+    assert_true(
+        &rt,
+        second.used == 16 && second.put == 18 && second.frames == 2,
+    );
     let third = session.turn(&mut counter, &stream, out.split_at_mut(20).0);
-    assert_true(&rt, third.used == 24 && third.put == 20);
+    assert_true(
+        &rt,
+        third.used == 24 && third.put == 20 && third.frames == 3,
+    );
 }
 
 /// A function, whether it writes, and what answers it where that isn't let through.

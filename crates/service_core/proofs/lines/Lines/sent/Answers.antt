@@ -3,8 +3,8 @@ use Rattle.std.proofs.lemmas.Option.{slice_get_read}
 use Rattle.service_core.proofs.Rightful.{with_line_left}
 use Rattle.service_core.proofs.lines.Lines.sent.Goals as goal
 
-pub invariant_of-self : goal.invariant_of-self
-invariant_of-self c =
+pub returns-in-Some-clause-rightful : goal.returns-in-Some-clause-rightful
+returns-in-Some-clause-rightful c now before =
     let within : c.args.link < length c.args.self.now.lines.items = search rules in
     let at : slice_get c.args.self.now.lines.items c.args.link ≡ Some c.in-Some.line.now = slice_get_read _ _ c.args.link c.in-Some.line.now refl within c.in-Some.ensures.value in
-    record { rightful = with_line_left _ _ _ _ c.args.link _ c.in-Some.line.now _ c.args.self.now.rightful at c.sent.ensures }
+    with_line_left now _ _ _ _ c.args.link _ c.in-Some.line.now _ before at c.sent.ensures

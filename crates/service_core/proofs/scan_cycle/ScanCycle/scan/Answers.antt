@@ -1,7 +1,7 @@
 use Rattle.std.proofs.Common.{rules, ◌≡◌, length}
 use Rattle.gateway.specs.declared.event_core.event.Event.TheVariants as event
 use Rattle.gateway.specs.declared.event_core.event.Answer.TheVariants as answer
-use Rattle.service_core.proofs.Runs.{reached_after, sought_after}
+use Rattle.service_core.proofs.Runs.{goes_after, reached_after, sought_after}
 use Rattle.service_core.proofs.scan_cycle.ScanCycle.scan.Goals as goal
 
 pub invariant_of-self-2 : goal.invariant_of-self-2
@@ -13,3 +13,6 @@ invariant_of-self-2 g c =
       fits = c.scan.ensures.round;
       sought = sought_after _ _ event.Scan (answer.Writes (length c.deref_mut.result.now.site.outs)) _ _ c.args.self.now.sought same c.scan.ensures.scanned;
     }
+
+pub returns : goal.returns
+returns g c = record { goes = goes_after _ _ event.Scan (answer.Writes (length c.deref_mut.result.now.site.outs)) _ c.deref_mut.ensures.value c.scan.ensures.scanned }

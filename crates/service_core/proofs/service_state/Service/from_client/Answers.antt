@@ -1,7 +1,10 @@
-use Rattle.std.proofs.Common.{rules, ◌≡◌, ◌≤◌, ◌<◌, Some, length, refl}
+use Rattle.std.proofs.Common.{rules, ◌≡◌, ◌≤◌, ◌<◌, [], Some, length, refl}
 use Rattle.std.specs.Prelude.{slice_get}
 use Rattle.std.proofs.lemmas.Option.{slice_get_past, slice_get_read}
-use Rattle.service_core.proofs.Heard.{done_at, nobody_at}
+use Rattle.service_core.proofs.Heard.{done_at, nobody_at, that_one}
+use Rattle.service_core.specs.declared.client_place.ClientPlace.{ClientPlace}
+use Rattle.service_core.specs.Clients.{IsDeaf, ready_of}
+use Rattle.service_core.proofs.Rightful.{right_on}
 use Rattle.service_core.proofs.service_state.Service.from_client.Goals as goal
 
 pub returns-in-Some-clause-hears : goal.returns-in-Some-clause-hears
@@ -16,3 +19,13 @@ returns-in-None-clause-hears g c =
     let places = c.args.self.now.places.items in
     let past : length places ≤ c.args.place = search rules in
     nobody_at _ places places c.args.place refl (slice_get_past places c.args.place past)
+
+pub returns-in-Some-clause-takes : goal.returns-in-Some-clause-takes
+returns-in-Some-clause-takes g c =
+    let places = c.args.self.now.places.items in
+    let within : c.args.place < length places = search rules in
+    let at : slice_get places c.args.place ≡ Some c.in-Some.client.now = slice_get_read places _ c.args.place c.in-Some.client.now refl within c.in-Some.ensures.value in
+    that_one (λ (x : ClientPlace). (IsDeaf x → ⊥) → ready_of x ≡ [] → 0 < length c.args.bytes.now → 0 < c.take.result) places c.args.place c.in-Some.client.now at c.take.ensures.takes
+
+pub invariant_of-self : goal.invariant_of-self
+invariant_of-self g c = record { rightful = right_on _ _ c.args.self.now.lines c.take.ensures.goes c.args.self.now.rightful }

@@ -1,5 +1,6 @@
 use Rattle.std.proofs.Common.{◌≡◌}
+use Rattle.service_core.specs.Course.{LeadsOn}
 use Rattle.service_core.proofs.service_state.Service.leave_out_all.Given as goal
 
 abbrev pub invariant-loop-device : goal.invariant-loop-device
-invariant-loop-device g l = (l.self.lines.links ≡ l.fn.self.lines.links) × (l.self.places.items ≡ l.fn.self.places.items)
+invariant-loop-device g l = (l.self.lines.links ≡ l.fn.self.lines.links) × (LeadsOn l.fn.self.cycle.core.value l.self.cycle.core.value) × (l.self.places.items ≡ l.fn.self.places.items)

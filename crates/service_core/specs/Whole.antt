@@ -1,0 +1,33 @@
+-- What a service does, whatever its connections, its clients and the clock do: its parts by name.
+--
+-- Each call of a service leads its core on by events of the site run and by maps that searches find, and by nothing else
+-- (`LeadsOn`). What is to be written over a connection is the rest of one frame that a device there may be asked (`IsRest`).
+-- What is to be written to a client answers its frames (`IsServed`).
+use Rattle.std.specs.Prelude.{◌≡◌, ℕ, Bool, List, Option}
+use Rattle.modbus_frame.specs.declared.frame.Frame.{Frame}
+use Rattle.gateway.specs.declared.event_core.event.Event.{Event}
+use Rattle.gateway.specs.declared.event_core.event.Answer.{Answer}
+use Rattle.gateway.specs.event_core.Core.{Gateway, RunsOn}
+use Rattle.service_core.specs.declared.limits.Station.{Station}
+use Rattle.service_core.specs.Clients.{ClientsAreAnswered}
+use Rattle.service_core.specs.Course.{CoursesAreSiteRuns}
+use Rattle.service_core.specs.Requests.{IsRest}
+
+-- The one state is that of a site run which led to the other: of the same site, and of the program that was accepted.
+pub record IsBefore (old new : Gateway) : Type 0 where
+  pub site : new.site ≡ old.site
+  pub program : new.machine.accepted ≡ old.machine.accepted
+  pub events : List Event
+  pub answers : List Answer
+  pub run : RunsOn old events answers new
+
+-- A device is asked only what a state of the service's own site run asks of it.
+abbrev pub RestsAreOfTheRun : Type 0
+RestsAreOfTheRun = (now : Gateway) (stations : List Station) (found_on : List (Option ℕ)) (link number : ℕ) (bytes : List ℕ) →
+    (rest : IsRest now stations found_on link number bytes) → IsBefore rest.core now
+
+-- `Answers` says which bytes answer a frame of a client.
+pub record SiteIsServed {S : Type 0} (Answers : S → Frame → List ℕ → Bool → S → Type 0) : Type 0 where
+  pub course : CoursesAreSiteRuns
+  pub devices : RestsAreOfTheRun
+  pub clients : ClientsAreAnswered Answers

@@ -1,0 +1,28 @@
+//! What clients set is set again behind a restart.
+ghost use Rattle.std.specs.Prelude.{◌≡◌, IsTrue, Some, false, slice_set};
+ghost use Rattle.gateway.specs.event_core.Restoring.{NothingSets};
+ghost use Rattle.service_core.specs.Course.{LeadsOn};
+
+use crate::service_state::Service;
+
+impl<const DEPTH: usize> Service<DEPTH> {
+    /// Sets the site's tag of this number, as a client's write does, to a number in the unit of the tag's exponent; whether
+    /// some client's write does so. Where none does nothing changes: the site has no such `set` tag, or no words of its
+    /// point read as the number, exactly and in its range.
+    pub fn restore(&mut self, tag: usize, number: i64) -> bool
+        ensures links { self.new.lines.links ≡ self.old.lines.links }
+        ensures goes { LeadsOn self.old.cycle.core.value self.new.cycle.core.value }
+        ensures sets { IsTrue result → self.new.cycle.core.value.standing
+            ≡ record self.old.cycle.core.value.standing { sets = slice_set self.old.cycle.core.value.standing.sets tag (Some number) } }
+        ensures refused { result ≡ false → (self.new.cycle.core.value ≡ self.old.cycle.core.value) × NothingSets self.old.cycle.core.value.site tag number }
+        ensures places { self.new.places.items ≡ self.old.places.items }
+    {
+        match self.cycle.request_to_set(tag, number) {
+            Some(request) => {
+                self.cycle.set(&request, tag, number);
+                true
+            }
+            None => false,
+        }
+    }
+}
