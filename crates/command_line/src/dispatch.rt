@@ -2,11 +2,13 @@
 use crate::arguments::command;
 use crate::plant_run::{PlantRun, run_plant};
 use crate::plant_server::simulate;
-use crate::serve_words::{devices_of, listen_address, service_limits, serving_of, writers_of};
+use crate::serve_words::{
+    devices_of, keeping_of, listen_address, service_limits, serving_of, writers_of,
+};
 use crate::service_run::{ServiceRun, run_service};
 use crate::socket::{SocketLink, loopback};
 use crate::source::{SourceFault, read_text};
-use crate::sources::{Refusal, Sources, read_plant, read_sources};
+use crate::sources::{Refusal, Sources, read_plant, read_served, read_sources};
 use crate::standard_input::{STANDARD_INPUT, misuse};
 use clap::error::ErrorKind;
 use clap::{ArgMatches, Error};
@@ -325,19 +327,22 @@ fn served<W: Write>(
     matches: &ArgMatches<'_>,
     out: &mut W,
 ) -> u8 {
-    match read_sources(rt, alloc, matches) {
-        Ok(sources) => served_on(rt, alloc, itself, matches, &sources, out),
+    match read_served(rt, alloc, matches) {
+        Ok((sources, state)) => {
+            served_on(rt, alloc, itself, matches, &sources, state.as_str(), out)
+        }
         Err(refusal) => unread(rt, alloc, matches, refusal, out),
     }
 }
 
 /// Runs `serve` on the texts of the files.
 fn served_on<W: Write>(
-    rt: &(impl Print + Eprint + AllocGlobal + Clock + Net + Processes),
+    rt: &(impl Print + Eprint + AllocGlobal + Files + Clock + Net + Processes),
     alloc: Global,
     itself: &str,
     matches: &ArgMatches<'_>,
     sources: &Sources,
+    state: &str,
     out: &mut W,
 ) -> u8 {
     let Some(listen) = listen_address(rt, matches) else {
@@ -346,7 +351,7 @@ fn served_on<W: Write>(
     match writers_of(alloc, matches) {
         Ok(Some(writers)) => {
             let serving = serving_of(matches, listen, writers.as_slice());
-            served_with(rt, alloc, itself, matches, sources, serving, out)
+            served_with(rt, alloc, itself, matches, sources, state, serving, out)
         }
         Ok(None) => tell_misuse(rt, alloc, "'--write-from' is no IP address", out),
         Err(AllocError) => tell_no_memory(out),
@@ -354,11 +359,12 @@ fn served_on<W: Write>(
 }
 
 fn served_with<W: Write>(
-    rt: &(impl Print + Eprint + AllocGlobal + Clock + Net + Processes),
+    rt: &(impl Print + Eprint + AllocGlobal + Files + Clock + Net + Processes),
     alloc: Global,
     itself: &str,
     matches: &ArgMatches<'_>,
     sources: &Sources,
+    state: &str,
     serving: Serving<'_>,
     out: &mut W,
 ) -> u8 {
@@ -385,6 +391,7 @@ fn served_with<W: Write>(
                 exe,
                 limits: service_limits(matches),
                 serving,
+                keeping: keeping_of(matches, state),
             };
             run_service(rt, alloc, &run, out)
         }

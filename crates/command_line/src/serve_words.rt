@@ -5,7 +5,7 @@ use crate::service_run::Devices;
 use clap::builder::ValueParser;
 use clap::{Arg, ArgAction, ArgMatches, Command};
 use service_core::Limits;
-use site_service::{Serving, has_port, limits};
+use site_service::{Keeping, KeptState, Serving, has_port, limits};
 use std::alloc::{AllocError, Global};
 use std::net::{IpAddr, Ipv4Addr, Net, SocketAddr, ToSocketAddrs};
 
@@ -33,6 +33,11 @@ fn with_times<'a>(alloc: Global, command: Command<'a>) -> Result<Command<'a>, Al
         .arg(timeout_option(alloc))?
         .arg(clients_option(alloc))?
         .arg(writers_option(alloc))?;
+    with_files(alloc, command)
+}
+
+fn with_files<'a>(alloc: Global, command: Command<'a>) -> Result<Command<'a>, AllocError> {
+    let command = command.arg(state_option(alloc))?;
     with_ways(alloc, command)
 }
 
@@ -81,6 +86,15 @@ fn writers_option<'a>(alloc: Global) -> Arg<'a> {
         "an address whose clients may write; 127.0.0.1 alone where none is given",
     )
     .action(ArgAction::Append)
+}
+
+fn state_option<'a>(alloc: Global) -> Arg<'a> {
+    option(
+        alloc,
+        "state",
+        "PATH",
+        "the file in which set values are kept over a restart",
+    )
 }
 
 fn every_option<'a>(alloc: Global) -> Arg<'a> {
@@ -186,4 +200,18 @@ pub(crate) fn writers_of(
         writers.push(IpAddr::V4(Ipv4Addr::LOCALHOST))?;
     }
     Ok(Some(writers))
+}
+
+/// The files that the service keeps; the one of set values has this text.
+pub(crate) fn keeping_of<'a>(matches: &ArgMatches<'a>, state: &'a str) -> Keeping<'a> {
+    Keeping {
+        state: kept_state(matches.get_str("state"), state),
+    }
+}
+
+fn kept_state<'a>(path: Option<&'a str>, text: &'a str) -> Option<KeptState<'a>> {
+    match path {
+        Some(path) => Some(KeptState { path, text }),
+        None => None,
+    }
 }

@@ -10,15 +10,22 @@ use refusal_notes::Notes;
 use scan_vm::Machine;
 use service_core::{Limits, Service};
 use site_model::{Site, Text};
-use site_service::{AddressFault, Addresses, End, Serving, has_port, read_places, serve_site};
+use site_service::{
+    AddressFault, Addresses, End, Keeping, Serving, has_port, read_places, serve_site,
+};
 use std::alloc::{AllocError, Global};
 use std::io::{ErrorKind, Read, Write};
 use std::net::{Net, SocketAddr};
 use std::process::{Child, Processes};
+use std::rt::Files;
 use std::time::Clock;
 
 /// Where the address of a plant stands before its port is known.
 const PLANT: &str = "127.0.0.1:0";
+
+/// What is told at the start where set values aren't kept.
+const UNKEPT: &str =
+    "set values begin at the tags' defaults and aren't kept over a restart: '--state PATH' keeps them\n";
 
 /// What a service is of.
 #[derive(Clone, Copy)]
@@ -30,6 +37,8 @@ pub struct ServiceRun<'n, 'a, 's> {
     pub exe: &'a str,
     pub limits: Limits,
     pub serving: Serving<'s>,
+    /// The files that it keeps.
+    pub keeping: Keeping<'n>,
 }
 
 /// Where the devices of a site are.
@@ -45,7 +54,7 @@ pub enum Devices<'a> {
 
 /// Serves a site, and gives the status: 0 behind the last scan that was asked for, 1 for a refusal or a failed write, 2
 /// where it isn't said where a device is, 3 where the clock or a socket can't be had.
-pub fn run_service<R: Net + Clock + Processes + Print + Eprint + AllocGlobal, W: Write>(
+pub fn run_service<R: Net + Clock + Processes + Print + Eprint + AllocGlobal + Files, W: Write>(
     rt: &R,
     alloc: Global,
     run: &ServiceRun<'_, '_, '_>,
@@ -63,7 +72,7 @@ pub fn run_service<R: Net + Clock + Processes + Print + Eprint + AllocGlobal, W:
     }
 }
 
-fn serve_accepted<R: Net + Clock + Processes + Print + Eprint + AllocGlobal, W: Write>(
+fn serve_accepted<R: Net + Clock + Processes + Print + Eprint + AllocGlobal + Files, W: Write>(
     rt: &R,
     alloc: Global,
     run: &ServiceRun<'_, '_, '_>,
@@ -71,8 +80,18 @@ fn serve_accepted<R: Net + Clock + Processes + Print + Eprint + AllocGlobal, W: 
     out: &mut W,
 ) -> u8 {
     match prepared(rt, alloc, run, &given, out) {
-        Ok(addresses) => serve_at(rt, alloc, run, given, &addresses, out),
+        Ok(addresses) => {
+            tell_unkept(rt, run);
+            serve_at(rt, alloc, run, given, &addresses, out)
+        }
         Err(status) => status,
+    }
+}
+
+/// Prints on standard error that set values aren't kept, where they aren't.
+fn tell_unkept<R: Eprint>(rt: &R, run: &ServiceRun<'_, '_, '_>) {
+    if run.keeping.state.is_none() && !run.notes.quiet {
+        let _ = rt.eprint(UNKEPT);
     }
 }
 
@@ -190,7 +209,7 @@ fn device_fault(
 }
 
 /// Serves a site whose devices are at these addresses, or in a plant.
-fn serve_at<R: Net + Clock + Processes + Eprint + AllocGlobal, W: Write>(
+fn serve_at<R: Net + Clock + Processes + Eprint + AllocGlobal + Files, W: Write>(
     rt: &R,
     alloc: Global,
     run: &ServiceRun<'_, '_, '_>,
@@ -242,7 +261,7 @@ fn service_of(
 }
 
 /// Serves a site over connections to these addresses.
-fn serve_over<R: Net + Clock + Eprint + AllocGlobal, W: Write>(
+fn serve_over<R: Net + Clock + Eprint + AllocGlobal + Files, W: Write>(
     rt: &R,
     alloc: Global,
     run: &ServiceRun<'_, '_, '_>,
@@ -250,7 +269,7 @@ fn serve_over<R: Net + Clock + Eprint + AllocGlobal, W: Write>(
     service: &mut Service<DEPTH>,
     out: &mut W,
 ) -> u8 {
-    match serve_site(rt, alloc, &run.serving, links, service, out) {
+    match serve_site(rt, alloc, &run.serving, &run.keeping, links, service, out) {
         Ok(()) => 0,
         Err(End::OutOfMemory) => tell_no_memory(out),
         Err(End::System) => tell_lost(rt, alloc, &run.notes, LinkFault::Read, out),
@@ -281,7 +300,7 @@ fn unserved_line(alloc: Global, address: SocketAddr, why: &str) -> Result<String
 }
 
 /// Starts a plant, serves the site over it, and ends it: one that nobody came to would wait for ever.
-fn serve_plant<R: Net + Clock + Processes + Eprint + AllocGlobal, W: Write>(
+fn serve_plant<R: Net + Clock + Processes + Eprint + AllocGlobal + Files, W: Write>(
     rt: &R,
     alloc: Global,
     run: &ServiceRun<'_, '_, '_>,
@@ -295,7 +314,7 @@ fn serve_plant<R: Net + Clock + Processes + Eprint + AllocGlobal, W: Write>(
     }
 }
 
-fn serve_started<R: Net + Clock + Processes + Eprint + AllocGlobal, W: Write>(
+fn serve_started<R: Net + Clock + Processes + Eprint + AllocGlobal + Files, W: Write>(
     rt: &R,
     alloc: Global,
     run: &ServiceRun<'_, '_, '_>,
@@ -312,7 +331,7 @@ fn serve_started<R: Net + Clock + Processes + Eprint + AllocGlobal, W: Write>(
 }
 
 /// Serves the site over the plant that says its port in the first of these lines, which stay open to its end.
-fn serve_told<R: Net + Clock + Eprint + AllocGlobal, P: Read + Drop, W: Write>(
+fn serve_told<R: Net + Clock + Eprint + AllocGlobal + Files, P: Read + Drop, W: Write>(
     rt: &R,
     alloc: Global,
     run: &ServiceRun<'_, '_, '_>,
@@ -330,7 +349,7 @@ fn serve_told<R: Net + Clock + Eprint + AllocGlobal, P: Read + Drop, W: Write>(
 }
 
 /// Serves the site over the plant whose first line this is.
-fn serve_behind<R: Net + Clock + Eprint + AllocGlobal, W: Write>(
+fn serve_behind<R: Net + Clock + Eprint + AllocGlobal + Files, W: Write>(
     rt: &R,
     alloc: Global,
     run: &ServiceRun<'_, '_, '_>,

@@ -52,3 +52,19 @@ pub(crate) fn read_file(
         Err(_) => Err(SourceFault::Unusable),
     }
 }
+
+/// The text of the file at a path, that a service keeps: none where there is no such file yet.
+pub(crate) fn read_kept(
+    rt: &(impl AllocGlobal + Files),
+    alloc: Global,
+    path: &str,
+) -> Result<String, SourceFault>
+    ensures small { IfOk result (λ text. length (string_bytes text) ≤ LARGEST_FILE) }
+{
+    match fs::open(rt, path) {
+        Ok(file) => read_text(alloc, file),
+        Err(fault) if fault.kind() == ErrorKind::NotFound => Ok(String::new(alloc)),
+        Err(fault) if fault.kind() == ErrorKind::OutOfMemory => Err(SourceFault::OutOfMemory),
+        Err(_) => Err(SourceFault::Unusable),
+    }
+}

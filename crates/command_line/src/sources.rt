@@ -1,5 +1,5 @@
 //! The texts of the files that a command line names.
-use crate::source::{SourceFault, read_file};
+use crate::source::{SourceFault, read_file, read_kept};
 use crate::standard_input::STANDARD_INPUT;
 use clap::ArgMatches;
 use commands::{tell_no_memory, tell_unusable};
@@ -73,6 +73,20 @@ pub(crate) fn read_plant<'a>(
     Ok((plant, defs))
 }
 
+/// Reads the files of a service: those of a program on a site, and then the file of set values, which is empty where there
+/// is none.
+pub(crate) fn read_served<'a>(
+    rt: &(impl Input + AllocGlobal + Files),
+    alloc: Global,
+    matches: &ArgMatches<'a>,
+) -> Result<(Sources, String), Refusal<'a>> {
+    let sources = read_sources(rt, alloc, matches)?;
+    match matches.get_str("state") {
+        Some(path) => Ok((sources, taken(path, read_kept(rt, alloc, path))?)),
+        None => Ok((sources, String::new(alloc))),
+    }
+}
+
 /// The texts of the model definitions that are handed in, in order.
 fn read_definitions<'a>(
     rt: &(impl Input + AllocGlobal + Files),
@@ -105,7 +119,12 @@ fn text<'a>(
     alloc: Global,
     path: &'a str,
 ) -> Result<String, Refusal<'a>> {
-    match read_file(rt, alloc, path) {
+    taken(path, read_file(rt, alloc, path))
+}
+
+/// The text that was read at a path, or why there is none.
+fn taken(path: &str, text: Result<String, SourceFault>) -> Result<String, Refusal<'_>> {
+    match text {
         Ok(text) => Ok(text),
         Err(SourceFault::Unusable) => Err(Refusal::File(path)),
         Err(SourceFault::OutOfMemory) => Err(Refusal::OutOfMemory),

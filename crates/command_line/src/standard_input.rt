@@ -7,6 +7,9 @@ pub(crate) const STANDARD_INPUT: &str = "-";
 /// Why the files that a command line names can't be had, where standard input is among them: it is read once, and a
 /// second process doesn't get it.
 pub(crate) fn misuse(command: &str, matches: &ArgMatches<'_>) -> Option<&'static str> {
+    if inputs(&[file(matches, "state")]) > 0 {
+        return Some("'-' can't be the file of set values, which is written too");
+    }
     let plant = file(matches, "plant");
     let defs = matches.get_strs("def").unwrap_or(&[]);
     let handed_on = inputs(&[plant]).saturating_add(inputs(defs));

@@ -1,3 +1,4 @@
 pub mod Lines
 pub mod Places
+pub mod State
 pub mod Stations

@@ -1,5 +1,5 @@
 -- The lines that a service tells. No standard says what is printed; these lines are this project's.
-use Rattle.std.specs.Prelude.{ℕ, List, ◌++◌, ◌/◌, ◌%◌, codes}
+use Rattle.std.specs.Prelude.{ℕ, Bool, true, false, List, ◌++◌, ◌/◌, ◌%◌, Option, Some, None, codes}
 use Rattle.std.specs.Fmt.{decimal}
 
 -- the seconds since the start, to the thousandth, of so many milliseconds
@@ -33,3 +33,18 @@ late_line late = codes "late " ++ decimal late
 -- left out N
 abbrev pub left_out_line : ℕ → List ℕ
 left_out_line n = codes "left out " ++ decimal n
+
+-- setting TEXT left out
+abbrev pub left_out_setting_line : (line : List ℕ) → List ℕ
+left_out_setting_line line = codes "setting " ++ line ++ codes " left out"
+
+-- state WORD, status WORD
+abbrev pub file_line : (file word : List ℕ) → List ℕ
+file_line file word = file ++ codes " " ++ word
+
+-- how the write of a file is told, where it goes otherwise than the one before
+abbrev pub change_word : (had_failed is_written : Bool) → Option (List ℕ)
+change_word false false = Some (codes "unwritten")
+change_word false true = None
+change_word true false = None
+change_word true true = Some (codes "written")

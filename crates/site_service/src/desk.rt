@@ -1,5 +1,7 @@
 //! All that a service has beside what decides.
 use crate::journal::Journal;
+use crate::keeping::Keeping;
+use crate::kept_files::KeptFiles;
 use crate::lines::{late_line, listening_line};
 use crate::room::Room;
 use crate::serving::{End, Serving};
@@ -8,10 +10,11 @@ use crate::telling::{tell, tell_scan};
 use commands::DEPTH;
 use service_core::{Note, Service};
 use site_model::Text;
-use std::alloc::Global;
+use std::alloc::{AllocError, Global};
 use std::io;
 use std::io::Write;
 use std::net::Net;
+use std::rt::Files;
 use std::time::{Clock, Duration, Instant};
 
 /// The sockets of a service, its clock, and where it tells.
@@ -62,19 +65,33 @@ impl<'a, W: Write> Desk<'a, W> {
         }
     }
 
+    /// The files that are kept, where what the one of set values says is set, and told where it isn't.
+    pub(crate) fn restore<'k>(
+        &mut self,
+        keeping: &Keeping<'k>,
+        service: &mut Service<DEPTH>,
+    ) -> Result<KeptFiles<'k>, End> {
+        match KeptFiles::restored(self.alloc, keeping, service, &mut self.journal) {
+            Ok(files) => Ok(files),
+            Err(AllocError) => Err(End::OutOfMemory),
+        }
+    }
+
     /// One turn; whether the last scan is done.
-    pub(crate) fn turn<R: Net + Clock>(
+    pub(crate) fn turn<R: Net + Clock + Files>(
         &mut self,
         rt: &R,
         serving: &Serving<'_>,
         service: &mut Service<DEPTH>,
+        files: &mut KeptFiles<'_>,
     ) -> Result<bool, End> {
         let now = self.now(rt)?;
         self.journal.turn_to(now);
         service.tick(now);
         self.sockets.take(rt, serving, service, &mut self.journal);
+        files.keep_state(rt, service.core(), &mut self.journal);
         self.sockets.give(service, &mut self.journal);
-        Ok(self.tell(serving, service))
+        Ok(self.tell(serving, service, files))
     }
 
     // The milliseconds since the start.
@@ -86,11 +103,19 @@ impl<'a, W: Write> Desk<'a, W> {
     }
 
     // Tells what happened; whether the last scan is done.
-    fn tell(&mut self, serving: &Serving<'_>, service: &mut Service<DEPTH>) -> bool {
+    fn tell(
+        &mut self,
+        serving: &Serving<'_>,
+        service: &mut Service<DEPTH>,
+        files: &mut KeptFiles<'_>,
+    ) -> bool {
         for _ in 0..u64::MAX {
             let Some(note) = service.next_note() else {
                 return false;
             };
+            if let Note::Scanned(_) = note {
+                files.scanned();
+            }
             if self.tell_note(serving, service, &note) {
                 return true;
             }

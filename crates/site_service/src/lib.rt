@@ -10,15 +10,22 @@ mod desk;
 mod device_places;
 mod door;
 mod journal;
+mod keeping;
+mod kept_files;
 mod lines;
 mod link;
 mod links;
+mod replacing;
+mod restoring;
 mod room;
 mod serving;
 mod sockets;
+mod state_file;
+mod state_lines;
 mod telling;
 mod turns;
 mod waiting;
+mod write_record;
 mod writers;
 
 // where the devices are
@@ -28,6 +35,9 @@ pub use device_places::{AddressFault, DevicePlace, read_places};
 pub use writers::may_write;
 // how long is waited
 pub use waiting::limits;
+// what is kept over a restart
+pub use keeping::{Keeping, KeptState};
+pub use state_lines::{Setting, setting_in, state_text, tag_named};
 // the service itself
 pub use serving::{End, Serving};
 pub use turns::serve_site;

@@ -96,3 +96,19 @@ pub(crate) fn left_out_line(alloc: Global, left_out: u64) -> Result<String, Allo
     let text = format!(in alloc; "left out {left_out}")?;
     Ok(text)
 }
+
+/// `setting TEXT left out`.
+pub(crate) fn left_out_setting_line(alloc: Global, line: &str) -> Result<String, AllocError>
+    ensures { IfOk result (λ text. string_bytes text ≡ told.left_out_setting_line line.now) }
+{
+    let text = format!(in alloc; "setting {line} left out")?;
+    Ok(text)
+}
+
+/// `FILE WORD`, how a file's writes go.
+pub(crate) fn file_line(alloc: Global, file: &str, word: &str) -> Result<String, AllocError>
+    ensures { IfOk result (λ text. string_bytes text ≡ told.file_line file.now word.now) }
+{
+    let text = format!(in alloc; "{file} {word}")?;
+    Ok(text)
+}

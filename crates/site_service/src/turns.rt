@@ -1,5 +1,6 @@
 //! The turns of a service: the clock, bytes in, bytes out, what is told, and a wait.
 use crate::desk::Desk;
+use crate::keeping::Keeping;
 use crate::serving::{End, Serving};
 use commands::DEPTH;
 use service_core::Service;
@@ -7,24 +8,27 @@ use site_model::Text;
 use std::alloc::Global;
 use std::io::Write;
 use std::net::Net;
+use std::rt::Files;
 use std::time::Clock;
 
-/// Serves a site, of which nothing was asked yet, until the scans that were asked for are done. `links` has
-/// the address of each of the service's connections, whose time begins at 0. Nothing that a peer does ends it. Listen: nothing can be served at the
-/// address for clients; System: the clock or
-/// the wait for sockets failed; OutOfMemory: memory was refused at the start.
-pub fn serve_site<R: Net + Clock, W: Write>(
+/// Serves a site, of which nothing was asked yet, until the scans that were asked for are done. `links` has the address of
+/// each of the service's connections, whose time begins at 0. Nothing that a peer does ends it, and no file. Listen:
+/// nothing can be served at the address for clients; System: the clock or the wait for sockets failed; OutOfMemory: memory
+/// was refused at the start.
+pub fn serve_site<R: Net + Clock + Files, W: Write>(
     rt: &R,
     alloc: Global,
     serving: &Serving<'_>,
+    keeping: &Keeping<'_>,
     links: &[Text],
     service: &mut Service<DEPTH>,
     out: &mut W,
 ) -> Result<(), End> {
     let mut desk = Desk::new(rt, alloc, serving, links, out)?;
     desk.tell_address();
+    let mut files = desk.restore(keeping, service)?;
     for _ in 0..u64::MAX {
-        if desk.turn(rt, serving, service)? {
+        if desk.turn(rt, serving, service, &mut files)? {
             return Ok(());
         }
         desk.wait(rt, service)?;

@@ -1,4 +1,6 @@
 //! Where devices are, who may write, and how long is waited.
+mod state;
+
 use point_types::Items;
 use service_core::Station;
 use site_service::{

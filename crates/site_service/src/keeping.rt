@@ -1,0 +1,16 @@
+//! The files that a service keeps.
+
+/// Where a service keeps what.
+#[derive(Clone, Copy)]
+pub struct Keeping<'a> {
+    /// The file of set values; none where they aren't kept.
+    pub state: Option<KeptState<'a>>,
+}
+
+/// The file of set values.
+#[derive(Clone, Copy)]
+pub struct KeptState<'a> {
+    pub path: &'a str,
+    /// What it holds at the start.
+    pub text: &'a str,
+}

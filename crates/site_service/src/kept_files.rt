@@ -1,0 +1,60 @@
+//! The files of a service, over its time.
+use crate::journal::Journal;
+use crate::keeping::Keeping;
+use crate::lines::file_line;
+use crate::restoring::restore;
+use crate::state_file::StateFile;
+use commands::DEPTH;
+use gateway::Core;
+use service_core::Service;
+use std::alloc::{AllocError, Global};
+use std::io::Write;
+use std::rt::Files;
+
+/// The files of a service.
+#[derive(Drop)]
+pub(crate) struct KeptFiles<'a> {
+    alloc: Global,
+    state: Option<StateFile<'a>>,
+}
+
+impl<'a> KeptFiles<'a> {
+    /// The files, behind a restart: what the file of set values says is set.
+    pub(crate) fn restored<W: Write>(
+        alloc: Global,
+        keeping: &Keeping<'a>,
+        service: &mut Service<DEPTH>,
+        journal: &mut Journal<'_, W>,
+    ) -> Result<KeptFiles<'a>, AllocError> {
+        let state = match keeping.state {
+            Some(state) => {
+                restore(alloc, state.text, service, journal);
+                Some(StateFile::new(alloc, state.path, service.core().settings())?)
+            }
+            None => None,
+        };
+        Ok(KeptFiles { alloc, state })
+    }
+
+    /// A scan is over.
+    pub(crate) fn scanned(&mut self) {
+        if let Some(state) = &mut self.state {
+            state.scanned();
+        }
+    }
+
+    /// Keeps what is set, before whoever set it is told that it is done.
+    pub(crate) fn keep_state<R: Files, W: Write>(
+        &mut self,
+        rt: &R,
+        core: &Core<DEPTH>,
+        journal: &mut Journal<'_, W>,
+    ) {
+        let alloc = self.alloc;
+        if let Some(state) = &mut self.state {
+            if let Some(word) = state.keep(rt, alloc, core) {
+                journal.tell(file_line(alloc, "state", word));
+            }
+        }
+    }
+}

@@ -1,0 +1,54 @@
+//! What is set at the start.
+use crate::journal::Journal;
+use crate::lines::left_out_setting_line;
+use crate::state_lines::{setting_in, tag_named};
+use commands::DEPTH;
+use service_core::Service;
+use std::alloc::{AllocError, Global};
+use std::io::Write;
+
+/// The most letters of a line that are told.
+const MOST_LETTERS: usize = 40;
+
+/// Sets what the lines of a text say, each by a client's write, and tells of those that set nothing.
+pub(crate) fn restore<W: Write>(
+    alloc: Global,
+    text: &str,
+    service: &mut Service<DEPTH>,
+    journal: &mut Journal<'_, W>,
+) {
+    for line in text.lines() {
+        if !is_restored(service, line) {
+            journal.tell(left_out(alloc, line));
+        }
+    }
+}
+
+/// Sets what a line says; whether that is something that a client could set.
+fn is_restored(service: &mut Service<DEPTH>, line: &str) -> bool {
+    let Some(setting) = setting_in(line) else {
+        return false;
+    };
+    match tag_named(service.core().site().tags(), setting.name) {
+        Some(tag) => service.restore(tag, setting.number),
+        None => false,
+    }
+}
+
+fn left_out(alloc: Global, line: &str) -> Result<String, AllocError> {
+    let shown = shown(alloc, line)?;
+    left_out_setting_line(alloc, shown.as_str())
+}
+
+/// The beginning of a text, with nothing in it that moves what stands behind.
+fn shown(alloc: Global, text: &str) -> Result<String, AllocError> {
+    let mut shown = String::new(alloc);
+    for (number, letter) in text.chars().enumerate() {
+        if number >= MOST_LETTERS {
+            shown.push_str("..")?;
+            return Ok(shown);
+        }
+        shown.push(if letter.is_control() { '?' } else { letter })?;
+    }
+    Ok(shown)
+}
