@@ -3,7 +3,7 @@ use crate::arguments::command;
 use crate::plant_run::{PlantRun, run_plant};
 use crate::plant_server::simulate;
 use crate::serve_words::{
-    devices_of, keeping_of, listen_address, service_limits, serving_of, writers_of,
+    devices_of, keeping_misuse, keeping_of, listen_address, service_limits, serving_of, writers_of,
 };
 use crate::service_run::{ServiceRun, run_service};
 use crate::socket::{SocketLink, loopback};
@@ -345,6 +345,9 @@ fn served_on<W: Write>(
     state: &str,
     out: &mut W,
 ) -> u8 {
+    if let Some(why) = keeping_misuse(matches) {
+        return tell_misuse(rt, alloc, why, out);
+    }
     let Some(listen) = listen_address(rt, matches) else {
         return tell_misuse(rt, alloc, "'--listen' is no HOST:PORT that is known", out);
     };

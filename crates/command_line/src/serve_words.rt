@@ -37,7 +37,7 @@ fn with_times<'a>(alloc: Global, command: Command<'a>) -> Result<Command<'a>, Al
 }
 
 fn with_files<'a>(alloc: Global, command: Command<'a>) -> Result<Command<'a>, AllocError> {
-    let command = command.arg(state_option(alloc))?;
+    let command = command.arg(state_option(alloc))?.arg(status_option(alloc))?;
     with_ways(alloc, command)
 }
 
@@ -97,6 +97,15 @@ fn state_option<'a>(alloc: Global) -> Arg<'a> {
     )
 }
 
+fn status_option<'a>(alloc: Global) -> Arg<'a> {
+    option(
+        alloc,
+        "status-file",
+        "PATH",
+        "the file (JSON) that says how the service stands, replaced behind each scan",
+    )
+}
+
 fn every_option<'a>(alloc: Global) -> Arg<'a> {
     option(alloc, "every", "MS", "from one scan to the next")
         .value_parser(ValueParser::unsigned(50, 3_600_000))
@@ -136,6 +145,16 @@ pub(crate) fn devices_of<'a>(matches: &ArgMatches<'a>) -> Result<Devices<'a>, &'
         (Some(address), None) if has_port(address) => Ok(Devices::Behind(address)),
         (Some(_), None) => Err("'--devices' is no HOST:PORT"),
         (Some(_), Some(_)) => Err("'--devices' and '--plant' don't go together"),
+    }
+}
+
+/// Why the files that the service is to keep can't be, where they can't.
+pub(crate) fn keeping_misuse(matches: &ArgMatches<'_>) -> Option<&'static str> {
+    match (matches.get_str("state"), matches.get_str("status-file")) {
+        (Some(state), Some(status)) if state == status => {
+            Some("'--state' and '--status-file' are one file")
+        }
+        _ => None,
     }
 }
 
@@ -206,6 +225,7 @@ pub(crate) fn writers_of(
 pub(crate) fn keeping_of<'a>(matches: &ArgMatches<'a>, state: &'a str) -> Keeping<'a> {
     Keeping {
         state: kept_state(matches.get_str("state"), state),
+        status: matches.get_str("status-file"),
     }
 }
 

@@ -9,7 +9,7 @@ use modbus_frame::LinkFault;
 use refusal_notes::Notes;
 use scan_vm::Machine;
 use service_core::{Limits, Service};
-use site_model::{Site, Text};
+use site_model::Site;
 use site_service::{
     AddressFault, Addresses, End, Keeping, Serving, has_port, read_places, serve_site,
 };
@@ -220,14 +220,7 @@ fn serve_at<R: Net + Clock + Processes + Eprint + AllocGlobal + Files, W: Write>
     match service_of(alloc, given, addresses, run.limits) {
         Ok(mut service) => match run.devices {
             Devices::Plant(plant) => serve_plant(rt, alloc, run, plant, &mut service, out),
-            _ => serve_over(
-                rt,
-                alloc,
-                run,
-                addresses.links.as_slice(),
-                &mut service,
-                out,
-            ),
+            _ => serve_over(rt, alloc, run, addresses, &mut service, out),
         },
         Err(CoreFault::OutOfMemory) => tell_no_memory(out),
         Err(fault) => match no_core(alloc, fault.word()) {
@@ -265,11 +258,19 @@ fn serve_over<R: Net + Clock + Eprint + AllocGlobal + Files, W: Write>(
     rt: &R,
     alloc: Global,
     run: &ServiceRun<'_, '_, '_>,
-    links: &[Text],
+    addresses: &Addresses,
     service: &mut Service<DEPTH>,
     out: &mut W,
 ) -> u8 {
-    match serve_site(rt, alloc, &run.serving, &run.keeping, links, service, out) {
+    match serve_site(
+        rt,
+        alloc,
+        &run.serving,
+        &run.keeping,
+        addresses,
+        service,
+        out,
+    ) {
         Ok(()) => 0,
         Err(End::OutOfMemory) => tell_no_memory(out),
         Err(End::System) => tell_lost(rt, alloc, &run.notes, LinkFault::Read, out),
@@ -358,15 +359,15 @@ fn serve_behind<R: Net + Clock + Eprint + AllocGlobal + Files, W: Write>(
     out: &mut W,
 ) -> u8 {
     match port_in(line) {
-        Some(port) => match plant_address(alloc, port) {
-            Ok(address) => serve_over(rt, alloc, run, &[address], service, out),
+        Some(port) => match plant_addresses(alloc, port, service.core().site()) {
+            Ok(addresses) => serve_over(rt, alloc, run, &addresses, service, out),
             Err(AllocError) => tell_no_memory(out),
         },
         None => write_lines(out, line, 1),
     }
 }
 
-fn plant_address(alloc: Global, port: u16) -> Result<Text, AllocError> {
+fn plant_addresses(alloc: Global, port: u16, site: &Site) -> Result<Addresses, AllocError> {
     let text = format!(in alloc; "127.0.0.1:{port}")?;
-    Text::new(alloc, text.as_str())
+    Addresses::behind(alloc, text.as_str(), site.devices())
 }

@@ -7,8 +7,8 @@ pub(crate) const STANDARD_INPUT: &str = "-";
 /// Why the files that a command line names can't be had, where standard input is among them: it is read once, and a
 /// second process doesn't get it.
 pub(crate) fn misuse(command: &str, matches: &ArgMatches<'_>) -> Option<&'static str> {
-    if inputs(&[file(matches, "state")]) > 0 {
-        return Some("'-' can't be the file of set values, which is written too");
+    if inputs(&[file(matches, "state"), file(matches, "status-file")]) > 0 {
+        return Some("'-' can't be a file that is written");
     }
     let plant = file(matches, "plant");
     let defs = matches.get_strs("def").unwrap_or(&[]);

@@ -118,7 +118,13 @@ impl Clients {
         }
     }
 
-    fn address_at(&self, place: usize) -> Option<SocketAddr> {
+    /// How many places there are.
+    pub(crate) fn places(&self) -> usize {
+        self.places.len()
+    }
+
+    /// The address of the client at a place, where there is one.
+    pub(crate) fn address_at(&self, place: usize) -> Option<SocketAddr> {
         match self.places.get(place) {
             Some(Some(client)) => Some(client.address),
             _ => None,

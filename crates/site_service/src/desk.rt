@@ -1,4 +1,5 @@
 //! All that a service has beside what decides.
+use crate::addresses::Addresses;
 use crate::journal::Journal;
 use crate::keeping::Keeping;
 use crate::kept_files::KeptFiles;
@@ -6,10 +7,10 @@ use crate::lines::{late_line, listening_line};
 use crate::room::Room;
 use crate::serving::{End, Serving};
 use crate::sockets::Sockets;
+use crate::status::status_text;
 use crate::telling::{tell, tell_scan};
 use commands::DEPTH;
 use service_core::{Note, Service};
-use site_model::Text;
 use std::alloc::{AllocError, Global};
 use std::io;
 use std::io::Write;
@@ -21,6 +22,8 @@ use std::time::{Clock, Duration, Instant};
 #[derive(Drop)]
 pub(crate) struct Desk<'a, W: Write> {
     alloc: Global,
+    /// Where the devices are.
+    addresses: &'a Addresses,
     sockets: Sockets,
     journal: Journal<'a, W>,
     start: Instant,
@@ -33,11 +36,11 @@ impl<'a, W: Write> Desk<'a, W> {
         rt: &R,
         alloc: Global,
         serving: &Serving<'_>,
-        links: &[Text],
+        addresses: &'a Addresses,
         out: &'a mut W,
     ) -> Result<Desk<'a, W>, End> {
-        let sockets = Sockets::new(rt, alloc, serving, links)?;
-        match Desk::over(rt, alloc, sockets, out) {
+        let sockets = Sockets::new(rt, alloc, serving, addresses.links.as_slice())?;
+        match Desk::over(rt, alloc, addresses, sockets, out) {
             Ok(desk) => Ok(desk),
             Err(fault) => Err(End::by(&fault)),
         }
@@ -46,11 +49,13 @@ impl<'a, W: Write> Desk<'a, W> {
     fn over<R: Net + Clock>(
         rt: &R,
         alloc: Global,
+        addresses: &'a Addresses,
         sockets: Sockets,
         out: &'a mut W,
     ) -> io::Result<Desk<'a, W>> {
         Ok(Desk {
             alloc,
+            addresses,
             sockets,
             journal: Journal::new(alloc, out, Room::new(rt, alloc)?),
             start: Instant::now(rt)?,
@@ -91,7 +96,9 @@ impl<'a, W: Write> Desk<'a, W> {
         self.sockets.take(rt, serving, service, &mut self.journal);
         files.keep_state(rt, service.core(), &mut self.journal);
         self.sockets.give(service, &mut self.journal);
-        Ok(self.tell(serving, service, files))
+        let is_done = self.tell(serving, service, files);
+        self.keep_status(rt, service, files);
+        Ok(is_done)
     }
 
     // The milliseconds since the start.
@@ -141,6 +148,26 @@ impl<'a, W: Write> Desk<'a, W> {
                 tell(self.alloc, note, service.core(), &mut self.journal);
                 false
             }
+        }
+    }
+
+    // Says in a file how the service stands, where a scan is over.
+    fn keep_status<R: Files>(
+        &mut self,
+        rt: &R,
+        service: &Service<DEPTH>,
+        files: &mut KeptFiles<'_>,
+    ) {
+        if files.wants_status() {
+            let text = status_text(
+                self.alloc,
+                self.journal.now() / 1000,
+                self.late,
+                service,
+                self.addresses,
+                self.sockets.clients(),
+            );
+            files.keep_status(rt, text, &mut self.journal);
         }
     }
 

@@ -5,6 +5,8 @@
 pub struct Keeping<'a> {
     /// The file of set values; none where they aren't kept.
     pub state: Option<KeptState<'a>>,
+    /// The path of the file that says how the service stands; none where there is none.
+    pub status: Option<&'a str>,
 }
 
 /// The file of set values.

@@ -4,6 +4,7 @@ use crate::keeping::Keeping;
 use crate::lines::file_line;
 use crate::restoring::restore;
 use crate::state_file::StateFile;
+use crate::status_file::StatusFile;
 use commands::DEPTH;
 use gateway::Core;
 use service_core::Service;
@@ -16,6 +17,7 @@ use std::rt::Files;
 pub(crate) struct KeptFiles<'a> {
     alloc: Global,
     state: Option<StateFile<'a>>,
+    status: Option<StatusFile<'a>>,
 }
 
 impl<'a> KeptFiles<'a> {
@@ -33,13 +35,24 @@ impl<'a> KeptFiles<'a> {
             }
             None => None,
         };
-        Ok(KeptFiles { alloc, state })
+        let status = match keeping.status {
+            Some(path) => Some(StatusFile::new(path)),
+            None => None,
+        };
+        Ok(KeptFiles {
+            alloc,
+            state,
+            status,
+        })
     }
 
     /// A scan is over.
     pub(crate) fn scanned(&mut self) {
         if let Some(state) = &mut self.state {
             state.scanned();
+        }
+        if let Some(status) = &mut self.status {
+            status.scanned();
         }
     }
 
@@ -54,6 +67,29 @@ impl<'a> KeptFiles<'a> {
         if let Some(state) = &mut self.state {
             if let Some(word) = state.keep(rt, alloc, core) {
                 journal.tell(file_line(alloc, "state", word));
+            }
+        }
+    }
+
+    /// Whether the file that says how the service stands is to be written.
+    pub(crate) fn wants_status(&self) -> bool {
+        match &self.status {
+            Some(status) => status.is_due(),
+            None => false,
+        }
+    }
+
+    /// Replaces that file by a text.
+    pub(crate) fn keep_status<R: Files, W: Write>(
+        &mut self,
+        rt: &R,
+        text: Result<String, AllocError>,
+        journal: &mut Journal<'_, W>,
+    ) {
+        let alloc = self.alloc;
+        if let Some(status) = &mut self.status {
+            if let Some(word) = status.keep(rt, alloc, text) {
+                journal.tell(file_line(alloc, "status", word));
             }
         }
     }

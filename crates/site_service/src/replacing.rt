@@ -5,6 +5,13 @@ use std::io::Write;
 use std::rt::Files;
 use std::{fs, io};
 
+/// Replaces a file by these bytes: whoever reads it finds the old ones or the new ones.
+pub(crate) fn replace<R: Files>(rt: &R, alloc: Global, path: &str, bytes: &[u8]) -> io::Result<()> {
+    let beside = beside(alloc, path)?;
+    fs::write(rt, beside.as_str(), bytes)?;
+    fs::rename(rt, beside.as_str(), path)
+}
+
 /// Replaces a file by these bytes: whoever reads it finds the old ones or the new ones, also where the machine stops
 /// meanwhile, and the new ones once this is done.
 pub(crate) fn replace_for_good<R: Files>(

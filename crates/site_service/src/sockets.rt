@@ -74,6 +74,11 @@ impl Sockets {
         self.door.address()
     }
 
+    /// The clients' connections.
+    pub(crate) fn clients(&self) -> &Clients {
+        &self.clients
+    }
+
     /// Takes in clients who wait, hands over what came, and makes and closes connections to devices.
     pub(crate) fn take<R: Net, W: Write>(
         &mut self,

@@ -78,7 +78,7 @@ pub(crate) fn tell_scan<W: Write>(
 }
 
 /// The word by which a loss is told.
-fn loss_word(loss: Loss) -> &'static str {
+pub(crate) fn loss_word(loss: Loss) -> &'static str {
     match loss {
         Loss::Down => "Down",
         Loss::Silent => "Silent",
@@ -89,7 +89,7 @@ fn loss_word(loss: Loss) -> &'static str {
 }
 
 /// The word by which it is told why an output isn't written.
-fn cause_word(cause: Unwritten) -> &'static str {
+pub(crate) fn cause_word(cause: Unwritten) -> &'static str {
     match cause {
         Unwritten::NoSetPoint(cause) => cause.word(),
         Unwritten::Refused => "Refused",
@@ -97,7 +97,7 @@ fn cause_word(cause: Unwritten) -> &'static str {
     }
 }
 
-fn device_name(site: &Site, device: usize) -> &str {
+pub(crate) fn device_name(site: &Site, device: usize) -> &str {
     match site.devices().get(device) {
         Some(device) => device.name.as_str(),
         None => "",

@@ -1,18 +1,18 @@
 //! The turns of a service: the clock, bytes in, bytes out, what is told, and a wait.
+use crate::addresses::Addresses;
 use crate::desk::Desk;
 use crate::keeping::Keeping;
 use crate::serving::{End, Serving};
 use commands::DEPTH;
 use service_core::Service;
-use site_model::Text;
 use std::alloc::Global;
 use std::io::Write;
 use std::net::Net;
 use std::rt::Files;
 use std::time::Clock;
 
-/// Serves a site, of which nothing was asked yet, until the scans that were asked for are done. `links` has the address of
-/// each of the service's connections, whose time begins at 0. Nothing that a peer does ends it, and no file. Listen:
+/// Serves a site, of which nothing was asked yet, until the scans that were asked for are done. `addresses` are
+/// those of the service's connections, whose time begins at 0. Nothing that a peer does ends it, and no file. Listen:
 /// nothing can be served at the address for clients; System: the clock or the wait for sockets failed; OutOfMemory: memory
 /// was refused at the start.
 pub fn serve_site<R: Net + Clock + Files, W: Write>(
@@ -20,11 +20,11 @@ pub fn serve_site<R: Net + Clock + Files, W: Write>(
     alloc: Global,
     serving: &Serving<'_>,
     keeping: &Keeping<'_>,
-    links: &[Text],
+    addresses: &Addresses,
     service: &mut Service<DEPTH>,
     out: &mut W,
 ) -> Result<(), End> {
-    let mut desk = Desk::new(rt, alloc, serving, links, out)?;
+    let mut desk = Desk::new(rt, alloc, serving, addresses, out)?;
     desk.tell_address();
     let mut files = desk.restore(keeping, service)?;
     for _ in 0..u64::MAX {

@@ -1,0 +1,78 @@
+//! How a service stands, as JSON.
+use crate::addresses::Addresses;
+use crate::clients::Clients;
+use crate::members::{put_list, put_number, put_text};
+use crate::status_devices::devices_value;
+use crate::status_tags::{outputs_value, set_value, tags_value, variables_value};
+use commands::DEPTH;
+use serde_json::{Map, Value, put};
+use service_core::Service;
+use std::alloc::{AllocError, Global};
+
+/// The text of how a service stands, so many seconds behind its start, with so many rounds that began late.
+pub(crate) fn status_text(
+    alloc: Global,
+    seconds: u64,
+    late: u64,
+    service: &Service<DEPTH>,
+    addresses: &Addresses,
+    clients: &Clients,
+) -> Result<String, AllocError> {
+    let mut status = Map::new(alloc);
+    put_number(&mut status, alloc, "seconds", seconds)?;
+    put_number(&mut status, alloc, "scans", service.scans())?;
+    put_number(&mut status, alloc, "late", late)?;
+    put_site(&mut status, alloc, service, addresses)?;
+    put_list(
+        &mut status,
+        alloc,
+        "clients",
+        clients_value(alloc, service, clients)?,
+    )?;
+    let mut text = Value::Object(status).to_string(alloc)?;
+    text.push_str("\n")?;
+    Ok(text)
+}
+
+/// Puts what the site's parts are to it.
+fn put_site(
+    status: &mut Map<String, Value>,
+    alloc: Global,
+    service: &Service<DEPTH>,
+    addresses: &Addresses,
+) -> Result<(), AllocError> {
+    let core = service.core();
+    put_list(
+        status,
+        alloc,
+        "devices",
+        devices_value(alloc, service, addresses)?,
+    )?;
+    put(status, alloc, "tags", tags_value(alloc, core)?)?;
+    put(status, alloc, "outputs", outputs_value(alloc, service)?)?;
+    put(status, alloc, "set", set_value(alloc, core)?)?;
+    put(status, alloc, "variables", variables_value(alloc, core)?)
+}
+
+fn clients_value(
+    alloc: Global,
+    service: &Service<DEPTH>,
+    clients: &Clients,
+) -> Result<Vec<Value>, AllocError> {
+    let mut values = Vec::new(alloc);
+    for place in 0..clients.places() {
+        if let Some(address) = clients.address_at(place) {
+            let address = address.to_string(alloc)?;
+            let requests = service.client_requests(place);
+            values.push(client_value(alloc, address.as_str(), requests)?)?;
+        }
+    }
+    Ok(values)
+}
+
+fn client_value(alloc: Global, address: &str, requests: u64) -> Result<Value, AllocError> {
+    let mut client = Map::new(alloc);
+    put_text(&mut client, alloc, "address", address)?;
+    put_number(&mut client, alloc, "requests", requests)?;
+    Ok(Value::Object(client))
+}
