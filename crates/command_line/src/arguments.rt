@@ -58,6 +58,8 @@ fn simulate_command<'a>(alloc: Global) -> Result<Command<'a>, AllocError> {
         .about("Serves a plant of simulated inverters on a loopback port, for one connection")
         .after_help(help::SIMULATE)
         .arg(word(alloc, "PLANT", "the plant file (TOML)"))?
+        .arg(plant_port_option(alloc))?
+        .arg(connections_option(alloc))?
         .arg(quiet_flag(alloc))?
         .arg(definition_files(alloc))
 }
@@ -79,10 +81,11 @@ fn run_command<'a>(alloc: Global) -> Result<Command<'a>, AllocError> {
 
 fn probe_command<'a>(alloc: Global) -> Result<Command<'a>, AllocError> {
     Command::new(alloc, "probe")
-        .about("Prints the points of a device on a loopback port")
+        .about("Prints the points of a device, on a loopback port or at an address")
         .after_help(help::PROBE)
         .arg(port_word(alloc))?
-        .arg(unit_option(alloc))
+        .arg(unit_option(alloc))?
+        .arg(probe_timeout_option(alloc))
 }
 
 pub(crate) fn site_file<'a>(alloc: Global) -> Arg<'a> {
@@ -94,13 +97,31 @@ pub(crate) fn program_file<'a>(alloc: Global) -> Arg<'a> {
 }
 
 fn port_word<'a>(alloc: Global) -> Arg<'a> {
-    word(alloc, "PORT", "the loopback port of the device").value_parser(ValueParser::unsigned(
-        1, 65535,
-    ))
+    word(
+        alloc,
+        "PORT",
+        "the loopback port of the device, or its HOST:PORT",
+    )
 }
 
 fn plant_option<'a>(alloc: Global) -> Arg<'a> {
     option(alloc, "plant", "PLANT", "the plant file (TOML)").required(true)
+}
+
+fn plant_port_option<'a>(alloc: Global) -> Arg<'a> {
+    option(alloc, "port", "P", "the loopback port; else a free one").value_parser(
+        ValueParser::unsigned(1, 65535),
+    )
+}
+
+fn connections_option<'a>(alloc: Global) -> Arg<'a> {
+    option(
+        alloc,
+        "connections",
+        "N",
+        "ends behind so many connections, several of them at once; 0: without an end",
+    )
+    .value_parser(ValueParser::unsigned(0, 1_000_000_000))
 }
 
 fn scans_option<'a>(alloc: Global) -> Arg<'a> {
@@ -116,6 +137,16 @@ pub(crate) fn exe_option<'a>(alloc: Global) -> Arg<'a> {
         "PATH",
         "the program that is started for the plant and the probe, instead of this one",
     )
+}
+
+fn probe_timeout_option<'a>(alloc: Global) -> Arg<'a> {
+    option(
+        alloc,
+        "timeout",
+        "MS",
+        "the longest wait for a connection and for bytes; else without an end",
+    )
+    .value_parser(ValueParser::unsigned(1, 3_600_000))
 }
 
 fn unit_option<'a>(alloc: Global) -> Arg<'a> {

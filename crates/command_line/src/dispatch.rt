@@ -1,24 +1,23 @@
 //! The command line.
 use crate::arguments::command;
 use crate::plant_run::{PlantRun, run_plant};
-use crate::plant_server::simulate;
+use crate::plant_server::{PlantPort, simulate};
+use crate::probe_link::{ProbeAddress, ProbeRun, probe_over};
 use crate::serve_words::{
     devices_of, keeping_misuse, keeping_of, listen_address, service_limits, serving_of, writers_of,
 };
 use crate::service_run::{ServiceRun, run_service};
-use crate::socket::{SocketLink, loopback};
 use crate::source::{SourceFault, read_text};
 use crate::sources::{Refusal, Sources, read_plant, read_served, read_sources};
 use crate::standard_input::{STANDARD_INPUT, misuse};
 use clap::error::ErrorKind;
 use clap::{ArgMatches, Error};
-use commands::{explain, judge, probe, tell_no_memory, tell_unlinked, try_input, write_lines};
-use modbus_frame::LinkFault;
+use commands::{explain, judge, tell_no_memory, try_input, write_lines};
 use refusal_notes::{Cause, Notes, explain_unusable};
 use site_service::Serving;
 use std::alloc::{AllocError, Global};
 use std::io::Write;
-use std::net::{Net, TcpStream};
+use std::net::Net;
 use std::process::Processes;
 use std::rt::{Env, Files};
 use std::time::Clock;
@@ -268,7 +267,11 @@ fn simulated_on<W: Write>(
         def_paths,
         defs,
     };
-    simulate(rt, alloc, &notes, out)
+    let at = PlantPort {
+        port: matches.get_one("port").unwrap_or(0),
+        connections: matches.get_one("connections"),
+    };
+    simulate(rt, alloc, &notes, at, out)
 }
 
 /// Runs `run` on the files that are named; `itself` is this program's path.
@@ -402,17 +405,21 @@ fn served_with<W: Write>(
     }
 }
 
-/// Runs `probe` on the port that is named.
+/// Runs `probe` on the port or the address that is named.
 fn probed<W: Write>(
-    rt: &(impl AllocGlobal + Net),
+    rt: &(impl Print + Eprint + AllocGlobal + Net),
     alloc: Global,
     matches: &ArgMatches<'_>,
     out: &mut W,
 ) -> u8 {
-    let port = matches.get_one("PORT").unwrap_or(0);
-    let unit = matches.get_one("unit").unwrap_or(1);
-    match TcpStream::connect(rt, loopback(port)) {
-        Ok(stream) => probe(alloc, SocketLink::new(stream), unit, out),
-        Err(_) => tell_unlinked(alloc, LinkFault::Read, out),
-    }
+    let word = matches.get_str("PORT").unwrap_or("");
+    let Some(address) = ProbeAddress::of(word) else {
+        return tell_misuse(rt, alloc, "PORT is no port, and no HOST:PORT", out);
+    };
+    let run = ProbeRun {
+        address,
+        unit: matches.get_one("unit").unwrap_or(1),
+        timeout: matches.get_one("timeout"),
+    };
+    probe_over(rt, alloc, run, out)
 }

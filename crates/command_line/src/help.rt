@@ -25,8 +25,10 @@ refused where one is. One of the files can be '-', standard input:
 Status: 0 accepted; 1 refused; 2 no such command line";
 
 pub(crate) const SIMULATE: &str =
-    "Prints 'listening PORT', and ends with the connection. One of the files can be '-', standard input:
+    "Prints 'listening PORT', and ends with its connections. The plant goes on from one connection to the next. One of the
+files can be '-', standard input:
   sunsite simulate examples/plant.toml
+  sunsite simulate examples/plant.toml --port 1602 --connections 0
 
 Status: 0 served to its end; 1 refused; 2 no such command line; 3 the link failed";
 
@@ -46,5 +48,6 @@ Status: 0 well; 1 refused; 2 no such command line; 3 the clock or a socket can't
 
 pub(crate) const PROBE: &str = "Prints each model with its points that are present, and 'end ADDR':
   sunsite probe 40123 --unit 1
+  sunsite probe 192.0.2.7:502 --timeout 2000
 
 Status: 0 well; 1 refused; 2 no such command line; 3 the link failed";

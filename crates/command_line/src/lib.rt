@@ -9,6 +9,7 @@ mod help;
 mod link_cause;
 mod plant_run;
 mod plant_server;
+mod probe_link;
 mod serve_words;
 mod service_run;
 mod socket;
@@ -21,7 +22,7 @@ mod watched_link;
 pub use arguments::command;
 pub use dispatch::{obey, obey_command_line};
 // a plant of simulated inverters, behind a port
-pub use plant_server::simulate;
+pub use plant_server::{PlantPort, simulate};
 // a plant, scans of it, and a probe of the gateway behind them
 pub use plant_run::{PlantRun, run_plant};
 // a service on a site

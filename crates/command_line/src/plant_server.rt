@@ -1,24 +1,39 @@
 //! The simulator of inverters as a program: a plant behind a loopback port.
+use crate::service_run::tell_unserved;
 use crate::socket::{SocketLink, loopback};
 use commands::{listening, plant_of, tell_no_memory, tell_unlinked, write_lines};
 use inverter_sim::{Plant, serve_link};
 use modbus_frame::LinkFault;
 use refusal_notes::Notes;
+use site_service::PlantDoor;
 use std::alloc::{AllocError, Global};
 use std::io::{Read, Write};
 use std::net::{Net, OpenListener, TcpListener};
 
-/// Serves the plant of a plant file on a free loopback port, for one connection to its end: prints `listening PORT`
-/// first. The notes have the file and the definitions. Gives the status: 0, 1 for a refusal or a failed write, 3 where
-/// the link failed.
+/// Where a plant is served, and for whom.
+#[derive(Clone, Copy)]
+pub struct PlantPort {
+    /// The loopback port; a free one where that is 0.
+    pub port: u16,
+    /// How many connections are served, several at once, without an end where that is 0; where it isn't said, one.
+    pub connections: Option<u64>,
+}
+
+/// Serves the plant of a plant file on a loopback port, to the end of its connections: prints `listening PORT` first. The
+/// notes have the file and the definitions. Gives the status: 0, 1 for a refusal or a failed write, 3 where the link
+/// failed.
 pub fn simulate<R: Net + Eprint + AllocGlobal, W: Write>(
     rt: &R,
     alloc: Global,
     notes: &Notes<'_>,
+    at: PlantPort,
     out: &mut W,
 ) -> u8 {
     match plant_of(alloc, notes.plant, notes.defs) {
-        Ok(Ok(mut plant)) => served(rt, alloc, &mut plant, out),
+        Ok(Ok(mut plant)) => match at.connections {
+            Some(connections) => served_to(rt, alloc, &mut plant, at.port, connections, out),
+            None => served(rt, alloc, &mut plant, at.port, out),
+        },
         Ok(Err(refused)) => {
             let status = refused.tell(out);
             notes.explain(rt, &refused.cause);
@@ -28,10 +43,51 @@ pub fn simulate<R: Net + Eprint + AllocGlobal, W: Write>(
     }
 }
 
-/// Serves the plant on a free loopback port.
-fn served<R: Net, W: Write>(rt: &R, alloc: Global, plant: &mut Plant, out: &mut W) -> u8 {
-    match TcpListener::bind(rt, loopback(0)) {
+/// Serves the plant to so many connections.
+fn served_to<R: Net, W: Write>(
+    rt: &R,
+    alloc: Global,
+    plant: &mut Plant,
+    port: u16,
+    connections: u64,
+    out: &mut W,
+) -> u8 {
+    match PlantDoor::open(rt, alloc, loopback(port), connections) {
+        Ok(mut door) => served_behind(alloc, &mut door, plant, out),
+        Err(fault) => tell_unserved(alloc, loopback(port), fault.kind(), out),
+    }
+}
+
+/// Prints the door's port, and serves those who come.
+fn served_behind<W: Write>(
+    alloc: Global,
+    door: &mut PlantDoor,
+    plant: &mut Plant,
+    out: &mut W,
+) -> u8 {
+    let Ok(address) = door.address() else {
+        return tell_unlinked(alloc, LinkFault::Read, out);
+    };
+    match tell_port(alloc, address.port(), out) {
+        0 => match door.serve(plant) {
+            Ok(()) => 0,
+            Err(_) => tell_unlinked(alloc, LinkFault::Read, out),
+        },
+        status => status,
+    }
+}
+
+/// Serves the plant on a port, for one connection to its end.
+fn served<R: Net, W: Write>(
+    rt: &R,
+    alloc: Global,
+    plant: &mut Plant,
+    port: u16,
+    out: &mut W,
+) -> u8 {
+    match TcpListener::bind(rt, loopback(port)) {
         Ok(listener) => served_on(alloc, &listener, plant, out),
+        Err(fault) if port > 0 => tell_unserved(alloc, loopback(port), fault.kind(), out),
         Err(_) => tell_unlinked(alloc, LinkFault::Read, out),
     }
 }

@@ -279,7 +279,12 @@ fn serve_over<R: Net + Clock + Eprint + AllocGlobal + Files, W: Write>(
 }
 
 /// Tells that nothing can be served at an address, and gives the status.
-fn tell_unserved<W: Write>(alloc: Global, address: SocketAddr, kind: ErrorKind, out: &mut W) -> u8 {
+pub(crate) fn tell_unserved<W: Write>(
+    alloc: Global,
+    address: SocketAddr,
+    kind: ErrorKind,
+    out: &mut W,
+) -> u8 {
     match unserved_line(alloc, address, cause_word(kind)) {
         Ok(line) => write_lines(out, line.as_bytes(), FAILED_LINK),
         Err(AllocError) => tell_no_memory(out),

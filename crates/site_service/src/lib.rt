@@ -1,5 +1,5 @@
 //! The gateway as a service over sockets: one thread, and one wait a turn. What is done is decided by `service_core`;
-//! here connections are made and closed as it says, bytes are moved, and lines written of what it tells.
+//! here connections are made and closed as it says, bytes are moved, and lines written of what it tells. A simulated plant is served in the same way.
 #![tactic(auto)]
 
 mod addresses;
@@ -16,6 +16,8 @@ mod lines;
 mod link;
 mod links;
 mod members;
+mod plant_client;
+mod plant_door;
 mod replacing;
 mod restoring;
 mod room;
@@ -46,3 +48,5 @@ pub use state_lines::{Setting, setting_in, state_text, tag_named};
 // the service itself
 pub use serving::{End, Serving};
 pub use turns::serve_site;
+// a simulated plant behind a port, for several connections at once
+pub use plant_door::PlantDoor;

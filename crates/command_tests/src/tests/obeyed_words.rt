@@ -3,7 +3,7 @@ use crate::tests::{assert_same, printed, texts};
 use command_line::{command, obey};
 
 /// The words of command lines, and the status where they are none; that of help is 0.
-static LINES: [(&[&str], i32); 16] = [
+static LINES: [(&[&str], i32); 20] = [
     (&["sunsite", "--help"], 0),
     (&["sunsite", "run", "--help"], 0),
     (&["sunsite", "serve"], 2),
@@ -34,7 +34,37 @@ static LINES: [(&[&str], i32); 16] = [
     ),
     (&["sunsite", "run", "s", "p", "--scans", "1"], 2),
     (&["sunsite", "probe", "65535", "--unit", "255"], 0),
-    (&["sunsite", "probe", "65536"], 2),
+    (
+        &["sunsite", "probe", "192.0.2.7:502", "--timeout", "2000"],
+        0,
+    ),
+    (&["sunsite", "probe", "502", "--timeout", "0"], 2),
+    (
+        &[
+            "sunsite",
+            "simulate",
+            "p",
+            "--port",
+            "65535",
+            "--connections",
+            "0",
+        ],
+        0,
+    ),
+    (&["sunsite", "simulate", "p", "--port", "0"], 2),
+    (
+        &[
+            "sunsite",
+            "serve",
+            "s",
+            "p",
+            "--state",
+            "q",
+            "--status-file",
+            "r",
+        ],
+        0,
+    ),
     (&["sunsite", "probe", "1", "--unit", "256"], 2),
 ];
 
@@ -60,7 +90,7 @@ fn a_probe_asks_unit_1_unless_told(rt: HostRuntime) {
         .expect(&rt, "a command line");
     let (name, matches) = matches.subcommand().expect(&rt, "a command");
     assert_same(&rt, &name, &"probe");
-    assert_same(&rt, &matches.get_one("PORT").unwrap_or(0), &502);
+    assert_same(&rt, &matches.get_str("PORT").unwrap_or(""), &"502");
     assert_same(&rt, &matches.get_one("unit").unwrap_or(0), &1);
 }
 
@@ -74,8 +104,9 @@ fn a_file_that_is_not_there_is_refused_by_its_path(rt: HostRuntime) {
     assert_same(&rt, &status, &1);
 }
 
-/// Words that name standard input twice, or hand it on to a second process.
-static MISUSES: [&[&str]; 5] = [
+/// Words that name standard input twice, hand it on to a second process or have it written, and words of a probe that are
+/// no port and no address.
+static MISUSES: [&[&str]; 10] = [
     &["sunsite", "check", "-", "-"],
     &["sunsite", "check", "s", "-", "--def", "-"],
     &["sunsite", "simulate", "-", "--def", "-"],
@@ -83,10 +114,15 @@ static MISUSES: [&[&str]; 5] = [
     &[
         "sunsite", "run", "s", "p", "--plant", "q", "--scans", "1", "--def", "-",
     ],
+    &["sunsite", "serve", "s", "p", "--state", "-"],
+    &["sunsite", "serve", "s", "p", "--status-file", "-"],
+    &["sunsite", "probe", "65536"],
+    &["sunsite", "probe", "0"],
+    &["sunsite", "probe", ":502"],
 ];
 
 #[test]
-fn standard_input_is_one_file_and_not_handed_on(rt: HostRuntime) {
+fn misused_words_are_told_on_standard_error(rt: HostRuntime) {
     for words in MISUSES.iter() {
         let words = texts(&rt, words);
         let mut out = Vec::new(rt.alloc());

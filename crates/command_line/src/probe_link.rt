@@ -1,0 +1,130 @@
+//! The connection over which a device is probed.
+use crate::socket::{SocketLink, loopback};
+use commands::{probe, tell_unlinked};
+use modbus_frame::LinkFault;
+use site_service::has_port;
+use std::alloc::{AllocError, Global};
+use std::io;
+use std::io::{ErrorKind, Write};
+use std::net::{Net, OpenStream, SocketAddr, TcpStream, ToSocketAddrs};
+use std::time::Duration;
+
+/// Where a device is probed.
+#[derive(Clone, Copy)]
+pub(crate) enum ProbeAddress<'a> {
+    /// On this loopback port.
+    Port(u16),
+    /// At this `HOST:PORT`.
+    Word(&'a str),
+}
+
+/// What is probed, and how long is waited.
+#[derive(Clone, Copy)]
+pub(crate) struct ProbeRun<'a> {
+    pub address: ProbeAddress<'a>,
+    pub unit: u8,
+    /// The longest wait for a connection, and for bytes, in milliseconds; none without an end.
+    pub timeout: Option<u64>,
+}
+
+/// Why there is no connection.
+#[derive(Clone, Copy)]
+enum NoConnection {
+    UnknownName,
+    Failed(ErrorKind),
+}
+
+impl<'a> ProbeAddress<'a> {
+    /// What a word says: a port, or `HOST:PORT`.
+    pub(crate) fn of(word: &'a str) -> Option<ProbeAddress<'a>> {
+        match word.parse::<u16>() {
+            Ok(0) => None,
+            Ok(port) => Some(ProbeAddress::Port(port)),
+            Err(_) if has_port(word) => Some(ProbeAddress::Word(word)),
+            Err(_) => None,
+        }
+    }
+}
+
+/// Prints the points of a device, and gives the status. Where no connection comes to a `HOST:PORT`, the cause is told on
+/// standard error.
+pub(crate) fn probe_over<R: Net + Eprint + AllocGlobal, W: Write>(
+    rt: &R,
+    alloc: Global,
+    run: ProbeRun<'_>,
+    out: &mut W,
+) -> u8 {
+    match connected(rt, run) {
+        Ok(stream) => probe(alloc, SocketLink::new(stream), run.unit, out),
+        Err(cause) => {
+            let status = tell_unlinked(alloc, LinkFault::Read, out);
+            if let ProbeAddress::Word(word) = run.address {
+                explain(rt, alloc, word, cause);
+            }
+            status
+        }
+    }
+}
+
+fn explain<R: Eprint>(rt: &R, alloc: Global, word: &str, cause: NoConnection) {
+    if let Ok(line) = cause_line(alloc, word, cause_text(cause)) {
+        let _ = rt.eprint(line.as_str());
+    }
+}
+
+fn cause_line(alloc: Global, word: &str, cause: &str) -> Result<String, AllocError> {
+    let text = format!(in alloc; "{word}: Read: {cause}\n")?;
+    Ok(text)
+}
+
+fn cause_text(cause: NoConnection) -> &'static str {
+    match cause {
+        NoConnection::UnknownName => "no address of this name is known",
+        NoConnection::Failed(ErrorKind::ConnectionRefused) => "nothing listens there",
+        NoConnection::Failed(ErrorKind::TimedOut) => "no connection came in time",
+        NoConnection::Failed(ErrorKind::HostUnreachable | ErrorKind::NetworkUnreachable) => {
+            "no way leads there"
+        }
+        NoConnection::Failed(_) => "the system makes no connection",
+    }
+}
+
+fn connected<R: Net>(rt: &R, run: ProbeRun<'_>) -> Result<R::Stream, NoConnection> {
+    let address = address_of(rt, run.address)?;
+    match stream_to(rt, address, run.timeout) {
+        Ok(stream) => Ok(stream),
+        Err(fault) => Err(NoConnection::Failed(fault.kind())),
+    }
+}
+
+/// The first address that is meant.
+fn address_of<R: Net>(rt: &R, address: ProbeAddress<'_>) -> Result<SocketAddr, NoConnection> {
+    match address {
+        ProbeAddress::Port(port) => Ok(loopback(port)),
+        ProbeAddress::Word(word) => match first_address(rt, word) {
+            Some(address) => Ok(address),
+            None => Err(NoConnection::UnknownName),
+        },
+    }
+}
+
+fn first_address<R: Net>(rt: &R, word: &str) -> Option<SocketAddr> {
+    match word.to_socket_addrs(rt) {
+        Ok(mut found) => found.next(),
+        Err(_) => None,
+    }
+}
+
+fn stream_to<R: Net>(rt: &R, address: SocketAddr, timeout: Option<u64>) -> io::Result<R::Stream> {
+    match timeout {
+        Some(timeout) => stream_within(rt, address, Duration::from_millis(timeout)),
+        None => TcpStream::connect(rt, address),
+    }
+}
+
+fn stream_within<R: Net>(rt: &R, address: SocketAddr, timeout: Duration) -> io::Result<R::Stream> {
+    let stream = TcpStream::connect_timeout(rt, &address, timeout)?;
+    stream.set_read_timeout(Some(timeout))?;
+    stream.set_write_timeout(Some(timeout))?;
+    Ok(stream)
+}

@@ -1,0 +1,192 @@
+//! A simulated plant behind a port.
+use crate::door::Door;
+use crate::plant_client::PlantClient;
+use inverter_sim::Plant;
+use mio::net::TcpStream;
+use mio::{Events, Poll, Token};
+use std::alloc::Global;
+use std::io;
+use std::net::{Net, SocketAddr};
+use std::time::Duration;
+
+/// The token of the door; those of the connections follow.
+const DOOR: usize = 0;
+
+/// The most connections at once; more wait at the door.
+const MOST_AT_ONCE: usize = 64;
+
+/// The longest wait while one at the door couldn't be taken in, in milliseconds.
+const TRY_AGAIN: u64 = 1000;
+
+/// A port behind which a plant is served, over several connections at once. What one of them changes the others see.
+#[derive(Drop)]
+pub struct PlantDoor {
+    poll: Poll,
+    events: Events,
+    door: Door,
+    clients: Vec<Option<PlantClient>>,
+    /// How many may still come; none for ever more.
+    left: Option<u64>,
+}
+
+impl PlantDoor {
+    /// A port to which so many connections may come, without a limit where that is 0.
+    pub fn open<R: Net>(
+        rt: &R,
+        alloc: Global,
+        address: SocketAddr,
+        connections: u64,
+    ) -> io::Result<PlantDoor> {
+        let poll = Poll::new(rt)?;
+        let door = Door::new(rt, poll.registry(), Token(DOOR), address)?;
+        let mut clients = Vec::new(alloc);
+        for _ in 0..MOST_AT_ONCE {
+            clients.push(None)?;
+        }
+        Ok(PlantDoor {
+            poll,
+            events: Events::with_capacity(alloc, MOST_AT_ONCE + 1)?,
+            door,
+            clients,
+            left: limit_of(connections),
+        })
+    }
+
+    /// The address of the port.
+    pub fn address(&self) -> io::Result<SocketAddr> {
+        self.door.address()
+    }
+
+    /// Serves a plant until all connections that may come are over. What a peer does ends its own connection alone; the
+    /// call fails where the wait for sockets does.
+    pub fn serve(&mut self, plant: &mut Plant) -> io::Result<()> {
+        for _ in 0..u64::MAX {
+            self.take_in();
+            self.turn(plant);
+            if self.is_done() {
+                return Ok(());
+            }
+            self.wait()?;
+        }
+        Ok(())
+    }
+
+    // Takes in those who wait, as long as there are places.
+    fn take_in(&mut self) {
+        for _ in 0..MOST_AT_ONCE {
+            let Some(place) = self.free_place() else {
+                return;
+            };
+            let Some((stream, _)) = self.door.next() else {
+                return;
+            };
+            self.join(place, stream);
+        }
+    }
+
+    // A place for one more connection, where one may come.
+    fn free_place(&self) -> Option<usize> {
+        if self.left == Some(0) {
+            return None;
+        }
+        for (place, client) in self.clients.iter().enumerate() {
+            if client.is_none() {
+                return Some(place);
+            }
+        }
+        None
+    }
+
+    fn join(&mut self, place: usize, stream: TcpStream) {
+        if let Some(left) = self.left {
+            self.left = Some(left.saturating_sub(1));
+        }
+        let token = Token(place.saturating_add(DOOR + 1));
+        let client = PlantClient::new(self.poll.registry(), token, stream);
+        if let Some(there) = self.clients.get_mut(place) {
+            *there = client;
+        }
+    }
+
+    // Answers what came, and closes the connections that are over.
+    fn turn(&mut self, plant: &mut Plant) {
+        for client in self.clients.iter_mut() {
+            if let Some(open) = client {
+                open.receive(plant);
+                open.send();
+            }
+        }
+        for client in self.clients.iter_mut() {
+            if is_over(client) {
+                *client = None;
+            }
+        }
+    }
+
+    // Whether none may come any more, and all who came are gone.
+    fn is_done(&self) -> bool {
+        self.left == Some(0) && self.clients.iter().all(|client| client.is_none())
+    }
+
+    fn wait(&mut self) -> io::Result<()> {
+        let most = self.longest_wait();
+        self.poll.poll(&mut self.events, most)?;
+        self.wake();
+        Ok(())
+    }
+
+    // The longest wait; none where nothing but a socket ends it.
+    fn longest_wait(&self) -> Option<Duration> {
+        if self.is_busy() {
+            return Some(Duration::from_millis(0));
+        }
+        if self.door.is_stuck() {
+            return Some(Duration::from_millis(TRY_AGAIN));
+        }
+        None
+    }
+
+    fn is_busy(&self) -> bool {
+        if self.door.is_busy() && self.free_place().is_some() {
+            return true;
+        }
+        for client in &self.clients {
+            if let Some(client) = client {
+                if client.is_busy() {
+                    return true;
+                }
+            }
+        }
+        false
+    }
+
+    // Marks those of whom the system says that there is something to do. It says so once.
+    fn wake(&mut self) {
+        for event in self.events.iter() {
+            let token = event.token().0;
+            if token == DOOR {
+                self.door.wake();
+            } else if let Some(Some(client)) = self
+                .clients
+                .get_mut(token.saturating_sub(DOOR + 1))
+            {
+                client.wake();
+            }
+        }
+    }
+}
+
+fn limit_of(connections: u64) -> Option<u64> {
+    if connections == 0 {
+        None
+    } else {
+        Some(connections)
+    }
+}
+
+fn is_over(client: &Option<PlantClient>) -> bool {
+    match client {
+        Some(client) => client.is_over(),
+        None => false,
+    }
+}
