@@ -85,7 +85,8 @@ fn probe_command<'a>(alloc: Global) -> Result<Command<'a>, AllocError> {
         .after_help(help::PROBE)
         .arg(port_word(alloc))?
         .arg(unit_option(alloc))?
-        .arg(probe_timeout_option(alloc))
+        .arg(probe_timeout_option(alloc))?
+        .arg(definition_files(alloc))
 }
 
 pub(crate) fn site_file<'a>(alloc: Global) -> Arg<'a> {

@@ -8,10 +8,11 @@ use crate::serve_words::{
 };
 use crate::service_run::{ServiceRun, run_service};
 use crate::source::{SourceFault, read_text};
-use crate::sources::{Refusal, Sources, read_plant, read_served, read_sources};
+use crate::sources::{Refusal, Sources, read_definitions, read_plant, read_served, read_sources};
 use crate::standard_input::{STANDARD_INPUT, misuse};
 use clap::error::ErrorKind;
 use clap::{ArgMatches, Error};
+use commands::definitions::definitions_told;
 use commands::{explain, judge, tell_no_memory, try_input, write_lines};
 use refusal_notes::{Cause, Notes, explain_unusable};
 use site_service::Serving;
@@ -407,7 +408,7 @@ fn served_with<W: Write>(
 
 /// Runs `probe` on the port or the address that is named.
 fn probed<W: Write>(
-    rt: &(impl Print + Eprint + AllocGlobal + Net),
+    rt: &(impl Input + Print + Eprint + AllocGlobal + Files + Net),
     alloc: Global,
     matches: &ArgMatches<'_>,
     out: &mut W,
@@ -421,5 +422,51 @@ fn probed<W: Write>(
         unit: matches.get_one("unit").unwrap_or(1),
         timeout: matches.get_one("timeout"),
     };
-    probe_over(rt, alloc, run, out)
+    match read_definitions(rt, alloc, matches) {
+        Ok(defs) if defs.is_empty() => probe_over(rt, alloc, run, &[], out),
+        Ok(defs) => probed_by(rt, alloc, matches, run, defs.as_slice(), out),
+        Err(refusal) => unread(rt, alloc, matches, refusal, out),
+    }
+}
+
+/// Runs `probe` with definitions of these texts.
+fn probed_by<W: Write>(
+    rt: &(impl Eprint + AllocGlobal + Net),
+    alloc: Global,
+    matches: &ArgMatches<'_>,
+    run: ProbeRun<'_>,
+    defs: &[String],
+    out: &mut W,
+) -> u8 {
+    match definitions_told(alloc, defs) {
+        Ok(Ok(models)) => probe_over(rt, alloc, run, models.as_slice(), out),
+        Ok(Err(refused)) => {
+            let status = refused.tell(out);
+            let def_paths = matches.get_strs("def").unwrap_or(&[]);
+            explain_definition(rt, def_paths, defs, &refused.cause);
+            status
+        }
+        Err(AllocError) => tell_no_memory(out),
+    }
+}
+
+/// Prints on standard error why a definition is refused, where no other file is named.
+fn explain_definition(
+    rt: &(impl Eprint + AllocGlobal),
+    def_paths: &[&str],
+    defs: &[String],
+    cause: &Option<Cause>,
+) {
+    let notes = Notes {
+        quiet: false,
+        site_path: "",
+        site: "",
+        program_path: "",
+        program: "",
+        plant_path: "",
+        plant: "",
+        def_paths,
+        defs,
+    };
+    notes.explain(rt, cause);
 }

@@ -1,7 +1,8 @@
 //! The connection over which a device is probed.
 use crate::socket::{SocketLink, loopback};
-use commands::{probe, tell_unlinked};
+use commands::{probe_by, tell_unlinked};
 use modbus_frame::LinkFault;
+use model_defs::ModelDef;
 use site_service::has_port;
 use std::alloc::{AllocError, Global};
 use std::io;
@@ -46,16 +47,17 @@ impl<'a> ProbeAddress<'a> {
     }
 }
 
-/// Prints the points of a device, and gives the status. Where no connection comes to a `HOST:PORT`, the cause is told on
+/// Prints the points of a device by these definitions and the shipped ones, and gives the status. Where no connection comes to a `HOST:PORT`, the cause is told on
 /// standard error.
 pub(crate) fn probe_over<R: Net + Eprint + AllocGlobal, W: Write>(
     rt: &R,
     alloc: Global,
     run: ProbeRun<'_>,
+    models: &[ModelDef],
     out: &mut W,
 ) -> u8 {
     match connected(rt, run) {
-        Ok(stream) => probe(alloc, SocketLink::new(stream), run.unit, out),
+        Ok(stream) => probe_by(alloc, SocketLink::new(stream), run.unit, models, out),
         Err(cause) => {
             let status = tell_unlinked(alloc, LinkFault::Read, out);
             if let ProbeAddress::Word(word) = run.address {

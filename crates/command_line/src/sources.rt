@@ -88,7 +88,7 @@ pub(crate) fn read_served<'a>(
 }
 
 /// The texts of the model definitions that are handed in, in order.
-fn read_definitions<'a>(
+pub(crate) fn read_definitions<'a>(
     rt: &(impl Input + AllocGlobal + Files),
     alloc: Global,
     matches: &ArgMatches<'a>,

@@ -31,17 +31,35 @@ const HEADER: u16 = 2;
 pub fn probe<L: Link + Drop, W: Write>(alloc: Global, link: L, unit: u8, out: &mut W) -> u8
     ensures { IsProbe (W.contents out.old) (W.contents out.new) result }
 {
-    match outcome_of(alloc, link, unit) {
+    probe_by(alloc, link, unit, &[], out)
+}
+
+/// The same, by these definitions before the shipped ones; of several of one ID the last one counts.
+pub fn probe_by<L: Link + Drop, W: Write>(
+    alloc: Global,
+    link: L,
+    unit: u8,
+    models: &[ModelDef],
+    out: &mut W,
+) -> u8
+    ensures { IsProbe (W.contents out.old) (W.contents out.new) result }
+{
+    match outcome_of(alloc, link, unit, models) {
         Ok(outcome) => outcome.tell(out),
         Err(AllocError) => tell_no_memory(out),
     }
 }
 
 /// What is told of a unit. The link is closed behind it.
-fn outcome_of<L: Link + Drop>(alloc: Global, link: L, unit: u8) -> Result<Outcome, AllocError>
+fn outcome_of<L: Link + Drop>(
+    alloc: Global,
+    link: L,
+    unit: u8,
+    models: &[ModelDef],
+) -> Result<Outcome, AllocError>
     ensures { IfOk result TellsAsked }
 {
-    match models_of(alloc, link, unit) {
+    match models_of(alloc, link, unit, models) {
         Ok(lines) => Ok(Outcome {
             lines,
             status: 0,
@@ -67,7 +85,12 @@ impl From<AllocError> for NoModels {
 }
 
 /// The lines of a unit's models.
-fn models_of<L: Link + Drop>(alloc: Global, link: L, unit: u8) -> Result<Vec<u8>, NoModels>
+fn models_of<L: Link + Drop>(
+    alloc: Global,
+    link: L,
+    unit: u8,
+    models: &[ModelDef],
+) -> Result<Vec<u8>, NoModels>
     ensures { IfOk result (λ lines. (map : Layout) × AreUnitLines map lines.items) }
 {
     let mut device = Device {
@@ -75,7 +98,7 @@ fn models_of<L: Link + Drop>(alloc: Global, link: L, unit: u8) -> Result<Vec<u8>
         unit,
         fault: None,
     };
-    device.lines(alloc)
+    device.lines(alloc, models)
 }
 
 /// A unit on a link.
@@ -126,14 +149,14 @@ impl<L: Link> Device<L> {
     }
 
     /// The lines of its models.
-    fn lines(&mut self, alloc: Global) -> Result<Vec<u8>, NoModels>
+    fn lines(&mut self, alloc: Global, models: &[ModelDef]) -> Result<Vec<u8>, NoModels>
         ensures { IfOk result (λ lines. (map : Layout) × AreUnitLines map lines.items) }
     {
         let map = self.map()?;
         let mut lines = Vec::new(alloc);
         for block in map.blocks() {
             push_model(&mut lines, alloc, block)?;
-            self.push_points(&mut lines, alloc, block)?;
+            self.push_points(&mut lines, alloc, block, models)?;
         }
         push_end(&mut lines, alloc, map.end())?;
         Ok(lines)
@@ -152,6 +175,22 @@ impl<L: Link> Device<L> {
 
     /// Appends the lines of a model's points.
     fn push_points(
+        &mut self,
+        lines: &mut Vec<u8>,
+        alloc: Global,
+        block: &Block,
+        models: &[ModelDef],
+    ) -> Result<(), NoModels>
+        ensures { OnOk result ((points : List ℕ) × ArePoints points × (lines.new.items ≡ lines.old.items ++ points)) }
+    {
+        match last_of(models, block.id) {
+            Some(model) => self.push_points_of(lines, alloc, block, model),
+            None => self.push_shipped(lines, alloc, block),
+        }
+    }
+
+    /// Appends the lines of a model's points by its shipped definition.
+    fn push_shipped(
         &mut self,
         lines: &mut Vec<u8>,
         alloc: Global,
@@ -185,6 +224,17 @@ impl<L: Link> Device<L> {
             Err(fault) => Err(NoModels::Link(fault)),
         }
     }
+}
+
+/// The last definition of an ID.
+fn last_of(models: &[ModelDef], id: u16) -> Option<&ModelDef> {
+    let mut found = None;
+    for model in models {
+        if model.id == id {
+            found = Some(model);
+        }
+    }
+    found
 }
 
 /// How many registers of a model are read: those that both the unit and the definition have.

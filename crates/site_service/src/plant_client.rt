@@ -13,10 +13,16 @@ const MOST_PIECES: u32 = 2;
 /// Room for the answers of one turn.
 const ROOM: usize = 2080;
 
-/// A connection to a simulated plant, with the answers that wait to go out over it.
+/// A connection to a simulated plant.
 #[derive(Drop)]
 pub(crate) struct PlantClient {
     connection: Connection<TcpStream>,
+    answers: Answers,
+}
+
+/// The answers of a plant to what came over one connection.
+#[derive(Drop)]
+struct Answers {
     session: Session,
     out: [u8; 2080],
     start: usize,
@@ -34,10 +40,7 @@ impl PlantClient {
         registry.register(&mut stream, token, interests).ok()?;
         Some(PlantClient {
             connection: Connection::new(stream),
-            session: Session::new(),
-            out: [0; ROOM],
-            start: 0,
-            end: 0,
+            answers: Answers::new(),
         })
     }
 
@@ -48,12 +51,7 @@ impl PlantClient {
 
     /// Whether there is something to do without a wait.
     pub(crate) fn is_busy(&self) -> bool {
-        self.connection.is_busy(self.waiting().len())
-    }
-
-    // The answers that are to be sent.
-    fn waiting(&self) -> &[u8] {
-        &self.out[self.start..self.end]
+        self.connection.is_busy(self.answers.waiting().len())
     }
 
     /// Answers what came.
@@ -63,7 +61,7 @@ impl PlantClient {
             if self.connection.rest().is_empty() {
                 return;
             }
-            let used = self.take(plant);
+            let used = self.answers.take(plant, self.connection.rest());
             self.connection.use_up(used);
             if used == 0 {
                 return;
@@ -71,23 +69,49 @@ impl PlantClient {
         }
     }
 
-    // Answers some frames, where no answer waits; how many bytes these are.
-    fn take(&mut self, plant: &mut Plant) -> usize {
+    /// Sends what waits.
+    pub(crate) fn send(&mut self) {
+        let sent = self.connection.write(self.answers.waiting());
+        self.answers.sent(sent);
+    }
+
+    /// Whether the connection is over, or is to be closed. What was still to be sent then had its last chance.
+    pub(crate) fn is_over(&self) -> bool {
+        self.connection.is_broken()
+            || self.answers.are_over()
+            || self.connection.is_over() && self.answers.waiting().is_empty()
+    }
+}
+
+impl Answers {
+    fn new() -> Answers {
+        Answers {
+            session: Session::new(),
+            out: [0; ROOM],
+            start: 0,
+            end: 0,
+        }
+    }
+
+    /// Those that are to be sent.
+    fn waiting(&self) -> &[u8] {
+        &self.out[self.start..self.end]
+    }
+
+    /// Answers some frames of these bytes, where no answer waits; how many bytes these are.
+    fn take(&mut self, plant: &mut Plant, bytes: &[u8]) -> usize {
         if self.start < self.end {
             return 0;
         }
-        let turned = self
-            .session
-            .turn(plant, self.connection.rest(), &mut self.out);
+        let turned = self.session.turn(plant, bytes, &mut self.out);
         self.start = 0;
         self.end = turned.put;
         turned.used
     }
 
-    /// Sends what waits.
-    pub(crate) fn send(&mut self) {
-        let sent = self.connection.write(&self.out[self.start..self.end]);
-        self.start += sent.min(self.end - self.start);
+    /// So many bytes are gone; what still waits takes their place once all are.
+    fn sent(&mut self, n: usize) {
+        self.start += n.min(self.end - self.start);
         if self.start == self.end {
             let end = self.session.put(&mut self.out);
             self.start = 0;
@@ -95,10 +119,8 @@ impl PlantClient {
         }
     }
 
-    /// Whether the connection is over, or is to be closed. What was still to be sent then had its last chance.
-    pub(crate) fn is_over(&self) -> bool {
-        let is_sent = self.start == self.end;
-        self.connection.is_broken()
-            || is_sent && (self.session.is_over() || self.connection.is_over())
+    /// Whether nothing more will be sent.
+    fn are_over(&self) -> bool {
+        self.start == self.end && self.session.is_over()
     }
 }

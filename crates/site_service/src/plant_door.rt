@@ -62,7 +62,8 @@ impl PlantDoor {
     pub fn serve(&mut self, plant: &mut Plant) -> io::Result<()> {
         for _ in 0..u64::MAX {
             self.take_in();
-            self.turn(plant);
+            self.answer(plant);
+            self.close();
             if self.is_done() {
                 return Ok(());
             }
@@ -108,14 +109,18 @@ impl PlantDoor {
         }
     }
 
-    // Answers what came, and closes the connections that are over.
-    fn turn(&mut self, plant: &mut Plant) {
+    // Answers what came.
+    fn answer(&mut self, plant: &mut Plant) {
         for client in self.clients.iter_mut() {
-            if let Some(open) = client {
-                open.receive(plant);
-                open.send();
+            if let Some(client) = client {
+                client.receive(plant);
+                client.send();
             }
         }
+    }
+
+    // Closes the connections that are over.
+    fn close(&mut self) {
         for client in self.clients.iter_mut() {
             if is_over(client) {
                 *client = None;

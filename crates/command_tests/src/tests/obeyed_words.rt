@@ -35,7 +35,15 @@ static LINES: [(&[&str], i32); 20] = [
     (&["sunsite", "run", "s", "p", "--scans", "1"], 2),
     (&["sunsite", "probe", "65535", "--unit", "255"], 0),
     (
-        &["sunsite", "probe", "192.0.2.7:502", "--timeout", "2000"],
+        &[
+            "sunsite",
+            "probe",
+            "192.0.2.7:502",
+            "--timeout",
+            "2000",
+            "--def",
+            "d",
+        ],
         0,
     ),
     (&["sunsite", "probe", "502", "--timeout", "0"], 2),
