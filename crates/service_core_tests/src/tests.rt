@@ -1,5 +1,6 @@
 //! What the tests share.
 mod conversations;
+mod orders;
 mod plant;
 mod steps;
 mod units;

@@ -1,9 +1,11 @@
 //! A service with three devices in memory, over two links, and what happens between them.
 
-use crate::tests::units::{Manner, Unit, answer, unit_of};
+use crate::tests::units::{Manner, Unit, answer, byte, unit_of};
+use gateway::Core;
 use scan_code::Image;
 use scan_vm::Machine;
 use service_core::{Limits, Note, Service, Station};
+use site_model::Site;
 use std::alloc::Global;
 use std::process::Abort;
 use verifier::verify::verify;
@@ -54,14 +56,36 @@ const LIMITS: Limits = Limits {
     search_again: 10_000,
 };
 
-/// The service of the worked site with a third inverter.
-fn service(rt: &impl Abort, alloc: Global) -> Service<32> {
+/// The worked site with a third inverter.
+fn site(rt: &impl Abort, alloc: Global) -> Site {
     let text = edited(alloc, SITE, SECOND, THIRD).expect(rt, "the second device");
-    let site = site_of(alloc, &text).expect(rt, "a site");
+    site_of(alloc, &text).expect(rt, "a site")
+}
+
+fn machine(rt: &impl Abort, alloc: Global, site: &Site) -> Machine<32> {
     let image = Image::read(alloc, &LIMITER).expect(rt, "an image");
-    let verified = verify(alloc, image, &site).ok().expect(rt, "accepted");
-    let machine = Machine::new(alloc, verified).expect(rt, "memory");
-    Service::new(alloc, site, machine, 2, &STATIONS, LIMITS, 0).expect(rt, "a service")
+    let verified = verify(alloc, image, site).ok().expect(rt, "accepted");
+    Machine::new(alloc, verified).expect(rt, "memory")
+}
+
+/// The service of the site, with places for so many clients.
+fn service(rt: &impl Abort, alloc: Global, clients: usize) -> Service<32> {
+    let site = site(rt, alloc);
+    let machine = machine(rt, alloc, &site);
+    let limits = Limits { clients, ..LIMITS };
+    Service::new(alloc, site, machine, 2, &STATIONS, limits, 0).expect(rt, "a service")
+}
+
+/// The core of the site, without a map.
+pub(crate) fn core(rt: &impl Abort, alloc: Global) -> Core<32> {
+    let site = site(rt, alloc);
+    let machine = machine(rt, alloc, &site);
+    let mut maps = Vec::new(alloc);
+    for _ in site.devices() {
+        maps.push(None).expect(rt, "memory");
+    }
+    assert!(rt; maps.len() == site.devices().len());
+    Core::new(alloc, site, machine, maps).expect(rt, "a core")
 }
 
 /// A service, its devices, and what it told. Devices 0 and 1 are on link 0, device 2 is on link 1.
@@ -80,12 +104,19 @@ pub(crate) struct Plant {
     pub(crate) alloc: Global,
 }
 
-/// Where the devices are.
+/// Where the devices are: the first and the last have one unit, at two addresses.
 static STATIONS: [Station; 3] = [
     Station { link: 0, unit: 11 },
     Station { link: 0, unit: 12 },
-    Station { link: 1, unit: 13 },
+    Station { link: 1, unit: 11 },
 ];
+
+/// The number of the device at a unit of a link.
+pub(crate) fn device_at(link: usize, unit: u8) -> Option<usize> {
+    STATIONS
+        .iter()
+        .position(|station| station.link == link && station.unit == unit)
+}
 
 fn units_of(rt: &impl Abort, alloc: Global, manners: &[Manner; 3]) -> Vec<Unit> {
     let mut units = Vec::new(alloc);
@@ -105,9 +136,15 @@ fn two_empty(rt: &impl Abort, alloc: Global) -> Vec<Vec<u8>> {
     both
 }
 
-pub(crate) fn new_plant(rt: &impl Abort, alloc: Global, manners: &[Manner; 3]) -> Plant {
+/// A plant whose devices answer so, and whose service has places for so many clients.
+pub(crate) fn new_plant(
+    rt: &impl Abort,
+    alloc: Global,
+    manners: &[Manner; 3],
+    clients: usize,
+) -> Plant {
     Plant {
-        service: service(rt, alloc),
+        service: service(rt, alloc, clients),
         units: units_of(rt, alloc, manners),
         notes: Vec::new(alloc),
         late: Vec::new(alloc),
@@ -123,13 +160,13 @@ impl Plant {
     pub(crate) fn reply(&mut self, rt: &impl Abort, link: usize) -> Vec<u8> {
         let request = Vec::from_slice(self.alloc, self.service.to_link(link)).expect(rt, "memory");
         self.service.sent_to_link(link, request.len());
-        let unit = request.get(6).copied().unwrap_or(0);
-        for of in self.units.iter_mut() {
-            if of.unit == unit {
-                return answer(rt, self.alloc, of, &request);
-            }
+        let Some(device) = device_at(link, byte(&request, 6)) else {
+            return Vec::new(self.alloc);
+        };
+        match self.units.get_mut(device) {
+            Some(of) => answer(rt, self.alloc, of, &request),
+            None => Vec::new(self.alloc),
         }
-        Vec::new(self.alloc)
     }
 
     /// Bytes come over a link.

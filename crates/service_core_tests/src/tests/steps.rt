@@ -86,7 +86,7 @@ pub(crate) fn play(
     piece: usize,
     steps: &[Step],
 ) {
-    let mut plant = new_plant(rt, alloc, manners);
+    let mut plant = new_plant(rt, alloc, manners, 2);
     plant.piece = piece;
     play_on(rt, &mut plant, steps);
 }

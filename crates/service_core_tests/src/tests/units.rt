@@ -54,11 +54,11 @@ pub(crate) fn unit_of(rt: &impl Abort, alloc: Global, unit: u8, manner: Manner) 
     }
 }
 
-fn byte(bytes: &[u8], i: usize) -> u8 {
+pub(crate) fn byte(bytes: &[u8], i: usize) -> u8 {
     bytes.get(i).copied().unwrap_or(0)
 }
 
-fn word(bytes: &[u8], i: usize) -> u16 {
+pub(crate) fn word(bytes: &[u8], i: usize) -> u16 {
     u16::from_be_bytes([byte(bytes, i), byte(bytes, i.saturating_add(1))])
 }
 
