@@ -94,6 +94,7 @@ impl<'a, W: Write> Desk<'a, W> {
         self.journal.turn_to(now);
         service.tick(now);
         self.sockets.take(rt, serving, service, &mut self.journal);
+        // what was taken in may set values, and giving out says so
         files.keep_state(rt, service.core(), &mut self.journal);
         self.sockets.give(service, &mut self.journal);
         let is_done = self.tell(serving, service, files);

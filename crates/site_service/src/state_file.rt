@@ -1,4 +1,6 @@
 //! The file of set values, over the time of a service.
+ghost use Rattle.std.specs.Prelude.{◌≡◌, ◌↔◌, length, IsTrue, IfOk};
+
 use crate::replacing::replace_for_good;
 use crate::state_lines::state_text;
 use crate::write_record::WriteRecord;
@@ -25,7 +27,9 @@ impl<'a> StateFile<'a> {
         alloc: Global,
         path: &'a str,
         settings: &[Option<i64>],
-    ) -> Result<StateFile<'a>, AllocError> {
+    ) -> Result<StateFile<'a>, AllocError>
+        ensures { IfOk result (λ file. file.tried.items ≡ settings.now) }
+    {
         let mut tried = Vec::with_capacity(alloc, settings.len())?;
         tried.extend_from_slice(settings)?;
         Ok(StateFile {
@@ -58,13 +62,17 @@ impl<'a> StateFile<'a> {
         self.writes.note(is_written)
     }
 
-    fn is_as_tried(&self, settings: &[Option<i64>]) -> bool {
+    fn is_as_tried(&self, settings: &[Option<i64>]) -> bool
+        ensures { IsTrue result ↔ (self.now.tried.items ≡ settings.now) }
+    {
         self.tried.as_slice() == settings
     }
 
-    fn try_with(&mut self, settings: &[Option<i64>]) {
-        for (tried, setting) in self.tried.iter_mut().zip(settings) {
-            *tried = *setting;
+    fn try_with(&mut self, settings: &[Option<i64>])
+        ensures { length self.old.tried.items ≡ length settings.now → self.new.tried.items ≡ settings.now }
+    {
+        if self.tried.len() == settings.len() {
+            self.tried.copy_from_slice(settings);
         }
     }
 }

@@ -1,5 +1,3 @@
-use Rattle.std.specs.Str.Lines.{lines}
-use Rattle.site_service.specs.State.{AreSaid, state_text}
 use Rattle.site_service.proofs.StateLines.{said_step, written_more}
 use Rattle.site_service.proofs.state_lines.state_text.Goals as goal
 
