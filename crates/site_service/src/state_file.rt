@@ -1,5 +1,5 @@
 //! The file of set values, over the time of a service.
-ghost use Rattle.std.specs.Prelude.{◌≡◌, ◌↔◌, length, IsTrue, IfOk};
+ghost use Rattle.std.specs.Prelude.{◌≡◌, length, IfOk};
 
 use crate::replacing::replace_for_good;
 use crate::state_lines::state_text;
@@ -62,9 +62,7 @@ impl<'a> StateFile<'a> {
         self.writes.note(is_written)
     }
 
-    fn is_as_tried(&self, settings: &[Option<i64>]) -> bool
-        ensures { IsTrue result ↔ (self.now.tried.items ≡ settings.now) }
-    {
+    fn is_as_tried(&self, settings: &[Option<i64>]) -> bool {
         self.tried.as_slice() == settings
     }
 
