@@ -222,14 +222,14 @@ pub(crate) fn writers_of(
 }
 
 /// The files that the service keeps; the one of set values has this text.
-pub(crate) fn keeping_of<'a>(matches: &ArgMatches<'a>, state: &'a str) -> Keeping<'a> {
+pub(crate) fn keeping_of<'a, 't>(matches: &ArgMatches<'a>, state: &'t str) -> Keeping<'a, 't> {
     Keeping {
         state: kept_state(matches.get_str("state"), state),
         status: matches.get_str("status-file"),
     }
 }
 
-fn kept_state<'a>(path: Option<&'a str>, text: &'a str) -> Option<KeptState<'a>> {
+fn kept_state<'a, 't>(path: Option<&'a str>, text: &'t str) -> Option<KeptState<'a, 't>> {
     match path {
         Some(path) => Some(KeptState { path, text }),
         None => None,

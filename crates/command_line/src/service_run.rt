@@ -29,7 +29,7 @@ const UNKEPT: &str =
 
 /// What a service is of.
 #[derive(Clone, Copy)]
-pub struct ServiceRun<'n, 'a, 's, 'k> {
+pub struct ServiceRun<'n, 'a, 's, 'k, 't> {
     /// The files of the site, the program and the definitions, and whether a refusal is explained.
     pub notes: Notes<'n>,
     pub devices: Devices<'a>,
@@ -38,7 +38,7 @@ pub struct ServiceRun<'n, 'a, 's, 'k> {
     pub limits: Limits,
     pub serving: Serving<'s>,
     /// The files that it keeps.
-    pub keeping: Keeping<'k>,
+    pub keeping: Keeping<'k, 't>,
 }
 
 /// Where the devices of a site are.
@@ -57,7 +57,7 @@ pub enum Devices<'a> {
 pub fn run_service<R: Net + Clock + Processes + Print + Eprint + AllocGlobal + Files, W: Write>(
     rt: &R,
     alloc: Global,
-    run: &ServiceRun<'_, '_, '_, '_>,
+    run: &ServiceRun<'_, '_, '_, '_, '_>,
     out: &mut W,
 ) -> u8 {
     let notes = &run.notes;
@@ -75,7 +75,7 @@ pub fn run_service<R: Net + Clock + Processes + Print + Eprint + AllocGlobal + F
 fn serve_accepted<R: Net + Clock + Processes + Print + Eprint + AllocGlobal + Files, W: Write>(
     rt: &R,
     alloc: Global,
-    run: &ServiceRun<'_, '_, '_, '_>,
+    run: &ServiceRun<'_, '_, '_, '_, '_>,
     given: Accepted,
     out: &mut W,
 ) -> u8 {
@@ -89,7 +89,7 @@ fn serve_accepted<R: Net + Clock + Processes + Print + Eprint + AllocGlobal + Fi
 }
 
 /// Prints on standard error that set values aren't kept, where they aren't.
-fn tell_unkept<R: Eprint>(rt: &R, run: &ServiceRun<'_, '_, '_, '_>) {
+fn tell_unkept<R: Eprint>(rt: &R, run: &ServiceRun<'_, '_, '_, '_, '_>) {
     if run.keeping.state.is_none() && !run.notes.quiet {
         let _ = rt.eprint(UNKEPT);
     }
@@ -99,7 +99,7 @@ fn tell_unkept<R: Eprint>(rt: &R, run: &ServiceRun<'_, '_, '_, '_>) {
 fn prepared<R: Print + Eprint + AllocGlobal, W: Write>(
     rt: &R,
     alloc: Global,
-    run: &ServiceRun<'_, '_, '_, '_>,
+    run: &ServiceRun<'_, '_, '_, '_, '_>,
     given: &Accepted,
     out: &mut W,
 ) -> Result<Addresses, u8> {
@@ -135,7 +135,7 @@ impl From<AllocError> for Unreachable {
 
 fn addresses_of(
     alloc: Global,
-    run: &ServiceRun<'_, '_, '_, '_>,
+    run: &ServiceRun<'_, '_, '_, '_, '_>,
     site: &Site,
 ) -> Result<Addresses, Unreachable> {
     match run.devices {
@@ -212,7 +212,7 @@ fn device_fault(
 fn serve_at<R: Net + Clock + Processes + Eprint + AllocGlobal + Files, W: Write>(
     rt: &R,
     alloc: Global,
-    run: &ServiceRun<'_, '_, '_, '_>,
+    run: &ServiceRun<'_, '_, '_, '_, '_>,
     given: Accepted,
     addresses: &Addresses,
     out: &mut W,
@@ -257,7 +257,7 @@ fn service_of(
 fn serve_over<R: Net + Clock + Eprint + AllocGlobal + Files, W: Write>(
     rt: &R,
     alloc: Global,
-    run: &ServiceRun<'_, '_, '_, '_>,
+    run: &ServiceRun<'_, '_, '_, '_, '_>,
     addresses: &Addresses,
     service: &mut Service<DEPTH>,
     out: &mut W,
@@ -309,7 +309,7 @@ fn unserved_line(alloc: Global, address: SocketAddr, why: &str) -> Result<String
 fn serve_plant<R: Net + Clock + Processes + Eprint + AllocGlobal + Files, W: Write>(
     rt: &R,
     alloc: Global,
-    run: &ServiceRun<'_, '_, '_, '_>,
+    run: &ServiceRun<'_, '_, '_, '_, '_>,
     plant: &str,
     service: &mut Service<DEPTH>,
     out: &mut W,
@@ -323,7 +323,7 @@ fn serve_plant<R: Net + Clock + Processes + Eprint + AllocGlobal + Files, W: Wri
 fn serve_started<R: Net + Clock + Processes + Eprint + AllocGlobal + Files, W: Write>(
     rt: &R,
     alloc: Global,
-    run: &ServiceRun<'_, '_, '_, '_>,
+    run: &ServiceRun<'_, '_, '_, '_, '_>,
     plant: Child<R::Started>,
     service: &mut Service<DEPTH>,
     out: &mut W,
@@ -340,7 +340,7 @@ fn serve_started<R: Net + Clock + Processes + Eprint + AllocGlobal + Files, W: W
 fn serve_told<R: Net + Clock + Eprint + AllocGlobal + Files, P: Read + Drop, W: Write>(
     rt: &R,
     alloc: Global,
-    run: &ServiceRun<'_, '_, '_, '_>,
+    run: &ServiceRun<'_, '_, '_, '_, '_>,
     lines: Option<P>,
     service: &mut Service<DEPTH>,
     out: &mut W,
@@ -358,7 +358,7 @@ fn serve_told<R: Net + Clock + Eprint + AllocGlobal + Files, P: Read + Drop, W: 
 fn serve_behind<R: Net + Clock + Eprint + AllocGlobal + Files, W: Write>(
     rt: &R,
     alloc: Global,
-    run: &ServiceRun<'_, '_, '_, '_>,
+    run: &ServiceRun<'_, '_, '_, '_, '_>,
     line: &[u8],
     service: &mut Service<DEPTH>,
     out: &mut W,

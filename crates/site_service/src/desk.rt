@@ -73,7 +73,7 @@ impl<'a, W: Write> Desk<'a, W> {
     /// The files that are kept, where what the one of set values says is set, and told where it isn't.
     pub(crate) fn restore<'k>(
         &mut self,
-        keeping: &Keeping<'k>,
+        keeping: &Keeping<'k, '_>,
         service: &mut Service<DEPTH>,
     ) -> Result<KeptFiles<'k>, End> {
         match KeptFiles::restored(self.alloc, keeping, service, &mut self.journal) {

@@ -2,17 +2,17 @@
 
 /// Where a service keeps what.
 #[derive(Clone, Copy)]
-pub struct Keeping<'a> {
+pub struct Keeping<'a, 't> {
     /// The file of set values; none where they aren't kept.
-    pub state: Option<KeptState<'a>>,
+    pub state: Option<KeptState<'a, 't>>,
     /// The path of the file that says how the service stands; none where there is none.
     pub status: Option<&'a str>,
 }
 
 /// The file of set values.
 #[derive(Clone, Copy)]
-pub struct KeptState<'a> {
+pub struct KeptState<'a, 't> {
     pub path: &'a str,
     /// What it holds at the start.
-    pub text: &'a str,
+    pub text: &'t str,
 }

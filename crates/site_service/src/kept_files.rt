@@ -24,7 +24,7 @@ impl<'a> KeptFiles<'a> {
     /// The files, behind a restart: what the file of set values says is set.
     pub(crate) fn restored<W: Write>(
         alloc: Global,
-        keeping: &Keeping<'a>,
+        keeping: &Keeping<'a, '_>,
         service: &mut Service<DEPTH>,
         journal: &mut Journal<'_, W>,
     ) -> Result<KeptFiles<'a>, AllocError> {

@@ -19,7 +19,7 @@ pub fn serve_site<R: Net + Clock + Files, W: Write>(
     rt: &R,
     alloc: Global,
     serving: &Serving<'_>,
-    keeping: &Keeping<'_>,
+    keeping: &Keeping<'_, '_>,
     addresses: &Addresses,
     service: &mut Service<DEPTH>,
     out: &mut W,
