@@ -138,6 +138,8 @@ def write_once(client, turn, own, state):
 
 def kept(path):
     """What the file of set values says."""
+    if not os.path.exists(path):
+        return {}
     with open(path, encoding="utf-8") as it:
         return dict(line.rstrip("\n").split("=") for line in it)
 
@@ -156,11 +158,10 @@ def client_life(place, once, pause, own, until):
             while time.monotonic() < until:
                 turn += 1
                 once(client, turn, own, place.state)
-                time.sleep(pause) if pause else None
-        except Wrong as fault:
-            seen.wrong.append(str(fault))
-        except OSError as fault:
-            seen.lost.append(repr(fault))
+                if pause:
+                    time.sleep(pause)
+        except (Wrong, OSError) as fault:
+            (seen.wrong if isinstance(fault, Wrong) else seen.lost).append(repr(fault))
             time.sleep(0.2)
         if client:
             client.close()
