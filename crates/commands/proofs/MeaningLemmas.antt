@@ -226,8 +226,8 @@ module _ (site : Site) (p : Program) (a : Acceptance) (right : DoesWhatItMeans p
   replies_kept s pdu (Ok asked) reply t (r, does, is) kept = does_kept s asked r t does kept
 
   pub step_meant : (s : Standing) (e : Event) (r : Answer) (t : Standing) → IsKept s → Steps site a.image (numbers_of a) a.budget s e r t → StepsAsMeant p site a s e r t × IsKept t
-  step_meant s (event.Block device model words) r t kept h = (h, still s t (ap (λ (x : Standing). x.sets) h.1) (ap (λ (x : Standing). x.variables) h.1) kept)
-  step_meant s (event.Lost device model) r t kept h = (h, still s t (ap (λ (x : Standing). x.sets) h.1) (ap (λ (x : Standing). x.variables) h.1) kept)
+  step_meant s (event.Block want words) r t kept h = (h, still s t (ap (λ (x : Standing). x.sets) h.1) (ap (λ (x : Standing). x.variables) h.1) kept)
+  step_meant s (event.Lost want) r t kept h = (h, still s t (ap (λ (x : Standing). x.sets) h.1) (ap (λ (x : Standing). x.variables) h.1) kept)
   step_meant s event.Scan r t kept h = ((h.0, scan_meant s t kept h.1), scan_kept s t kept h.1)
   step_meant s (event.Client pdu) r t kept (reply, is, replies) = ((reply, is, replies), replies_kept s pdu (request_of pdu) reply t replies kept)
 

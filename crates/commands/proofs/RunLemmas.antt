@@ -4,7 +4,7 @@ use Rattle.modbus_frame.specs.declared.link.LinkFault.{LinkFault}
 use Rattle.register_map.specs.Layout.{Layout}
 use Rattle.scan_code.specs.Image.{IsProper}
 use Rattle.scan_vm.specs.Machine as vm
-use Rattle.site_model.specs.Wants.{Want}
+use Rattle.site_model.specs.declared.want.Want.{Want}
 use Rattle.site_model.specs.declared.site.Site.{Site}
 use Rattle.il_assemble.specs.Correct.{DoesWhatItMeans}
 use Rattle.il_assemble.specs.Meaning.{Program}

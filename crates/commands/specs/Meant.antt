@@ -20,8 +20,8 @@ pub record IsMeantScan (p : Program) (site : Site) (a : Acceptance) (s t : Stand
 -- one event of the site run
 abbrev pub StepsAsMeant : Program → Site → Acceptance → Standing → Event → Answer → Standing → Type 0
 StepsAsMeant p site a s event.Scan r t = (r ≡ answer.Writes (length site.outs)) × IsMeantScan p site a s t
-StepsAsMeant p site a s (event.Block device model words) r t = Steps site a.image (numbers_of a) a.budget s (event.Block device model words) r t
-StepsAsMeant p site a s (event.Lost device model) r t = Steps site a.image (numbers_of a) a.budget s (event.Lost device model) r t
+StepsAsMeant p site a s (event.Block want words) r t = Steps site a.image (numbers_of a) a.budget s (event.Block want words) r t
+StepsAsMeant p site a s (event.Lost want) r t = Steps site a.image (numbers_of a) a.budget s (event.Lost want) r t
 StepsAsMeant p site a s (event.Client pdu) r t = Steps site a.image (numbers_of a) a.budget s (event.Client pdu) r t
 
 -- one event at a core: the site run's step, a scan as the program means it, and nothing else changes

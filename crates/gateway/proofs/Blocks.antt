@@ -10,7 +10,7 @@ use Rattle.modbus_frame.specs.declared.message.Request.{Request}
 use Rattle.register_map.specs.Layout.{Layout}
 use Rattle.site_model.specs.declared.device.SiteDevice.{SiteDevice}
 use Rattle.site_model.specs.declared.site.Site.{Site}
-use Rattle.site_model.specs.Wants.{Want}
+use Rattle.site_model.specs.declared.want.Want.{Want}
 use Rattle.point_writer.specs.declared.write.Write.{Write}
 use Rattle.point_writer.specs.declared.write.NoWrite.{NoWrite}
 use Rattle.gateway.specs.declared.event_core.event.Event.{Event}

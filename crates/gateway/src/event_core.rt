@@ -1,8 +1,6 @@
 //! The core of a gateway: one state, one step for each event.
 ghost use Rattle.std.specs.Prelude.{◌≡◌, ◌<◌, ◌≤◌, ℕ, length, None, IsSome, IfSome};
-ghost use Rattle.std.specs.List.{position};
 ghost use Rattle.site_model.specs.Readings.{known_at};
-ghost use Rattle.site_model.specs.Wants.{same_want};
 ghost use Rattle.gateway.specs.event_core.SiteRun.{told, with_block};
 
 mod answering;
@@ -31,7 +29,8 @@ use restoring::request_to_set;
 use scan::scan;
 use scan_vm::Machine;
 use setting::write;
-use site_model::{Site, Words};
+use site_model::wants::place_of_want;
+use site_model::{Site, Want, Words};
 use std::alloc::Global;
 use std::marker::Model;
 
@@ -147,12 +146,12 @@ impl<const DEPTH: usize> Core<DEPTH> {
         ensures same { IsSame self.old self.new }
     {
         match event {
-            Event::Block(device, model, words) => {
-                self.note(*device, *model, told(*model, words));
+            Event::Block(want, words) => {
+                self.note(*want, told(want.model, words));
                 Answer::None
             }
-            Event::Lost(device, model) => {
-                self.note(*device, *model, None);
+            Event::Lost(want) => {
+                self.note(*want, None);
                 Answer::None
             }
             Event::Scan => {
@@ -265,18 +264,12 @@ impl<const DEPTH: usize> Core<DEPTH> {
     }
 
     /// What is known of a block from now on, where it is wanted.
-    fn note(&mut self, device: usize, model: u16, entry: Option<Words>)
-        ensures after { self.new.standing ≡ after_block self.old.site (device, model) entry self.old.standing }
+    fn note(&mut self, want: Want, entry: Option<Words>)
+        ensures after { self.new.standing ≡ after_block self.old.site want entry self.old.standing }
         ensures machine { self.new.machine ≡ self.old.machine }
         ensures same { IsSame self.old self.new }
     {
-        note(
-            self.site.wants(),
-            &mut self.known.blocks,
-            device,
-            model,
-            entry,
-        );
+        note(self.site.wants(), &mut self.known.blocks, want, entry);
     }
 
     /// The program runs once.
@@ -378,28 +371,12 @@ fn told(model: u16, words: &Words) -> Option<Words>
 }
 
 /// Replaces what is known of a block, where it is wanted.
-fn note(
-    wants: &[(usize, u16)],
-    blocks: &mut [Option<Words>],
-    device: usize,
-    model: u16,
-    entry: Option<Words>,
-)
+fn note(wants: &[Want], blocks: &mut [Option<Words>], want: Want, entry: Option<Words>)
     requires { length blocks.old ≡ length wants.now }
-    ensures after { blocks.new ≡ with_block wants.now (device, model) entry blocks.old }
+    ensures after { blocks.new ≡ with_block wants.now want entry blocks.old }
     ensures len { length blocks.new ≡ length blocks.old }
 {
-    if let Some(i) = place_of(wants, device, model) {
+    if let Some(i) = place_of_want(wants, want) {
         blocks[i] = entry;
     }
-}
-
-/// The number of a device and a model's ID among the wants.
-fn place_of(wants: &[(usize, u16)], device: usize, model: u16) -> Option<usize>
-    ensures place { result ≡ position (same_want (device, model)) wants.now }
-    ensures inside { IfSome result (λ i. i < length wants.now) }
-{
-    wants
-        .iter()
-        .position(|want| want.0 == device && want.1 == model)
 }

@@ -4,7 +4,8 @@ use Rattle.std.proofs.lemmas.Option.{get_or_from_slice_get, slice_get-get_or, sl
 use Rattle.register_map.specs.Layout.{Layout}
 use Rattle.site_model.specs.declared.access.Access.TheVariants as access
 use Rattle.site_model.specs.declared.tag.SiteTag.{SiteTag}
-use Rattle.site_model.specs.Wants.{Want, AreOutputs}
+use Rattle.site_model.specs.declared.want.Want.{Want}
+use Rattle.site_model.specs.Wants.{AreOutputs}
 use Rattle.site_model.specs.Readings.{AreSettings, known_at}
 use Rattle.point_writer.specs.declared.write.Write.{Write}
 use Rattle.point_writer.specs.declared.write.NoWrite.{NoWrite}

@@ -13,7 +13,7 @@ use Rattle.point_types.proofs.RoundTrips.{at_most_one_encoding}
 use Rattle.register_map.specs.Layout.{Layout}
 use Rattle.site_model.specs.declared.tag.SiteTag.{SiteTag}
 use Rattle.site_model.specs.Tag.{may_write}
-use Rattle.site_model.specs.Wants.{Want}
+use Rattle.site_model.specs.declared.want.Want.{Want}
 use Rattle.point_writer.specs.declared.write.Write.{Write}
 use Rattle.point_writer.specs.declared.write.NoWrite.{NoWrite}
 use Rattle.point_writer.specs.declared.write.NoWrite.TheVariants as refusal

@@ -11,7 +11,7 @@ use Rattle.register_map.specs.Layout.{Layout}
 use Rattle.register_map.specs.Layout as map
 use Rattle.site_model.specs.declared.access.Access.TheVariants as access
 use Rattle.site_model.specs.declared.tag.SiteTag.{SiteTag}
-use Rattle.site_model.specs.Wants.{Want}
+use Rattle.site_model.specs.declared.want.Want.{Want}
 use Rattle.site_model.specs.Readings.{registers_at, scale_at, known_at, block_of}
 use Rattle.point_writer.specs.declared.write.Write.{Write}
 use Rattle.point_writer.specs.declared.write.NoWrite.{NoWrite}

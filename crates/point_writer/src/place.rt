@@ -6,7 +6,7 @@ ghost use Rattle.point_writer.specs.Places.{place_view};
 use register_map::{Block, Map};
 use site_model::readings::known_block;
 use site_model::registers::{registers_at, scale_at};
-use site_model::{SiteTag, Words};
+use site_model::{SiteTag, Want, Words};
 
 /// A device, the address of the point's first register, and the point's factor: None where it is absent.
 #[derive(Clone, Copy)]
@@ -19,7 +19,7 @@ pub(crate) struct Place {
 /// The place of a tag's point, by the maps of the devices and the words that are known of the wanted blocks.
 pub(crate) fn place_of(
     tag: &SiteTag,
-    wants: &[(usize, u16)],
+    wants: &[Want],
     blocks: &[Option<Words>],
     maps: &[Option<Map>],
 ) -> Option<Place>

@@ -10,7 +10,7 @@ use crate::place::place_of;
 use crate::write::{NoWrite, Write};
 use point_types::{Kind, Unencodable, encode};
 use register_map::Map;
-use site_model::{Site, SiteTag, Words};
+use site_model::{Site, SiteTag, Want, Words};
 
 /// The words that set the i-th of the site's `out` tags to the number that the program stored, which is exact: a number
 /// that has no words isn't written, and no other one in its place. Takes no memory (SunSpec Device Information Model
@@ -52,7 +52,7 @@ pub fn plan(
 pub fn plan_of(
     tag: &SiteTag,
     output: Option<i64>,
-    wants: &[(usize, u16)],
+    wants: &[Want],
     blocks: &[Option<Words>],
     maps: &[Option<Map>],
 ) -> Result<Write, NoWrite>

@@ -2,7 +2,7 @@
 use Rattle.std.proofs.Common.{◌≡◌, inl, inr, ℕ, Bool, true, false, List, map, Option, Some, None, Result, option_map, slice_get, position, refl, sym, ap, ◌∙◌}
 use Rattle.std.proofs.lemmas.Bool.{eqb-true}
 use Rattle.std.proofs.lemmas.Option.{slice_get-map}
-use Rattle.site_model.specs.Wants.{Want}
+use Rattle.site_model.specs.declared.want.Want.{Want}
 use Rattle.point_writer.specs.declared.write.Write.{Write}
 use Rattle.point_writer.specs.declared.write.NoWrite.{NoWrite}
 use Rattle.gateway.specs.declared.poller.cycle.Call.{Call}
@@ -25,12 +25,12 @@ due_device mark.Done own device is = absurd (cc)
 some_same : {A : Type 0} {x y : A} → Some x ≡ Some y → x ≡ y
 some_same e = cc
 
-same_device : (tasks : List Task) (wants : List Want) (i : ℕ) (t : Task) (want : Want) → map device_of tasks ≡ map device_wanted wants → slice_get tasks i ≡ Some t → slice_get wants i ≡ Some want → t.device ≡ want.0
+same_device : (tasks : List Task) (wants : List Want) (i : ℕ) (t : Task) (want : Want) → map device_of tasks ≡ map device_wanted wants → slice_get tasks i ≡ Some t → slice_get wants i ≡ Some want → t.device ≡ want.device
 same_device tasks wants i t want same at wanted =
     some_same (sym (slice_get-map device_of tasks i ∙ ap (option_map device_of) at) ∙ ap (λ l. slice_get l i) same ∙ (slice_get-map device_wanted wants i ∙ ap (option_map device_wanted) wanted))
 
 module _ (g : Gateway) (device : ℕ) (old : Progress) (t : Turn) (new : Progress) (call : Call) (fits : IsRoundFor g.site old) (is : t ≡ turn.Ask call) where
-  read_own : (i : ℕ) (want : Want) → next_place device old.reads ≡ Some i → slice_get g.site.wants i ≡ Some want → want.0 ≡ device
+  read_own : (i : ℕ) (want : Want) → next_place device old.reads ≡ Some i → slice_get g.site.wants i ≡ Some want → want.device ≡ device
   read_own i want next wanted =
       let (task, at, due) = at_place (is_due device) old.reads i some_task (next_is_due device old.reads (position (is_asked device) old.reads) i refl next) in
       sym (same_device old.reads g.site.wants i task want fits.reads at wanted) ∙ due_device task.mark task.device device due

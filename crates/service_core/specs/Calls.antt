@@ -1,6 +1,6 @@
 -- What a round asks of a device (Modbus Application Protocol V1.1b3, sections 6.3, 6.6 and 6.12).
 use Rattle.std.specs.Prelude.{◌≡◌, ◌⊎◌, ℕ, Some, Result, slice_get}
-use Rattle.site_model.specs.Wants.{Want}
+use Rattle.site_model.specs.declared.want.Want.{Want}
 use Rattle.point_writer.specs.declared.write.Write.{Write}
 use Rattle.point_writer.specs.declared.write.NoWrite.{NoWrite}
 use Rattle.gateway.specs.declared.poller.cycle.Call.{Call}
@@ -14,7 +14,7 @@ pub record IsRead (g : Gateway) (device : ℕ) (call : Call) : Type 0 where
   pub place : ℕ
   pub want : Want
   pub wanted : slice_get g.site.wants place ≡ Some want
-  pub own : want.0 ≡ device
+  pub own : want.device ≡ device
   pub read : read_of g.site g.maps want ≡ Some call
 
 -- It writes what is planned for an output, to the device, by the maps of now.

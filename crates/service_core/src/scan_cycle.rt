@@ -129,8 +129,8 @@ impl<const DEPTH: usize> ScanCycle<DEPTH> {
             Some(want) => *want,
             None => return,
         };
-        if want.0 == device {
-            self.step(Event::Lost(want.0, want.1));
+        if want.device == device {
+            self.step(Event::Lost(want));
         }
     }
 
@@ -381,7 +381,7 @@ fn has_map<const DEPTH: usize>(core: &Core<DEPTH>, device: usize) -> bool {
 
 fn is_lost(event: &Event) -> bool {
     match event {
-        Event::Lost(_, _) => true,
+        Event::Lost(_) => true,
         _ => false,
     }
 }
@@ -389,8 +389,8 @@ fn is_lost(event: &Event) -> bool {
 /// Whether words don't begin with their model's ID.
 fn is_foreign(event: &Event) -> bool {
     match event {
-        Event::Block(_, model, words) => match words.as_slice() {
-            [first, ..] => first != model,
+        Event::Block(want, words) => match words.as_slice() {
+            [first, ..] => *first != want.model,
             [] => true,
         },
         _ => false,

@@ -3,7 +3,7 @@ use Rattle.std.proofs.Common.{◌≡◌, ◌≢◌, ◌⊎◌, inl, inr, ℕ, ze
 use Rattle.std.proofs.lemmas.Option.{get_or_from_slice_get}
 use Rattle.point_types.specs.declared.reading.Reading.{Reading}
 use Rattle.site_model.specs.declared.tag.SiteTag.{SiteTag}
-use Rattle.site_model.specs.Wants.{Want}
+use Rattle.site_model.specs.declared.want.Want.{Want}
 use Rattle.site_model.specs.Readings.{IsTagReading, block_of, known_at}
 
 pub set-cases : {A : Type 0} (xs : List A) (i : ℕ) (v : A) (k : ℕ) (r : A) → slice_get (set xs i v) k ≡ Some r → ((k ≡ i) × (r ≡ v)) ⊎ ((k ≢ i) × (slice_get xs k ≡ Some r))

@@ -14,7 +14,8 @@ use Rattle.site_model.specs.declared.access.Access.TheVariants as access
 use Rattle.site_model.specs.declared.tag.SiteTag.{SiteTag}
 use Rattle.site_model.specs.declared.tag.Sf.{Sf}
 use Rattle.site_model.specs.declared.tag.Sf.TheVariants as factors
-use Rattle.site_model.specs.Wants.{Want, same_want, want_of}
+use Rattle.site_model.specs.declared.want.Want.{Want}
+use Rattle.site_model.specs.Wants.{same_want, want_of}
 
 -- ---- a point and its factor in the words of a block, which begin with the model's ID
 

@@ -5,13 +5,10 @@ use Rattle.std.specs.List.{list_any}
 use Rattle.site_model.specs.declared.access.Access.{Access}
 use Rattle.site_model.specs.declared.access.Access.TheVariants as access
 use Rattle.site_model.specs.declared.tag.SiteTag.{SiteTag}
-
--- a device and the ID of a model of it
-abbrev pub Want : Type 0
-Want = ℕ × ℕ
+use Rattle.site_model.specs.declared.want.Want.{Want}
 
 abbrev pub same_want : Want → Want → Bool
-same_want v w = v.0 == w.0 && v.1 == w.1
+same_want v w = v.device == w.device && v.model == w.model
 
 -- whether the point of a tag lies in a device
 abbrev pub is_of_device : Access → Bool
@@ -22,7 +19,7 @@ is_of_device access.Shown = false
 
 -- the device and the model of a tag whose point lies in a device
 abbrev pub want_of : SiteTag → Option Want
-want_of t = if is_of_device t.access then option_map (λ d. (d, t.model)) t.device else None
+want_of t = if is_of_device t.access then option_map (λ d. record { device = d; model = t.model }) t.device else None
 
 -- with one more behind them, where it isn't among them
 abbrev pub with_want : List Want → Option Want → List Want

@@ -24,6 +24,7 @@ mod tag_rules;
 mod tags;
 mod text;
 mod unit;
+mod want;
 pub mod wants;
 
 // a site, read from its file
@@ -34,6 +35,8 @@ pub use device::{SiteDevice, WriteFunction};
 // its tags
 pub use access::Access;
 pub use tag::{Sf, SiteTag};
+// what it asks of its devices
+pub use want::Want;
 // what it serves to clients
 pub use served::{Served, Source};
 // a text of the file, and the words of a block

@@ -7,6 +7,7 @@ ghost use Rattle.site_model.specs.Wants.{AreOutputs, length_of, outs_of, wants_o
 
 use crate::readings::readings;
 use crate::site::Site;
+use crate::want::Want;
 use crate::wants::{length_of, place_of};
 use modbus_frame::Words;
 use point_types::Reading;
@@ -29,7 +30,7 @@ impl Site {
     }
 
     /// The device and the model's ID of the `in` and `out` tags, each pair once, by first use.
-    pub fn wants(&self) -> &[(usize, u16)]
+    pub fn wants(&self) -> &[Want]
         ensures value { result.now ≡ self.now.wants }
         ensures wanted { result.now ≡ wants_of self.now.tags }
     {

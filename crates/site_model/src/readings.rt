@@ -5,6 +5,7 @@ ghost use Rattle.site_model.specs.Readings.{AreReadings, AreSettings, AreUsable,
 use crate::access::Access;
 use crate::registers::{registers_at, scale_for};
 use crate::tag::SiteTag;
+use crate::want::Want;
 use crate::wants::{place_of_want, want_of};
 use modbus_frame::Words;
 use point_types::{Cause, Reading, scaled, scaled_down, value};
@@ -18,7 +19,7 @@ use point_types::{Cause, Reading, scaled, scaled_down, value};
 /// is NoBlock.
 pub fn readings(
     tags: &[SiteTag],
-    wants: &[(usize, u16)],
+    wants: &[Want],
     blocks: &[Option<Words>],
     sets: &[Option<i64>],
     into: &mut [Reading],
@@ -39,7 +40,7 @@ pub fn readings(
 /// `blocks`; None for other tags.
 pub fn known_block<'a>(
     tag: &SiteTag,
-    wants: &[(usize, u16)],
+    wants: &[Want],
     blocks: &'a [Option<Words>],
 ) -> Option<&'a [u16]>
     requires { length blocks.now ≡ length wants.now }

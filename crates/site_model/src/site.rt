@@ -5,6 +5,7 @@ ghost use Rattle.site_model.specs.Wants.{outs_of, wants_of};
 use crate::device::SiteDevice;
 use crate::served::Served;
 use crate::tag::SiteTag;
+use crate::want::Want;
 use model_defs::ModelDef;
 use point_types::Items;
 
@@ -17,7 +18,7 @@ pub struct Site {
     pub(crate) devices: Items<SiteDevice>,
     pub(crate) tags: Items<SiteTag>,
     pub(crate) served: Items<Served>,
-    pub(crate) wants: Items<(usize, u16)>,
+    pub(crate) wants: Items<Want>,
     pub(crate) outs: Items<usize>,
     pub(crate) lengths: Items<(u16, u16)>,
     pub ghost wanted: { wants ≡ wants_of tags },

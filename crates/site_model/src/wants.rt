@@ -6,11 +6,12 @@ ghost use Rattle.site_model.specs.Wants.{is_of_device, is_output, length_of, out
 
 use crate::access::Access;
 use crate::tag::SiteTag;
+use crate::want::Want;
 use point_types::Items;
 use std::alloc::{AllocError, Global};
 
-/// The device and the model's ID of each `in` and `out` tag, each pair once, by first use.
-pub fn wants_of(alloc: Global, tags: &[SiteTag]) -> Result<Items<(usize, u16)>, AllocError>
+/// The device and the model of each `in` and `out` tag, each once, by first use.
+pub fn wants_of(alloc: Global, tags: &[SiteTag]) -> Result<Items<Want>, AllocError>
     ensures { IfOk result (λ wants. wants ≡ wants_of tags.now) }
 {
     let mut wants = Items::new(alloc);
@@ -51,17 +52,20 @@ pub fn length_of(lengths: &[(u16, u16)], model: u16) -> Option<u16>
 }
 
 /// The device and the model of a tag whose point lies in a device.
-pub(crate) fn want_of(tag: &SiteTag) -> Option<(usize, u16)>
+pub(crate) fn want_of(tag: &SiteTag) -> Option<Want>
     ensures { result ≡ want_of tag.now }
 {
     if is_of_device(tag.access) {
-        tag.device.map(|device| (device, tag.model))
+        tag.device.map(|device| Want {
+            device,
+            model: tag.model,
+        })
     } else {
         None
     }
 }
 
-fn add_want(wants: &mut Items<(usize, u16)>, want: Option<(usize, u16)>) -> Result<(), AllocError>
+fn add_want(wants: &mut Items<Want>, want: Option<Want>) -> Result<(), AllocError>
     ensures { IfOk result (λ _. wants.new ≡ with_want wants.old want) }
 {
     let Some(want) = want else {
@@ -73,22 +77,22 @@ fn add_want(wants: &mut Items<(usize, u16)>, want: Option<(usize, u16)>) -> Resu
     Ok(())
 }
 
-fn is_wanted(wants: &[(usize, u16)], want: (usize, u16)) -> bool
+fn is_wanted(wants: &[Want], want: Want) -> bool
     ensures { result ≡ list_any (same_want want) wants.now }
 {
     wants
         .iter()
-        .any(|known| known.0 == want.0 && known.1 == want.1)
+        .any(|known| known.device == want.device && known.model == want.model)
 }
 
-/// The number of a device and model among the wants.
-pub(crate) fn place_of_want(wants: &[(usize, u16)], want: (usize, u16)) -> Option<usize>
+/// The number of a want among these.
+pub fn place_of_want(wants: &[Want], want: Want) -> Option<usize>
     ensures place { result ≡ position (same_want want) wants.now }
     ensures inside { IfSome result (λ i. i < length wants.now) }
 {
     wants
         .iter()
-        .position(|known| known.0 == want.0 && known.1 == want.1)
+        .position(|known| known.device == want.device && known.model == want.model)
 }
 
 fn is_of_device(access: Access) -> bool

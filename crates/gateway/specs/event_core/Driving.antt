@@ -15,6 +15,6 @@ ScansOnce depth old new =
 -- a scan runs it once, and every other event leaves it as it was
 abbrev pub Drives : ℕ → Gateway → Event → Gateway → Type 0
 Drives depth old event.Scan new = ScansOnce depth old new
-Drives depth old (event.Block device model words) new = new.machine ≡ old.machine
-Drives depth old (event.Lost device model) new = new.machine ≡ old.machine
+Drives depth old (event.Block want words) new = new.machine ≡ old.machine
+Drives depth old (event.Lost want) new = new.machine ≡ old.machine
 Drives depth old (event.Client pdu) new = new.machine ≡ old.machine

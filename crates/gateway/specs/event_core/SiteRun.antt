@@ -22,7 +22,8 @@ use Rattle.site_model.specs.declared.access.Access.TheVariants as access
 use Rattle.site_model.specs.declared.site.Site.{Site}
 use Rattle.site_model.specs.declared.tag.SiteTag.{SiteTag}
 use Rattle.site_model.specs.Readings.{AreReadings}
-use Rattle.site_model.specs.Wants.{Want, same_want}
+use Rattle.site_model.specs.declared.want.Want.{Want}
+use Rattle.site_model.specs.Wants.{same_want}
 use Rattle.gateway.specs.declared.event_core.event.Event.{Event}
 use Rattle.gateway.specs.declared.event_core.event.Event.TheVariants as event
 use Rattle.gateway.specs.declared.event_core.event.Answer.{Answer}
@@ -202,8 +203,8 @@ pub record IsScan (site : Site) (image : Image) (links : List ℕ) (budget : ℕ
 -- ---- events
 
 abbrev pub Steps : Site → Image → (links : List ℕ) → (budget : ℕ) → Standing → Event → Answer → Standing → Type 0
-Steps site image links budget s (event.Block device model words) a t = (a ≡ answer.None) × (t ≡ after_block site (device, model) (told model words) s)
-Steps site image links budget s (event.Lost device model) a t = (a ≡ answer.None) × (t ≡ after_block site (device, model) None s)
+Steps site image links budget s (event.Block want words) a t = (a ≡ answer.None) × (t ≡ after_block site want (told want.model words) s)
+Steps site image links budget s (event.Lost want) a t = (a ≡ answer.None) × (t ≡ after_block site want None s)
 Steps site image links budget s event.Scan a t = (a ≡ answer.Writes (length site.outs)) × IsScan site image links budget s t
 Steps site image links budget s (event.Client pdu) a t = (reply : List ℕ) × (a ≡ answer.Reply reply) × Replies site s pdu (request_of pdu) reply t
 

@@ -13,7 +13,8 @@ use Rattle.site_model.specs.declared.device.WriteFunction.{WriteFunction}
 use Rattle.site_model.specs.declared.device.WriteFunction.TheVariants as function
 use Rattle.site_model.specs.declared.site.Site.{Site}
 use Rattle.site_model.specs.Readings.{known_at}
-use Rattle.site_model.specs.Wants.{Want, length_of}
+use Rattle.site_model.specs.declared.want.Want.{Want}
+use Rattle.site_model.specs.Wants.{length_of}
 use Rattle.point_writer.specs.declared.write.Write.{Write}
 use Rattle.point_writer.specs.declared.write.NoWrite.{NoWrite}
 use Rattle.gateway.specs.declared.event_core.event.Event.{Event}
@@ -39,18 +40,18 @@ read_of site maps want =
     option_and_then (λ (found : Layout).
     option_and_then (λ (block : Block).
     option_map (λ defined. record { unit = device.unit; request = block_request block defined })
-    (length_of site.lengths want.1))
-    (layout.block_of found want.1))
-    (known_at maps want.0))
-    (slice_get site.devices want.0)
+    (length_of site.lengths want.model))
+    (layout.block_of found want.model))
+    (known_at maps want.device))
+    (slice_get site.devices want.device)
 
 -- The words that were read are the block; after any other outcome it is lost.
 abbrev pub event_by : Want → Outcome → Event
-event_by want (outcome.Words words) = event.Block want.0 want.1 words
-event_by want (outcome.Exception e) = event.Lost want.0 want.1
-event_by want outcome.Wrote = event.Lost want.0 want.1
-event_by want outcome.Mismatch = event.Lost want.0 want.1
-event_by want outcome.Stale = event.Lost want.0 want.1
+event_by want (outcome.Words words) = event.Block want words
+event_by want (outcome.Exception e) = event.Lost want
+event_by want outcome.Wrote = event.Lost want
+event_by want outcome.Mismatch = event.Lost want
+event_by want outcome.Stale = event.Lost want
 
 -- a call went out
 abbrev pub IsCall : Call → Exchange → Type 0
@@ -58,7 +59,7 @@ IsCall call e = (e.unit ≡ call.unit) × (e.request ≡ call.request)
 
 -- What comes of a wanted block: by its request, or without one it is lost.
 abbrev pub ReadsBlock : Want → Option Call → List Exchange → Event → Type 0
-ReadsBlock want None es happens = (es ≡ []) × (happens ≡ event.Lost want.0 want.1)
+ReadsBlock want None es happens = (es ≡ []) × (happens ≡ event.Lost want)
 ReadsBlock want (Some call) es happens = (e : Exchange) × (es ≡ e ∷ []) × IsCall call e × (happens ≡ event_by want e.outcome)
 
 -- That was one exchange, or none.
@@ -105,8 +106,8 @@ WritesPoints devices (plan ∷ plans) es =
 -- ---- what is counted
 
 abbrev pub is_lost : Event → Bool
-is_lost (event.Lost device model) = true
-is_lost (event.Block device model words) = false
+is_lost (event.Lost want) = true
+is_lost (event.Block want words) = false
 is_lost event.Scan = false
 is_lost (event.Client pdu) = false
 

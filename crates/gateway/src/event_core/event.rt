@@ -1,14 +1,14 @@
 //! What happens to a gateway, and what it answers.
 use modbus_frame::Pdu;
-use site_model::Words;
+use site_model::{Want, Words};
 
 /// What happens to a gateway. Events of all devices and clients come in one list.
 #[derive(Debug, PartialEq, Eq, Drop)]
 pub enum Event {
-    /// A device, by its number, answered the registers of one of its models, from the model's ID on.
-    Block(usize, u16, Words),
+    /// A device answered the registers of one of its models, from the model's ID on.
+    Block(Want, Words),
     /// A device didn't answer for one of its models.
-    Lost(usize, u16),
+    Lost(Want),
     /// The program is to run once.
     Scan,
     /// A client of the gateway sent a request.

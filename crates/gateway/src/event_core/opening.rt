@@ -11,7 +11,7 @@ use crate::event_core::fault::CoreFault;
 use crate::event_core::memory::Memory;
 use crate::served::{OwnPoint, own_points, serve};
 use point_types::{Cause, Items, Reading};
-use site_model::{Site, SiteTag, Words};
+use site_model::{Site, SiteTag, Want, Words};
 use std::alloc::{AllocError, Global};
 use verifier::{TagLink, Verified};
 
@@ -79,7 +79,7 @@ fn nothing_known(alloc: Global, site: &Site) -> Result<Memory, AllocError>
     })
 }
 
-fn no_blocks(alloc: Global, wants: &[(usize, u16)]) -> Result<Vec<Option<Words>>, AllocError>
+fn no_blocks(alloc: Global, wants: &[Want]) -> Result<Vec<Option<Words>>, AllocError>
     ensures { IfOk result (λ blocks. blocks.items ≡ none_of wants.now) }
 {
     wants.iter().map(|_| None).collect(alloc)

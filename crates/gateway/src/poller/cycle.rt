@@ -15,7 +15,7 @@ use crate::poller::outcome::Outcome;
 use modbus_frame::{Link, LinkFault, Request};
 use point_writer::{NoWrite, Write};
 use register_map::{Block, Map};
-use site_model::{Site, SiteDevice, Words, WriteFunction};
+use site_model::{Site, SiteDevice, Want, Words, WriteFunction};
 
 /// A request to a unit.
 #[derive(Debug, PartialEq, Eq, Drop)]
@@ -132,7 +132,7 @@ fn take_blocks<C: ScanCore, L: Link>(core: &mut C, line: &mut Line<L>) -> Result
     Ok(lost)
 }
 
-fn want_at(site: &Site, i: usize) -> (usize, u16)
+fn want_at(site: &Site, i: usize) -> Want
     requires { i < length site.now.wants }
     ensures { result ≡ slice_index_or site.now.wants i result }
 {
@@ -172,7 +172,7 @@ impl<L: Link> Line<L> {
         &mut self,
         site: &Site,
         maps: &[Option<Map>],
-        want: (usize, u16),
+        want: Want,
     ) -> Result<Event, LinkFault>
         requires { self.old.polling.fault ≡ None }
         ensures taken { IfOk result (λ event. TakesBlock want (read_of site.now maps.now want) self.old.polling event self.new.polling) }
@@ -184,7 +184,7 @@ impl<L: Link> Line<L> {
                 Ok(outcome) => Ok(event_by(want, outcome)),
                 Err(fault) => Err(fault),
             },
-            None => Ok(Event::Lost(want.0, want.1)),
+            None => Ok(Event::Lost(want)),
         }
     }
 
@@ -222,15 +222,14 @@ impl<L: Link> Line<L> {
 }
 
 /// The request for a wanted block, where the device has the model.
-pub fn read_of(site: &Site, maps: &[Option<Map>], want: (usize, u16)) -> Option<Call>
+pub fn read_of(site: &Site, maps: &[Option<Map>], want: Want) -> Option<Call>
     ensures read { result ≡ read_of site.now maps.now want }
     ensures quantity { IfSome result (λ call. HasQuantity call.request) }
 {
-    let (device, model) = want;
-    let device = site.devices().get(device)?;
-    let map = maps.get(want.0)?.as_ref()?;
-    let block = map.block(model)?;
-    let length = site.length(model)?;
+    let device = site.devices().get(want.device)?;
+    let map = maps.get(want.device)?.as_ref()?;
+    let block = map.block(want.model)?;
+    let length = site.length(want.model)?;
     Some(Call {
         unit: device.unit,
         request: block_request(block, length),
@@ -249,12 +248,12 @@ fn block_request(block: Block, length: u16) -> Request
 }
 
 /// What a request for a wanted block tells: its words, or that it is lost.
-pub fn event_by(want: (usize, u16), outcome: Outcome) -> Event
+pub fn event_by(want: Want, outcome: Outcome) -> Event
     ensures { result ≡ event_by want outcome }
 {
     match outcome {
-        Outcome::Words(words) => Event::Block(want.0, want.1, words),
-        _ => Event::Lost(want.0, want.1),
+        Outcome::Words(words) => Event::Block(want, words),
+        _ => Event::Lost(want),
     }
 }
 
@@ -306,7 +305,7 @@ fn lost_by(event: &Event) -> usize
     ensures most { result ≤ 1 }
 {
     match event {
-        Event::Lost(_, _) => 1,
+        Event::Lost(_) => 1,
         _ => 0,
     }
 }

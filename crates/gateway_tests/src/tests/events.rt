@@ -6,7 +6,7 @@ use crate::tests::{assert_same, pdu};
 use gateway::{Answer, Core, CoreFault, Event};
 use modbus_frame::Request;
 use point_writer::{NoWrite, Write};
-use site_model::Words;
+use site_model::{Want, Words};
 use std::alloc::Global;
 use std::process::Abort;
 use worked_texts::sites::SITE;
@@ -38,17 +38,21 @@ enum Step {
     NothingSets(&'static str, i64),
 }
 
+fn want(device: usize, model: u16) -> Want {
+    Want { device, model }
+}
+
 fn assert_step(rt: &impl Abort, core: &mut Core<32>, step: &Step) {
     match step {
         Step::Power(device, watts, factor) => {
-            let block = Event::Block(*device, 103, power(rt, *watts, *factor));
+            let block = Event::Block(want(*device, 103), power(rt, *watts, *factor));
             assert_answer(rt, core, block, &Answer::None);
         }
         Step::Controls => {
-            let block = Event::Block(0, 123, controls(rt));
+            let block = Event::Block(want(0, 123), controls(rt));
             assert_answer(rt, core, block, &Answer::None);
         }
-        Step::Lost(device) => assert_answer(rt, core, Event::Lost(*device, 103), &Answer::None),
+        Step::Lost(device) => assert_answer(rt, core, Event::Lost(want(*device, 103)), &Answer::None),
         Step::Scan => assert_answer(rt, core, Event::Scan, &Answer::Writes(2)),
         Step::Asks(request, reply) => assert_reply(rt, core, request, reply),
         Step::Replay => assert_replayed(rt, core),
@@ -225,7 +229,7 @@ fn what_a_client_set_has_its_request(rt: HostRuntime) {
 
 fn assert_replayed(rt: &impl Abort, core: &mut Core<32>) {
     let mut answers = [Answer::Writes(0), Answer::None];
-    core.replay(&[Event::Lost(0, 103), Event::Scan], &mut answers);
+    core.replay(&[Event::Lost(want(0, 103)), Event::Scan], &mut answers);
     assert_same(rt, &answers, &[Answer::None, Answer::Writes(2)]);
 }
 

@@ -5,6 +5,7 @@ use crate::tests::plant::{Plant, core, device_at, new_plant};
 use crate::tests::units::{Manner, byte, word};
 use gateway::{Answer, Core, Event};
 use modbus_frame::{Pdu, Words};
+use site_model::Want;
 use std::alloc::Global;
 use std::process::Abort;
 
@@ -140,7 +141,7 @@ fn block_in(rt: &impl Abort, alloc: Global, link: usize, reply: &[u8]) -> Option
         words.push(word(reply, 9 + 2 * i)).expect(rt, "memory");
     }
     let model = words.get(0).copied()?;
-    Some(Event::Block(device, model, Words::from_slice(&words)?))
+    Some(Event::Block(Want { device, model }, Words::from_slice(&words)?))
 }
 
 /// The answers of the site run of some events, and the core behind it.
