@@ -5,6 +5,7 @@ use Rattle.point_types.specs.Name.{folded, is_digit, is_letter, is_name, is_name
 use Rattle.point_types.specs.Value.{is_within, low_of, high_of}
 use Rattle.il_reader.specs.declared.fault.ReadFaultKind.{ReadFaultKind}
 use Rattle.il_reader.specs.declared.fault.ReadFaultKind.TheVariants as fault
+use Rattle.il_reader.specs.declared.lexer.ByteFault.{ByteFault}
 use Rattle.il_reader.specs.declared.lexer.Lexed.{Lexed}
 use Rattle.il_reader.specs.declared.lexer.Mode.{Mode}
 use Rattle.il_reader.specs.declared.lexer.Mode.TheVariants as mode
@@ -15,7 +16,7 @@ use Rattle.il_reader.specs.declared.token.Keyword.{Keyword}
 use Rattle.il_reader.specs.declared.token.Token.{Token}
 use Rattle.il_reader.specs.declared.token.Token.TheVariants as token
 use Rattle.il_reader.specs.Grammar.{Placed, Scan, Tokens, NoTokens, joined, last_tokens, of_line, placed, scanned, scanned_on, tokens_of}
-use Rattle.il_reader.specs.Tokens.{and_byte, and_n_byte, and_token, at_end, base_named, based, digit_in, ended_by, first_byte, first_digit, grown, grows, keyword, keyword_or, lexed, limits_of, line_behind, literal_begun, literal_type, mark_of, number_ended, number_grown, number_stands, number_token, opening_of, sign_byte, stands, typed_byte, word_byte, word_ended, word_grown, word_token}
+use Rattle.il_reader.specs.Tokens.{and_byte, and_n_byte, and_token, at_end, base_named, based, digit_in, ended_by, fails, first_byte, first_digit, grown, grows, keyword, keyword_or, lexed, limits_of, line_behind, literal_begun, literal_type, mark_of, number_ended, number_grown, number_stands, number_token, opening_of, sign_byte, stands, typed_byte, word_byte, word_ended, word_grown, word_token}
 
 -- a token that is no name, or one
 abbrev pub IsNamed : Token → Type 0
@@ -31,13 +32,13 @@ IsNamedIfThere None = Unit {0}
 IsNamedIfThere (Some t) = IsNamed t
 
 -- of the tokens that a byte ends
-abbrev GivesNamed : Result Lexed ReadFaultKind → Type 0
+abbrev GivesNamed : Result Lexed ByteFault → Type 0
 GivesNamed (Ok x) = IsNamedIfThere x.ended × IsNamedIfThere x.own
 GivesNamed (Err k) = Unit {0}
 
 -- ---- one byte
 
-either : (b : Bool) (x y : Result Lexed ReadFaultKind) → GivesNamed x → GivesNamed y → GivesNamed (if b then x else y)
+either : (b : Bool) (x y : Result Lexed ByteFault) → GivesNamed x → GivesNamed y → GivesNamed (if b then x else y)
 either true x y h k = h
 either false x y h k = k
 
@@ -45,7 +46,7 @@ stands_named : (q : Mode) → GivesNamed (stands q)
 stands_named q = (tt, tt)
 
 number_stands_named : (k : Option IlType) (s : Spelling) (n : ℤ) → GivesNamed (number_stands k s n)
-number_stands_named k s n = either (is_within (low_of (limits_of k)) (high_of (limits_of k)) n) (stands (mode.Number k s n false)) (Err fault.Literal) (tt, tt) tt
+number_stands_named k s n = either (is_within (low_of (limits_of k)) (high_of (limits_of k)) n) (stands (mode.Number k s n false)) (fails fault.Literal) (tt, tt) tt
 
 first_digit_named : (k : Option IlType) (b : ℕ) → GivesNamed (first_digit k b)
 first_digit_named k b =
@@ -62,7 +63,7 @@ opening_named b =
 first_byte_named : (b : ℕ) → GivesNamed (first_byte b)
 first_byte_named b = either (is_letter (folded b)) _ _ (tt, tt) (either (is_digit b) (first_digit None b) (opening_of b) (first_digit_named None b) (opening_named b))
 
-ended_named : (t : Token) (x : Result Lexed ReadFaultKind) → IsNamed t → GivesNamed x → GivesNamed (ended_by t x)
+ended_named : (t : Token) (x : Result Lexed ByteFault) → IsNamed t → GivesNamed x → GivesNamed (ended_by t x)
 ended_named t (Ok x) h k = (h, k.1)
 ended_named t (Err e) h k = tt
 
@@ -192,7 +193,7 @@ last_named : (n : ℕ) (r : Result (Option Token) ReadFaultKind) → EndsNamed r
 last_named n (Ok t) h = line_named n t h
 last_named n (Err k) h = tt
 
-scanned_on_named : (n : ℕ) (r : Result Lexed ReadFaultKind) (on : Mode → Scan) → GivesNamed r → ((q : Mode) → ScansNamed (on q)) → ScansNamed (scanned_on n r on)
+scanned_on_named : (n : ℕ) (r : Result Lexed ByteFault) (on : Mode → Scan) → GivesNamed r → ((q : Mode) → ScansNamed (on q)) → ScansNamed (scanned_on n r on)
 scanned_on_named n (Ok x) on h k =
     joined_named (of_line n x.ended ++ of_line n x.own) (on x.mode) (both_named (of_line n x.ended) (of_line n x.own) (line_named n x.ended h.0) (line_named n x.own h.1)) (k x.mode)
 scanned_on_named n (Err e) on h k = tt

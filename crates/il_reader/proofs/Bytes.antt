@@ -4,6 +4,7 @@ use Rattle.il_reader.specs.declared.fault.ReadFaultKind.{ReadFaultKind}
 use Rattle.il_reader.specs.declared.fault.ReadFaultKind.TheVariants as fault
 use Rattle.il_reader.specs.declared.token.Token.{Token}
 use Rattle.il_reader.specs.declared.tree.Program.{Program}
+use Rattle.il_reader.specs.declared.lexer.ByteFault.{ByteFault}
 use Rattle.il_reader.specs.declared.lexer.Lexed.{Lexed}
 use Rattle.il_reader.specs.declared.state.State.{State}
 use Rattle.il_reader.specs.declared.state.State.TheVariants as state
@@ -59,7 +60,7 @@ took [] r p h = go (at_end r.mode) refl h
     go (Err k) e h = absurd (cc)
 took (b ∷ bs) r p h = go (λ r' h. took bs r' p h) (lexed r.mode b) refl h
   where
-    go : ((r' : Reader) → judged (fed r' bs) ≡ Reads p → Took r' bs p) → (x : Result Lexed ReadFaultKind) → lexed r.mode b ≡ x → judged (fed_on (byte_read r b bs x) (λ r'. fed r' bs)) ≡ Reads p → Took r (b ∷ bs) p
+    go : ((r' : Reader) → judged (fed r' bs) ≡ Reads p → Took r' bs p) → (x : Result Lexed ByteFault) → lexed r.mode b ≡ x → judged (fed_on (byte_read r b bs x) (λ r'. fed r' bs)) ≡ Reads p → Took r (b ∷ bs) p
     go on (Err k) e h = absurd (cc)
     go on (Ok x) e h = turn (taken r.state x r.line) refl h
       where
@@ -82,7 +83,7 @@ takes [] r p ts e h = go (at_end r.mode) e
     go (Err k) e = absurd (cc)
 takes (b ∷ bs) r p ts e h = go (λ r' us e h. takes bs r' p us e h) (lexed r.mode b) e
   where
-    go : ((r' : Reader) (us : List Placed) → scanned r'.line r'.mode bs ≡ Tokens us → run r'.state us ≡ Ok (state.Over p) → judged (fed r' bs) ≡ Reads p) → (x : Result Lexed ReadFaultKind) → scanned_on r.line x (λ q'. scanned (line_behind b r.line) q' bs) ≡ Tokens ts → judged (fed_on (byte_read r b bs x) (λ r'. fed r' bs)) ≡ Reads p
+    go : ((r' : Reader) (us : List Placed) → scanned r'.line r'.mode bs ≡ Tokens us → run r'.state us ≡ Ok (state.Over p) → judged (fed r' bs) ≡ Reads p) → (x : Result Lexed ByteFault) → scanned_on r.line x (λ q'. scanned (line_behind b r.line) q' bs) ≡ Tokens ts → judged (fed_on (byte_read r b bs x) (λ r'. fed r' bs)) ≡ Reads p
     go on (Err k) e = absurd (cc)
     go on (Ok x) e = rest (scanned (line_behind b r.line) x.mode bs) refl e
       where

@@ -12,7 +12,7 @@ use Rattle.il_reader.specs.declared.reader.Reader.{Reader}
 use Rattle.il_reader.specs.declared.scope.Scope.{Scope}
 use Rattle.il_reader.specs.declared.state.State.{State}
 use Rattle.il_reader.specs.Declaration.{among, is_presence, is_among_presences, has_presence_among, is_taken, has_room}
-use Rattle.il_reader.specs.Tokens.{stands, keyword, keyword_or, word_token}
+use Rattle.il_reader.specs.Tokens.{fails, stands, keyword, keyword_or, word_token}
 use Rattle.il_reader.specs.Reading.{byte_read, fed_on, fed}
 
 abbrev pub letters : List Bool → List ℕ
@@ -238,8 +238,8 @@ is_fresh x s h =
 abbrev pub in_word : ℕ → List ℕ → State → Reader
 in_word n w s = record { line = n; last = n; mode = mode.Word w false; state = s }
 
-one_letter : (b n : ℕ) (r : List ℕ) (s : State) (rest : List ℕ) → length r < 32 → fed_on (byte_read (in_word n r s) b rest (if nat_lt (length r) 32 then stands (mode.Word (r ++ b ∷ []) false) else Err fault.Word)) (λ r'. fed r' rest) ≡ fed_on (byte_read (in_word n r s) b rest (stands (mode.Word (r ++ b ∷ []) false))) (λ r'. fed r' rest)
-one_letter b n r s rest h = ap (λ z. fed_on (byte_read (in_word n r s) b rest (if z then stands (mode.Word (r ++ b ∷ []) false) else Err fault.Word)) (λ r'. fed r' rest)) few
+one_letter : (b n : ℕ) (r : List ℕ) (s : State) (rest : List ℕ) → length r < 32 → fed_on (byte_read (in_word n r s) b rest (if nat_lt (length r) 32 then stands (mode.Word (r ++ b ∷ []) false) else fails fault.Word)) (λ r'. fed r' rest) ≡ fed_on (byte_read (in_word n r s) b rest (stands (mode.Word (r ++ b ∷ []) false))) (λ r'. fed r' rest)
+one_letter b n r s rest h = ap (λ z. fed_on (byte_read (in_word n r s) b rest (if z then stands (mode.Word (r ++ b ∷ []) false) else fails fault.Word)) (λ r'. fed r' rest)) few
   where
     few : nat_lt (length r) 32 ≡ true
     few = grind (arith, nat_tests)

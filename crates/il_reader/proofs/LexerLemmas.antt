@@ -1,5 +1,5 @@
 -- Numbers that no literal holds, and blanks before a colon.
-use Rattle.std.proofs.Common.{◌≡◌, ℕ, ◌-◌, ◌<◌, ◌≤◌, Bool, true, false, not, ℤ, List, [], ◌∷◌, length, take, drop, get_or, Option, Some, None, sym, ap, ◌∙◌, if◌then◌else◌, Err, nat_eq, arith, w64}
+use Rattle.std.proofs.Common.{◌≡◌, ℕ, ◌-◌, ◌<◌, ◌≤◌, Bool, true, false, not, ℤ, List, [], ◌∷◌, length, take, drop, get_or, Option, Some, None, sym, ap, ◌∙◌, if◌then◌else◌, nat_eq, arith, w64}
 use Rattle.std.proofs.lemmas.List.{take_all}
 use Rattle.std.proofs.lemmas.Int.{ints}
 use mir.Val.{SFits}
@@ -10,7 +10,7 @@ use Rattle.il_reader.specs.declared.fault.ReadFaultKind.TheVariants as fault
 use Rattle.il_reader.specs.declared.numeral.Spelling.{Spelling}
 use Rattle.il_reader.specs.declared.lexer.Mode.{Mode}
 use Rattle.il_reader.specs.declared.lexer.Mode.TheVariants as mode
-use Rattle.il_reader.specs.Tokens.{stands, limits_of, number_stands, lexed, is_colon, behind_blank, colon_behind, colon_comes}
+use Rattle.il_reader.specs.Tokens.{fails, stands, limits_of, number_stands, lexed, is_colon, behind_blank, colon_behind, colon_comes}
 
 pub outside : (k : IlType) (n : ℤ) → (SFits w64 n → ⊥) → is_within (low_of k) (high_of k) n ≡ false
 outside il.Bool n f = grind (arith, ints)
@@ -22,8 +22,8 @@ outside il.Usint n f = grind (arith, ints)
 outside il.Uint n f = grind (arith, ints)
 outside il.Udint n f = grind (arith, ints)
 
-pub number_fails : (k : Option IlType) (s : Spelling) (n : ℤ) → (SFits w64 n → ⊥) → Err fault.Literal ≡ number_stands k s n
-number_fails k s n f = ap (λ z. if z then stands (mode.Number k s n false) else Err fault.Literal) (sym (outside (limits_of k) n f))
+pub number_fails : (k : Option IlType) (s : Spelling) (n : ℤ) → (SFits w64 n → ⊥) → fails fault.Literal ≡ number_stands k s n
+number_fails k s n f = ap (λ z. if z then stands (mode.Number k s n false) else fails fault.Literal) (sym (outside (limits_of k) n f))
 
 -- The bytes behind the first.
 

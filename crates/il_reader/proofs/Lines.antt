@@ -6,13 +6,14 @@ use Rattle.il_reader.specs.declared.fault.ReadFaultKind.{ReadFaultKind}
 use Rattle.il_reader.specs.declared.fault.ReadFaultKind.TheVariants as fault
 use Rattle.il_reader.specs.declared.token.Token.{Token}
 use Rattle.il_reader.specs.declared.tree.Program.{Program}
+use Rattle.il_reader.specs.declared.lexer.ByteFault.{ByteFault}
 use Rattle.il_reader.specs.declared.lexer.Lexed.{Lexed}
 use Rattle.il_reader.specs.declared.numeral.Spelling.{Spelling}
 use Rattle.il_reader.specs.declared.lexer.Mode.{Mode}
 use Rattle.il_reader.specs.declared.lexer.Mode.TheVariants as mode
 use Rattle.il_reader.specs.declared.reader.Reader.{Reader}
 use Rattle.il_reader.specs.declared.state.State.TheVariants as state
-use Rattle.il_reader.specs.Tokens.{lexed, at_end, line_behind, word_token, word_ended, number_ended}
+use Rattle.il_reader.specs.Tokens.{fails, lexed, at_end, line_behind, word_token, word_ended, number_ended}
 use Rattle.il_reader.specs.Grammar.{IsProgramText}
 use Rattle.il_reader.specs.Drafting.{Move}
 use Rattle.il_reader.specs.Reading.{stepped, taken, state_read, byte_read, byte_fed, fed_on, fed, opening, Outcome, Reads, AtFault, TooSoon, early, end_reached, end_read, judged, outcome}
@@ -35,9 +36,9 @@ in_front_state : (r : Reader) (b : ℕ) (bs cs : List ℕ) (x : Lexed) (m : Move
 in_front_state r b bs cs x (Ok s) = refl
 in_front_state r b bs cs x (Err k) = (refl, (_, refl))
 
-in_front_read : (r : Reader) (b : ℕ) (bs cs : List ℕ) (x : Result Lexed ReadFaultKind) → InFrontOf r (byte_read r b bs x) (byte_read r b cs x)
+in_front_read : (r : Reader) (b : ℕ) (bs cs : List ℕ) (x : Result Lexed ByteFault) → InFrontOf r (byte_read r b bs x) (byte_read r b cs x)
 in_front_read r b bs cs (Ok x) = in_front_state r b bs cs x (taken r.state x r.line)
-in_front_read r b bs cs (Err k) = (refl, (k, refl))
+in_front_read r b bs cs (Err k) = (refl, (_, refl))
 
 in_front : (r : Reader) (b : ℕ) (bs cs : List ℕ) (x : Result Reader ReadFault) → byte_fed r b bs ≡ x → InFrontOf r x (byte_fed r b cs)
 in_front r b bs cs x e = subst (λ z. InFrontOf r z (byte_fed r b cs)) e (in_front_read r b bs cs (lexed r.mode b))
@@ -75,7 +76,7 @@ fails_append (c ∷ a) b r f e = go (λ r' e. fails_append a b r' f e) (byte_fed
 
 -- What a line end leaves open.
 
-abbrev CalmLexed : Result Lexed ReadFaultKind → Type 0
+abbrev CalmLexed : Result Lexed ByteFault → Type 0
 CalmLexed (Ok x) = IsCalm x.mode
 CalmLexed (Err k) = Unit {0}
 
@@ -83,7 +84,7 @@ calm_word : (t : Option Token) → CalmLexed (word_ended t 10)
 calm_word None = tt
 calm_word (Some t) = tt
 
-calm_number : (k : Option IlType) (s : Spelling) (n : ℤ) (wanting : Bool) → CalmLexed (if wanting then Err fault.Literal else number_ended k s n 10)
+calm_number : (k : Option IlType) (s : Spelling) (n : ℤ) (wanting : Bool) → CalmLexed (if wanting then fails fault.Literal else number_ended k s n 10)
 calm_number k s n true = tt
 calm_number k s n false = tt
 
@@ -110,7 +111,7 @@ calm_state : (r : Reader) (b : ℕ) (bs : List ℕ) (x : Lexed) (m : Move) → I
 calm_state r b bs x (Ok s) h = h
 calm_state r b bs x (Err k) h = tt
 
-calm_read : (r : Reader) (b : ℕ) (bs : List ℕ) (x : Result Lexed ReadFaultKind) → CalmLexed x → CalmReader (byte_read r b bs x)
+calm_read : (r : Reader) (b : ℕ) (bs : List ℕ) (x : Result Lexed ByteFault) → CalmLexed x → CalmReader (byte_read r b bs x)
 calm_read r b bs (Ok x) h = calm_state r b bs x (taken r.state x r.line) h
 calm_read r b bs (Err k) h = tt
 
@@ -136,7 +137,7 @@ line_state r q b bs x (Ok s) e = (sym (ap line_in e), sym (ap last_in e))
     last_in (Err f) = 0
 line_state r q b bs x (Err k) e = absurd (cc)
 
-line_read : (r q : Reader) (b : ℕ) (bs : List ℕ) (x : Result Lexed ReadFaultKind) → byte_read r b bs x ≡ Ok q → (q.line ≡ line_behind b r.line) × (q.last ≡ r.line)
+line_read : (r q : Reader) (b : ℕ) (bs : List ℕ) (x : Result Lexed ByteFault) → byte_read r b bs x ≡ Ok q → (q.line ≡ line_behind b r.line) × (q.last ≡ r.line)
 line_read r q b bs (Ok x) e = line_state r q b bs x (taken r.state x r.line) e
 line_read r q b bs (Err k) e = absurd (cc)
 

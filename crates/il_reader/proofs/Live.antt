@@ -5,7 +5,6 @@ use Rattle.point_types.specs.declared.operator.Condition.{Condition}
 use Rattle.point_types.specs.declared.operator.Operator.{Operator}
 use Rattle.point_types.specs.Value.{is_bool}
 use Rattle.il_reader.specs.declared.fault.ReadFault.{ReadFault}
-use Rattle.il_reader.specs.declared.fault.ReadFaultKind.{ReadFaultKind}
 use Rattle.il_reader.specs.declared.fault.ReadFaultKind.TheVariants as fault
 use Rattle.il_reader.specs.declared.token.Keyword.{Keyword}
 use Rattle.il_reader.specs.declared.token.Keyword.TheVariants as word
@@ -17,6 +16,7 @@ use Rattle.il_reader.specs.declared.typing.Typing.{Typing}
 use Rattle.il_reader.specs.declared.draft.Draft.{Draft}
 use Rattle.il_reader.specs.declared.draft.Head.{Head}
 use Rattle.il_reader.specs.declared.nest.OpenParenthesis.{OpenParenthesis}
+use Rattle.il_reader.specs.declared.lexer.ByteFault.{ByteFault}
 use Rattle.il_reader.specs.declared.lexer.Lexed.{Lexed}
 use Rattle.il_reader.specs.declared.reader.Reader.{Reader}
 use Rattle.il_reader.specs.declared.stage.BlockStage.{BlockStage}
@@ -373,7 +373,7 @@ live_moved : (r : Reader) (b : ℕ) (bs : List ℕ) (x : Lexed) (m : Move) → L
 live_moved r b bs x (Ok s) h = h
 live_moved r b bs x (Err k) h = tt
 
-live_read : (r : Reader) (b : ℕ) (bs : List ℕ) (x : Result Lexed ReadFaultKind) → IsLive r.state → LiveReader (byte_read r b bs x)
+live_read : (r : Reader) (b : ℕ) (bs : List ℕ) (x : Result Lexed ByteFault) → IsLive r.state → LiveReader (byte_read r b bs x)
 live_read r b bs (Ok x) h = live_moved r b bs x (taken r.state x r.line) (live_taken r.state x r.line h)
 live_read r b bs (Err k) h = tt
 

@@ -1,5 +1,5 @@
 -- Each number of LINT can be written with a sign and digits.
-use Rattle.std.proofs.Common.{◌≡◌, ℕ, zero, suc, ◌+◌, ◌*◌, ◌≤◌, Bool, true, false, ℤ, pos, List, [], ◌∷◌, ◌++◌, Some, None, Ok, Err, refl, sym, ap, ◌∙◌, subst, append_assoc, if◌then◌else◌, arith}
+use Rattle.std.proofs.Common.{◌≡◌, ℕ, zero, suc, ◌+◌, ◌*◌, ◌≤◌, Bool, true, false, ℤ, pos, List, [], ◌∷◌, ◌++◌, Some, None, Ok, refl, sym, ap, ◌∙◌, subst, append_assoc, if◌then◌else◌, arith}
 use Rattle.std.proofs.lemmas.Int.{ints}
 use Rattle.std.specs.Prelude.{neg_ℤ, negsuc}
 use Rattle.point_types.specs.declared.il_type.IlType.TheVariants as il
@@ -12,7 +12,7 @@ use Rattle.il_reader.specs.declared.lexer.Mode.TheVariants as mode
 use Rattle.il_reader.specs.declared.numeral.Spelling.TheVariants as spelling
 use Rattle.il_reader.specs.declared.reader.Reader.{Reader}
 use Rattle.il_reader.specs.declared.state.State.{State}
-use Rattle.il_reader.specs.Tokens.{lexed, stands, number_stands, grown}
+use Rattle.il_reader.specs.Tokens.{fails, lexed, stands, number_stands, grown}
 use Rattle.il_reader.specs.Reading.{step, stepped, onward, state_read, byte_read, fed_on, fed}
 
 -- where no token is open
@@ -131,7 +131,7 @@ within true m h = grind (arith, ints)
 within false m h = grind (arith, ints)
 
 stands_within : (negative : Bool) (m : ℕ) → m ≤ greatest negative → number_stands None (spelling.Signed negative) (signed negative m) ≡ stands (mode.Number None (spelling.Signed negative) (signed negative m) false)
-stands_within negative m h = ap (λ z. if z then stands (mode.Number None (spelling.Signed negative) (signed negative m) false) else Err fault.Literal) (within negative m h)
+stands_within negative m h = ap (λ z. if z then stands (mode.Number None (spelling.Signed negative) (signed negative m) false) else fails fault.Literal) (within negative m h)
 
 grown_is : (negative : Bool) (m d : ℕ) → grown (spelling.Signed negative) (signed negative m) d ≡ signed negative (10 * m + d)
 grown_is true m d = omega (arith, ints)

@@ -1,7 +1,7 @@
 -- One byte of a text read, before the rest.
 use Rattle.std.proofs.Common.{◌≡◌, ℕ, suc, ◌+◌, ◌≤◌, Bool, true, false, List, [], ◌∷◌, length, get_or, Result, Ok, Err, sym, ap, ◌∙◌, arith, if◌then◌else◌, nat_eq}
 use Rattle.il_reader.specs.declared.fault.ReadFault.{ReadFault}
-use Rattle.il_reader.specs.declared.fault.ReadFaultKind.{ReadFaultKind}
+use Rattle.il_reader.specs.declared.lexer.ByteFault.{ByteFault}
 use Rattle.il_reader.specs.declared.lexer.Lexed.{Lexed}
 use Rattle.il_reader.specs.declared.reader.Reader.{Reader}
 use Rattle.il_reader.specs.Tokens.{lexed, line_behind}
@@ -41,7 +41,7 @@ state_line r next b bs x (Ok s) e =
     line_in (Err f) = 0
 state_line r next b bs x (Err k) e = absurd (cc)
 
-byte_line : (r next : Reader) (b : ℕ) (bs : List ℕ) (x : Result Lexed ReadFaultKind) → byte_read r b bs x ≡ Ok next → next.line ≤ suc r.line
+byte_line : (r next : Reader) (b : ℕ) (bs : List ℕ) (x : Result Lexed ByteFault) → byte_read r b bs x ≡ Ok next → next.line ≤ suc r.line
 byte_line r next b bs (Ok x) e = state_line r next b bs x (taken r.state x r.line) e
 byte_line r next b bs (Err k) e = absurd (cc)
 

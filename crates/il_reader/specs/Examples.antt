@@ -61,6 +61,16 @@ pub open_parentheses : outcome (codes "PROGRAM p\nADD( 1\nLD") ≡ TooSoon (reco
 unfolding keyword is_reserved plain_words conversions
 open_parentheses = refl
 
+-- the byte ends a word that can't begin a program
+pub stray_byte_in_a_keyword : outcome (codes "PRO$RAM p") ≡ AtFault (record { line = 1; kind = fault.Header })
+unfolding keyword is_reserved plain_words conversions
+stray_byte_in_a_keyword = refl
+
+-- the byte ends a word that may be a label
+pub stray_byte_behind_a_name : outcome (codes "PROGRAM p\nx$") ≡ AtFault (record { line = 2; kind = fault.Word })
+unfolding keyword is_reserved plain_words conversions
+stray_byte_behind_a_name = refl
+
 pub presence_of_a_name : is_presence (codes "p_ok") (codes "p") ≡ true
 presence_of_a_name = refl
 

@@ -5,6 +5,7 @@ use Rattle.point_types.specs.declared.il_type.IlType.{IlType}
 use Rattle.point_types.specs.declared.operator.Condition.{Condition}
 use Rattle.point_types.specs.Value.{is_bool}
 use Rattle.il_reader.specs.declared.fault.ReadFaultKind.{ReadFaultKind}
+use Rattle.il_reader.specs.declared.lexer.ByteFault.{ByteFault}
 use Rattle.il_reader.specs.declared.lexer.Lexed.{Lexed}
 use Rattle.il_reader.specs.declared.lexer.Mode.{Mode}
 use Rattle.il_reader.specs.declared.lexer.Mode.TheVariants as mode
@@ -51,9 +52,9 @@ abbrev pub joined : List Placed → Scan → Scan
 joined ts (Tokens us) = Tokens (ts ++ us)
 joined ts NoTokens = NoTokens
 
-abbrev pub scanned_on : ℕ → Result Lexed ReadFaultKind → (Mode → Scan) → Scan
+abbrev pub scanned_on : ℕ → Result Lexed ByteFault → (Mode → Scan) → Scan
 scanned_on n (Ok x) on = joined (of_line n x.ended ++ of_line n x.own) (on x.mode)
-scanned_on n (Err k) on = NoTokens
+scanned_on n (Err f) on = NoTokens
 
 abbrev pub scanned : ℕ → Mode → List ℕ → Scan
 scanned n q [] = last_tokens n (at_end q)

@@ -12,6 +12,7 @@ use Rattle.il_reader.specs.declared.token.Token.TheVariants as token
 use Rattle.il_reader.specs.declared.tree.Program.{Program}
 use Rattle.il_reader.specs.declared.typing.Typing.{Typing}
 use Rattle.il_reader.specs.declared.lexer.Mode.TheVariants as mode
+use Rattle.il_reader.specs.declared.lexer.ByteFault.{ByteFault}
 use Rattle.il_reader.specs.declared.lexer.Lexed.{Lexed}
 use Rattle.il_reader.specs.declared.draft.Draft.{Draft}
 use Rattle.il_reader.specs.declared.nest.OpenParenthesis.{OpenParenthesis}
@@ -228,9 +229,14 @@ abbrev pub state_read : Reader → ℕ → List ℕ → Lexed → Move → Resul
 state_read r b behind x (Ok s) = Ok (record { line = line_behind b r.line; last = r.line; mode = x.mode; state = s })
 state_read r b behind x (Err k) = Err (record { line = r.line; kind = told (is_at_inner_line r.state && is_label x behind) k })
 
-abbrev pub byte_read : Reader → ℕ → List ℕ → Result Lexed ReadFaultKind → Result Reader ReadFault
+-- of two faults that of the token before the byte, where that can't stand
+abbrev pub leftmost : Move → ReadFaultKind → ReadFaultKind
+leftmost (Ok s) k = k
+leftmost (Err j) k = j
+
+abbrev pub byte_read : Reader → ℕ → List ℕ → Result Lexed ByteFault → Result Reader ReadFault
 byte_read r b behind (Ok x) = state_read r b behind x (taken r.state x r.line)
-byte_read r b behind (Err k) = Err (record { line = r.line; kind = k })
+byte_read r b behind (Err f) = Err (record { line = r.line; kind = leftmost (stepped r.state f.ended r.line) f.kind })
 
 abbrev pub byte_fed : Reader → ℕ → List ℕ → Result Reader ReadFault
 byte_fed r b behind = byte_read r b behind (lexed r.mode b)

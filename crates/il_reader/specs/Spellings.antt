@@ -11,6 +11,7 @@ use Rattle.il_reader.specs.declared.token.Token.{Token}
 use Rattle.il_reader.specs.declared.token.Token.TheVariants as token
 use Rattle.il_reader.specs.declared.lexer.Mode.{Mode}
 use Rattle.il_reader.specs.declared.lexer.Mode.TheVariants as mode
+use Rattle.il_reader.specs.declared.lexer.ByteFault.{ByteFault}
 use Rattle.il_reader.specs.declared.lexer.Lexed.{Lexed}
 use Rattle.il_reader.specs.Tokens.{lexed, at_end, keyword}
 
@@ -23,9 +24,9 @@ abbrev pub last_of : Result (Option Token) ReadFaultKind → Result (List Token)
 last_of (Ok t) = before t (Ok [])
 last_of (Err k) = Err k
 
-abbrev pub on_from : Result Lexed ReadFaultKind → (Mode → Result (List Token) ReadFaultKind) → Result (List Token) ReadFaultKind
+abbrev pub on_from : Result Lexed ByteFault → (Mode → Result (List Token) ReadFaultKind) → Result (List Token) ReadFaultKind
 on_from (Ok x) on = before x.ended (before x.own (on x.mode))
-on_from (Err k) on = Err k
+on_from (Err f) on = Err f.kind
 
 abbrev pub spelled : Mode → List ℕ → Result (List Token) ReadFaultKind
 spelled q [] = last_of (at_end q)

@@ -20,6 +20,7 @@ use Rattle.il_reader.specs.declared.numeral.Spelling.{Spelling}
 use Rattle.il_reader.specs.declared.numeral.Spelling.TheVariants as spelling
 use Rattle.il_reader.specs.declared.lexer.Mode.{Mode}
 use Rattle.il_reader.specs.declared.lexer.Mode.TheVariants as mode
+use Rattle.il_reader.specs.declared.lexer.ByteFault.{ByteFault}
 use Rattle.il_reader.specs.declared.lexer.Lexed.{Lexed}
 
 -- Words with a meaning of their own.
@@ -131,24 +132,28 @@ literal_type _ = None
 
 -- One byte.
 
+-- the byte can't follow, and has ended no token
+abbrev pub fails : ReadFaultKind → Result Lexed ByteFault
+fails k = Err (record { ended = None; kind = k })
+
 -- no token ends, and none is whole
-abbrev pub stands : Mode → Result Lexed ReadFaultKind
+abbrev pub stands : Mode → Result Lexed ByteFault
 stands q = Ok (record { ended = None; own = None; mode = q })
 
 -- the byte is the end of a token, and none stood open before it
-abbrev pub gives : Token → Result Lexed ReadFaultKind
+abbrev pub gives : Token → Result Lexed ByteFault
 gives t = Ok (record { ended = None; own = Some t; mode = mode.Clear })
 
 -- a number within its type
-abbrev pub number_stands : Option IlType → Spelling → ℤ → Result Lexed ReadFaultKind
-number_stands k s n = if is_within (low_of (limits_of k)) (high_of (limits_of k)) n then stands (mode.Number k s n false) else Err fault.Literal
+abbrev pub number_stands : Option IlType → Spelling → ℤ → Result Lexed ByteFault
+number_stands k s n = if is_within (low_of (limits_of k)) (high_of (limits_of k)) n then stands (mode.Number k s n false) else fails fault.Literal
 
 -- the first digit of a number without a sign; behind a zero no base can follow
-abbrev pub first_digit : Option IlType → ℕ → Result Lexed ReadFaultKind
+abbrev pub first_digit : Option IlType → ℕ → Result Lexed ByteFault
 first_digit k b = if nat_eq b 48 then number_stands k spelling.Decimal (pos 0) else number_stands k spelling.Plain (pos (b - 48))
 
 -- tokens of one byte: line end, comma, semicolon, closing parenthesis, braces
-abbrev pub mark_of : ℕ → Result Lexed ReadFaultKind
+abbrev pub mark_of : ℕ → Result Lexed ByteFault
 mark_of b =
     if nat_eq b 10 then gives token.LineEnd
     else if nat_eq b 44 then gives token.Comma
@@ -156,10 +161,10 @@ mark_of b =
     else if nat_eq b 41 then gives token.Close
     else if nat_eq b 123 then gives token.OpenBrace
     else if nat_eq b 125 then gives token.CloseBrace
-    else Err fault.Word
+    else fails fault.Word
 
 -- blanks, and what begins a token of several bytes: carriage return, opening parenthesis, colon, dot, &, signs
-abbrev pub opening_of : ℕ → Result Lexed ReadFaultKind
+abbrev pub opening_of : ℕ → Result Lexed ByteFault
 opening_of b =
     if nat_eq b 32 || nat_eq b 9 then stands mode.Clear
     else if nat_eq b 13 then stands mode.Carriage
@@ -172,80 +177,80 @@ opening_of b =
     else mark_of b
 
 -- a byte where nothing is open
-abbrev pub first_byte : ℕ → Result Lexed ReadFaultKind
+abbrev pub first_byte : ℕ → Result Lexed ByteFault
 first_byte b =
     if is_letter (folded b) then stands (mode.Word (folded b ∷ []) (is_underscore (folded b)))
     else if is_digit b then first_digit None b
     else opening_of b
 
 -- a token has ended before the byte
-abbrev pub ended_by : Token → Result Lexed ReadFaultKind → Result Lexed ReadFaultKind
+abbrev pub ended_by : Token → Result Lexed ByteFault → Result Lexed ByteFault
 ended_by t (Ok x) = Ok (record { ended = Some t; own = x.own; mode = x.mode })
-ended_by t (Err k) = Err k
+ended_by t (Err f) = Err (record { ended = Some t; kind = f.kind })
 
-abbrev pub word_ended : Option Token → ℕ → Result Lexed ReadFaultKind
+abbrev pub word_ended : Option Token → ℕ → Result Lexed ByteFault
 word_ended (Some t) b = ended_by t (first_byte b)
-word_ended None b = Err fault.Word
+word_ended None b = fails fault.Word
 
 -- a word with one more character, no more than a name has and no two underscores in a row; gap: an underscore is the last of it
-abbrev pub word_grown : List ℕ → Bool → ℕ → Result Lexed ReadFaultKind
+abbrev pub word_grown : List ℕ → Bool → ℕ → Result Lexed ByteFault
 word_grown w gap b =
-    if gap && is_underscore b then Err fault.Word
+    if gap && is_underscore b then fails fault.Word
     else if nat_lt (length w) most_characters then stands (mode.Word (w ++ b ∷ []) (is_underscore b))
-    else Err fault.Word
+    else fails fault.Word
 
-abbrev pub literal_begun : Option IlType → Result Lexed ReadFaultKind
+abbrev pub literal_begun : Option IlType → Result Lexed ByteFault
 literal_begun (Some k) = stands (mode.Typed k)
-literal_begun None = Err fault.Word
+literal_begun None = fails fault.Word
 
 -- behind a word
-abbrev pub word_byte : List ℕ → Bool → ℕ → Result Lexed ReadFaultKind
+abbrev pub word_byte : List ℕ → Bool → ℕ → Result Lexed ByteFault
 word_byte w gap b =
     if is_name_byte (folded b) then word_grown w gap (folded b)
     else if nat_eq b 35 then literal_begun (literal_type (keyword w))
     else word_ended (word_token w) b
 
 -- behind a type and #: a number
-abbrev pub typed_byte : IlType → ℕ → Result Lexed ReadFaultKind
+abbrev pub typed_byte : IlType → ℕ → Result Lexed ByteFault
 typed_byte k b =
     if is_digit b then first_digit (Some k) b
     else if nat_eq b 43 then stands (mode.Number (Some k) (spelling.Signed false) (pos 0) true)
     else if nat_eq b 45 then stands (mode.Number (Some k) (spelling.Signed true) (pos 0) true)
-    else Err fault.Literal
+    else fails fault.Literal
 
 -- behind a sign
-abbrev pub sign_byte : Bool → ℕ → Result Lexed ReadFaultKind
-sign_byte negative b = if is_digit b then number_stands None (spelling.Signed negative) (grown (spelling.Signed negative) (pos 0) (b - 48)) else Err fault.Word
+abbrev pub sign_byte : Bool → ℕ → Result Lexed ByteFault
+sign_byte negative b = if is_digit b then number_stands None (spelling.Signed negative) (grown (spelling.Signed negative) (pos 0) (b - 48)) else fails fault.Word
 
-abbrev pub based : Option IlType → Option Base → Result Lexed ReadFaultKind
+abbrev pub based : Option IlType → Option Base → Result Lexed ByteFault
 based k (Some x) = stands (mode.Number k (spelling.Based x) (pos 0) true)
-based k None = Err fault.Literal
+based k None = fails fault.Literal
 
 -- behind a digit: no digit of the same number
-abbrev pub number_ended : Option IlType → Spelling → ℤ → ℕ → Result Lexed ReadFaultKind
+abbrev pub number_ended : Option IlType → Spelling → ℤ → ℕ → Result Lexed ByteFault
 number_ended k s n b =
     if nat_eq b 95 then stands (mode.Number k (spelled_on s) n true)
     else if nat_eq b 35 then based k (base_named s n)
-    else if is_name_byte (folded b) then Err fault.Literal
+    else if is_name_byte (folded b) then fails fault.Literal
     else ended_by (number_token k s n) (first_byte b)
 
-abbrev pub number_grown : Option ℕ → Option IlType → Spelling → ℤ → Bool → ℕ → Result Lexed ReadFaultKind
+abbrev pub number_grown : Option ℕ → Option IlType → Spelling → ℤ → Bool → ℕ → Result Lexed ByteFault
 number_grown (Some d) k s n wanting b = number_stands k s (grown s n d)
-number_grown None k s n wanting b = if wanting then Err fault.Literal else number_ended k s n b
+number_grown None k s n wanting b = if wanting then fails fault.Literal else number_ended k s n b
 
 -- behind the digits of a number, or where it wants one
-abbrev pub number_byte : Option IlType → Spelling → ℤ → Bool → ℕ → Result Lexed ReadFaultKind
+abbrev pub number_byte : Option IlType → Spelling → ℤ → Bool → ℕ → Result Lexed ByteFault
 number_byte k s n wanting b = number_grown (digit_in s b) k s n wanting b
 
 -- behind &
-abbrev pub and_byte : ℕ → Result Lexed ReadFaultKind
+abbrev pub and_byte : ℕ → Result Lexed ByteFault
 and_byte b = if nat_eq b 78 || nat_eq b 110 then stands mode.AndNot else ended_by (and_token false) (first_byte b)
 
 -- behind &N, which is one operator where no word goes on with the N
-abbrev pub and_n_byte : ℕ → Result Lexed ReadFaultKind
+abbrev pub and_n_byte : ℕ → Result Lexed ByteFault
 and_n_byte b = if is_name_byte (folded b) then ended_by (and_token false) (word_byte (110 ∷ []) false b) else ended_by (and_token true) (first_byte b)
 
-abbrev pub lexed : Mode → ℕ → Result Lexed ReadFaultKind
+abbrev pub lexed : Mode → ℕ → Result Lexed ByteFault
 lexed mode.Clear b = first_byte b
 lexed (mode.Word w gap) b = word_byte w gap b
 lexed (mode.Number k s n wanting) b = number_byte k s n wanting b
@@ -256,9 +261,9 @@ lexed mode.AndNot b = and_n_byte b
 lexed mode.Bracket b = if nat_eq b 42 then stands mode.Comment else ended_by token.Open (first_byte b)
 lexed mode.Comment b = if nat_eq b 42 then stands mode.Star else stands mode.Comment
 lexed mode.Star b = if nat_eq b 41 then stands mode.Clear else if nat_eq b 42 then stands mode.Star else stands mode.Comment
-lexed mode.Carriage b = if nat_eq b 10 then gives token.LineEnd else Err fault.Word
+lexed mode.Carriage b = if nat_eq b 10 then gives token.LineEnd else fails fault.Word
 lexed mode.Colon b = if nat_eq b 61 then gives token.Assign else ended_by token.Colon (first_byte b)
-lexed mode.Dot b = if nat_eq b 46 then gives token.Dots else Err fault.Word
+lexed mode.Dot b = if nat_eq b 46 then gives token.Dots else fails fault.Word
 
 -- what the end of the text makes of what is open: a last token or none; a comment that is never closed is Word, and
 -- all else that isn't whole could still grow
@@ -292,9 +297,9 @@ is_none None = true
 is_none (Some t) = false
 
 -- what stands open behind a byte that ends no token and is none
-abbrev pub behind_blank : Result Lexed ReadFaultKind → Option Mode
+abbrev pub behind_blank : Result Lexed ByteFault → Option Mode
 behind_blank (Ok x) = if is_none x.ended && is_none x.own then Some x.mode else None
-behind_blank (Err k) = None
+behind_blank (Err f) = None
 
 abbrev pub colon_behind : Option Mode → (Mode → Bool) → Bool
 colon_behind (Some q) on = on q

@@ -1,9 +1,9 @@
 //! From bytes to tokens, a byte at a time.
-ghost use Rattle.std.specs.Prelude.{◌≡◌, ◌≤◌, ◌<◌, Some};
+ghost use Rattle.std.specs.Prelude.{◌≡◌, ◌≤◌, ◌<◌, Err, Some};
 ghost use Rattle.point_types.specs.Name.{folded, is_digit, is_letter, is_name_byte};
 ghost use Rattle.point_types.specs.Value.{high_of, is_within, low_of};
 ghost use Rattle.il_reader.specs.Reading.{is_label};
-ghost use Rattle.il_reader.specs.Tokens.{and_byte, and_n_byte, and_token, at_end, based, behind_blank, colon_comes, ended_by, first_byte, first_digit, gives, grown, grows, is_colon, keyword, lexed, limits_of, literal_type, mark_of, number_byte, number_ended, number_stands, number_token, opening_of, sign_byte, stands, typed_byte, word_byte, word_ended, word_grown, word_token};
+ghost use Rattle.il_reader.specs.Tokens.{and_byte, and_n_byte, and_token, at_end, based, behind_blank, colon_comes, ended_by, fails, first_byte, first_digit, gives, grown, grows, is_colon, keyword, lexed, limits_of, literal_type, mark_of, number_byte, number_ended, number_stands, number_token, opening_of, sign_byte, stands, typed_byte, word_byte, word_ended, word_grown, word_token};
 
 use crate::fault::ReadFaultKind;
 use crate::keyword::{find_keyword, token_of_word};
@@ -52,9 +52,16 @@ pub struct Lexed {
     pub mode: Mode,
 }
 
+/// Why a byte can't follow: the token that it has ended, and the fault where that token can stand.
+#[derive(Clone, Copy)]
+pub struct ByteFault {
+    pub ended: Option<Token>,
+    pub kind: ReadFaultKind,
+}
+
 impl Mode {
     /// Reads one byte.
-    pub fn feed(self, byte: u8) -> Result<Lexed, ReadFaultKind>
+    pub fn feed(self, byte: u8) -> Result<Lexed, ByteFault>
         ensures { result ≡ lexed self byte }
     {
         match self {
@@ -73,11 +80,11 @@ impl Mode {
             Mode::Comment => Ok(opens(Mode::Comment)),
             Mode::Star => Ok(opens(behind_star(byte))),
             Mode::Carriage if byte == b'\n' => Ok(is_token(Token::LineEnd)),
-            Mode::Carriage => Err(ReadFaultKind::Word),
+            Mode::Carriage => Err(fails(ReadFaultKind::Word)),
             Mode::Colon if byte == b'=' => Ok(is_token(Token::Assign)),
             Mode::Colon => behind(Token::Colon, read_first(byte)),
             Mode::Dot if byte == b'.' => Ok(is_token(Token::Dots)),
-            Mode::Dot => Err(ReadFaultKind::Word),
+            Mode::Dot => Err(fails(ReadFaultKind::Word)),
         }
     }
 
@@ -150,7 +157,7 @@ impl Lexed {
 }
 
 // What stands open behind a byte that ends no token and is none.
-fn behind_blank(read: Result<Lexed, ReadFaultKind>) -> Option<Mode>
+fn behind_blank(read: Result<Lexed, ByteFault>) -> Option<Mode>
     ensures { result ≡ behind_blank read }
 {
     match read {
@@ -187,8 +194,15 @@ fn is_token(token: Token) -> Lexed
     }
 }
 
+// The byte can't follow, and has ended no token.
+fn fails(kind: ReadFaultKind) -> ByteFault
+    ensures { Err result ≡ fails kind }
+{
+    ByteFault { ended: None, kind }
+}
+
 // The token has ended before the byte that was read.
-fn behind(token: Token, next: Result<Lexed, ReadFaultKind>) -> Result<Lexed, ReadFaultKind>
+fn behind(token: Token, next: Result<Lexed, ByteFault>) -> Result<Lexed, ByteFault>
     ensures { result ≡ ended_by token next }
 {
     match next {
@@ -203,12 +217,15 @@ fn behind(token: Token, next: Result<Lexed, ReadFaultKind>) -> Result<Lexed, Rea
             own,
             mode,
         }),
-        Err(kind) => Err(kind),
+        Err(fault) => Err(ByteFault {
+            ended: Some(token),
+            kind: fault.kind,
+        }),
     }
 }
 
 // A byte where nothing is open.
-fn read_first(byte: u8) -> Result<Lexed, ReadFaultKind>
+fn read_first(byte: u8) -> Result<Lexed, ByteFault>
     ensures { result ≡ first_byte byte }
 {
     let lower = lower_case(byte);
@@ -222,7 +239,7 @@ fn read_first(byte: u8) -> Result<Lexed, ReadFaultKind>
 }
 
 // Blanks, and what begins a token of several bytes.
-fn read_opening(byte: u8) -> Result<Lexed, ReadFaultKind>
+fn read_opening(byte: u8) -> Result<Lexed, ByteFault>
     ensures { result ≡ opening_of byte }
 {
     match byte {
@@ -239,7 +256,7 @@ fn read_opening(byte: u8) -> Result<Lexed, ReadFaultKind>
 }
 
 // Tokens of one byte.
-fn read_mark(byte: u8) -> Result<Lexed, ReadFaultKind>
+fn read_mark(byte: u8) -> Result<Lexed, ByteFault>
     ensures { result ≡ mark_of byte }
 {
     match byte {
@@ -249,7 +266,7 @@ fn read_mark(byte: u8) -> Result<Lexed, ReadFaultKind>
         b')' => Ok(is_token(Token::Close)),
         b'{' => Ok(is_token(Token::OpenBrace)),
         b'}' => Ok(is_token(Token::CloseBrace)),
-        _ => Err(ReadFaultKind::Word),
+        _ => Err(fails(ReadFaultKind::Word)),
     }
 }
 
@@ -265,7 +282,7 @@ fn behind_star(byte: u8) -> Mode
 }
 
 // A byte behind `&`.
-fn read_behind_and(byte: u8) -> Result<Lexed, ReadFaultKind>
+fn read_behind_and(byte: u8) -> Result<Lexed, ByteFault>
     ensures { result ≡ and_byte byte }
 {
     if byte == b'N' || byte == b'n' {
@@ -276,7 +293,7 @@ fn read_behind_and(byte: u8) -> Result<Lexed, ReadFaultKind>
 }
 
 // A byte behind `&N`: what goes on with the N is a word.
-fn read_behind_and_not(byte: u8) -> Result<Lexed, ReadFaultKind>
+fn read_behind_and_not(byte: u8) -> Result<Lexed, ByteFault>
     ensures { result ≡ and_n_byte byte }
 {
     let lower = lower_case(byte);
@@ -298,7 +315,7 @@ fn token_of_and(negated: bool) -> Token
 }
 
 // A byte behind a word.
-fn read_behind_word(word: Lexeme, gap: bool, byte: u8) -> Result<Lexed, ReadFaultKind>
+fn read_behind_word(word: Lexeme, gap: bool, byte: u8) -> Result<Lexed, ByteFault>
     ensures { result ≡ word_byte word gap byte }
 {
     let lower = lower_case(byte);
@@ -307,26 +324,26 @@ fn read_behind_word(word: Lexeme, gap: bool, byte: u8) -> Result<Lexed, ReadFaul
     } else if byte == b'#' {
         match literal_type_of(find_keyword(word.as_bytes())) {
             Some(kind) => Ok(opens(Mode::Typed(kind))),
-            None => Err(ReadFaultKind::Word),
+            None => Err(fails(ReadFaultKind::Word)),
         }
     } else {
         match token_of_word(word.as_bytes()) {
             Some(token) => behind(token, read_first(byte)),
-            None => Err(ReadFaultKind::Word),
+            None => Err(fails(ReadFaultKind::Word)),
         }
     }
 }
 
 // One more character of a word, which has 32 at most and no two underscores in a row.
-fn lengthen_word(word: Lexeme, gap: bool, lower: u8) -> Result<Lexed, ReadFaultKind>
+fn lengthen_word(word: Lexeme, gap: bool, lower: u8) -> Result<Lexed, ByteFault>
     ensures { result ≡ word_grown word gap lower }
 {
     if gap && lower == b'_' {
-        return Err(ReadFaultKind::Word);
+        return Err(fails(ReadFaultKind::Word));
     }
     match word.with(lower) {
         Some(longer) => Ok(opens(Mode::Word(longer, lower == b'_'))),
-        None => Err(ReadFaultKind::Word),
+        None => Err(fails(ReadFaultKind::Word)),
     }
 }
 
@@ -342,7 +359,7 @@ fn literal_type_of(keyword: Option<Keyword>) -> Option<IlType>
 }
 
 // A byte behind a type and `#`.
-fn read_behind_type(kind: IlType, byte: u8) -> Result<Lexed, ReadFaultKind>
+fn read_behind_type(kind: IlType, byte: u8) -> Result<Lexed, ByteFault>
     ensures { result ≡ typed_byte kind byte }
 {
     if is_decimal_digit(byte) {
@@ -351,23 +368,23 @@ fn read_behind_type(kind: IlType, byte: u8) -> Result<Lexed, ReadFaultKind>
         let spelling = Spelling::Signed(byte == b'-');
         Ok(opens(Mode::Number(Some(kind), spelling, 0, true)))
     } else {
-        Err(ReadFaultKind::Literal)
+        Err(fails(ReadFaultKind::Literal))
     }
 }
 
 // A byte behind a sign.
-fn read_behind_sign(negative: bool, byte: u8) -> Result<Lexed, ReadFaultKind>
+fn read_behind_sign(negative: bool, byte: u8) -> Result<Lexed, ByteFault>
     ensures { result ≡ sign_byte negative byte }
 {
     if is_decimal_digit(byte) {
         lengthen_number(None, Spelling::Signed(negative), 0, byte - b'0')
     } else {
-        Err(ReadFaultKind::Word)
+        Err(fails(ReadFaultKind::Word))
     }
 }
 
 // The first digit of a number without a sign. Behind a zero no base can follow.
-fn read_first_digit(kind: Option<IlType>, byte: u8) -> Result<Lexed, ReadFaultKind>
+fn read_first_digit(kind: Option<IlType>, byte: u8) -> Result<Lexed, ByteFault>
     requires { 48 ≤ byte }
     ensures { result ≡ first_digit kind byte }
 {
@@ -385,12 +402,12 @@ fn read_behind_digits(
     value: i64,
     wanting: bool,
     byte: u8,
-) -> Result<Lexed, ReadFaultKind>
+) -> Result<Lexed, ByteFault>
     ensures { result ≡ number_byte kind spelling value wanting byte }
 {
     match spelling.digit(byte) {
         Some(digit) => lengthen_number(kind, spelling, value, digit),
-        None if wanting => Err(ReadFaultKind::Literal),
+        None if wanting => Err(fails(ReadFaultKind::Literal)),
         None => end_digits(kind, spelling, value, byte),
     }
 }
@@ -401,7 +418,7 @@ fn end_digits(
     spelling: Spelling,
     value: i64,
     byte: u8,
-) -> Result<Lexed, ReadFaultKind>
+) -> Result<Lexed, ByteFault>
     ensures { result ≡ number_ended kind spelling value byte }
 {
     let lower = lower_case(byte);
@@ -410,10 +427,10 @@ fn end_digits(
     } else if byte == b'#' {
         match spelling.base(value) {
             Some(base) => Ok(opens(Mode::Number(kind, Spelling::Based(base), 0, true))),
-            None => Err(ReadFaultKind::Literal),
+            None => Err(fails(ReadFaultKind::Literal)),
         }
     } else if is_word_letter(lower) || is_decimal_digit(lower) {
-        Err(ReadFaultKind::Literal)
+        Err(fails(ReadFaultKind::Literal))
     } else {
         behind(token_of_number(kind, spelling, value), read_first(byte))
     }
@@ -425,24 +442,24 @@ fn lengthen_number(
     spelling: Spelling,
     value: i64,
     digit: u8,
-) -> Result<Lexed, ReadFaultKind>
+) -> Result<Lexed, ByteFault>
     ensures { result ≡ number_stands kind spelling (grown spelling value digit) }
 {
     match i64::try_from(spelling.grow(value, digit)) {
         Ok(longer) => hold_number(kind, spelling, longer),
-        Err(_) => Err(ReadFaultKind::Literal),
+        Err(_) => Err(fails(ReadFaultKind::Literal)),
     }
 }
 
 // A number, where it lies in its type.
-fn hold_number(kind: Option<IlType>, spelling: Spelling, value: i64) -> Result<Lexed, ReadFaultKind>
+fn hold_number(kind: Option<IlType>, spelling: Spelling, value: i64) -> Result<Lexed, ByteFault>
     ensures { result ≡ number_stands kind spelling value }
 {
     let limits = limits(kind);
     if limits.low() <= value && value <= limits.high() {
         Ok(opens(Mode::Number(kind, spelling, value, false)))
     } else {
-        Err(ReadFaultKind::Literal)
+        Err(fails(ReadFaultKind::Literal))
     }
 }
 

@@ -52,7 +52,11 @@ impl Reader {
         } = self;
         let lexed = match mode.feed(byte) {
             Ok(lexed) => lexed,
-            Err(kind) => return Ok(Err(ReadFault { line, kind })),
+            Err(fault) => {
+                let moved = state.step_if(alloc, fault.ended, line)?;
+                let kind = leftmost(moved, fault.kind);
+                return Ok(Err(ReadFault { line, kind }));
+            }
         };
         let inside = state.is_at_inner_line();
         match state.take(alloc, &lexed, line)? {
@@ -120,7 +124,7 @@ pub fn read(alloc: Global, text: &str) -> Result<Program, ReadFault>
 
 ghost use Rattle.std.specs.Prelude.{◌≡◌, ◌≤◌, ◌<◌, ◌^◌, IfOk, length};
 ghost use Rattle.il_reader.specs.Limit.{most_bytes};
-ghost use Rattle.il_reader.specs.Reading.{IsAnswer, answered, end_reached, half_fault, outcome, told};
+ghost use Rattle.il_reader.specs.Reading.{IsAnswer, answered, end_reached, half_fault, leftmost, outcome, told};
 ghost use Rattle.il_reader.specs.Tokens.{line_behind};
 
 fn read_bytes(alloc: Global, text: &[u8]) -> Result<Result<Program, ReadFault>, AllocError>
@@ -165,6 +169,16 @@ fn half_token_fault(half: ReadFaultKind, early: ReadFaultKind) -> ReadFaultKind
     match half {
         ReadFaultKind::Word => ReadFaultKind::Word,
         _ => early,
+    }
+}
+
+// Of two faults that of the token before the byte, where that can't stand.
+fn leftmost(moved: Move, later: ReadFaultKind) -> ReadFaultKind
+    ensures { result ≡ leftmost moved later }
+{
+    match moved {
+        Ok(_) => later,
+        Err(kind) => kind,
     }
 }
 

@@ -115,6 +115,7 @@ const HEADERS: &[(&str, &str, u32)] = &[
     ("\nPROGRAM VAR\n", "Header", 2),
     ("LD a\n", "Header", 1),
     ("(* open", "Word", 1),
+    ("PRO\u{1e}RAM p\n", "Header", 1),
     ("PROGRAM p\nVAR\na : INT;\nEND_VAR\nLD a\n", "Header", 5),
     (
         "PROGRAM p\nVAR\na : INT;\nEND_VAR\nLD a\nLD\nFOO a\nEND_PROGRAM",
@@ -159,6 +160,18 @@ const NAMES_INSIDE: &[(&str, &str, u32)] = &[
     ("ADD( 1\nLD 1\nx : $\n", "Parenthesis", 5),
 ];
 
+/// A byte that begins no token: what it ends comes first.
+const STRAY_BYTES: &[(&str, &str, u32)] = &[
+    ("l\u{8}\n", "Word", 3),
+    ("5\u{8}\n", "Operator", 3),
+    ("LD (\u{8}\n", "Operand", 3),
+    ("LD ADD$\n", "Operand", 3),
+    ("ADD($\n", "Word", 3),
+    ("ADD( 1\nx$: LD 1\n", "Operator", 4),
+    ("JMP :$\n", "Label", 3),
+    ("LD 5x$\n", "Literal", 3),
+];
+
 /// Inside two parentheses.
 const OF_THE_BODY: &[(&str, &str, u32)] = &[
     ("ST a\n", "Parenthesis", 5),
@@ -200,6 +213,7 @@ fn refuses_each_text(rt: HostRuntime) {
     refuses(&rt, rt.alloc(), "", HEADERS);
     refuses(&rt, rt.alloc(), HEAD, PARENTHESES);
     refuses(&rt, rt.alloc(), HEAD, NAMES_INSIDE);
+    refuses(&rt, rt.alloc(), HEAD, STRAY_BYTES);
     refuses(&rt, rt.alloc(), "PROGRAM p\nADD( 1\n\nMUL(\n", OF_THE_BODY);
     refuses(&rt, rt.alloc(), HEAD, STAY_OPEN);
 }

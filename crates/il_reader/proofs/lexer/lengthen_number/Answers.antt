@@ -18,4 +18,4 @@ returns-in-Err c =
     let known : SFits w64 c.args.value = search rules in
     let wide : SFits w128 c.grow.result = search rules in
     let same : c.grow.result ≡ grown c.args.spelling c.args.value c.args.digit = c.grow.ensures ∙ ap (λ z. grown c.args.spelling z c.args.digit) (to_z-of_z w64 _ known) in
-    number_fails c.args.kind c.args.spelling (grown c.args.spelling c.args.value c.args.digit) (λ h. c.in-Err.ensures (subst (λ z. SFits w64 z) (sym (to_z-of_z w128 _ wide ∙ same)) h))
+    c.fails.ensures ∙ number_fails c.args.kind c.args.spelling (grown c.args.spelling c.args.value c.args.digit) (λ h. c.in-Err.ensures (subst (λ z. SFits w64 z) (sym (to_z-of_z w128 _ wide ∙ same)) h))
