@@ -423,13 +423,12 @@ fn probed<W: Write>(
         timeout: matches.get_one("timeout"),
     };
     match read_definitions(rt, alloc, matches) {
-        Ok(defs) if defs.is_empty() => probe_over(rt, alloc, run, &[], out),
         Ok(defs) => probed_by(rt, alloc, matches, run, defs.as_slice(), out),
         Err(refusal) => unread(rt, alloc, matches, refusal, out),
     }
 }
 
-/// Runs `probe` with definitions of these texts.
+/// Runs `probe` with the shipped definitions and those of these texts.
 fn probed_by<W: Write>(
     rt: &(impl Eprint + AllocGlobal + Net),
     alloc: Global,

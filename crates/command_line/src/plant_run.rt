@@ -1,16 +1,16 @@
 //! A whole run over loopback: a simulated plant in a second process, the gateway's scans of it, and a probe of the gateway.
 use crate::link_cause::cause_of_link;
-use crate::socket::{SocketLink, loopback};
+use crate::socket::{SocketLink, link_over, loopback};
 use crate::watched_link::WatchedLink;
 use commands::{
     DEPTH, FAILED_LINK, scans_noting, tell_no_memory, tell_unlinked, tell_unusable, write_lines,
 };
 use gateway::{Core, Poller, serve_client};
-use modbus_frame::LinkFault;
+use modbus_frame::{Link, LinkFault};
 use refusal_notes::{Cause, Notes};
 use std::alloc::Global;
 use std::io::{ErrorKind, Read, Write};
-use std::net::{Net, OpenListener, TcpListener, TcpStream};
+use std::net::{Net, OpenListener, OpenStream, TcpListener, TcpStream};
 use std::process::{Child, Command, Output, Processes, Stdio};
 use std::{io, str};
 
@@ -111,36 +111,40 @@ fn run_at<R: Net + Processes + Eprint + AllocGlobal, W: Write>(
     port: u16,
     out: &mut W,
 ) -> u8 {
-    match TcpStream::connect(rt, loopback(port)) {
-        Ok(stream) => run_over(rt, alloc, run, stream, out),
+    match link_to(rt, port) {
+        Ok(link) => run_over(rt, alloc, run, link, out),
         Err(fault) => tell_unreached(rt, alloc, &run.notes, &fault, out),
     }
 }
 
-/// Scans the plant over a connection, and has the gateway probed.
-fn run_over<R: Net + Processes + Eprint + AllocGlobal, S: Read + Write + Drop, W: Write>(
+fn link_to<R: Net>(rt: &R, port: u16) -> io::Result<SocketLink<R::Stream>> {
+    link_over(TcpStream::connect(rt, loopback(port))?)
+}
+
+/// Scans the plant over a link, and has the gateway probed.
+fn run_over<R: Net + Processes + Eprint + AllocGlobal, L: Link + Drop, W: Write>(
     rt: &R,
     alloc: Global,
     run: &PlantRun<'_, '_>,
-    stream: S,
+    link: L,
     out: &mut W,
 ) -> u8 {
     let mut cause = None;
-    let mut scanned = scans_over(alloc, run, stream, &mut cause, out);
+    let mut scanned = scans_over(alloc, run, link, &mut cause, out);
     run.notes.explain(rt, &cause);
     probed_behind(rt, alloc, run, &mut scanned, out)
 }
 
-/// Does the scans over a connection, and closes it. Gives the cause where they are refused or the link fails.
-fn scans_over<S: Read + Write + Drop, W: Write>(
+/// Does the scans over a link, and closes it. Gives the cause where they are refused or the link fails.
+fn scans_over<L: Link + Drop, W: Write>(
     alloc: Global,
     run: &PlantRun<'_, '_>,
-    stream: S,
+    link: L,
     cause: &mut Option<Cause>,
     out: &mut W,
 ) -> (Option<Core<DEPTH>>, u8) {
     let notes = &run.notes;
-    let mut poller = Poller::new(WatchedLink::new(alloc, SocketLink::new(stream)));
+    let mut poller = Poller::new(WatchedLink::new(alloc, link));
     let scanned = scans_noting(
         alloc,
         notes.site,
@@ -154,6 +158,7 @@ fn scans_over<S: Read + Write + Drop, W: Write>(
     if scanned.1 == FAILED_LINK {
         *cause = cause_of_link(alloc, notes.site, notes.defs, &mut poller);
     }
+    drop(poller.into_link().into_link());
     scanned
 }
 
@@ -195,7 +200,7 @@ fn probed_on<R: Processes + Eprint + AllocGlobal, L: OpenListener, W: Write>(
     out: &mut W,
 ) -> u8
 where
-    L::Stream: Read + Write,
+    L::Stream: Read + Write + OpenStream,
 {
     let Ok(address) = listener.local_addr() else {
         return tell_lost(rt, alloc, &run.notes, LinkFault::Read, out);
@@ -213,13 +218,13 @@ where
 /// Serves one connection to its end.
 fn serve_one<L: OpenListener>(listener: &L, core: &mut Core<DEPTH>) -> Result<u32, LinkFault>
 where
-    L::Stream: Read + Write,
+    L::Stream: Read + Write + OpenStream,
 {
     match listener.accept() {
-        Ok((stream, _)) => {
-            let mut link = SocketLink::new(stream);
-            serve_client(core, &mut link)
-        }
+        Ok((stream, _)) => match link_over(stream) {
+            Ok(mut link) => serve_client(core, &mut link),
+            Err(_) => Err(LinkFault::Read),
+        },
         Err(_) => Err(LinkFault::Read),
     }
 }

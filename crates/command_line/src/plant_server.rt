@@ -1,6 +1,6 @@
 //! The simulator of inverters as a program: a plant behind a loopback port.
 use crate::service_run::tell_unserved;
-use crate::socket::{SocketLink, loopback};
+use crate::socket::{link_over, loopback};
 use commands::{listening, plant_of, tell_no_memory, tell_unlinked, write_lines};
 use inverter_sim::{Plant, serve_link};
 use modbus_frame::LinkFault;
@@ -8,7 +8,7 @@ use refusal_notes::Notes;
 use site_service::PlantDoor;
 use std::alloc::{AllocError, Global};
 use std::io::{Read, Write};
-use std::net::{Net, OpenListener, TcpListener};
+use std::net::{Net, OpenListener, OpenStream, TcpListener};
 
 /// Where a plant is served, and for whom.
 #[derive(Clone, Copy)]
@@ -100,7 +100,7 @@ fn served_on<L: OpenListener, W: Write>(
     out: &mut W,
 ) -> u8
 where
-    L::Stream: Read + Write,
+    L::Stream: Read + Write + OpenStream,
 {
     let Ok(address) = listener.local_addr() else {
         return tell_unlinked(alloc, LinkFault::Read, out);
@@ -127,7 +127,7 @@ fn connected<L: OpenListener, W: Write>(
     out: &mut W,
 ) -> u8
 where
-    L::Stream: Read + Write,
+    L::Stream: Read + Write + OpenStream,
 {
     match listener.accept() {
         Ok((stream, _)) => served_over(alloc, stream, plant, out),
@@ -136,13 +136,15 @@ where
 }
 
 /// Serves a connection to its end.
-fn served_over<S: Read + Write + Drop, W: Write>(
+fn served_over<S: Read + Write + OpenStream + Drop, W: Write>(
     alloc: Global,
     stream: S,
     plant: &mut Plant,
     out: &mut W,
 ) -> u8 {
-    let mut link = SocketLink::new(stream);
+    let Ok(mut link) = link_over(stream) else {
+        return tell_unlinked(alloc, LinkFault::Read, out);
+    };
     match serve_link(&mut link, plant) {
         Ok(_) => 0,
         Err(fault) => tell_unlinked(alloc, fault, out),

@@ -1,7 +1,8 @@
 //! The connection over which a device is probed.
-use crate::socket::{SocketLink, loopback};
-use commands::{probe_by, tell_unlinked};
-use modbus_frame::LinkFault;
+use crate::socket::{SocketLink, link_over, loopback};
+use commands::{probe, tell_unlinked};
+use gateway::Poller;
+use modbus_frame::{Link, LinkFault};
 use model_defs::ModelDef;
 use site_service::has_port;
 use std::alloc::{AllocError, Global};
@@ -47,8 +48,8 @@ impl<'a> ProbeAddress<'a> {
     }
 }
 
-/// Prints the points of a device by these definitions and the shipped ones, and gives the status. Where no connection comes to a `HOST:PORT`, the cause is told on
-/// standard error.
+/// Prints the points of a device by these definitions, and gives the status. Where no connection comes to a `HOST:PORT`,
+/// the cause is told on standard error.
 pub(crate) fn probe_over<R: Net + Eprint + AllocGlobal, W: Write>(
     rt: &R,
     alloc: Global,
@@ -57,7 +58,7 @@ pub(crate) fn probe_over<R: Net + Eprint + AllocGlobal, W: Write>(
     out: &mut W,
 ) -> u8 {
     match connected(rt, run) {
-        Ok(stream) => probe_by(alloc, SocketLink::new(stream), run.unit, models, out),
+        Ok(link) => probe_link(alloc, link, run.unit, models, out),
         Err(cause) => {
             let status = tell_unlinked(alloc, LinkFault::Read, out);
             if let ProbeAddress::Word(word) = run.address {
@@ -66,6 +67,20 @@ pub(crate) fn probe_over<R: Net + Eprint + AllocGlobal, W: Write>(
             status
         }
     }
+}
+
+/// Prints the points of a device over a link, and closes it.
+fn probe_link<L: Link + Drop, W: Write>(
+    alloc: Global,
+    link: L,
+    unit: u8,
+    models: &[ModelDef],
+    out: &mut W,
+) -> u8 {
+    let mut poller = Poller::new(link);
+    let status = probe(alloc, &mut poller, unit, models, out);
+    drop(poller.into_link());
+    status
 }
 
 fn explain<R: Eprint>(rt: &R, alloc: Global, word: &str, cause: NoConnection) {
@@ -91,12 +106,20 @@ fn cause_text(cause: NoConnection) -> &'static str {
     }
 }
 
-fn connected<R: Net>(rt: &R, run: ProbeRun<'_>) -> Result<R::Stream, NoConnection> {
+fn connected<R: Net>(rt: &R, run: ProbeRun<'_>) -> Result<SocketLink<R::Stream>, NoConnection> {
     let address = address_of(rt, run.address)?;
-    match stream_to(rt, address, run.timeout) {
-        Ok(stream) => Ok(stream),
+    match link_to(rt, address, run.timeout) {
+        Ok(link) => Ok(link),
         Err(fault) => Err(NoConnection::Failed(fault.kind())),
     }
+}
+
+fn link_to<R: Net>(
+    rt: &R,
+    address: SocketAddr,
+    timeout: Option<u64>,
+) -> io::Result<SocketLink<R::Stream>> {
+    link_over(stream_to(rt, address, timeout)?)
 }
 
 /// The first address that is meant.

@@ -1,46 +1,18 @@
 //! Links over sockets.
-use modbus_frame::{Down, Link};
+use std::io;
 use std::io::{Read, Write};
-use std::net::{Ipv4Addr, SocketAddr, SocketAddrV4};
+use std::net::{Ipv4Addr, OpenStream, SocketAddr, SocketAddrV4};
+use stream_link::StreamLink;
 
-/// A connection as a link. What it carries, and how often it fails, isn't known to contracts.
-#[derive(Drop)]
-pub(crate) struct SocketLink<S: Read + Write + Drop> {
+/// A link over a connection, whose halves are two handles of it.
+pub(crate) type SocketLink<S> = StreamLink<S, S>;
+
+/// The link over a connection.
+pub(crate) fn link_over<S: Read + Write + OpenStream + Drop>(
     stream: S,
-}
-
-impl<S: Read + Write + Drop> SocketLink<S> {
-    /// The link over a connection.
-    pub fn new(stream: S) -> SocketLink<S> {
-        SocketLink { stream }
-    }
-}
-
-impl<S: Read + Write + Drop> Link for SocketLink<S> {
-    ghost use Rattle.std.specs.Prelude.{None};
-    ghost use Rattle.modbus_frame.specs.Link.{untold};
-
-    ghost calls = { λ _. None };
-
-    ghost failures = { λ _. untold };
-
-    ghost coming = { λ _. None };
-
-    ghost sent = { λ _. None };
-
-    fn read(&mut self, into: &mut [u8]) -> Result<usize, Down> {
-        match self.stream.read(into) {
-            Ok(n) => Ok(n),
-            Err(_) => Err(Down),
-        }
-    }
-
-    fn write(&mut self, from: &[u8]) -> Result<usize, Down> {
-        match self.stream.write(from) {
-            Ok(n) => Ok(n),
-            Err(_) => Err(Down),
-        }
-    }
+) -> io::Result<SocketLink<S>> {
+    let reader = stream.try_clone()?;
+    Ok(StreamLink::new(reader, stream))
 }
 
 /// A port of this machine; 0 stands for a free one.

@@ -93,6 +93,11 @@ impl<L: Link> WatchedLink<L> {
         }
     }
 
+    /// The link that was watched.
+    pub fn into_link(self) -> L {
+        self.link
+    }
+
     /// The last request that went out whole.
     pub(crate) fn asked(&self) -> Option<Asked> {
         let unit = self.request.number_at(6)?;

@@ -1,9 +1,18 @@
--- What `probe` prints: the lines of some map. That it is the map of the unit that was asked, and the words those that it gave, is not said here.
+-- What `probe` asks of a unit, and what it prints of the answers.
 -- SunSpec Device Information Model Specification, models in Modbus registers and the table of types.
-use Rattle.std.specs.Prelude.{◌≡◌, ◌⊎◌, ℕ, nat_le, ◌&&◌, Bool, List, [], ◌∷◌, ◌++◌, ℤ, Option, None, Some, option_and_then, if◌then◌else◌, codes}
+use Rattle.std.specs.Prelude.{◌≡◌, ◌⊎◌, ℕ, ◌+◌, ◌==◌, min, nat_le, ◌&&◌, Bool, List, [], ◌∷◌, ◌++◌, reverse, find, ℤ, Option, None, Some, option_and_then, if◌then◌else◌, Result, Ok, Err, codes}
 use Rattle.std.specs.Fmt.{decimal, signed_decimal}
+use Rattle.std.specs.List.{AllByRecursion}
+use Rattle.gateway.specs.declared.poller.outcome.Outcome.{Outcome}
+use Rattle.gateway.specs.declared.poller.outcome.Outcome.TheVariants as outcome
+use Rattle.gateway.specs.poller.Finding.{IsSearched}
+use Rattle.gateway.specs.poller.LinkRun.{Exchange}
+use Rattle.gateway.specs.poller.Polling.{Polling, Talks, Fails}
 use Rattle.modbus_frame.specs.Fault.{link_fault_word}
 use Rattle.modbus_frame.specs.declared.link.LinkFault.{LinkFault}
+use Rattle.modbus_frame.specs.declared.message.Request.{Request}
+use Rattle.modbus_frame.specs.declared.message.Request.TheVariants.{Read}
+use Rattle.model_defs.specs.declared.model.ModelDef.{ModelDef}
 use Rattle.model_defs.specs.declared.point.Point.{Point}
 use Rattle.point_types.specs.Point.{size_of, value_of}
 use Rattle.register_map.specs.Faults.{map_fault_word}
@@ -12,8 +21,12 @@ use Rattle.register_map.specs.declared.layout.Block.{Block}
 use Rattle.register_map.specs.declared.layout.MapFault.{MapFault}
 use Rattle.site_model.specs.Readings.{registers_at}
 use Rattle.site_model.specs.Tagging.{is_numeric}
+use Rattle.commands.specs.declared.unit_points.NoLines.{NoLines}
+use Rattle.commands.specs.declared.unit_points.NoLines.TheVariants as no_lines
 use Rattle.commands.specs.Report.{bad_map_line, line_of, link_line, no_memory_line}
 use Rattle.commands.specs.Told.{IsTold, Told, refused_with}
+
+-- ---- lines
 
 -- model ID ADDR LENGTH
 abbrev pub model_line : Block → List ℕ
@@ -44,29 +57,112 @@ abbrev pub point_lines : List Point → List ℕ → List ℕ
 point_lines [] words = []
 point_lines (p ∷ ps) words = shown_line p.name (shown_number p words) ++ point_lines ps words
 
--- below a model's line: nothing, or the points of a definition in some words
-abbrev pub ArePoints : List ℕ → Type 0
-ArePoints lines = (lines ≡ []) ⊎ ((points : List Point) × (words : List ℕ) × (lines ≡ point_lines points words))
+-- ---- a unit's models
 
--- the models of a map, each with its points
-abbrev pub AreModels : List Block → List ℕ → Type 0
-AreModels [] lines = lines ≡ []
-AreModels (b ∷ bs) lines = (points rest : List ℕ) × ArePoints points × AreModels bs rest × (lines ≡ model_line b ++ points ++ rest)
+-- of several definitions of an ID the last one counts
+abbrev pub definition_of : List ModelDef → ℕ → Option ModelDef
+definition_of models id = find (λ m. m.id == id) (reverse models)
 
--- the lines of a unit's models, and behind them where its registers end
-abbrev pub AreUnitLines : Layout → List ℕ → Type 0
-AreUnitLines map lines = (models : List ℕ) × AreModels map.blocks models × (lines ≡ models ++ end_line map.end)
+-- the registers that both the unit and the definition have, with ID and L
+abbrev pub points_request : Block → ModelDef → Request
+points_request b m = Read b.addr (min b.length m.length + 2)
 
--- a unit's lines; or why it has no map; or why the link failed
-abbrev pub TellsAsked : Told → Type 0
-TellsAsked told =
-    ((map : Layout) × (lines : List ℕ) × AreUnitLines map lines × (told ≡ record { lines = lines; status = 0 }))
-    ⊎ ((fault : MapFault) × (told ≡ refused_with (bad_map_line (map_fault_word fault))))
-    ⊎ ((fault : LinkFault) × (told ≡ record { lines = link_line (link_fault_word fault); status = 3 }))
+-- the points in the words that came; another answer shows none
+abbrev pub points_by : ModelDef → Outcome → List ℕ
+points_by m (outcome.Words words) = point_lines m.points words
+points_by m (outcome.Exception e) = []
+points_by m outcome.Wrote = []
+points_by m outcome.Mismatch = []
+points_by m outcome.Stale = []
 
-abbrev pub TellsUnit : Told → Type 0
-TellsUnit told = TellsAsked told ⊎ (told ≡ refused_with no_memory_line)
+-- A model's registers are asked for once, by its definition; without one nothing is asked or shown.
+abbrev pub ReadsPoints : ℕ → Block → Option ModelDef → List Exchange → List ℕ → Type 0
+ReadsPoints unit b None es lines = (es ≡ []) × (lines ≡ [])
+ReadsPoints unit b (Some m) es lines = (e : Exchange) × (es ≡ e ∷ []) × (e.unit ≡ unit) × (e.request ≡ points_request b m) × (lines ≡ points_by m e.outcome)
+
+-- one model after another: its line, and its points
+abbrev pub ReadsModels : ℕ → List ModelDef → List Block → List Exchange → List ℕ → Type 0
+ReadsModels unit models [] es lines = (es ≡ []) × (lines ≡ [])
+ReadsModels unit models (b ∷ bs) es lines =
+    (own others : List Exchange) × (points more : List ℕ) × (es ≡ own ++ others) × (lines ≡ (model_line b ++ points) ++ more) × ReadsPoints unit b (definition_of models b.id) own points × ReadsModels unit models bs others more
+
+-- ---- what goes over the link
+
+-- a read of this unit
+abbrev pub IsReadOf : ℕ → Exchange → Type 0
+IsReadOf unit e = (address count : ℕ) × (e.unit ≡ unit) × (e.request ≡ Read address count)
+
+-- Reads of this unit were asked, and nothing else.
+pub record ReadsAlone (unit : ℕ) (p q : Polling) : Type 0 where
+  pub es : List Exchange
+  pub reads : AllByRecursion (IsReadOf unit) es
+  pub talks : Talks p es q
+
+-- The link failed at one more.
+pub record StopsReading (unit : ℕ) (p : Polling) (fault : LinkFault) (q : Polling) : Type 0 where
+  pub middle : Polling
+  pub before : ReadsAlone unit p middle
+  pub address : ℕ
+  pub count : ℕ
+  pub fails : Fails middle unit (Read address count) fault q
+
+-- Nothing but reads of this unit was asked, until memory was refused.
+abbrev pub LeavesOff : ℕ → Polling → Polling → Type 0
+LeavesOff unit p q = ReadsAlone unit p q ⊎ ((fault : LinkFault) × StopsReading unit p fault q)
+
+-- The unit's map was found, and its models read.
+pub record ReadsUnit (unit : ℕ) (models : List ModelDef) (p : Polling) (lines : List ℕ) (q : Polling) : Type 0 where
+  pub searched : List Exchange
+  pub map : Layout
+  pub found : IsSearched unit None searched (Ok map)
+  pub read : List Exchange
+  pub shown : List ℕ
+  pub points : ReadsModels unit models map.blocks read shown
+  pub talks : Talks p (searched ++ read) q
+  pub all : lines ≡ shown ++ end_line map.end
+
+-- The search found why the unit has no map.
+pub record LacksMap (unit : ℕ) (p : Polling) (fault : MapFault) (q : Polling) : Type 0 where
+  pub searched : List Exchange
+  pub found : IsSearched unit None searched (Err fault)
+  pub talks : Talks p searched q
+
+-- what is told of a link that failed
+abbrev pub unlinked : LinkFault → Told
+unlinked fault = record { lines = link_line (link_fault_word fault); status = 3 }
+
+-- What is told of a unit, and what went over the link for it.
+abbrev pub Probes : ℕ → List ModelDef → Polling → Told → Polling → Type 0
+Probes unit models p told q =
+    ((lines : List ℕ) × ReadsUnit unit models p lines q × (told ≡ record { lines = lines; status = 0 }))
+    ⊎ ((fault : MapFault) × LacksMap unit p fault q × (told ≡ refused_with (bad_map_line (map_fault_word fault))))
+    ⊎ ((fault : LinkFault) × StopsReading unit p fault q × (told ≡ unlinked fault))
+    ⊎ (LeavesOff unit p q × (told ≡ refused_with no_memory_line))
 
 -- what `probe` writes and its status, by the bytes of the writer before and after
-abbrev pub IsProbe : Option (List ℕ) → Option (List ℕ) → ℕ → Type 0
-IsProbe old new status = (told : Told) × TellsUnit told × IsTold old new told status
+abbrev pub IsProbe : ℕ → List ModelDef → Polling → Option (List ℕ) → Polling → Option (List ℕ) → ℕ → Type 0
+IsProbe unit models p old q new status = (told : Told) × Probes unit models p told q × IsTold old new told status
+
+-- ---- inner
+
+-- Why the models of a map aren't all read, and what went over the link.
+abbrev pub StopsBy : NoLines → ℕ → Polling → Polling → Type 0
+StopsBy (no_lines.Link fault) unit p q = StopsReading unit p fault q
+StopsBy no_lines.OutOfMemory unit p q = ReadsAlone unit p q
+
+-- The points of one model.
+abbrev pub PointsRead : ℕ → Block → Option ModelDef → Polling → List ℕ → Polling → Type 0
+PointsRead unit b m p lines q = (es : List Exchange) × ReadsPoints unit b m es lines × Talks p es q
+
+-- The models of a map.
+pub record ReadsMap (unit : ℕ) (models : List ModelDef) (map : Layout) (p : Polling) (lines : List ℕ) (q : Polling) : Type 0 where
+  pub read : List Exchange
+  pub shown : List ℕ
+  pub points : ReadsModels unit models map.blocks read shown
+  pub talks : Talks p read q
+  pub all : lines ≡ shown ++ end_line map.end
+
+abbrev pub TellsMap : ℕ → List ModelDef → Layout → Polling → Told → Polling → Type 0
+TellsMap unit models map p told q =
+    ((lines : List ℕ) × ReadsMap unit models map p lines q × (told ≡ record { lines = lines; status = 0 }))
+    ⊎ ((fault : LinkFault) × StopsReading unit p fault q × (told ≡ unlinked fault))

@@ -7,7 +7,7 @@ ghost use Rattle.commands.specs.Defined.{AreDefined, AreRead, IsFirstBroken, IsU
 
 use crate::outcome::Outcome;
 use crate::report::undefined;
-use model_defs::{DefFault, ModelDef, read, shipped, shipped_models};
+use model_defs::{DefFault, ModelDef, read, shipped_models};
 use refusal_notes::cause_of_definition;
 use std::alloc::{AllocError, Global};
 
@@ -52,20 +52,6 @@ fn push_shipped(
         push_definition(alloc, models, model.1)?;
     }
     Ok(())
-}
-
-/// The shipped definition of a model; each one that is shipped can be read.
-pub(crate) fn shipped_definition(alloc: Global, id: u16) -> Result<Option<ModelDef>, DefFault>
-    ensures { IfErr result (λ e. e ≡ fault.OutOfMemory) }
-{
-    let Some(text) = shipped(id) else {
-        return Ok(None);
-    };
-    match read(alloc, text.as_bytes()) {
-        Ok(model) => Ok(Some(model)),
-        Err(DefFault::OutOfMemory) => Err(DefFault::OutOfMemory),
-        Err(_) => Ok(None),
-    }
 }
 
 /// Appends the definitions of the texts, in order.

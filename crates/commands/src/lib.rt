@@ -33,7 +33,7 @@ pub use plant::plant_of;
 // a program on a site
 pub use site_scans::{DEPTH, scans, scans_noting};
 // a device
-pub use unit_points::{probe, probe_by};
+pub use unit_points::probe;
 // what is printed, and its status
 pub use outcome::{
     FAILED_LINK, Outcome, tell_no_memory, tell_unlinked, tell_unusable, write_lines,

@@ -1,247 +1,200 @@
 //! The points of a device, as they are read over a link.
-ghost use Rattle.std.specs.Prelude.{◌≡◌, ◌≢◌, ◌≤◌, ◌++◌, ℕ, List, true, IfOk, OnOk};
+ghost use Rattle.std.specs.Prelude.{◌≡◌, ◌≢◌, ◌++◌, ℕ, List, None, true, option_map, IfOk, IfErr, IfSome, OnOk, OnErr};
 ghost use Rattle.point_types.specs.declared.kind.Kind.TheVariants as kinds;
-ghost use Rattle.register_map.specs.Layout.{Layout};
+ghost use Rattle.modbus_frame.specs.Message.{HasQuantity};
 ghost use Rattle.site_model.specs.Tagging.{is_numeric};
-ghost use Rattle.commands.specs.Probe.{ArePoints, AreUnitLines, IsProbe, TellsAsked, point_lines, shown_line, shown_number};
+ghost use Rattle.commands.specs.Printed.{IsUnlinked};
+ghost use Rattle.commands.specs.Probe.{IsProbe, LeavesOff, PointsRead, Probes, ReadsMap, StopsBy, TellsMap, definition_of, model_line, point_lines, points_by, points_request, shown_line, shown_number, unlinked};
 
-use crate::definitions::shipped_definition;
 use crate::outcome::{Outcome, tell_no_memory};
 use crate::report::{no_map, push_end, push_model, push_point};
 use gateway::{Outcome as Answer, Poller};
-use modbus_frame::{Link, LinkFault, Request, Words};
+use modbus_frame::{Link, LinkFault, Request};
 use model_defs::{ModelDef, Point};
 use point_types::{Kind, value};
-use register_map::{Block, Map, MapFault, ReadFault, Registers, discover};
+use register_map::{Block, Map};
 use site_model::registers::registers_at;
 use std::alloc::{AllocError, Global};
 use std::io::Write;
 
-/// Where the mark of a device may stand, in the order of the search.
-const BASES: [u16; 3] = [40000, 50000, 0];
-
 /// The registers of a model's ID and its length.
 const HEADER: u16 = 2;
 
-/// Reads the models of a unit over a link, closes the link, and prints for each model `model ID ADDR LENGTH` and below
-/// it `NAME NUMBER` for each point that is present, but for ID, L, pads and strings; last `end ADDR`. A model without a
-/// shipped definition, or whose registers the unit doesn't give, has its line alone (SunSpec Device Information Model
-/// Specification, models in Modbus registers). Gives the status: 0, 1 for a refusal or a failed write, 3 where the link
-/// failed.
-pub fn probe<L: Link + Drop, W: Write>(alloc: Global, link: L, unit: u8, out: &mut W) -> u8
-    ensures { IsProbe (W.contents out.old) (W.contents out.new) result }
-{
-    probe_by(alloc, link, unit, &[], out)
-}
-
-/// The same, by these definitions before the shipped ones; of several of one ID the last one counts.
-pub fn probe_by<L: Link + Drop, W: Write>(
+/// Reads the models of a unit over a poller's link, and prints for each model `model ID ADDR LENGTH` and below it
+/// `NAME NUMBER` for each point that is present, but for ID, L, pads and strings; last `end ADDR`. Of several definitions
+/// of an ID the last one counts; a model without one, or whose registers the unit doesn't give, has its line alone
+/// (SunSpec Device Information Model Specification, models in Modbus registers). Nothing but reads of this unit is asked.
+/// Gives the status: 0, 1 for a refusal or a failed write, 3 where the link failed.
+pub fn probe<L: Link, W: Write>(
     alloc: Global,
-    link: L,
+    poller: &mut Poller<L>,
     unit: u8,
     models: &[ModelDef],
     out: &mut W,
 ) -> u8
-    ensures { IsProbe (W.contents out.old) (W.contents out.new) result }
+    ensures probes { poller.old.fault ≡ None
+        → IsProbe unit models.now poller.old (W.contents out.old) poller.new (W.contents out.new) result }
+
+    // After a fault that fault is told, and nothing is touched.
+    ensures stands { IfSome poller.old.fault (λ fault. IsUnlinked fault (W.contents out.old) (W.contents out.new) result × (poller.new ≡ poller.old)) }
 {
-    match outcome_of(alloc, link, unit, models) {
+    match outcome_of(alloc, poller, unit, models) {
         Ok(outcome) => outcome.tell(out),
         Err(AllocError) => tell_no_memory(out),
     }
 }
 
-/// What is told of a unit. The link is closed behind it.
-fn outcome_of<L: Link + Drop>(
+/// What is told of a unit.
+fn outcome_of<L: Link>(
     alloc: Global,
-    link: L,
+    poller: &mut Poller<L>,
     unit: u8,
     models: &[ModelDef],
 ) -> Result<Outcome, AllocError>
-    ensures { IfOk result TellsAsked }
+    ensures told { poller.old.fault ≡ None → IfOk result (λ told. Probes unit models.now poller.old told poller.new) }
+    ensures left { poller.old.fault ≡ None → OnErr result (LeavesOff unit poller.old poller.new) }
+    ensures stands { IfSome poller.old.fault (λ fault. IfOk result (λ told. told ≡ unlinked fault) × (poller.new ≡ poller.old)) }
 {
-    match models_of(alloc, link, unit, models) {
+    match poller.search(unit, None) {
+        Ok(Ok(map)) => outcome_by(alloc, poller, unit, models, &map),
+        Ok(Err(fault)) => Ok(Outcome::refused(no_map(alloc, fault.word())?)),
+        Err(fault) => Outcome::unlinked(alloc, fault),
+    }
+}
+
+/// What is told of a unit, whose map this is.
+fn outcome_by<L: Link>(
+    alloc: Global,
+    poller: &mut Poller<L>,
+    unit: u8,
+    models: &[ModelDef],
+    map: &Map,
+) -> Result<Outcome, AllocError>
+    requires { poller.old.fault ≡ None }
+    ensures told { IfOk result (λ told. TellsMap unit models.now map.now poller.old told poller.new) }
+    ensures left { OnErr result (LeavesOff unit poller.old poller.new) }
+{
+    match lines_of(alloc, poller, unit, models, map) {
         Ok(lines) => Ok(Outcome {
             lines,
             status: 0,
             cause: None,
         }),
-        Err(NoModels::Map(fault)) => Ok(Outcome::refused(no_map(alloc, fault.word())?)),
-        Err(NoModels::Link(fault)) => Outcome::unlinked(alloc, fault),
-        Err(NoModels::OutOfMemory) => Err(AllocError),
+        Err(NoLines::Link(fault)) => Outcome::unlinked(alloc, fault),
+        Err(NoLines::OutOfMemory) => Err(AllocError),
     }
 }
 
 /// Why the models of a unit aren't told.
-enum NoModels {
-    Map(MapFault),
+enum NoLines {
     Link(LinkFault),
     OutOfMemory,
 }
 
-impl From<AllocError> for NoModels {
-    fn from(_refused: AllocError) -> Self {
-        NoModels::OutOfMemory
-    }
-}
-
-/// The lines of a unit's models.
-fn models_of<L: Link + Drop>(
+/// The lines of a map's models, and where it ends.
+fn lines_of<L: Link>(
     alloc: Global,
-    link: L,
+    poller: &mut Poller<L>,
     unit: u8,
     models: &[ModelDef],
-) -> Result<Vec<u8>, NoModels>
-    ensures { IfOk result (λ lines. (map : Layout) × AreUnitLines map lines.items) }
+    map: &Map,
+) -> Result<Vec<u8>, NoLines>
+    requires { poller.old.fault ≡ None }
+    ensures read { IfOk result (λ lines. ReadsMap unit models.now map.now poller.old lines.items poller.new) }
+    ensures stopped { IfErr result (λ cause. StopsBy cause unit poller.old poller.new) }
 {
-    let mut device = Device {
-        poller: Poller::new(link),
-        unit,
-        fault: None,
-    };
-    device.lines(alloc, models)
+    let mut lines = Vec::new(alloc);
+    for block in map.blocks() {
+        if let Err(cause) = push_block(&mut lines, alloc, poller, unit, models, block) {
+            return Err(cause);
+        }
+    }
+    match push_end(&mut lines, alloc, map.end()) {
+        Ok(()) => Ok(lines),
+        Err(AllocError) => Err(NoLines::OutOfMemory),
+    }
 }
 
-/// A unit on a link.
-#[derive(Drop)]
-struct Device<L: Link> {
-    poller: Poller<L>,
+/// Appends the line of a model, and below it those of its points.
+fn push_block<L: Link>(
+    lines: &mut Vec<u8>,
+    alloc: Global,
+    poller: &mut Poller<L>,
     unit: u8,
-    /// What ended the link's work.
-    fault: Option<LinkFault>,
-}
-
-impl<L: Link> Registers for Device<L> {
-    ghost use Rattle.std.specs.Prelude.{None, ⊤};
-
-    ghost reads = { λ _ _ _ _ _. ⊤ };
-
-    ghost faults = { λ _. None };
-
-    fn read(&mut self, addr: u16, out: &mut [u16]) -> Result<(), ReadFault> {
-        let qty = out.len();
-        if qty == 0 || qty > Words::MAX_LEN {
-            return Err(ReadFault::Failed);
-        }
-        match self.ask(addr, qty as u16) {
-            Ok(Answer::Words(words)) => {
-                if words.as_slice().len() != qty {
-                    return Err(ReadFault::Failed);
-                }
-                out.copy_from_slice(words.as_slice());
-                Ok(())
-            }
-            Ok(Answer::Exception(_)) => Err(ReadFault::Refused),
-            Ok(_) => Err(ReadFault::Failed),
-            Err(fault) => {
-                self.fault = Some(fault);
-                Err(ReadFault::Failed)
-            }
-        }
-    }
-}
-
-impl<L: Link> Device<L> {
-    /// Asks for registers.
-    fn ask(&mut self, addr: u16, qty: u16) -> Result<Answer, LinkFault>
-        requires { (1 ≤ qty) × (qty ≤ 125) }
-    {
-        self.poller.ask(self.unit, &Request::Read { addr, qty })
-    }
-
-    /// The lines of its models.
-    fn lines(&mut self, alloc: Global, models: &[ModelDef]) -> Result<Vec<u8>, NoModels>
-        ensures { IfOk result (λ lines. (map : Layout) × AreUnitLines map lines.items) }
-    {
-        let map = self.map()?;
-        let mut lines = Vec::new(alloc);
-        for block in map.blocks() {
-            push_model(&mut lines, alloc, block)?;
-            self.push_points(&mut lines, alloc, block, models)?;
-        }
-        push_end(&mut lines, alloc, map.end())?;
-        Ok(lines)
-    }
-
-    /// The map of its registers.
-    fn map(&mut self) -> Result<Map, NoModels> {
-        match discover(self, &BASES) {
-            Ok(map) => Ok(map),
-            Err(fault) => match self.fault {
-                Some(fault) => Err(NoModels::Link(fault)),
-                None => Err(NoModels::Map(fault)),
-            },
-        }
-    }
-
-    /// Appends the lines of a model's points.
-    fn push_points(
-        &mut self,
-        lines: &mut Vec<u8>,
-        alloc: Global,
-        block: &Block,
-        models: &[ModelDef],
-    ) -> Result<(), NoModels>
-        ensures { OnOk result ((points : List ℕ) × ArePoints points × (lines.new.items ≡ lines.old.items ++ points)) }
-    {
-        match last_of(models, block.id) {
-            Some(model) => self.push_points_of(lines, alloc, block, model),
-            None => self.push_shipped(lines, alloc, block),
-        }
-    }
-
-    /// Appends the lines of a model's points by its shipped definition.
-    fn push_shipped(
-        &mut self,
-        lines: &mut Vec<u8>,
-        alloc: Global,
-        block: &Block,
-    ) -> Result<(), NoModels>
-        ensures { OnOk result ((points : List ℕ) × ArePoints points × (lines.new.items ≡ lines.old.items ++ points)) }
-    {
-        match shipped_definition(alloc, block.id) {
-            Ok(Some(model)) => self.push_points_of(lines, alloc, block, &model),
-            Ok(None) => Ok(()),
-            Err(_) => Err(NoModels::OutOfMemory),
-        }
-    }
-
-    /// Appends the lines of a model's points by its definition.
-    fn push_points_of(
-        &mut self,
-        lines: &mut Vec<u8>,
-        alloc: Global,
-        block: &Block,
-        model: &ModelDef,
-    ) -> Result<(), NoModels>
-        ensures { OnOk result ((points : List ℕ) × ArePoints points × (lines.new.items ≡ lines.old.items ++ points)) }
-    {
-        match self.ask(block.addr, registers_of(block, model)) {
-            Ok(Answer::Words(words)) => {
-                push_present(lines, alloc, model, words.as_slice())?;
-                Ok(())
-            }
-            Ok(_) => Ok(()),
-            Err(fault) => Err(NoModels::Link(fault)),
-        }
-    }
-}
-
-/// The last definition of an ID.
-fn last_of(models: &[ModelDef], id: u16) -> Option<&ModelDef> {
-    let mut found = None;
-    for model in models {
-        if model.id == id {
-            found = Some(model);
-        }
-    }
-    found
-}
-
-/// How many registers of a model are read: those that both the unit and the definition have.
-fn registers_of(block: &Block, model: &ModelDef) -> u16
-    ensures { (1 ≤ result) × (result ≤ 125) }
+    models: &[ModelDef],
+    block: &Block,
+) -> Result<(), NoLines>
+    requires { poller.old.fault ≡ None }
+    ensures read { OnOk result ((points : List ℕ) × (lines.new.items ≡ (lines.old.items ++ model_line block.now) ++ points)
+        × PointsRead unit block.now (definition_of models.now block.now.id) poller.old points poller.new) }
+    ensures stopped { IfErr result (λ cause. StopsBy cause unit poller.old poller.new) }
 {
-    block.length.min(model.length) + HEADER
+    match push_model(lines, alloc, block) {
+        Ok(()) => {
+            let model = definition_of(models, block.id);
+            push_points(lines, alloc, poller, unit, block, model)
+        }
+        Err(AllocError) => Err(NoLines::OutOfMemory),
+    }
+}
+
+/// The definition of an ID; of several the last one counts.
+fn definition_of(models: &[ModelDef], id: u16) -> Option<&ModelDef>
+    ensures { option_map (λ m. m.now) result ≡ definition_of models.now id }
+{
+    models.iter().rev().find(|model| model.id == id)
+}
+
+/// Appends the lines of a model's points, where it has a definition and the unit gives its registers.
+fn push_points<L: Link>(
+    lines: &mut Vec<u8>,
+    alloc: Global,
+    poller: &mut Poller<L>,
+    unit: u8,
+    block: &Block,
+    model: Option<&ModelDef>,
+) -> Result<(), NoLines>
+    requires { poller.old.fault ≡ None }
+    ensures read { OnOk result ((points : List ℕ) × (lines.new.items ≡ lines.old.items ++ points)
+        × PointsRead unit block.now (option_map (λ m. m.now) model.entry) poller.old points poller.new) }
+    ensures stopped { IfErr result (λ cause. StopsBy cause unit poller.old poller.new) }
+{
+    let Some(model) = model else {
+        return Ok(());
+    };
+    match poller.ask(unit, &points_request(block, model)) {
+        Ok(answer) => match push_answer(lines, alloc, model, &answer) {
+            Ok(()) => Ok(()),
+            Err(AllocError) => Err(NoLines::OutOfMemory),
+        },
+        Err(fault) => Err(NoLines::Link(fault)),
+    }
+}
+
+/// Appends the lines of the points in the words that came; other answers show none.
+fn push_answer(
+    lines: &mut Vec<u8>,
+    alloc: Global,
+    model: &ModelDef,
+    answer: &Answer,
+) -> Result<(), AllocError>
+    ensures ok { OnOk result (lines.new.items ≡ lines.old.items ++ points_by model.now answer.now) }
+{
+    match answer {
+        Answer::Words(words) => push_present(lines, alloc, model, words.as_slice()),
+        Answer::Exception(_) | Answer::Wrote | Answer::Mismatch | Answer::Stale => Ok(()),
+    }
+}
+
+/// The request for a model's points: the registers that both the unit and the definition have.
+fn points_request(block: &Block, model: &ModelDef) -> Request
+    ensures request { result ≡ points_request block.now model.now }
+    ensures quantity { HasQuantity result }
+{
+    Request::Read {
+        addr: block.addr,
+        qty: block.length.min(model.length) + HEADER,
+    }
 }
 
 /// Appends the lines of the points that are present in a model's registers.

@@ -36,7 +36,7 @@ finds_more devices i device p m q maps found within is so_far one =
 
 -- the link failed in the search for a device's map
 pub stops_finding : (devices : List SiteDevice) (i : ℕ) (device : SiteDevice) (p m q : Polling) (maps : List (Option Layout)) (fault : LinkFault) → i < length devices → device ≡ get_or devices i device
-    → FindsAll (take i devices) p maps m → StopsSearch device m fault q → StopsFinding devices p fault q
+    → FindsAll (take i devices) p maps m → StopsSearch device.unit device.base m fault q → StopsFinding devices p fault q
 stops_finding devices i device p m q maps fault within is so_far stops = record {
   before = take i devices;
   device = device;

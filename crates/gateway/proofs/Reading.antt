@@ -1,7 +1,6 @@
 -- The reads of a search over a line are requests.
 use Rattle.std.proofs.Common.{◌≡◌, inl, inr, ℕ, ◌-◌, ◌<◌, List, [], ◌∷◌, ◌++◌, Option, None, Some, Result, Ok, Err, refl, sym, ap, ◌∙◌, subst, arith}
 use Rattle.std.specs.Prelude.{◌⊎◌}
-use Rattle.std.specs.Result.{result_ok}
 use Rattle.modbus_frame.specs.declared.link.LinkFault.{LinkFault}
 use Rattle.modbus_frame.specs.declared.link.LinkFault.TheVariants as link
 use Rattle.modbus_frame.specs.declared.message.Request.{Request}
@@ -14,12 +13,11 @@ use Rattle.register_map.specs.declared.layout.MapFault.TheVariants as map
 use Rattle.register_map.specs.Layout.{Layout}
 use Rattle.register_map.specs.Reads.{Answer, RegisterRead, Runs, TakesNext}
 use Rattle.register_map.specs.Search.{IsSearch, all_registers}
-use Rattle.site_model.specs.declared.device.SiteDevice.{SiteDevice}
 use Rattle.gateway.specs.declared.poller.outcome.Outcome.{Outcome}
 use Rattle.gateway.specs.poller.LinkRun.{Exchange}
 use Rattle.gateway.specs.poller.Polling.{Polling, Decides, Fails, Talks}
 use Rattle.gateway.specs.poller.Asking.{Asking, AsksOnce, AsksUnless, Turned}
-use Rattle.gateway.specs.poller.Finding.{ReadsLine, AreReadsBy, answer_by, bases_by, FindsOne, StopsSearch}
+use Rattle.gateway.specs.poller.Finding.{ReadsLine, AreReadsBy, answer_by, bases_by, Searches, StopsSearch}
 use Rattle.gateway.proofs.Searched.{AreSent, search_sent}
 use Rattle.gateway.proofs.Talking.{talks_none, talks_first, exchange_of}
 
@@ -164,47 +162,44 @@ told s t (r ∷ rs) result (u, inl (Err fault, asks, answer), rest) sent works =
     let last = sent.1 answer in
     inr (failed_now s u t r rs fault result one.asks works answer last.0 last.1 (no_reads u t rs rest last.0))
 
--- ---- one device
+-- ---- one unit
 
-finds_told : (s t : Asking) (device : SiteDevice) (result : Result Layout MapFault) (reads : List RegisterRead) → s.unit ≡ device.unit
-    → IsSearch TakesNext all_registers reads (bases_by device.base) [] result → (t.polling).fault ≡ None
-    → AllDecided s t reads ⊎ LastFailed s t reads result → FindsOne device s.polling (result_ok result) t.polling
-finds_told s t device result reads unit search works (inl all) =
-    let A : ℕ → Type 0 = λ n. AreReadsBy n reads all.0 in
-    (all.0, record { reads = reads; asked = subst A unit all.1; result = result; search = search; map = refl }, all.2)
-finds_told s t device result reads unit search works (inr last) = let kept = (last.fails).kept in absurd (cc)
+searches_told : (s t : Asking) (base : Option ℕ) (result : Result Layout MapFault) (reads : List RegisterRead)
+    → IsSearch TakesNext all_registers reads (bases_by base) [] result → (t.polling).fault ≡ None
+    → AllDecided s t reads ⊎ LastFailed s t reads result → Searches s.unit base s.polling result t.polling
+searches_told s t base result reads search works (inl all) = (all.0, record { reads = reads; asked = all.1; search = search }, all.2)
+searches_told s t base result reads search works (inr last) = let kept = (last.fails).kept in absurd (cc)
 
-pub finds_one : (s t : Asking) (device : SiteDevice) (result : Result Layout MapFault) (reads : List RegisterRead) → s.unit ≡ device.unit → (s.polling).fault ≡ None
-    → Runs ReadsLine s reads t → IsSearch TakesNext all_registers reads (bases_by device.base) [] result → (t.polling).fault ≡ None
-    → FindsOne device s.polling (result_ok result) t.polling
-finds_one s t device result reads unit works run search after =
-    finds_told s t device result reads unit search after (told s t reads result run (search_sent all_registers reads (bases_by device.base) result search) works)
+pub searches : (s t : Asking) (base : Option ℕ) (result : Result Layout MapFault) (reads : List RegisterRead) → (s.polling).fault ≡ None
+    → Runs ReadsLine s reads t → IsSearch TakesNext all_registers reads (bases_by base) [] result → (t.polling).fault ≡ None
+    → Searches s.unit base s.polling result t.polling
+searches s t base result reads works run search after =
+    searches_told s t base result reads search after (told s t reads result run (search_sent all_registers reads (bases_by base) result search) works)
 
-stops_told : (s t : Asking) (device : SiteDevice) (result : Result Layout MapFault) (reads : List RegisterRead) (fault : LinkFault) → s.unit ≡ device.unit
-    → IsSearch TakesNext all_registers reads (bases_by device.base) [] result → (t.polling).fault ≡ Some fault
-    → AllDecided s t reads ⊎ LastFailed s t reads result → StopsSearch device s.polling fault t.polling
-stops_told s t device result reads fault unit search after (inl all) = let none = (all.2).fault in absurd (cc)
-stops_told s t device result reads fault unit search after (inr last) =
-    let A : ℕ → Type 0 = λ n. AreReadsBy n last.front last.es in
+stops_told : (s t : Asking) (base : Option ℕ) (result : Result Layout MapFault) (reads : List RegisterRead) (fault : LinkFault)
+    → IsSearch TakesNext all_registers reads (bases_by base) [] result → (t.polling).fault ≡ Some fault
+    → AllDecided s t reads ⊎ LastFailed s t reads result → StopsSearch s.unit base s.polling fault t.polling
+stops_told s t base result reads fault search after (inl all) = let none = (all.2).fault in absurd (cc)
+stops_told s t base result reads fault search after (inr last) =
     let kept = (last.fails).kept in
     let same : last.fault ≡ fault = (cc) in
-    let S : List RegisterRead → Result Layout MapFault → Type 0 = λ l r. IsSearch TakesNext all_registers l (bases_by device.base) [] r in
+    let S : List RegisterRead → Result Layout MapFault → Type 0 = λ l r. IsSearch TakesNext all_registers l (bases_by base) [] r in
     record {
       es = last.es;
       address = last.address;
       count = last.count;
       next = record {
         reads = last.front;
-        asked = subst A unit last.asked;
+        asked = last.asked;
         search = subst (λ l. S l (Err map.Read)) last.all (subst (S reads) last.unread search);
       };
       middle = last.middle;
       talks = last.talks;
-      fails = subst (λ f. Fails last.middle device.unit (Read last.address last.count) f t.polling) same (subst (λ n. Fails last.middle n (Read last.address last.count) last.fault t.polling) unit last.fails);
+      fails = subst (λ f. Fails last.middle s.unit (Read last.address last.count) f t.polling) same last.fails;
     }
 
-pub stops_search : (s t : Asking) (device : SiteDevice) (result : Result Layout MapFault) (reads : List RegisterRead) (fault : LinkFault) → s.unit ≡ device.unit → (s.polling).fault ≡ None
-    → Runs ReadsLine s reads t → IsSearch TakesNext all_registers reads (bases_by device.base) [] result → (t.polling).fault ≡ Some fault
-    → StopsSearch device s.polling fault t.polling
-stops_search s t device result reads fault unit works run search after =
-    stops_told s t device result reads fault unit search after (told s t reads result run (search_sent all_registers reads (bases_by device.base) result search) works)
+pub stops_search : (s t : Asking) (base : Option ℕ) (result : Result Layout MapFault) (reads : List RegisterRead) (fault : LinkFault) → (s.polling).fault ≡ None
+    → Runs ReadsLine s reads t → IsSearch TakesNext all_registers reads (bases_by base) [] result → (t.polling).fault ≡ Some fault
+    → StopsSearch s.unit base s.polling fault t.polling
+stops_search s t base result reads fault works run search after =
+    stops_told s t base result reads fault search after (told s t reads result run (search_sent all_registers reads (bases_by base) result search) works)

@@ -2,7 +2,7 @@
 ghost use Rattle.std.specs.Prelude.{◌≡◌, [], None, Err, IfSome, IfOk, IfErr};
 ghost use Rattle.modbus_frame.specs.Link.{CountsCalls};
 ghost use Rattle.modbus_frame.specs.Message.{HasQuantity};
-ghost use Rattle.gateway.specs.poller.Finding.{FindsAll, StopsUnless};
+ghost use Rattle.gateway.specs.poller.Finding.{FindsAll, Searches, StopsSearch, StopsUnless};
 ghost use Rattle.gateway.specs.poller.LinkRun.{Suits};
 ghost use Rattle.gateway.specs.poller.Polling.{Asks};
 
@@ -19,7 +19,7 @@ use line::Line;
 use modbus_frame::{Link, LinkFault, MOST_CALLS, Request};
 pub use outcome::Outcome;
 pub use polled::run_scan;
-use register_map::Map;
+use register_map::{Map, MapFault};
 use site_model::Site;
 use std::alloc::Global;
 use std::marker::Model;
@@ -83,6 +83,17 @@ impl<L: Link> Poller<L> {
         self.line.link()
     }
 
+    /// The link, where the poller's work is over: nothing was sent or read behind its last request. Whoever owns a poller
+    /// ends by this, so that what its link carried is known to the end. Bytes that were read ahead are gone.
+    pub fn into_link(self) -> L
+        ensures sent { L.sent result ≡ self.sent }
+        ensures failures { L.failures result ≡ self.failures }
+        ensures calls { L.calls result ≡ self.calls }
+        ensures coming { L.coming result ≡ self.coming }
+    {
+        self.line.into_link()
+    }
+
     /// Sends a request to a unit and gives its outcome: what the first frame with its transaction and unit says. Other
     /// frames are dropped; with the 17th the request is stale. Bytes behind the frame that decides stay for the next
     /// call. A reading request asks for 1 to 125 registers, a writing one carries 1 to 123.
@@ -103,6 +114,31 @@ impl<L: Link> Poller<L> {
         self.line.turn_to(unit);
         self.line.allow(MOST_CALLS);
         self.line.ask(request)
+    }
+
+    /// The map of a unit, which is looked for at its base alone where one is given, else at 40000, 50000 and 0; or why it
+    /// has none. Takes no memory.
+    ///
+    /// [`LinkFault`]: as for [`ask`](Poller::ask), over all requests.
+    pub fn search(
+        &mut self,
+        unit: u8,
+        base: Option<u16>,
+    ) -> Result<Result<Map, MapFault>, LinkFault>
+        // The requests are the reads of the search, and this is its result.
+        ensures found { IfOk result (λ found. Searches unit base self.old found self.new) }
+        ensures stopped { self.old.fault ≡ None
+            → IfErr result (λ fault. StopsSearch unit base self.old fault self.new) }
+        ensures calls { self.old.fault ≡ None → CountsCalls self.old.calls self.new.calls result }
+
+        // After a fault it answers that fault, and touches nothing.
+        ensures stands { IfSome self.old.fault (λ fault. (result ≡ Err fault) × (self.new ≡ self.old)) }
+    {
+        if let Some(fault) = self.line.fault() {
+            return Err(fault);
+        }
+        self.line.allow(MOST_CALLS);
+        self.line.search(unit, base)
     }
 
     /// The maps of a site's devices, in the order of its file; `None` for a device that has none. A device's map is

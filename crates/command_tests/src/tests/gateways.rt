@@ -2,6 +2,7 @@
 use crate::tests::files::{PROGRAM, SITE};
 use crate::tests::links::{AnsweredLink, Answers, PLANT, PlantLink};
 use crate::tests::{Told, assert_same, assert_told, joined, printed};
+use commands::definitions::definitions;
 use commands::{DEPTH, probe, scans};
 use gateway::{Core, Poller, serve_client};
 use modbus_frame::{LinkFault, MemLink};
@@ -53,9 +54,10 @@ fn scanned(rt: &(impl AllocGlobal + Abort), poller: &mut Poller<PlantLink>) -> C
 /// What a probe of the gateway prints behind two scans of a plant.
 fn told_of_gateway(rt: &(impl AllocGlobal + Abort), plant: &str) -> Told {
     let mut poller = Poller::new(PlantLink::new(rt, plant, &[]));
-    let link = AnsweredLink::to(rt.alloc(), scanned(rt, &mut poller));
+    let mut probing = Poller::new(AnsweredLink::to(rt.alloc(), scanned(rt, &mut poller)));
+    let models = definitions(rt.alloc(), &[]).expect(rt, "the shipped definitions");
     let mut out = Vec::new(rt.alloc());
-    let status = probe(rt.alloc(), link, 1, &mut out);
+    let status = probe(rt.alloc(), &mut probing, 1, models.as_slice(), &mut out);
     (printed(rt, out), status)
 }
 

@@ -1,14 +1,18 @@
 //! The points of units that a probe prints.
 use crate::tests::links::{FailingLink, PLANT, PlantLink};
 use crate::tests::{Told, assert_same, assert_told, assert_true, edited, printed, texts};
+use commands::definitions::definitions;
 use commands::probe;
+use gateway::Poller;
 use modbus_frame::Link;
 use std::process::Abort;
 
 /// What is printed of a unit on a link, and the status.
 fn told<L: Link + Drop>(rt: &(impl AllocGlobal + Abort), link: L, unit: u8) -> Told {
+    let models = definitions(rt.alloc(), &[]).expect(rt, "the shipped definitions");
+    let mut poller = Poller::new(link);
     let mut out = Vec::new(rt.alloc());
-    let status = probe(rt.alloc(), link, unit, &mut out);
+    let status = probe(rt.alloc(), &mut poller, unit, models.as_slice(), &mut out);
     (printed(rt, out), status)
 }
 

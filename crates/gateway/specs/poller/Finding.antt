@@ -31,9 +31,9 @@ answer_by outcome.Wrote = Err Failed
 answer_by outcome.Mismatch = Err Failed
 answer_by outcome.Stale = Err Failed
 
--- ---- one device
+-- ---- one unit
 
--- A read of a device is this request, and its answer the one to it.
+-- A read of a unit is this request, and its answer the one to it.
 abbrev pub IsReadBy : ℕ → RegisterRead → Exchange → Type 0
 IsReadBy unit r e = (e.unit ≡ unit) × (e.request ≡ Read r.address r.count) × (r.answer ≡ answer_by e.outcome)
 
@@ -44,35 +44,41 @@ AreReadsBy unit [] (e ∷ es) = ⊥
 AreReadsBy unit (r ∷ rs) [] = ⊥
 AreReadsBy unit (r ∷ rs) (e ∷ es) = IsReadBy unit r e × AreReadsBy unit rs es
 
--- The requests are the reads of the search for the device's map; where the search has a fault the device has none.
-pub record FindsMap (device : SiteDevice) (es : List Exchange) (found : Option Layout) : Type 0 where
+-- The requests are the reads of the search for the unit's map, by the base where one is known, and this is its result.
+pub record IsSearched (unit : ℕ) (base : Option ℕ) (es : List Exchange) (result : Result Layout MapFault) : Type 0 where
   pub reads : List RegisterRead
-  pub asked : AreReadsBy device.unit reads es
-  pub result : Result Layout MapFault
-  pub search : IsSearch TakesNext all_registers reads (bases_by device.base) [] result
-  pub map : found ≡ result_ok result
+  pub asked : AreReadsBy unit reads es
+  pub search : IsSearch TakesNext all_registers reads (bases_by base) [] result
 
--- The requests are the first reads of a search for the device's map, and this is the next one.
-pub record GoesOnBy (device : SiteDevice) (es : List Exchange) (address count : ℕ) : Type 0 where
+-- The requests are the first reads of a search for the unit's map, and this is the next one.
+pub record GoesOnBy (unit : ℕ) (base : Option ℕ) (es : List Exchange) (address count : ℕ) : Type 0 where
   pub reads : List RegisterRead
-  pub asked : AreReadsBy device.unit reads es
-  pub search : IsSearch TakesNext all_registers (reads ++ record { address = address; count = count; answer = Err Failed } ∷ []) (bases_by device.base) [] (Err map.Read)
+  pub asked : AreReadsBy unit reads es
+  pub search : IsSearch TakesNext all_registers (reads ++ record { address = address; count = count; answer = Err Failed } ∷ []) (bases_by base) [] (Err map.Read)
+
+-- All requests were decided.
+abbrev pub Searches : ℕ → Option ℕ → Polling → Result Layout MapFault → Polling → Type 0
+Searches unit base p result q = (es : List Exchange) × IsSearched unit base es result × Talks p es q
+
+-- The link failed at the next read.
+pub record StopsSearch (unit : ℕ) (base : Option ℕ) (p : Polling) (fault : LinkFault) (q : Polling) : Type 0 where
+  pub es : List Exchange
+  pub address : ℕ
+  pub count : ℕ
+  pub next : GoesOnBy unit base es address count
+  pub middle : Polling
+  pub talks : Talks p es middle
+  pub fails : Fails middle unit (Read address count) fault q
+
+-- ---- one device after another
+
+-- Where the search has a fault the device has no map.
+abbrev pub FindsMap : SiteDevice → List Exchange → Option Layout → Type 0
+FindsMap device es found = (result : Result Layout MapFault) × IsSearched device.unit device.base es result × (found ≡ result_ok result)
 
 -- All requests were decided.
 abbrev pub FindsOne : SiteDevice → Polling → Option Layout → Polling → Type 0
 FindsOne device p found q = (es : List Exchange) × FindsMap device es found × Talks p es q
-
--- The link failed at the next read.
-pub record StopsSearch (device : SiteDevice) (p : Polling) (fault : LinkFault) (q : Polling) : Type 0 where
-  pub es : List Exchange
-  pub address : ℕ
-  pub count : ℕ
-  pub next : GoesOnBy device es address count
-  pub middle : Polling
-  pub talks : Talks p es middle
-  pub fails : Fails middle device.unit (Read address count) fault q
-
--- ---- one device after another
 
 -- The requests are those of the searches for the devices' maps, in order and no others.
 abbrev pub FindsMaps : List SiteDevice → List Exchange → List (Option Layout) → Type 0
@@ -97,7 +103,7 @@ pub record StopsFinding (devices : List SiteDevice) (p : Polling) (fault : LinkF
   pub own : List Exchange
   pub address : ℕ
   pub count : ℕ
-  pub next : GoesOnBy device own address count
+  pub next : GoesOnBy device.unit device.base own address count
   pub middle : Polling
   pub talks : Talks p (es ++ own) middle
   pub fails : Fails middle device.unit (Read address count) fault q

@@ -3,7 +3,7 @@ ghost use Rattle.std.specs.Prelude.{◌≡◌, ◌≤◌, ℕ, List, Option, [],
 ghost use Rattle.register_map.specs.Reads.{RegisterRead, answer_of};
 ghost use Rattle.register_map.specs.Search.{IsDiscovery};
 ghost use Rattle.gateway.specs.poller.Asking.{Turned};
-ghost use Rattle.gateway.specs.poller.Finding.{ReadsLine, bases_by, FindsOne, FindsAll, StopsFinding, StopsSearch};
+ghost use Rattle.gateway.specs.poller.Finding.{ReadsLine, bases_by, FindsOne, FindsAll, Searches, StopsFinding, StopsSearch};
 
 use crate::poller::line::Line;
 use crate::poller::outcome::Outcome;
@@ -68,18 +68,35 @@ impl<L: Link> Line<L> {
     fn map_of(&mut self, device: &SiteDevice) -> Result<Option<Map>, LinkFault>
         requires { self.old.polling.fault ≡ None }
         ensures found { IfOk result (λ map. FindsOne device.now self.old.polling map self.new.polling) }
-        ensures stopped { IfErr result (λ fault. StopsSearch device.now self.old.polling fault self.new.polling) }
+        ensures stopped { IfErr result (λ fault. StopsSearch device.now.unit device.now.base self.old.polling fault self.new.polling) }
         ensures turned { Turned self.old self.new }
     {
-        self.turn_to(device.unit);
-        let map = self.search(device.base);
-        match self.fault() {
-            Some(fault) => Err(fault),
-            None => Ok(map.ok()),
+        match self.search(device.unit, device.base) {
+            Ok(found) => Ok(found.ok()),
+            Err(fault) => Err(fault),
         }
     }
 
-    fn search(&mut self, base: Option<u16>) -> Result<Map, MapFault>
+    /// The map of a unit, or why it has none.
+    pub(crate) fn search(
+        &mut self,
+        unit: u8,
+        base: Option<u16>,
+    ) -> Result<Result<Map, MapFault>, LinkFault>
+        requires { self.old.polling.fault ≡ None }
+        ensures found { IfOk result (λ found. Searches unit base self.old.polling found self.new.polling) }
+        ensures stopped { IfErr result (λ fault. StopsSearch unit base self.old.polling fault self.new.polling) }
+        ensures turned { Turned self.old self.new }
+    {
+        self.turn_to(unit);
+        let found = self.discover(base);
+        match self.fault() {
+            Some(fault) => Err(fault),
+            None => Ok(found),
+        }
+    }
+
+    fn discover(&mut self, base: Option<u16>) -> Result<Map, MapFault>
         ensures { (log : List RegisterRead) × IsDiscovery ReadsLine self.old (bases_by base) self.new log result }
     {
         match base {

@@ -80,6 +80,16 @@ impl<L: Link> Line<L> {
         &self.link
     }
 
+    /// The link. Bytes that were read ahead are gone.
+    pub(crate) fn into_link(self) -> L
+        ensures sent { L.sent result ≡ self.polling.sent }
+        ensures failures { L.failures result ≡ self.polling.failures }
+        ensures calls { L.calls result ≡ self.polling.calls }
+        ensures coming { L.coming result ≡ self.polling.coming }
+    {
+        self.link
+    }
+
     /// The fault that ended its work.
     pub(crate) fn fault(&self) -> Option<LinkFault>
         ensures { result ≡ self.now.polling.fault }

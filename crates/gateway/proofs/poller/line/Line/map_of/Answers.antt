@@ -1,36 +1,7 @@
-use Rattle.std.proofs.Common.{◌≡◌, ◌∙◌, ap, sym, Some, None}
-use Rattle.gateway.specs.poller.Asking.{Asking}
-use Rattle.gateway.proofs.Reading.{turned_runs, turned_to, finds_one, stops_search}
+use Rattle.std.proofs.Common.{refl}
 use Rattle.gateway.proofs.poller.line.Line.map_of.Goals as goal
 
-pub returns-in-Some-clause-stopped : goal.returns-in-Some-clause-stopped
-returns-in-Some-clause-stopped g c =
-    let s = c.turn_to.new.self in
-    let t = c.search-map.new.self in
-    let same : s.polling ≡ (c.args.self.now).polling = ap (λ (a : Asking). a.polling) c.turn_to.ensures in
-    let unit : s.unit ≡ c.args.device.now.unit = ap (λ (a : Asking). a.unit) c.turn_to.ensures in
-    let works : (s.polling).fault ≡ None = ap (λ (a : Asking). (a.polling).fault) c.turn_to.ensures ∙ c.requires in
-    let after : (t.polling).fault ≡ Some c.in-Some.fault = sym c.fault.ensures ∙ c.in-Some.is in
-    let found = c.search-map.ensures in
-    rw (← same) (stops_search s t c.args.device.now c.search-map.result found.0 c.in-Some.fault unit works found.1.0 found.1.1 after)
-
-pub returns-in-Some-clause-turned : goal.returns-in-Some-clause-turned
-returns-in-Some-clause-turned g c =
-    let found = c.search-map.ensures in
-    turned_to (c.args.self.now) c.search-map.new.self c.args.device.now.unit (rw c.turn_to.ensures at (turned_runs c.turn_to.new.self c.search-map.new.self found.0 found.1.0))
-
-pub returns-in-None-clause-found : goal.returns-in-None-clause-found
-returns-in-None-clause-found g c =
-    let s = c.turn_to.new.self in
-    let t = c.search-map.new.self in
-    let same : s.polling ≡ (c.args.self.now).polling = ap (λ (a : Asking). a.polling) c.turn_to.ensures in
-    let unit : s.unit ≡ c.args.device.now.unit = ap (λ (a : Asking). a.unit) c.turn_to.ensures in
-    let works : (s.polling).fault ≡ None = ap (λ (a : Asking). (a.polling).fault) c.turn_to.ensures ∙ c.requires in
-    let after : (t.polling).fault ≡ None = sym c.fault.ensures ∙ c.in-None.is in
-    let found = c.search-map.ensures in
-    rw (c.ok.ensures.value, ← same) (finds_one s t c.args.device.now c.search-map.result found.0 unit works found.1.0 found.1.1 after)
-
-pub returns-in-None-clause-turned : goal.returns-in-None-clause-turned
-returns-in-None-clause-turned g c =
-    let found = c.search-map.ensures in
-    turned_to (c.args.self.now) c.search-map.new.self c.args.device.now.unit (rw c.turn_to.ensures at (turned_runs c.turn_to.new.self c.search-map.new.self found.0 found.1.0))
+pub returns-in-Ok-clause-found : goal.returns-in-Ok-clause-found
+returns-in-Ok-clause-found g c =
+    let s = c.in-Ok.ensures.found in
+    rw c.ok.ensures.value (s.0, (c.in-Ok.found, s.1, refl), s.2)
