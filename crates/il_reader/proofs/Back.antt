@@ -23,7 +23,8 @@ use Rattle.il_reader.specs.Declaration.{among, is_taken, has_room, value_of, who
 use Rattle.il_reader.specs.Drafting.{Move, goes, declares, with_entry}
 use Rattle.il_reader.specs.Instructions.{line_step, behind_label_step, at_instruction_step, between_step, whole_step, at_line_step}
 use Rattle.il_reader.specs.Reading.{start_step, titled_step, over_step, declare_step, in_block_step, behind_name_step, behind_comma_step, ranged_step, typed_step, behind_colon_step, behind_external_step, behind_range_step, behind_type_step, behind_open_step, behind_low_step, behind_dots_step, behind_high_step, behind_assign_step, behind_start_step, block_step, within_step, state_step, with_fault, step, onward}
-use Rattle.il_reader.specs.Grammar.{Placed, placed, past, IsNext, IsAction, IsBody, Nature, OfVariable, OfExternal, Declaration, IsFree, IsStart, IsNature, IsTyped, AreDeclarations, block_token, AreBlocks, IsProgram}
+use Rattle.il_reader.specs.Grammar.{past, IsNext, IsAction, IsBody, Nature, OfVariable, OfExternal, Declaration, IsFree, IsStart, IsNature, IsTyped, AreDeclarations, block_token, AreBlocks, IsProgram}
+use Rattle.il_reader.specs.Lexemes.{Placed, placed}
 use Rattle.il_reader.proofs.Drafts.{scope_one, scope_after, labels_after, finished_is}
 use Rattle.il_reader.proofs.Rest.{run, RestBody, RestLines, RestWhole, RestAction, RestLabelled, RestTop, RestIn, RestNamed, RestClosed, RestRange, RestHigh, RestDots, RestLow, RestOpen, RestBlock, RestWithin, Rest, Back}
 use Rattle.il_reader.proofs.Instructed.{back_begin, back_inside, back_part}

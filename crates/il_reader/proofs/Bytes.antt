@@ -13,11 +13,14 @@ use Rattle.il_reader.specs.Limit.{most_bytes}
 use Rattle.il_reader.specs.Tokens.{lexed, at_end, line_behind}
 use Rattle.il_reader.specs.Drafting.{Move}
 use Rattle.il_reader.specs.Reading.{step, stepped, onward, taken, state_read, byte_read, fed_on, fed, opening, Outcome, Reads, AtFault, TooSoon, early, end_reached, end_read, judged, outcome, answered}
-use Rattle.il_reader.specs.Grammar.{Placed, placed, Scan, Tokens, NoTokens, of_line, last_tokens, joined, scanned_on, scanned, IsProgramText}
+use Rattle.il_reader.specs.Grammar.{IsProgramText}
+use Rattle.il_reader.specs.Lexemes.{Placed, placed, of_line}
+use Rattle.il_reader.specs.Scanning.{Scan, Tokens, NoTokens, last_tokens, joined, scanned_on, scanned}
 use Rattle.il_reader.specs.Laws.{ReadingIsExact, AtMostOneProgram}
 use Rattle.il_reader.proofs.Back.{run_back}
 use Rattle.il_reader.proofs.Rest.{run}
 use Rattle.il_reader.proofs.Forth.{run_forth}
+use Rattle.il_reader.proofs.LexemeTexts.{tokens_are_lexemes}
 
 run_append : (s : State) (ts us : List Placed) → run s (ts ++ us) ≡ onward (run s ts) (λ s'. run s' us)
 run_append s [] us = refl
@@ -104,10 +107,10 @@ pub read_is_program : (text : List ℕ) (p : Program) → outcome text ≡ Reads
 read_is_program text p h = join (took text opening p h)
   where
     join : Took opening text p → IsProgramText text p
-    join (ts, e, r) = (ts, e, run_back state.Start ts p r)
+    join (ts, e, r) = (ts, (tokens_are_lexemes text ts).0 e, run_back state.Start ts p r)
 
 pub program_is_read : (text : List ℕ) (p : Program) → IsProgramText text p → outcome text ≡ Reads p
-program_is_read text p (ts, e, h) = takes text opening p ts e (run_forth ts p h)
+program_is_read text p (ts, e, h) = takes text opening p ts ((tokens_are_lexemes text ts).1 e) (run_forth ts p h)
 
 answers : (o : Outcome) (p : Program) → answered o ≡ Ok p → o ≡ Reads p
 answers (Reads q) p h = cc

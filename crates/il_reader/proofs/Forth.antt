@@ -37,7 +37,8 @@ use Rattle.il_reader.specs.Declaration.{is_taken, has_room, value_of, begun, bou
 use Rattle.il_reader.specs.Drafting.{Move, goes, declares, continues, with_entry, with_variables, with_label, with_statement, titled_draft, program_of}
 use Rattle.il_reader.specs.Instructions.{operand_of, computed, simple_step, begun_step, part_begun, enter_step, behind_operator_step, entered_step, behind_parenthesis_step, close_step, begin_step, line_step, between_step, paired, behind_pair_step, turns_step}
 use Rattle.il_reader.specs.Reading.{ranged_step, behind_open_step, behind_dots_step, behind_assign_step, with_fault, step, onward}
-use Rattle.il_reader.specs.Grammar.{Placed, placed, past, IsNext, IsEnd, IsEntry, IsSimple, IsInner, IsJump, IsAction, IsLabelled, IsLine, labels_with, IsBody, Nature, OfVariable, OfExternal, Declaration, Block, IsFree, AreOthers, IsSubrange, IsRange, IsStart, IsNature, IsTyped, IsDeclaration, AreDeclarations, block_token, AreBlocks, externals_of, IsProgram}
+use Rattle.il_reader.specs.Grammar.{past, IsNext, IsEnd, IsEntry, IsSimple, IsInner, IsJump, IsAction, IsLabelled, IsLine, labels_with, IsBody, Nature, OfVariable, OfExternal, Declaration, Block, IsFree, AreOthers, IsSubrange, IsRange, IsStart, IsNature, IsTyped, IsDeclaration, AreDeclarations, block_token, AreBlocks, externals_of, IsProgram}
+use Rattle.il_reader.specs.Lexemes.{Placed, placed}
 use Rattle.il_reader.proofs.Drafts.{listed, closed, after_one, after, after_blocks, finished, scope_one, scope_after, labels_after, finished_is}
 use Rattle.il_reader.proofs.Rest.{run}
 use Rattle.il_reader.proofs.Instructed.{follow_none, follow_one}

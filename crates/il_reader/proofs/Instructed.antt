@@ -21,7 +21,8 @@ use Rattle.il_reader.specs.Written as form
 use Rattle.il_reader.specs.Nesting.{takes_parentheses, has_depth, is_filled, frame_of, with_line, deferred, is_outer}
 use Rattle.il_reader.specs.Drafting.{continues}
 use Rattle.il_reader.specs.Instructions.{computed, simple_step, begun_step, part_begun, begin_step, operand_of, paired, behind_pair_step, behind_first_step, behind_store_step, behind_set_step, behind_jump_step, is_loop, turns_of, behind_brace_step, turns_step, behind_loop_step, behind_turns_step, behind_pragma_step, behind_operator_step, entered_step, behind_parenthesis_step, behind_entry_step, inside_step, part_step}
-use Rattle.il_reader.specs.Grammar.{Placed, placed, past, IsSimple, IsInner}
+use Rattle.il_reader.specs.Grammar.{past, IsSimple, IsInner}
+use Rattle.il_reader.specs.Lexemes.{Placed, placed}
 use Rattle.il_reader.proofs.Rest.{RestInside, RestComputed, RestAction, RestSimple, RestOperand, RestName, RestEntry, RestPart, Rest, Back}
 
 -- Lines behind lines.

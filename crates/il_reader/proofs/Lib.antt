@@ -7,6 +7,16 @@ pub mod Rest
 pub mod Instructed
 pub mod Back
 pub mod Forth
+pub mod Scans
+pub mod LexemeBlanks
+pub mod LexemeNumbers
+pub mod LexemeNumbersForth
+pub mod LexemeNumbersBack
+pub mod LexemeWords
+pub mod LexemeWordsBack
+pub mod LexemeMarks
+pub mod LexemeMarksBack
+pub mod LexemeTexts
 pub mod Bytes
 pub mod Live
 pub mod Fresh

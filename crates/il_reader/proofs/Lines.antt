@@ -17,7 +17,8 @@ use Rattle.il_reader.specs.Tokens.{fails, lexed, at_end, line_behind, word_token
 use Rattle.il_reader.specs.Grammar.{IsProgramText}
 use Rattle.il_reader.specs.Drafting.{Move}
 use Rattle.il_reader.specs.Reading.{stepped, taken, state_read, byte_read, byte_fed, fed_on, fed, opening, Outcome, Reads, AtFault, TooSoon, early, end_reached, end_read, judged, outcome}
-use Rattle.il_reader.specs.Laws.{lines_up_to, line_ends, last_line, Begins, FaultIsInTheFirstLine, EarlyEndIsInTheLastLine}
+use Rattle.il_reader.specs.Lexemes.{line_ends}
+use Rattle.il_reader.specs.Laws.{lines_up_to, last_line, Begins, FaultIsInTheFirstLine, EarlyEndIsInTheLastLine}
 use Rattle.il_reader.proofs.Bytes.{read_is_program, program_is_read}
 use Rattle.il_reader.proofs.Live.{live_fed}
 use Rattle.il_reader.proofs.Completion.{Ends_at, IsCalm, calm_ends}

@@ -31,7 +31,8 @@ use Rattle.il_reader.specs.Declaration.{value_of, begun, bounded, started, made}
 use Rattle.il_reader.specs.Drafting.{Move, with_entry, with_variables, with_externals, with_label, with_statement, titled_draft}
 use Rattle.il_reader.specs.Instructions.{operand_of, paired, is_loop, turns_of}
 use Rattle.il_reader.specs.Reading.{step, onward}
-use Rattle.il_reader.specs.Grammar.{Placed, placed, past, IsNext, IsEnd, IsEntry, IsSimple, IsInner, IsAction, IsLabelled, IsBody, Nature, Declaration, Block, IsFree, AreOthers, IsRange, IsStart, IsNature, IsTyped, AreDeclarations, AreBlocks, IsProgram}
+use Rattle.il_reader.specs.Grammar.{past, IsNext, IsEnd, IsEntry, IsSimple, IsInner, IsAction, IsLabelled, IsBody, Nature, Declaration, Block, IsFree, AreOthers, IsRange, IsStart, IsNature, IsTyped, AreDeclarations, AreBlocks, IsProgram}
+use Rattle.il_reader.specs.Lexemes.{Placed, placed}
 use Rattle.il_reader.proofs.Drafts.{listed, closed, after, after_blocks, finished}
 
 -- tokens in turn

@@ -1,14 +1,9 @@
 -- The grammar over tokens: which tokens, each with its line, spell a program.
 -- IEC 61131-3 edition 2, annex B.1.4.3 variables, B.1.5.3 programs, B.2 instruction list.
-use Rattle.std.specs.Prelude.{◌≡◌, ◌⊎◌, ℕ, suc, Bool, true, false, ℤ, List, [], ◌∷◌, ◌++◌, map, Option, Some, None, Result, Ok, Err}
+use Rattle.std.specs.Prelude.{◌≡◌, ◌⊎◌, ℕ, suc, Bool, true, false, ℤ, List, [], ◌∷◌, ◌++◌, map, Option, Some, None}
 use Rattle.point_types.specs.declared.il_type.IlType.{IlType}
 use Rattle.point_types.specs.declared.operator.Condition.{Condition}
 use Rattle.point_types.specs.Value.{is_bool}
-use Rattle.il_reader.specs.declared.fault.ReadFaultKind.{ReadFaultKind}
-use Rattle.il_reader.specs.declared.lexer.ByteFault.{ByteFault}
-use Rattle.il_reader.specs.declared.lexer.Lexed.{Lexed}
-use Rattle.il_reader.specs.declared.lexer.Mode.{Mode}
-use Rattle.il_reader.specs.declared.lexer.Mode.TheVariants as mode
 use Rattle.il_reader.specs.declared.scope.Scope.{Scope}
 use Rattle.il_reader.specs.declared.token.Keyword.TheVariants as word
 use Rattle.il_reader.specs.declared.token.Token.{Token}
@@ -25,45 +20,9 @@ use Rattle.il_reader.specs.declared.typing.Typing.{Typing}
 use Rattle.il_reader.specs.Declaration.{among, is_taken, has_room, with_name, empty_scope, value_of, whole, begun, bounded, started, made, variable_of, external_of}
 use Rattle.il_reader.specs.Nesting.{takes_parentheses, has_depth, is_filled}
 use Rattle.il_reader.specs.Instructions.{operand_of, is_loop, turns_of}
-use Rattle.il_reader.specs.Tokens.{lexed, at_end, line_behind}
+use Rattle.il_reader.specs.Lexemes.{Placed, placed, AreTokens}
 use Rattle.il_reader.specs.Written.{Written, Inner}
 use Rattle.il_reader.specs.Written as form
-
--- The tokens of a text.
-
--- a token, and the line of its first byte
-pub data Placed : Type 0 where
-  placed : Token → ℕ → Placed
-
--- a text's tokens, or that there are bytes that are no token
-pub data Scan : Type 0 where
-  Tokens : List Placed → Scan
-  NoTokens : Scan
-
-abbrev pub of_line : ℕ → Option Token → List Placed
-of_line n None = []
-of_line n (Some t) = placed t n ∷ []
-
-abbrev pub last_tokens : ℕ → Result (Option Token) ReadFaultKind → Scan
-last_tokens n (Ok t) = Tokens (of_line n t)
-last_tokens n (Err k) = NoTokens
-
-abbrev pub joined : List Placed → Scan → Scan
-joined ts (Tokens us) = Tokens (ts ++ us)
-joined ts NoTokens = NoTokens
-
-abbrev pub scanned_on : ℕ → Result Lexed ByteFault → (Mode → Scan) → Scan
-scanned_on n (Ok x) on = joined (of_line n x.ended ++ of_line n x.own) (on x.mode)
-scanned_on n (Err f) on = NoTokens
-
-abbrev pub scanned : ℕ → Mode → List ℕ → Scan
-scanned n q [] = last_tokens n (at_end q)
-scanned n q (b ∷ bs) = scanned_on n (lexed q b) (λ q'. scanned (line_behind b n) q' bs)
-
-abbrev pub tokens_of : List ℕ → Scan
-tokens_of text = scanned 1 mode.Clear text
-
--- The grammar.
 
 -- the tokens behind line ends
 abbrev pub past : List Placed → List Placed
@@ -253,4 +212,4 @@ IsProgram ts p =
 
 -- a text that spells a program
 abbrev pub IsProgramText : List ℕ → Program → Type 0
-IsProgramText text p = (ts : List Placed) × (tokens_of text ≡ Tokens ts) × IsProgram ts p
+IsProgramText text p = (ts : List Placed) × AreTokens text ts × IsProgram ts p

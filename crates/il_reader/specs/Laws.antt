@@ -4,8 +4,14 @@ use Rattle.std.specs.Prelude.{◌≡◌, ◌↔◌, ◌≤◌, ℕ, zero, suc, L
 use Rattle.il_reader.specs.declared.fault.ReadFault.{ReadFault}
 use Rattle.il_reader.specs.declared.tree.Program.{Program}
 use Rattle.il_reader.specs.Grammar.{IsProgramText}
+use Rattle.il_reader.specs.Lexemes.{Placed, AreTokens, line_ends}
 use Rattle.il_reader.specs.Limit.{most_bytes}
 use Rattle.il_reader.specs.Reading.{AtFault, TooSoon, outcome, reading}
+use Rattle.il_reader.specs.Scanning.{Tokens, tokens_of}
+
+-- The tokens that are found byte by byte are those that a text's pieces spell.
+abbrev pub TokensAreLexemes : Type 0
+TokensAreLexemes = (text : List ℕ) (ts : List Placed) → (tokens_of text ≡ Tokens ts) ↔ AreTokens text ts
 
 -- A text is read exactly where it spells a program and keeps to the limit on its size, and to that program.
 abbrev pub ReadingIsExact : Type 0
@@ -33,11 +39,6 @@ abbrev pub last_line : ℕ → List ℕ → ℕ
 last_line n [] = n
 last_line n (b ∷ []) = n
 last_line n (b ∷ c ∷ bs) = last_line (if nat_eq b 10 then suc n else n) (c ∷ bs)
-
--- the number of line ends
-abbrev pub line_ends : List ℕ → ℕ
-line_ends [] = 0
-line_ends (b ∷ bs) = if nat_eq b 10 then suc (line_ends bs) else line_ends bs
 
 -- Where a text ends too soon, the line is that of its last byte, and its whole lines begin a program text.
 abbrev pub EarlyEndIsInTheLastLine : Type 0

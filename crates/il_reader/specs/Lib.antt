@@ -2,6 +2,9 @@ pub mod Fault
 pub mod Limit
 pub mod Declaration
 pub mod Tokens
+pub mod Literals
+pub mod Lexemes
+pub mod Scanning
 pub mod Spellings
 pub mod Written
 pub mod Codes
@@ -13,3 +16,4 @@ pub mod Reading
 pub mod Grammar
 pub mod Laws
 pub mod Examples
+pub mod Pieces

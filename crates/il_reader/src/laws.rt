@@ -1,5 +1,10 @@
 //! Laws: the reader takes exactly the texts of the grammar.
-ghost use Rattle.il_reader.specs.Laws.{AtMostOneProgram, EarlyEndIsInTheLastLine, FaultIsInTheFirstLine, ReadingIsExact};
+ghost use Rattle.il_reader.specs.Laws.{AtMostOneProgram, EarlyEndIsInTheLastLine, FaultIsInTheFirstLine, ReadingIsExact, TokensAreLexemes};
+
+/// The tokens that are found byte by byte are those that a text's pieces spell.
+pub fn tokens_are_lexemes()
+    ensures { TokensAreLexemes }
+{}
 
 /// A text is read exactly where it spells a program and keeps to the limit on its size, and to that
 /// program.
