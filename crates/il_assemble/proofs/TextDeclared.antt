@@ -10,7 +10,8 @@ use Rattle.il_reader.specs.declared.tree.Variable.{Variable}
 use Rattle.il_reader.specs.declared.typing.Entry.{Entry}
 use Rattle.il_reader.specs.declared.typing.Typing.{Typing}
 use Rattle.il_reader.specs.Declaration.{value_of, variable_of, with_name}
-use Rattle.il_reader.specs.Grammar.{AreBlocks, AreDeclarations, AreOthers, Block, Declaration, IsDeclaration, IsNature, IsRange, IsStart, Nature, OfExternal, OfVariable, Placed, block_externals, block_token, block_variables, entries_of, externals_of, externals_with, variables_of, variables_with, with_declarations, with_entries}
+use Rattle.il_reader.specs.Grammar.{AreBlocks, AreDeclarations, AreOthers, Block, Declaration, IsDeclaration, IsNature, IsRange, IsStart, Nature, OfExternal, OfVariable, block_externals, block_token, block_variables, entries_of, externals_of, externals_with, variables_of, variables_with, with_declarations, with_entries}
+use Rattle.il_reader.specs.Lexemes.{Placed}
 use Rattle.il_assemble.specs.declared.fault.AsmFault.{AsmFault}
 use Rattle.il_assemble.specs.declared.fault.AsmFaultKind.TheVariants as kind
 use Rattle.il_assemble.specs.Elaboration.{undivided}

@@ -16,7 +16,8 @@ use Rattle.il_reader.specs.declared.tree.Variable.{Variable}
 use Rattle.il_reader.specs.declared.typing.Entry.{Entry}
 use Rattle.il_reader.specs.declared.typing.Typing.{Typing}
 use Rattle.il_reader.specs.Declaration.{among, begun, bounded, external_of, has_presence_among, is_among_presences, is_taken, made, ranged_typing, started, typing_of, variable_of, with_name}
-use Rattle.il_reader.specs.Grammar.{IsFree, IsNext, Placed, past, placed, with_entries}
+use Rattle.il_reader.specs.Grammar.{IsFree, IsNext, past, with_entries}
+use Rattle.il_reader.specs.Lexemes.{Placed, placed}
 use Rattle.il_reader.specs.Limit.{most_names}
 use Rattle.il_assemble.specs.Assembled.{declared_name, external_name}
 use Rattle.il_assemble.proofs.Rules.{or_none}

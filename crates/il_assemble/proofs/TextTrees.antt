@@ -1,5 +1,5 @@
 -- What is proved of the trees that texts give.
-use Rattle.std.proofs.Common.{◌≡◌, ℕ, suc, ◌+◌, ◌-◌, ◌<◌, ◌≤◌, true, List, [], ◌∷◌, ◌++◌, map, length, Option, Some, None, Result, Ok, Err, slice_get, refl, sym, ap, subst, ◌∙◌, arith, if◌then◌else◌, nat_le, ltb-true, le-leb}
+use Rattle.std.proofs.Common.{◌≡◌, ℕ, suc, ◌+◌, ◌-◌, ◌<◌, ◌≤◌, true, List, [], ◌∷◌, ◌++◌, map, length, Option, Some, None, Result, Ok, Err, slice_get, refl, sym, ap, ◌∙◌, arith, if◌then◌else◌, nat_le, ltb-true, le-leb}
 use Rattle.std.proofs.lemmas.List.{length-map}
 use Rattle.std.proofs.lemmas.Option.{slice_get_past}
 use Rattle.point_types.specs.Value.{◌>>=◌}
@@ -13,7 +13,8 @@ use Rattle.il_reader.specs.declared.tree.Program.{Program as Tree}
 use Rattle.il_reader.specs.declared.tree.Statement.{Statement}
 use Rattle.il_reader.specs.declared.tree.Variable.{Variable}
 use Rattle.il_reader.specs.Declaration.{empty_scope}
-use Rattle.il_reader.specs.Grammar.{IsAction, IsBody, IsInner, IsLine, IsProgram, IsProgramText, IsSimple, Placed, labels_with, past}
+use Rattle.il_reader.specs.Grammar.{IsAction, IsBody, IsInner, IsLine, IsProgram, IsProgramText, IsSimple, labels_with, past}
+use Rattle.il_reader.specs.Lexemes.{Placed}
 use Rattle.il_reader.specs.Laws.{ReadingIsExact}
 use Rattle.il_reader.specs.Limit.{most_names, most_nested}
 use Rattle.il_assemble.specs.declared.fault.AsmFault.{AsmFault}
@@ -24,7 +25,7 @@ use Rattle.il_assemble.specs.Written.{Written, Load, Apply, Defer, Limit, Select
 use Rattle.il_assemble.proofs.Rules.{names_stay_different}
 use Rattle.il_assemble.proofs.TextDeclared.{blocks}
 use Rattle.il_assemble.proofs.TextNames.{next_named}
-use Rattle.il_assemble.proofs.TextTokens.{AreNamed, ScansNamed, tokens_named}
+use Rattle.il_assemble.proofs.TextTokens.{AreNamed, tokens_named}
 use Rattle.point_types.proofs.Truths.{and_both}
 
 -- ---- parentheses
@@ -96,7 +97,7 @@ program_keeps ts tree named (i, j, a, b, c, bs, begins, called, are, body, varia
     }
 
 text_keeps : (text : List ℕ) (tree : Tree) → IsProgramText text tree → KeepsTheLimits tree
-text_keeps text tree (ts, are, h) = program_keeps ts tree (subst ScansNamed are (tokens_named text)) h
+text_keeps text tree (ts, are, h) = program_keeps ts tree (tokens_named text ts are) h
 
 -- so its limits decide nothing
 alone : (t : Tree) → KeepsTheLimits t → elaborated t ≡ elaborated_text t
