@@ -20,3 +20,8 @@ pub mod TextNames
 pub mod TextDeclared
 pub mod TextTrees
 pub mod TabledLines
+pub mod FirstUses
+pub mod Listing
+pub mod FaultsHold
+pub mod Stands
+pub mod FirstFault

@@ -14,3 +14,4 @@ pub mod Written
 pub mod Texts
 pub mod LineTable
 pub mod LineForms
+pub mod Faulty

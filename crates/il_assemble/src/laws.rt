@@ -2,6 +2,7 @@
 ghost use Rattle.il_assemble.specs.Assembled.{ImagesAreProper, NamesStayDifferent, PartsAreTheCode, StartsAreInRange, StaticFaultsWantNoMemory, WhatElaboratesIsWell};
 ghost use Rattle.il_assemble.specs.Examples.{ExamplesHold};
 ghost use Rattle.il_assemble.specs.Correct.{CodeIsOfBytes, CodeDoesWhatTheProgramMeans, EachEndIsTheMeaning, NumberedCountersFindTheirLimits, RunsThatAreOverStayOver, SizesDependOnTheFormAlone, TurnsNeverRunOut};
+ghost use Rattle.il_assemble.specs.Faulty.{TheFirstFaultIsTold, TheFirstUseCounts};
 ghost use Rattle.il_assemble.specs.LineTable.{InstructionsHaveTheirLines};
 ghost use Rattle.il_assemble.specs.Texts.{TextsKeepTheLimits};
 
@@ -62,6 +63,17 @@ pub fn what_elaborates_is_well()
 /// Each variable's start value lies in its declared range.
 pub fn starts_are_in_range()
     ensures { StartsAreInRange }
+{}
+
+/// The static fault that is told is that of the first instruction that has one, and of its lowest kind; none is told where no
+/// instruction has any.
+pub fn the_first_fault_is_told()
+    ensures { TheFirstFaultIsTold }
+{}
+
+/// Each external is an input or an output as its first use says.
+pub fn the_first_use_counts()
+    ensures { TheFirstUseCounts }
 {}
 
 /// Want of memory is no static fault.
