@@ -16,11 +16,12 @@ use Rattle.il_assemble.specs.declared.fault.AsmFaultKind.{AsmFaultKind}
 use Rattle.il_assemble.specs.declared.fault.AsmFaultKind.TheVariants as kind
 use Rattle.il_assemble.specs.declared.names.Known.{Known}
 use Rattle.il_assemble.specs.declared.names.Known.TheVariants as known
-use Rattle.il_assemble.specs.Faulty.{ActionFault, Clashes, HasFault, IsFaultOf, IsFaultless, JumpFault, LoadFault, OperandFault, SimpleFault, Standing, StoreFault, Use, all_uses, is_storable, loads_of, operand_uses, operands_of, other, stores_of, uses_in}
+use Rattle.il_assemble.specs.Faulty.{ActionFault, Clashes, HasFault, IsFaultOf, IsFaultless, JumpFault, LoadFault, OperandFault, SimpleFault, StoreFault, Use, all_uses, is_storable, loads_of, operand_uses, operands_of, other, stores_of, uses_in}
+use Rattle.il_assemble.specs.Instructions.{Standing}
 use Rattle.il_assemble.specs.Names.{Scope, is_loaded, is_stored, known_as}
-use Rattle.il_assemble.specs.StaticFault.{at_line, first_fault, is_conversion, is_count, jump_fault, label_place, load_fault, lower, lowest, number_of, operand_fault, store_fault, unless}
+use Rattle.il_assemble.specs.StaticFault.{at_line, is_conversion, is_count, jump_fault, label_place, load_fault, lowest, number_of, operand_fault, store_fault, unless}
 use Rattle.il_assemble.specs.Typing.{is_literal_of, or_dint, type_beside}
-use Rattle.il_assemble.specs.Written.{Written, Load, Apply, Defer, Limit, Select, Invert, Absolute, Convert, Inner, Close, Then}
+use Rattle.il_assemble.specs.Written.{Written, Load, Apply, Defer, Limit, Select, Invert, Absolute, Convert}
 use Rattle.il_assemble.proofs.FirstUses.{at_head, first_for, head_or_tail, in_none, in_one, in_tail, same_use, use_of}
 use Rattle.il_assemble.proofs.Listing.{Chain, actions, own, own_action, own_simple, told}
 

@@ -1,15 +1,16 @@
 -- The walk over the lines tells the fault of the first instruction that has one.
-use Rattle.std.proofs.Common.{◌≡◌, inl, inr, ⊎_elim, ℕ, ◌≤◌, true, false, if◌then◌else◌, List, [], ◌∷◌, ◌++◌, Option, Some, None, Result, Ok, Err, nat_eq, refl, sym, ap, ◌∙◌, subst, arith}
+use Rattle.std.proofs.Common.{◌≡◌, ◌⊎◌, ◌↔◌, inl, inr, ⊎_elim, ℕ, ◌≤◌, if◌then◌else◌, List, [], ◌∷◌, ◌++◌, None, Result, Ok, Err, nat_eq, refl, sym, ap, ◌∙◌, subst, arith}
 use Rattle.std.specs.List.{Contains}
 use Rattle.std.proofs.lemmas.List.Elements.{Contains-append_left, Contains-append_right}
-use Rattle.il_reader.specs.declared.tree.Program.{Program as Tree}
-use Rattle.il_reader.specs.declared.tree.Action.{Action}
+use Rattle.point_types.specs.Value.{◌>>=◌}
 use Rattle.il_assemble.specs.declared.fault.AsmFault.{AsmFault}
 use Rattle.il_assemble.specs.declared.fault.AsmFaultKind.{AsmFaultKind}
 use Rattle.il_assemble.specs.declared.fault.AsmFaultKind.TheVariants as kind
-use Rattle.il_assemble.specs.Elaboration.{scope_of}
-use Rattle.il_assemble.specs.Faulty.{HasFault, HasNoFault, IsFaultOf, IsFaultless, IsFirstFault, Standing, StandsIn, TheFirstFaultIsTold, all_uses, of_lines}
-use Rattle.il_assemble.specs.Names.{Scope}
+use Rattle.il_assemble.specs.Elaboration.{counted, elaborated, named_apart, names_seen, program_of, scope_of, undivided}
+use Rattle.il_assemble.specs.Faulty.{HasFault, HasNoFault, IsFaultOf, IsFirstFault, HasNoStaticFault, IsStaticFault, StaticFaultsAreTold, TheFirstFaultIsTold, all_uses, lengthy, limited, text_scope}
+use Rattle.il_assemble.specs.Instructions.{Standing, of_lines}
+use Rattle.il_assemble.specs.Meaning.{Program}
+use Rattle.il_assemble.specs.Names.{Scope, uses_of}
 use Rattle.il_assemble.specs.StaticFault.{checked_lines, number_of}
 use Rattle.il_assemble.proofs.FaultsHold.{FirstIn, Meets, NoneIn, told_meets}
 use Rattle.il_assemble.proofs.FirstUses.{at_head, first_is_noted, in_none, in_tail}
@@ -106,20 +107,80 @@ first_listed g f h =
 pub the_first_fault_is_told : TheFirstFaultIsTold
 the_first_fault_is_told t = (λ f. (to f, from f), (none_to, none_from))
   where
-    walk : checked_lines (scope_of t) 0 None t.statements ≡ told (scope_of t) (all_listed (scope_of t))
-    walk = lines_told (scope_of t) 0 [] None t.statements
+    walk : checked_lines (scope_of t) 0 None t.statements ≡ told (scope_of t) (all_listed (text_scope t))
+    walk = lines_told (text_scope t) (uses_of t.variables t.externals t.statements) 0 [] None t.statements
 
-    met : Meets (scope_of t) (all_listed (scope_of t)) (told (scope_of t) (all_listed (scope_of t)))
-    met = told_meets (scope_of t) (all_uses (scope_of t) (of_lines t.statements)) (first_is_noted t) (all_listed (scope_of t)) [] (chain_listed (scope_of t) 0 [] None t.statements) (ap (all_uses (scope_of t)) (sym (listed_actions (scope_of t) 0 [] None t.statements))) (λ u c. absurd (in_none u c))
+    met : Meets (text_scope t) (all_listed (text_scope t)) (told (scope_of t) (all_listed (text_scope t)))
+    met = told_meets (scope_of t) (all_uses (text_scope t) (of_lines t.statements)) (first_is_noted t) (all_listed (text_scope t)) [] (chain_listed (text_scope t) 0 [] None t.statements) (ap (all_uses (text_scope t)) (sym (listed_actions (text_scope t) 0 [] None t.statements))) (λ u c. absurd (in_none u c))
 
-    to : (f : AsmFault) → checked_lines (scope_of t) 0 None t.statements ≡ Err f → IsFirstFault (scope_of t) f
-    to f e = first_stands (scope_of t) f (subst (Meets (scope_of t) (all_listed (scope_of t))) (sym walk ∙ e) met)
+    to : (f : AsmFault) → checked_lines (scope_of t) 0 None t.statements ≡ Err f → IsFirstFault (text_scope t) f
+    to f e = first_stands (text_scope t) f (subst (Meets (text_scope t) (all_listed (text_scope t))) (sym walk ∙ e) met)
 
-    from : (f : AsmFault) → IsFirstFault (scope_of t) f → checked_lines (scope_of t) 0 None t.statements ≡ Err f
-    from f h = walk ∙ tells (scope_of t) (all_listed (scope_of t)) (told (scope_of t) (all_listed (scope_of t))) f met (first_listed (scope_of t) f h)
+    from : (f : AsmFault) → IsFirstFault (text_scope t) f → checked_lines (scope_of t) 0 None t.statements ≡ Err f
+    from f h = walk ∙ tells (text_scope t) (all_listed (text_scope t)) (told (scope_of t) (all_listed (text_scope t))) f met (first_listed (text_scope t) f h)
 
-    none_to : checked_lines (scope_of t) 0 None t.statements ≡ Ok tt → HasNoFault (scope_of t)
-    none_to e x s = subst (Meets (scope_of t) (all_listed (scope_of t))) (sym walk ∙ e) met x (stands_listed (scope_of t) x s)
+    none_to : checked_lines (scope_of t) 0 None t.statements ≡ Ok tt → HasNoFault (text_scope t)
+    none_to e x s = subst (Meets (text_scope t) (all_listed (text_scope t))) (sym walk ∙ e) met x (stands_listed (text_scope t) x s)
 
-    none_from : HasNoFault (scope_of t) → checked_lines (scope_of t) 0 None t.statements ≡ Ok tt
-    none_from h = walk ∙ tells_none (scope_of t) (all_listed (scope_of t)) (told (scope_of t) (all_listed (scope_of t))) met (λ x c. h x (listed_stands (scope_of t) x c))
+    none_from : HasNoFault (text_scope t) → checked_lines (scope_of t) 0 None t.statements ≡ Ok tt
+    none_from h = walk ∙ tells_none (text_scope t) (all_listed (text_scope t)) (told (scope_of t) (all_listed (text_scope t))) met (λ x c. h x (listed_stands (text_scope t) x c))
+
+-- The limits that texts keep first, and the length of the code last.
+
+in_three : {X : Type 0} (a b c : Result (Unit {0}) AsmFault) (d : Result X AsmFault) → (a >>= λ _. b >>= λ _. c >>= λ _. d) ≡ ((a >>= λ _. b >>= λ _. c) >>= λ _. d)
+in_three (Err e) b c d = refl
+in_three (Ok u) (Err e) c d = refl
+in_three (Ok u) (Ok v) c d = refl
+
+abbrev Refusing : Result (Unit {0}) AsmFault → Result (Unit {0}) AsmFault → Result (Unit {0}) AsmFault → AsmFault → Type 0
+Refusing a b c f = (a ≡ Err f) ⊎ ((a ≡ Ok tt) × ((b ≡ Err f) ⊎ ((b ≡ Ok tt) × (c ≡ Err f))))
+
+refused_by : (a b c : Result (Unit {0}) AsmFault) (p : Program) (f : AsmFault) → (a >>= λ _. b >>= λ _. c >>= λ _. Ok p) ≡ Err f → Refusing a b c f
+refused_by (Err e) b c p f h = let same : e ≡ f = cc in inl (ap Err same)
+refused_by (Ok u) (Err e) c p f h = let same : e ≡ f = cc in inr (refl, inl (ap Err same))
+refused_by (Ok u) (Ok v) (Err e) p f h = let same : e ≡ f = cc in inr (refl, inr (refl, ap Err same))
+refused_by (Ok u) (Ok v) (Ok w) p f h = cc
+
+refuses : (a b c : Result (Unit {0}) AsmFault) (p : Program) (f : AsmFault) → Refusing a b c f → (a >>= λ _. b >>= λ _. c >>= λ _. Ok p) ≡ Err f
+refuses a b c p f (inl h) = ap (λ z. z >>= λ _. b >>= λ _. c >>= λ _. Ok p) h
+refuses a b c p f (inr (h, inl k)) = ap (λ z. z >>= λ _. b >>= λ _. c >>= λ _. Ok p) h ∙ ap (λ z. z >>= λ _. c >>= λ _. Ok p) k
+refuses a b c p f (inr (h, inr k)) = ap (λ z. z >>= λ _. b >>= λ _. c >>= λ _. Ok p) h ∙ ap (λ z. z >>= λ _. c >>= λ _. Ok p) k.0 ∙ ap (λ z. z >>= λ _. Ok p) k.1
+
+passed_by : (a b c : Result (Unit {0}) AsmFault) (p : Program) → (a >>= λ _. b >>= λ _. c >>= λ _. Ok p) ≡ Ok p → (a ≡ Ok tt) × (b ≡ Ok tt) × (c ≡ Ok tt)
+passed_by (Err e) b c p h = cc
+passed_by (Ok u) (Err e) c p h = cc
+passed_by (Ok u) (Ok v) (Err e) p h = cc
+passed_by (Ok u) (Ok v) (Ok w) p h = (refl, refl, refl)
+
+pub static_faults_are_told : StaticFaultsAreTold
+static_faults_are_told t = (λ f. (to f, from f), (none_to, none_from))
+  where
+    first : ((f : AsmFault) → (checked_lines (scope_of t) 0 None t.statements ≡ Err f) ↔ IsFirstFault (text_scope t) f) × ((checked_lines (scope_of t) 0 None t.statements ≡ Ok tt) ↔ HasNoFault (text_scope t))
+    first = the_first_fault_is_told t
+
+    parts : elaborated t ≡ (limited t >>= λ _. checked_lines (scope_of t) 0 None t.statements >>= λ _. lengthy t >>= λ _. Ok (program_of (scope_of t)))
+    parts = in_three (counted t.variables t.externals t.statements) (undivided t.variables) (named_apart t.variables t.externals (names_seen (scope_of t))) (checked_lines (scope_of t) 0 None t.statements >>= λ _. lengthy t >>= λ _. Ok (program_of (scope_of t)))
+
+    to : (f : AsmFault) → elaborated t ≡ Err f → IsStaticFault t f
+    to f e =
+        ⊎_elim inl
+        (λ h. inr (h.0, ⊎_elim (λ k. inl ((first.0 f).0 k)) (λ k. inr (first.1.0 k.0, k.1)) h.1))
+        (refused_by (limited t) (checked_lines (scope_of t) 0 None t.statements) (lengthy t) (program_of (scope_of t)) f (sym parts ∙ e))
+
+    from : (f : AsmFault) → IsStaticFault t f → elaborated t ≡ Err f
+    from f h =
+        parts
+        ∙ refuses (limited t) (checked_lines (scope_of t) 0 None t.statements) (lengthy t) (program_of (scope_of t)) f
+        (⊎_elim inl (λ k. inr (k.0, ⊎_elim (λ l. inl ((first.0 f).1 l)) (λ l. inr (first.1.1 l.0, l.1)) k.1)) h)
+
+    none_to : elaborated t ≡ Ok (program_of (scope_of t)) → HasNoStaticFault t
+    none_to e =
+        let h = passed_by (limited t) (checked_lines (scope_of t) 0 None t.statements) (lengthy t) (program_of (scope_of t)) (sym parts ∙ e) in
+        (h.0, first.1.0 h.1, h.2)
+
+    none_from : HasNoStaticFault t → elaborated t ≡ Ok (program_of (scope_of t))
+    none_from h =
+        parts
+        ∙ ap (λ z. z >>= λ _. checked_lines (scope_of t) 0 None t.statements >>= λ _. lengthy t >>= λ _. Ok (program_of (scope_of t))) h.0
+        ∙ ap (λ z. z >>= λ _. lengthy t >>= λ _. Ok (program_of (scope_of t))) (first.1.1 h.1)
+        ∙ ap (λ z. z >>= λ _. Ok (program_of (scope_of t))) h.2

@@ -1,9 +1,9 @@
 -- The first use of each external: what the notes on uses come to.
-use Rattle.std.proofs.Common.{◌≡◌, ◌⊎◌, inl, inr, ⊎_elim, ℕ, zero, suc, ◌<◌, Bool, true, false, if◌then◌else◌, List, [], ◌∷◌, ◌++◌, length, map, Option, Some, None, option_map, slice_get, slice_set, nat_eq, refl, sym, ap, ◌∙◌, subst, arith, append_assoc}
+use Rattle.std.proofs.Common.{◌≡◌, ◌⊎◌, inl, inr, ⊎_elim, ℕ, zero, suc, ◌<◌, Bool, true, false, if◌then◌else◌, List, [], ◌∷◌, ◌++◌, length, map, Option, Some, None, slice_get, slice_set, nat_eq, refl, sym, ap, ◌∙◌, subst, arith}
 use Rattle.std.specs.List.{Contains, flat_map}
 use Rattle.std.proofs.lemmas.Bool.{eqb-true, eqb-false, eq-eqb}
 use Rattle.std.proofs.lemmas.List.{append-nil}
-use Rattle.std.proofs.lemmas.List.Elements.{Contains-append_cases, Contains-append_left, Contains-append_right, Contains-push_cases}
+use Rattle.std.proofs.lemmas.List.Elements.{Contains-append_cases, Contains-append_right, Contains-push_cases}
 use Rattle.std.proofs.lemmas.Grind.{flat_map-append}
 use Rattle.il_reader.specs.declared.tree.External.{External}
 use Rattle.il_reader.specs.declared.tree.Program.{Program as Tree}
@@ -14,9 +14,9 @@ use Rattle.il_reader.specs.declared.tree.Operand.{Operand}
 use Rattle.il_reader.specs.declared.tree.Operand.TheVariants.{Named, Truth, Number, Typed}
 use Rattle.il_assemble.specs.declared.names.Known.{Known}
 use Rattle.il_assemble.specs.declared.names.Known.TheVariants as known
-use Rattle.il_assemble.specs.Elaboration.{scope_of}
-use Rattle.il_assemble.specs.Faulty.{IsFirstUse, TheFirstUseCounts, Use, all_uses, inside, inside_action, inside_lines, loads_of, of_line, of_lines, operand_uses, operands_of, stores_of, uses_in}
-use Rattle.il_assemble.specs.Names.{Scope, first_use, known_as, noted, noted_load, noted_store, unused, uses_after, uses_of, uses_of_action, uses_of_first, uses_of_inner, uses_of_operand, uses_of_simple}
+use Rattle.il_assemble.specs.Faulty.{IsFirstUse, TheFirstUseCounts, Use, all_uses, text_scope, loads_of, operand_uses, operands_of, stores_of, uses_in}
+use Rattle.il_assemble.specs.Instructions.{inside, inside_lines, of_line, of_lines}
+use Rattle.il_assemble.specs.Names.{Scope, first_use, known_as, noted, noted_load, noted_store, unused, uses_after, uses_of, uses_of_action, uses_of_inner, uses_of_operand, uses_of_simple}
 use Rattle.il_assemble.specs.Written.{Written, Load, Apply, Defer, Limit, Select, Invert, Absolute, Convert, Inner, Close, Then}
 use Rattle.il_assemble.proofs.Sound.{IsThere, known_there}
 
@@ -238,15 +238,15 @@ none_or_unused (x ∷ es) zero s r e = cc
 none_or_unused (x ∷ es) (suc i) s r e = none_or_unused es i s r e
 
 -- the notes are the first uses
-pub uses_are : (t : Tree) (i : ℕ) → slice_get (uses_of t.variables t.externals t.statements) i ≡ behind_uses (slice_get (map unused t.externals) i) (first_for i (all_uses (scope_of t) (of_lines t.statements)))
+pub uses_are : (t : Tree) (i : ℕ) → slice_get (uses_of t.variables t.externals t.statements) i ≡ behind_uses (slice_get (map unused t.externals) i) (first_for i (all_uses (text_scope t) (of_lines t.statements)))
 uses_are t i =
     let g : Scope = record { variables = t.variables; externals = t.externals; uses = []; statements = [] } in
     ap (λ z. slice_get z i) (lines_noted g (map unused t.externals) t.statements) ∙ noted_of (all_uses g (of_lines t.statements)) (map unused t.externals) i
 
-pub first_is_noted : (t : Tree) (i : ℕ) (s : Bool) → first_for i (all_uses (scope_of t) (of_lines t.statements)) ≡ Some s → slice_get (uses_of t.variables t.externals t.statements) i ≡ Some (Some s)
+pub first_is_noted : (t : Tree) (i : ℕ) (s : Bool) → first_for i (all_uses (text_scope t) (of_lines t.statements)) ≡ Some s → slice_get (uses_of t.variables t.externals t.statements) i ≡ Some (Some s)
 first_is_noted t i s e =
-    let there : i < length t.externals = first_within (length t.externals) i s (all_uses (scope_of t) (of_lines t.statements)) (all_within (scope_of t) (of_lines t.statements)) e in
-    uses_are t i ∙ ap (λ z. behind_uses z (first_for i (all_uses (scope_of t) (of_lines t.statements)))) (unused_at t.externals i there) ∙ ap Some e
+    let there : i < length t.externals = first_within (length t.externals) i s (all_uses (text_scope t) (of_lines t.statements)) (all_within (text_scope t) (of_lines t.statements)) e in
+    uses_are t i ∙ ap (λ z. behind_uses z (first_for i (all_uses (text_scope t) (of_lines t.statements)))) (unused_at t.externals i there) ∙ ap Some e
 
 -- The first use.
 
@@ -281,8 +281,8 @@ is_first (v ∷ front) behind u h = go (is_first front behind u (λ w k. h w (in
 pub the_first_use_counts : TheFirstUseCounts
 the_first_use_counts t u = (to, from)
   where
-    to : slice_get (uses_of t.variables t.externals t.statements) u.external ≡ Some (Some u.stored) → IsFirstUse (all_uses (scope_of t) (of_lines t.statements)) u
-    to e = first_is (all_uses (scope_of t) (of_lines t.statements)) u (none_or_unused t.externals u.external u.stored (first_for u.external (all_uses (scope_of t) (of_lines t.statements))) (sym (uses_are t u.external) ∙ e))
+    to : slice_get (uses_of t.variables t.externals t.statements) u.external ≡ Some (Some u.stored) → IsFirstUse (all_uses (text_scope t) (of_lines t.statements)) u
+    to e = first_is (all_uses (text_scope t) (of_lines t.statements)) u (none_or_unused t.externals u.external u.stored (first_for u.external (all_uses (text_scope t) (of_lines t.statements))) (sym (uses_are t u.external) ∙ e))
 
-    from : IsFirstUse (all_uses (scope_of t) (of_lines t.statements)) u → slice_get (uses_of t.variables t.externals t.statements) u.external ≡ Some (Some u.stored)
+    from : IsFirstUse (all_uses (text_scope t) (of_lines t.statements)) u → slice_get (uses_of t.variables t.externals t.statements) u.external ≡ Some (Some u.stored)
     from h = first_is_noted t u.external u.stored (ap (first_for u.external) h.2 ∙ is_first h.0 h.1 u h.3)

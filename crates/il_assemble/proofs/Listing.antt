@@ -1,5 +1,5 @@
 -- The instructions of a program as they stand, in a list; the walk over the lines is one over this list.
-use Rattle.std.proofs.Common.{◌≡◌, ℕ, ◌+◌, List, [], ◌∷◌, ◌++◌, map, Option, Some, None, Result, Ok, Err, refl, sym, ap, ◌∙◌, subst, append_assoc}
+use Rattle.std.proofs.Common.{◌≡◌, ℕ, ◌+◌, Bool, List, [], ◌∷◌, ◌++◌, map, Option, Some, None, Result, Ok, Err, refl, sym, ap, ◌∙◌, subst, append_assoc}
 use Rattle.std.proofs.lemmas.List.{append-nil, map-append}
 use Rattle.point_types.specs.declared.il_type.IlType.{IlType}
 use Rattle.point_types.specs.declared.il_type.IlType.TheVariants as il
@@ -10,10 +10,10 @@ use Rattle.il_reader.specs.declared.tree.Action.TheVariants as action
 use Rattle.il_assemble.specs.declared.fault.AsmFault.{AsmFault}
 use Rattle.il_assemble.specs.declared.fault.AsmFaultKind.{AsmFaultKind}
 use Rattle.il_assemble.specs.declared.fault.AsmFaultKind.TheVariants as kind
-use Rattle.il_assemble.specs.Faulty.{Standing, inside, inside_action, inside_lines, of_line, of_lines}
+use Rattle.il_assemble.specs.Instructions.{Standing, inside, inside_action, inside_lines, of_line, of_lines}
 use Rattle.il_assemble.specs.Names.{Scope, known_as}
 use Rattle.il_assemble.specs.StaticFault.{at_line, checked_inner, checked_line, checked_lines, checked_simple, first_fault, is_conversion, jump_fault, label_place, lowest, operand_fault, store_fault, unless}
-use Rattle.il_assemble.specs.Typing.{loaded_inner_type, loaded_type, or_dint, type_after, type_after_line, type_beside, type_inside, whole_type}
+use Rattle.il_assemble.specs.Typing.{loaded_inner_type, loaded_type, next_type, or_dint, type_after, type_after_line, type_beside, type_inside, type_of_line, whole_type}
 use Rattle.il_assemble.specs.Written.{Written, Load, Apply, Defer, Limit, Select, Invert, Absolute, Convert, Inner, Close, Then}
 
 -- The list. before: the instructions before the first of it.
@@ -178,47 +178,71 @@ in_turn : (x y z : Result (Unit {0}) AsmFault) → ((x >>= λ _. y) >>= λ _. z)
 in_turn (Ok u) y z = refl
 in_turn (Err f) y z = refl
 
-module _ (g : Scope) where
-  told_append : (xs ys : List Standing) → told g (xs ++ ys) ≡ (told g xs >>= λ _. told g ys)
+-- The list doesn't look at notes on uses, the walk does.
+
+abbrev pub noting : Scope → List (Option Bool) → Scope
+noting g uses = record g { uses = uses }
+
+module _ (g : Scope) (uses : List (Option Bool)) where
+  next_same : (ss : List Statement) → next_type (noting g uses) ss ≡ next_type g ss
+  next_same [] = refl
+  next_same (s ∷ ss) = ap (λ z. type_of_line g z s.action) (next_same ss)
+
+  loaded_same : (ss : List Statement) → loaded_type (noting g uses) ss ≡ loaded_type g ss
+  loaded_same ss = ap or_dint (next_same ss)
+
+  after_same : (running : Option IlType) (ss : List Statement) (a : Option Action) → type_after_line (noting g uses) running ss a ≡ type_after_line g running ss a
+  after_same running ss None = refl
+  after_same running ss (Some (action.Compute w)) = ap (λ z. type_after g running z w) (loaded_same ss)
+  after_same running ss (Some (action.Store n name)) = refl
+  after_same running ss (Some (action.Set v name)) = refl
+  after_same running ss (Some (action.Jump c label None)) = refl
+  after_same running ss (Some (action.Jump c label (Some turns))) = refl
+  after_same running ss (Some (action.Return c)) = refl
+
+  told_append : (xs ys : List Standing) → told (noting g uses) (xs ++ ys) ≡ (told (noting g uses) xs >>= λ _. told (noting g uses) ys)
   told_append [] ys = refl
-  told_append (x ∷ xs) ys = ap (λ z. at_line x.line (own g x) >>= λ _. z) (told_append xs ys) ∙ sym (in_turn (at_line x.line (own g x)) (told g xs) (told g ys))
+  told_append (x ∷ xs) ys = ap (λ z. at_line x.line (own (noting g uses) x) >>= λ _. z) (told_append xs ys) ∙ sym (in_turn (at_line x.line (own (noting g uses) x)) (told (noting g uses) xs) (told (noting g uses) ys))
 
   mutual
-    simple_told : (place line : ℕ) (before : List Action) (running : Option IlType) (loaded : IlType) (w : Written) → checked_simple g line running loaded w ≡ (at_line line (own_simple g running loaded w) >>= λ _. told g (listed_inside g place before running w))
-    simple_told place line before running loaded (Load n x) = ends (at_line line (operand_fault g loaded x))
-    simple_told place line before running loaded (Apply o n x) = ends (at_line line (operand_fault g (or_dint running) x))
-    simple_told place line before running loaded (Defer o n first inner) = ap (λ z. at_line line (first_fault g (or_dint running) first) >>= λ _. z) (inner_told place before (type_inside g running first) (whole_type running) inner)
-    simple_told place line before running loaded (Limit x y) = ends (at_line line (lowest (operand_fault g (or_dint running) x) (operand_fault g (or_dint running) y)))
-    simple_told place line before running loaded (Select x y) = ends (at_line line (lowest (operand_fault g (type_beside g y) x) (operand_fault g (type_beside g x) y)))
+    simple_told : (place line : ℕ) (before : List Action) (running : Option IlType) (loaded : IlType) (w : Written) → checked_simple (noting g uses) line running loaded w ≡ (at_line line (own_simple (noting g uses) running loaded w) >>= λ _. told (noting g uses) (listed_inside g place before running w))
+    simple_told place line before running loaded (Load n x) = ends (at_line line (operand_fault (noting g uses) loaded x))
+    simple_told place line before running loaded (Apply o n x) = ends (at_line line (operand_fault (noting g uses) (or_dint running) x))
+    simple_told place line before running loaded (Defer o n first inner) = ap (λ z. at_line line (first_fault (noting g uses) (or_dint running) first) >>= λ _. z) (inner_told place before (type_inside g running first) (whole_type running) inner)
+    simple_told place line before running loaded (Limit x y) = ends (at_line line (lowest (operand_fault (noting g uses) (or_dint running) x) (operand_fault (noting g uses) (or_dint running) y)))
+    simple_told place line before running loaded (Select x y) = ends (at_line line (lowest (operand_fault (noting g uses) (type_beside g y) x) (operand_fault (noting g uses) (type_beside g x) y)))
     simple_told place line before running loaded Invert = refl
     simple_told place line before running loaded Absolute = refl
     simple_told place line before running loaded (Convert from to) = ends (at_line line (unless (is_conversion from to) kind.UnknownName))
 
-    inner_told : (place : ℕ) (before : List Action) (running : Option IlType) (else_type : IlType) (inner : Inner) → checked_inner g running else_type inner ≡ told g (listed_inner g place before running else_type inner)
+    inner_told : (place : ℕ) (before : List Action) (running : Option IlType) (else_type : IlType) (inner : Inner) → checked_inner (noting g uses) running else_type inner ≡ told (noting g uses) (listed_inner g place before running else_type inner)
     inner_told place before running else_type Close = refl
     inner_told place before running else_type (Then line head tail) =
         let loaded = loaded_inner_type g else_type tail in
         let first = standing place before line running loaded (action.Compute head) ∷ listed_inside g place (before ++ action.Compute head ∷ []) running head in
         let later = before ++ (action.Compute head ∷ inside head) in
         let rest = listed_inner g place later (type_after g running loaded head) il.Dint tail in
-        ap (λ z. z >>= λ _. checked_inner g (type_after g running loaded head) il.Dint tail) (simple_told place line (before ++ action.Compute head ∷ []) running loaded head)
-        ∙ ap (λ z. told g first >>= λ _. z) (inner_told place later (type_after g running loaded head) il.Dint tail)
+        ap (λ z. z >>= λ _. checked_inner (noting g uses) (type_after g running loaded head) il.Dint tail) (simple_told place line (before ++ action.Compute head ∷ []) running loaded head)
+        ∙ ap (λ z. told (noting g uses) first >>= λ _. z) (inner_told place later (type_after g running loaded head) il.Dint tail)
         ∙ sym (told_append first rest)
 
-  line_told : (place line : ℕ) (before : List Action) (running : Option IlType) (rest : List Statement) (a : Option Action) → checked_line g place running rest line a ≡ told g (listed_line g place before running rest line a)
+  line_told : (place line : ℕ) (before : List Action) (running : Option IlType) (rest : List Statement) (a : Option Action) → checked_line (noting g uses) place running rest line a ≡ told (noting g uses) (listed_line g place before running rest line a)
   line_told place line before running rest None = refl
-  line_told place line before running rest (Some (action.Compute w)) = simple_told place line (before ++ action.Compute w ∷ []) running (loaded_type g rest) w
-  line_told place line before running rest (Some (action.Store n name)) = ends (at_line line (store_fault g (known_as g name)))
-  line_told place line before running rest (Some (action.Set v name)) = ends (at_line line (store_fault g (known_as g name)))
+  line_told place line before running rest (Some (action.Compute w)) =
+      let inside = told (noting g uses) (listed_inside g place (before ++ action.Compute w ∷ []) running w) in
+      simple_told place line (before ++ action.Compute w ∷ []) running (loaded_type (noting g uses) rest) w ∙ ap (λ z. at_line line (own_simple (noting g uses) running z w) >>= λ _. inside) (loaded_same rest)
+  line_told place line before running rest (Some (action.Store n name)) = ends (at_line line (store_fault (noting g uses) (known_as g name)))
+  line_told place line before running rest (Some (action.Set v name)) = ends (at_line line (store_fault (noting g uses) (known_as g name)))
   line_told place line before running rest (Some (action.Jump c label turns)) = ends (at_line line (jump_fault place turns (label_place g label)))
   line_told place line before running rest (Some (action.Return c)) = refl
 
-  pub lines_told : (place : ℕ) (before : List Action) (running : Option IlType) (ss : List Statement) → checked_lines g place running ss ≡ told g (listed g place before running ss)
+  pub lines_told : (place : ℕ) (before : List Action) (running : Option IlType) (ss : List Statement) → checked_lines (noting g uses) place running ss ≡ told (noting g uses) (listed g place before running ss)
   lines_told place before running [] = refl
   lines_told place before running (s ∷ ss) =
       let after = type_after_line g running ss s.action in
       let first = listed_line g place before running ss s.line s.action in
       let rest = listed g (place + 1) (before ++ of_line s.action) after ss in
-      ap (λ z. z >>= λ _. checked_lines g (place + 1) after ss) (line_told place s.line before running ss s.action)
-      ∙ ap (λ z. told g first >>= λ _. z) (lines_told (place + 1) (before ++ of_line s.action) after ss)
+      ap (λ z. checked_line (noting g uses) place running ss s.line s.action >>= λ _. checked_lines (noting g uses) (place + 1) z ss) (after_same running ss s.action)
+      ∙ ap (λ z. z >>= λ _. checked_lines (noting g uses) (place + 1) after ss) (line_told place s.line before running ss s.action)
+      ∙ ap (λ z. told (noting g uses) first >>= λ _. z) (lines_told (place + 1) (before ++ of_line s.action) after ss)
       ∙ sym (told_append first rest)

@@ -1,6 +1,6 @@
 -- The instructions that stand in a program are those of the list, and each has those before it in the list before it.
-use Rattle.std.proofs.Common.{◌≡◌, ◌⊎◌, inl, inr, ⊎_elim, ℕ, ◌+◌, ◌<◌, ◌≤◌, List, [], ◌∷◌, ◌++◌, length, Option, Some, None, refl, sym, ap, ◌∙◌, subst, arith, append_assoc, length-append}
-use Rattle.std.specs.List.{Contains, flat_map}
+use Rattle.std.proofs.Common.{◌≡◌, ◌⊎◌, inl, inr, ⊎_elim, ℕ, ◌+◌, ◌<◌, ◌≤◌, List, [], ◌∷◌, ◌++◌, length, Option, Some, None, refl, sym, ap, ◌∙◌, subst, arith, append_assoc}
+use Rattle.std.specs.List.{Contains}
 use Rattle.std.proofs.lemmas.List.{append-nil, length_push}
 use Rattle.std.proofs.lemmas.List.Elements.{Contains-append_cases, Contains-append_left, Contains-append_right}
 use Rattle.std.proofs.lemmas.Grind.{flat_map-append}
@@ -12,7 +12,7 @@ use Rattle.il_reader.specs.declared.tree.Statement.{Statement}
 use Rattle.il_reader.specs.declared.tree.Action.{Action}
 use Rattle.il_reader.specs.declared.tree.Action.TheVariants as action
 use Rattle.il_reader.specs.declared.tree.Operand.{Operand}
-use Rattle.il_assemble.specs.Faulty.{InBody, InParentheses, Standing, StandsIn, else_behind, in_body, in_parentheses, inner_type_behind, inside, inside_lines, of_line, of_lines, type_behind}
+use Rattle.il_assemble.specs.Instructions.{InBody, InParentheses, Standing, StandsIn, else_behind, in_body, in_parentheses, inner_type_behind, inside, inside_lines, of_line, of_lines, type_behind}
 use Rattle.il_assemble.specs.Names.{Scope}
 use Rattle.il_assemble.specs.Typing.{loaded_inner_type, loaded_type, type_after, type_after_line, type_inside, whole_type}
 use Rattle.il_assemble.specs.Written.{Written, Load, Apply, Defer, Limit, Select, Invert, Absolute, Convert, Inner, Close, Then}

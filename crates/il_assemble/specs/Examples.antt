@@ -9,11 +9,15 @@ use Rattle.point_types.specs.declared.reading.Reading.TheVariants as reading
 use Rattle.point_types.specs.declared.reading.Cause.TheVariants as cause
 use Rattle.point_types.specs.declared.variable.Var.{Var}
 use Rattle.point_types.specs.Value.{Value}
+use Rattle.il_reader.specs.declared.tree.Action.{Action as TreeAction}
+use Rattle.il_reader.specs.declared.tree.Action.TheVariants as tree
 use Rattle.il_reader.specs.declared.tree.Operand.TheVariants.{Named, Number}
 use Rattle.scan_code.specs.Machine.{Ending, Ended, Trapped, Unfinished, BadCode, NoDeferred, At_fault, opening, run}
 use Rattle.il_assemble.specs.declared.fault.AsmFaultKind.TheVariants as kind
 use Rattle.il_assemble.specs.Meaning.{Program, Line, Action, Compute, Store, Set, Jump, Repeat, Load, Apply, Defer, Limit, Select, Convert, Close, Then, Variable, Input, Presence, Constant, InVariable, InOutput, Outcome, Done, Fails, meaning}
 use Rattle.il_assemble.specs.Code.{image_of}
+use Rattle.il_assemble.specs.Faulty.{HasFault, IsFaultless}
+use Rattle.il_assemble.specs.Instructions.{Standing, in_parentheses}
 use Rattle.il_assemble.specs.Names.{Scope, known_as}
 use Rattle.il_assemble.specs.Typing.{type_after}
 use Rattle.il_assemble.specs.StaticFault.{checked_simple, store_fault}
@@ -61,6 +65,16 @@ seen = record {
 -- LD 4 / MUL w, inside parentheses behind an INT
 abbrev pub product : form.Inner
 product = form.Then 8 (form.Load false (Number (pos 4))) (form.Then 9 (form.Apply op.Mul false (Named (codes "w"))) form.Close)
+
+-- an instruction behind others, where the result is a DINT
+abbrev pub behind : List TreeAction → TreeAction → Standing
+behind before a = record { line = 10; place = 0; running = Some il.Dint; loaded = il.Dint; action = a; before = before }
+
+abbrev pub load_w : TreeAction
+load_w = tree.Compute (form.Load false (Named (codes "w")))
+
+abbrev pub store_w : TreeAction
+store_w = tree.Store false (codes "w")
 
 -- the variables and outputs at the end of a run, or its fault
 abbrev pub end_of : Ending → Outcome
@@ -144,6 +158,11 @@ pub record ExamplesHold : Type 0 where
   pub name_is_unknown : checked_simple seen 4 None il.Dint (form.Load false (Named (codes "q"))) ≡ Err (record { line = 4; kind = kind.UnknownName })
   pub number_is_no_truth : checked_simple seen 6 (Some il.Bool) il.Dint (form.Apply op.And false (Number (pos 1))) ≡ Err (record { line = 6; kind = kind.LiteralType })
   pub input_is_no_output : store_fault seen (known_as seen (codes "w")) ≡ Some kind.LoadAndStore
+  pub stored_behind_a_load : HasFault seen (behind (load_w ∷ []) store_w) kind.LoadAndStore
+  pub first_stored : IsFaultless seen (behind [] store_w)
+  pub number_too_large : HasFault seen (behind [] (tree.Compute (form.Apply op.Add false (Number (pos 2147483648))))) kind.LiteralType
+  pub no_such_label : HasFault seen (behind [] (tree.Jump when.Always (codes "x") None)) kind.UnknownLabel
+  pub literal_inside : (in_parentheses seen (behind [] (tree.Compute (form.Defer op.Add false None product))) None form.Close 8 (form.Load false (Number (pos 4))) (form.Then 9 (form.Apply op.Mul false (Named (codes "w"))) form.Close)).loaded ≡ il.Dint
   pub comparison_gives_bool : type_after seen (Some il.Int) il.Dint (form.Defer op.Lt false None product) ≡ Some il.Bool
   pub divide_means : meaning divide [] (pos 7 ∷ pos 0 ∷ []) ≡ Done (pos 7 ∷ pos 9 ∷ []) []
   pub divide_is_coded : (image_of divide).code ≡ divide_code

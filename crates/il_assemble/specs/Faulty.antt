@@ -1,103 +1,26 @@
--- The static faults of a program, its length aside: which instructions stand in it, what each is at fault for, and which fault is told.
--- Nothing here goes through a program in search of faults.
+-- The static faults of a program, its length aside: what an instruction is at fault for by itself and by those before it, and which
+-- fault is told. Nothing here goes through a program in search of faults, and no notes on uses are looked at.
 -- IEC 61131-3 (edition 2), 2.2.1 numeric literals, 2.4.1 representation of variables, 3.2 instructions.
-use Rattle.std.specs.Prelude.{◌≡◌, ◌≢◌, ◌⊎◌, ◌↔◌, ℕ, ◌+◌, ◌<◌, ◌≤◌, Bool, true, false, not, List, [], ◌∷◌, ◌++◌, length, Option, Some, None, Ok, Err, slice_get}
+use Rattle.std.specs.Prelude.{◌≡◌, ◌≢◌, ◌⊎◌, ◌↔◌, ℕ, ◌<◌, ◌≤◌, Bool, true, false, not, List, [], ◌∷◌, ◌++◌, length, Option, Some, None, Result, Ok, Err, slice_get}
 use Rattle.std.specs.List.{Contains, flat_map}
 use Rattle.point_types.specs.declared.il_type.IlType.{IlType}
-use Rattle.point_types.specs.declared.il_type.IlType.TheVariants as il
-use Rattle.point_types.specs.declared.operator.Operator.{Operator}
-use Rattle.il_reader.specs.Written.{followed_by}
+use Rattle.point_types.specs.Value.{◌>>=◌}
 use Rattle.il_reader.specs.declared.tree.Program.{Program as Tree}
-use Rattle.il_reader.specs.declared.tree.Statement.{Statement}
 use Rattle.il_reader.specs.declared.tree.Action.{Action}
 use Rattle.il_reader.specs.declared.tree.Action.TheVariants as action
 use Rattle.il_reader.specs.declared.tree.Operand.{Operand}
-use Rattle.il_reader.specs.declared.tree.Operand.TheVariants.{Named, Truth, Number, Typed}
+use Rattle.il_reader.specs.declared.tree.Operand.TheVariants.{Named, Number, Typed}
 use Rattle.il_assemble.specs.declared.fault.AsmFault.{AsmFault}
 use Rattle.il_assemble.specs.declared.fault.AsmFaultKind.{AsmFaultKind}
 use Rattle.il_assemble.specs.declared.fault.AsmFaultKind.TheVariants as kind
 use Rattle.il_assemble.specs.declared.names.Known.{Known}
 use Rattle.il_assemble.specs.declared.names.Known.TheVariants as known
-use Rattle.il_assemble.specs.Elaboration.{scope_of}
+use Rattle.il_assemble.specs.Elaboration.{counted, elaborated, measured, named_apart, names_seen, program_of, scope_of, undivided}
+use Rattle.il_assemble.specs.Instructions.{Standing, StandsIn, of_lines}
 use Rattle.il_assemble.specs.Names.{Scope, known_as, uses_of}
 use Rattle.il_assemble.specs.StaticFault.{number_of, is_conversion, is_count, label_place, checked_lines}
-use Rattle.il_assemble.specs.Typing.{is_literal_of, or_dint, type_beside, whole_type, loaded_type, loaded_inner_type, type_after, type_inside, type_after_line}
-use Rattle.il_assemble.specs.Written.{Written, Load, Apply, Defer, Limit, Select, Invert, Absolute, Convert, Inner, Close, Then}
-
--- The instructions of a program in the order of its text.
-
-abbrev mutual
-  -- those inside the parentheses of an instruction
-  pub inside : Written → List Action
-  inside (Defer o negated first inner) = inside_lines inner
-  inside w = []
-
-  pub inside_lines : Inner → List Action
-  inside_lines Close = []
-  inside_lines (Then line head tail) = (action.Compute head ∷ inside head) ++ inside_lines tail
-
-abbrev pub inside_action : Action → List Action
-inside_action (action.Compute w) = inside w
-inside_action a = []
-
-abbrev pub of_line : Option Action → List Action
-of_line None = []
-of_line (Some a) = a ∷ inside_action a
-
-abbrev pub of_lines : List Statement → List Action
-of_lines = flat_map (λ s. of_line s.action)
-
--- The running type behind lines, by that before them; rest: the lines that follow.
-
-abbrev pub type_behind : Scope → Option IlType → List Statement → List Statement → Option IlType
-type_behind g running [] rest = running
-type_behind g running (s ∷ ss) rest = type_behind g (type_after_line g running (ss ++ rest) s.action) ss rest
-
--- inside parentheses a literal loaded first takes the type that is given where no next instruction gives one, a later one DINT
-abbrev pub else_behind : IlType → Inner → IlType
-else_behind else_type Close = else_type
-else_behind else_type (Then line head tail) = il.Dint
-
-abbrev pub inner_type_behind : Scope → Option IlType → IlType → Inner → Inner → Option IlType
-inner_type_behind g running else_type Close rest = running
-inner_type_behind g running else_type (Then line head tail) rest = inner_type_behind g (type_after g running (loaded_inner_type g else_type (followed_by tail rest)) head) il.Dint tail rest
-
--- An instruction as it stands: its line, how many lines of the body are before the one that it is in, the running type before it, the
--- type that a literal takes behind its LD, what it does, and the instructions before it.
-pub record Standing : Type 0 where
-  pub line : ℕ
-  pub place : ℕ
-  pub running : Option IlType
-  pub loaded : IlType
-  pub action : Action
-  pub before : List Action
-
--- an instruction of the body, between the lines before and behind its own
-abbrev pub in_body : Scope → List Statement → Statement → List Statement → Action → Standing
-in_body g front s behind a = record {
-  line = s.line;
-  place = length front;
-  running = type_behind g None front (s ∷ behind);
-  loaded = loaded_type g behind;
-  action = a;
-  before = of_lines front;
-}
-
--- one inside the parentheses of x, between the lines there before and behind its own; first: the operand right behind the parenthesis
-abbrev pub in_parentheses : Scope → Standing → Option Operand → Inner → ℕ → Written → Inner → Standing
-in_parentheses g x first front line head tail = record {
-  line = line;
-  place = x.place;
-  running = inner_type_behind g (type_inside g x.running first) (whole_type x.running) front (Then line head tail);
-  loaded = loaded_inner_type g (else_behind (whole_type x.running) front) tail;
-  action = action.Compute head;
-  before = (x.before ++ x.action ∷ []) ++ inside_lines front;
-}
-
--- an instruction stands in a line of the body, or inside the parentheses of one that stands
-pub data StandsIn (g : Scope) : Standing → Type 0 where
-  InBody : (front : List Statement) (s : Statement) (behind : List Statement) (a : Action) → g.statements ≡ front ++ s ∷ behind → s.action ≡ Some a → StandsIn g (in_body g front s behind a)
-  InParentheses : (x : Standing) (o : Operator) (negated : Bool) (first : Option Operand) (front : Inner) (line : ℕ) (head : Written) (tail : Inner) → StandsIn g x → x.action ≡ action.Compute (Defer o negated first (followed_by front (Then line head tail))) → StandsIn g (in_parentheses g x first front line head tail)
+use Rattle.il_assemble.specs.Typing.{is_literal_of, or_dint, type_beside}
+use Rattle.il_assemble.specs.Written.{Written, Load, Apply, Defer, Limit, Select, Convert}
 
 -- Uses of externals.
 
@@ -145,14 +68,15 @@ other u = record u { stored = not u.stored }
 abbrev pub Clashes : List Use → List Use → Type 0
 Clashes before uses = (u : Use) × Contains uses u × Contains before (other u)
 
--- Faults of parts of an instruction; before: the uses of externals before the instruction.
+-- Faults of the parts of an instruction; before: the uses of externals before the instruction.
 
+-- a name that is loaded: it stands for nothing, or its external is stored before
 abbrev pub LoadFault : List Use → Option Known → AsmFaultKind → Type 0
 LoadFault before name kind.UnknownName = name ≡ None
 LoadFault before name kind.LoadAndStore = Clashes before (loads_of name)
 LoadFault before name k = ⊥
 
--- a presence can't be stored
+-- a name that is stored: it stands for no variable or external, or its external is loaded before
 abbrev pub is_storable : Option Known → Bool
 is_storable (Some (known.Variable i)) = true
 is_storable (Some (known.External i)) = true
@@ -163,14 +87,15 @@ StoreFault before name kind.UnknownName = is_storable name ≡ false
 StoreFault before name kind.LoadAndStore = Clashes before (stores_of name)
 StoreFault before name k = ⊥
 
--- wanted: the type that a number without one takes
+-- an operand: a name, or a number that its type doesn't hold; wanted: the type that a number without one takes
 abbrev pub OperandFault : Scope → List Use → IlType → Operand → AsmFaultKind → Type 0
 OperandFault g before wanted (Named name) k = LoadFault before (known_as g name) k
 OperandFault g before wanted (Number n) kind.LiteralType = is_literal_of wanted n ≡ false
 OperandFault g before wanted (Typed given n) kind.LiteralType = is_literal_of given n ≡ false
 OperandFault g before wanted x k = ⊥
 
--- a jump from a place among the lines to that of its label, if there is one; turns: its count
+-- a jump from a place among the lines to the target, the place of the first line with its label: no line has it; a jump without a
+-- count to a line that isn't behind it; a counted one to a line behind it, or with a count outside 1..255
 abbrev pub JumpFault : ℕ → Option ℕ → Option ℕ → AsmFaultKind → Type 0
 JumpFault place turns None kind.UnknownLabel = Unit {0}
 JumpFault place None (Some target) kind.BackwardJump = target ≤ place
@@ -206,23 +131,48 @@ IsFaultless g x = (k : AsmFaultKind) → HasFault g x k → ⊥
 abbrev pub IsFaultOf : Scope → Standing → AsmFaultKind → Type 0
 IsFaultOf g x k = HasFault g x k × ((j : AsmFaultKind) → HasFault g x j → number_of k ≤ number_of j)
 
--- The fault of a program: that of the first instruction that has one.
+-- The fault of a program's instructions: that of the first one at fault; fewer stand before an earlier one.
 abbrev pub IsFirstFault : Scope → AsmFault → Type 0
 IsFirstFault g f = (x : Standing) × StandsIn g x × (f.line ≡ x.line) × IsFaultOf g x f.kind × ((y : Standing) → StandsIn g y → length y.before < length x.before → IsFaultless g y)
 
 abbrev pub HasNoFault : Scope → Type 0
 HasNoFault g = (x : Standing) → StandsIn g x → IsFaultless g x
 
--- What the assembler's walk over the lines tells is this fault, and that there is none where there is none.
+-- a program's names and lines
+abbrev pub text_scope : Tree → Scope
+text_scope t = record { variables = t.variables; externals = t.externals; uses = []; statements = t.statements }
+
+-- What only trees that no text gives are at fault for.
+abbrev pub limited : Tree → Result (Unit {0}) AsmFault
+limited t = counted t.variables t.externals t.statements >>= λ _. undivided t.variables >>= λ _. named_apart t.variables t.externals (names_seen (scope_of t))
+
+-- that the code is too long comes after all else
+abbrev pub lengthy : Tree → Result (Unit {0}) AsmFault
+lengthy t = measured (scope_of t) t.end_line 0 0 None t.statements
+
+abbrev pub IsStaticFault : Tree → AsmFault → Type 0
+IsStaticFault t f = (limited t ≡ Err f) ⊎ ((limited t ≡ Ok tt) × (IsFirstFault (text_scope t) f ⊎ (HasNoFault (text_scope t) × (lengthy t ≡ Err f))))
+
+abbrev pub HasNoStaticFault : Tree → Type 0
+HasNoStaticFault t = (limited t ≡ Ok tt) × HasNoFault (text_scope t) × (lengthy t ≡ Ok tt)
+
+-- What is proved of them.
+
+-- what the assembler's walk over the lines finds is the fault of the first instruction that has one
 abbrev pub TheFirstFaultIsTold : Type 0
 TheFirstFaultIsTold =
-    (t : Tree) → ((f : AsmFault) → (checked_lines (scope_of t) 0 None t.statements ≡ Err f) ↔ IsFirstFault (scope_of t) f) × ((checked_lines (scope_of t) 0 None t.statements ≡ Ok tt) ↔ HasNoFault (scope_of t))
+    (t : Tree) → ((f : AsmFault) → (checked_lines (scope_of t) 0 None t.statements ≡ Err f) ↔ IsFirstFault (text_scope t) f) × ((checked_lines (scope_of t) 0 None t.statements ≡ Ok tt) ↔ HasNoFault (text_scope t))
+
+-- a program elaborates, or it has a static fault, which is told
+abbrev pub StaticFaultsAreTold : Type 0
+StaticFaultsAreTold =
+    (t : Tree) → ((f : AsmFault) → (elaborated t ≡ Err f) ↔ IsStaticFault t f) × ((elaborated t ≡ Ok (program_of (scope_of t))) ↔ HasNoStaticFault t)
 
 -- a use before which its external has none
 abbrev pub IsFirstUse : List Use → Use → Type 0
 IsFirstUse uses u = (front behind : List Use) × (uses ≡ front ++ u ∷ behind) × ((v : Use) → Contains front v → v.external ≢ u.external)
 
--- An external is loaded or stored as its first use says.
+-- an external is an input or an output as its first use is a load or a store
 abbrev pub TheFirstUseCounts : Type 0
 TheFirstUseCounts =
-    (t : Tree) (u : Use) → (slice_get (uses_of t.variables t.externals t.statements) u.external ≡ Some (Some u.stored)) ↔ IsFirstUse (all_uses (scope_of t) (of_lines t.statements)) u
+    (t : Tree) (u : Use) → (slice_get (uses_of t.variables t.externals t.statements) u.external ≡ Some (Some u.stored)) ↔ IsFirstUse (all_uses (text_scope t) (of_lines t.statements)) u

@@ -14,4 +14,5 @@ pub mod Written
 pub mod Texts
 pub mod LineTable
 pub mod LineForms
+pub mod Instructions
 pub mod Faulty

@@ -2,7 +2,7 @@
 ghost use Rattle.il_assemble.specs.Assembled.{ImagesAreProper, NamesStayDifferent, PartsAreTheCode, StartsAreInRange, StaticFaultsWantNoMemory, WhatElaboratesIsWell};
 ghost use Rattle.il_assemble.specs.Examples.{ExamplesHold};
 ghost use Rattle.il_assemble.specs.Correct.{CodeIsOfBytes, CodeDoesWhatTheProgramMeans, EachEndIsTheMeaning, NumberedCountersFindTheirLimits, RunsThatAreOverStayOver, SizesDependOnTheFormAlone, TurnsNeverRunOut};
-ghost use Rattle.il_assemble.specs.Faulty.{TheFirstFaultIsTold, TheFirstUseCounts};
+ghost use Rattle.il_assemble.specs.Faulty.{StaticFaultsAreTold, TheFirstFaultIsTold, TheFirstUseCounts};
 ghost use Rattle.il_assemble.specs.LineTable.{InstructionsHaveTheirLines};
 ghost use Rattle.il_assemble.specs.Texts.{TextsKeepTheLimits};
 
@@ -65,13 +65,18 @@ pub fn starts_are_in_range()
     ensures { StartsAreInRange }
 {}
 
-/// The static fault that is told is that of the first instruction that has one, and of its lowest kind; none is told where no
-/// instruction has any.
+/// Of the static faults of instructions that of the first one at fault is told, and of its lowest kind; none where no instruction
+/// has any.
 pub fn the_first_fault_is_told()
     ensures { TheFirstFaultIsTold }
 {}
 
-/// Each external is an input or an output as its first use says.
+/// A program elaborates exactly where it has no static fault, and is else refused for that which comes first.
+pub fn static_faults_are_told()
+    ensures { StaticFaultsAreTold }
+{}
+
+/// Each external is an input or an output as its first use is a load or a store.
 pub fn the_first_use_counts()
     ensures { TheFirstUseCounts }
 {}
