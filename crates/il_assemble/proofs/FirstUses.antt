@@ -5,6 +5,7 @@ use Rattle.std.proofs.lemmas.Bool.{eqb-true, eqb-false, eq-eqb}
 use Rattle.std.proofs.lemmas.List.{append-nil}
 use Rattle.std.proofs.lemmas.List.Elements.{Contains-append_cases, Contains-append_right, Contains-push_cases}
 use Rattle.std.proofs.lemmas.Grind.{flat_map-append}
+use Rattle.scan_code.specs.declared.image.Tag.{Tag}
 use Rattle.il_reader.specs.declared.tree.External.{External}
 use Rattle.il_reader.specs.declared.tree.Program.{Program as Tree}
 use Rattle.il_reader.specs.declared.tree.Statement.{Statement}
@@ -14,9 +15,9 @@ use Rattle.il_reader.specs.declared.tree.Operand.{Operand}
 use Rattle.il_reader.specs.declared.tree.Operand.TheVariants.{Named, Truth, Number, Typed}
 use Rattle.il_assemble.specs.declared.names.Known.{Known}
 use Rattle.il_assemble.specs.declared.names.Known.TheVariants as known
-use Rattle.il_assemble.specs.Faulty.{IsFirstUse, TheFirstUseCounts, Use, all_uses, text_scope, loads_of, operand_uses, operands_of, stores_of, uses_in}
+use Rattle.il_assemble.specs.Faulty.{IsFirstUse, TagsAreOfUses, TheFirstUseCounts, Use, all_uses, text_scope, loads_of, operand_uses, operands_of, stores_of, uses_in}
 use Rattle.il_assemble.specs.Instructions.{inside, inside_lines, of_line, of_lines}
-use Rattle.il_assemble.specs.Names.{Scope, first_use, known_as, noted, noted_load, noted_store, unused, uses_after, uses_of, uses_of_action, uses_of_inner, uses_of_operand, uses_of_simple}
+use Rattle.il_assemble.specs.Names.{Scope, first_use, known_as, noted, noted_load, noted_store, tags_of, unused, uses_after, uses_of, uses_of_action, uses_of_inner, uses_of_operand, uses_of_simple}
 use Rattle.il_assemble.specs.Written.{Written, Load, Apply, Defer, Limit, Select, Invert, Absolute, Convert, Inner, Close, Then}
 use Rattle.il_assemble.proofs.Sound.{IsThere, known_there}
 
@@ -286,3 +287,47 @@ the_first_use_counts t u = (to, from)
 
     from : IsFirstUse (all_uses (text_scope t) (of_lines t.statements)) u → slice_get (uses_of t.variables t.externals t.statements) u.external ≡ Some (Some u.stored)
     from h = first_is_noted t u.external u.stored (ap (first_for u.external) h.2 ∙ is_first h.0 h.1 u h.3)
+
+-- Tags.
+
+abbrev tag_of : External → Bool → Tag
+tag_of e stored = record { name = e.name; output = stored; kind = e.kind }
+
+-- the external at a place, which is used in this way
+abbrev IsUsedAt : List External → List (Option Bool) → Tag → Type 0
+IsUsedAt es us tag = (i : ℕ) × (e : External) × (s : Bool) × (slice_get es i ≡ Some e) × (slice_get us i ≡ Some (Some s)) × (tag ≡ tag_of e s)
+
+one_behind : (x : External) (u : Option Bool) (es : List External) (us : List (Option Bool)) (tag : Tag) → IsUsedAt es us tag → IsUsedAt (x ∷ es) (u ∷ us) tag
+one_behind x u es us tag h = (suc h.0, h.1, h.2, h.3, h.4, h.5)
+
+tag_is_used : (es : List External) (us : List (Option Bool)) (tag : Tag) → Contains (tags_of es us) tag → IsUsedAt es us tag
+tag_is_used [] us tag h = absurd (in_none tag h)
+tag_is_used (x ∷ es) [] tag h = absurd (in_none tag h)
+tag_is_used (x ∷ es) (None ∷ us) tag h = one_behind x None es us tag (tag_is_used es us tag h)
+tag_is_used (x ∷ es) (Some s ∷ us) tag h =
+    ⊎_elim (λ e. (0, x, s, refl, refl, sym e)) (λ k. one_behind x (Some s) es us tag (tag_is_used es us tag k)) (head_or_tail (tag_of x s) tag (tags_of es us) h)
+
+used_has_tag : (es : List External) (us : List (Option Bool)) (i : ℕ) (e : External) (s : Bool) → slice_get es i ≡ Some e → slice_get us i ≡ Some (Some s) → Contains (tags_of es us) (tag_of e s)
+used_has_tag [] us i e s f h = cc
+used_has_tag (x ∷ es) [] i e s f h = cc
+used_has_tag (x ∷ es) (None ∷ us) zero e s f h = cc
+used_has_tag (x ∷ es) (None ∷ us) (suc i) e s f h = used_has_tag es us i e s f h
+used_has_tag (x ∷ es) (Some q ∷ us) zero e s f h =
+    let same : x ≡ e = cc in
+    let way : q ≡ s = cc in
+    subst (λ z. Contains (tags_of (x ∷ es) (Some q ∷ us)) z) (ap (λ z. tag_of z q) same ∙ ap (tag_of e) way) (at_head (tag_of x q) (tags_of es us))
+used_has_tag (x ∷ es) (Some q ∷ us) (suc i) e s f h = in_tail (tag_of x q) (tag_of e s) (tags_of es us) (used_has_tag es us i e s f h)
+
+pub tags_are_of_uses : TagsAreOfUses
+tags_are_of_uses t tag = (to, from)
+  where
+    to : Contains (tags_of t.externals (uses_of t.variables t.externals t.statements)) tag → (u : Use) × (e : External) × IsFirstUse (all_uses (text_scope t) (of_lines t.statements)) u × (slice_get t.externals u.external ≡ Some e) × (tag ≡ tag_of e u.stored)
+    to h =
+        let k = tag_is_used t.externals (uses_of t.variables t.externals t.statements) tag h in
+        let u = use_of k.0 k.2 in
+        (u, k.1, (the_first_use_counts t u).0 k.4, k.3, k.5)
+
+    from : (u : Use) × (e : External) × IsFirstUse (all_uses (text_scope t) (of_lines t.statements)) u × (slice_get t.externals u.external ≡ Some e) × (tag ≡ tag_of e u.stored) → Contains (tags_of t.externals (uses_of t.variables t.externals t.statements)) tag
+    from h =
+        subst (λ z. Contains (tags_of t.externals (uses_of t.variables t.externals t.statements)) z) (sym h.4)
+        (used_has_tag t.externals (uses_of t.variables t.externals t.statements) h.0.external h.1 h.0.stored h.3 ((the_first_use_counts t h.0).1 h.2))

@@ -5,6 +5,8 @@ use Rattle.std.specs.Prelude.{◌≡◌, ◌≢◌, ◌⊎◌, ◌↔◌, ℕ, �
 use Rattle.std.specs.List.{Contains, flat_map}
 use Rattle.point_types.specs.declared.il_type.IlType.{IlType}
 use Rattle.point_types.specs.Value.{◌>>=◌}
+use Rattle.scan_code.specs.declared.image.Tag.{Tag}
+use Rattle.il_reader.specs.declared.tree.External.{External}
 use Rattle.il_reader.specs.declared.tree.Program.{Program as Tree}
 use Rattle.il_reader.specs.declared.tree.Action.{Action}
 use Rattle.il_reader.specs.declared.tree.Action.TheVariants as action
@@ -17,7 +19,7 @@ use Rattle.il_assemble.specs.declared.names.Known.{Known}
 use Rattle.il_assemble.specs.declared.names.Known.TheVariants as known
 use Rattle.il_assemble.specs.Elaboration.{counted, elaborated, measured, named_apart, names_seen, program_of, scope_of, undivided}
 use Rattle.il_assemble.specs.Instructions.{Standing, StandsIn, of_lines}
-use Rattle.il_assemble.specs.Names.{Scope, known_as, uses_of}
+use Rattle.il_assemble.specs.Names.{Scope, known_as, tags_of, uses_of}
 use Rattle.il_assemble.specs.StaticFault.{number_of, is_conversion, is_count, label_place, checked_lines}
 use Rattle.il_assemble.specs.Typing.{is_literal_of, or_dint, type_beside}
 use Rattle.il_assemble.specs.Written.{Written, Load, Apply, Defer, Limit, Select, Convert}
@@ -176,3 +178,10 @@ IsFirstUse uses u = (front behind : List Use) × (uses ≡ front ++ u ∷ behind
 abbrev pub TheFirstUseCounts : Type 0
 TheFirstUseCounts =
     (t : Tree) (u : Use) → (slice_get (uses_of t.variables t.externals t.statements) u.external ≡ Some (Some u.stored)) ↔ IsFirstUse (all_uses (text_scope t) (of_lines t.statements)) u
+
+-- the tags of an image are those of the externals that are used, each as its first use is
+abbrev pub TagsAreOfUses : Type 0
+TagsAreOfUses =
+    (t : Tree) (tag : Tag)
+    → Contains (tags_of t.externals (uses_of t.variables t.externals t.statements)) tag
+    ↔ ((u : Use) × (e : External) × IsFirstUse (all_uses (text_scope t) (of_lines t.statements)) u × (slice_get t.externals u.external ≡ Some e) × (tag ≡ record { name = e.name; output = u.stored; kind = e.kind }))

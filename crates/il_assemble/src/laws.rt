@@ -2,7 +2,7 @@
 ghost use Rattle.il_assemble.specs.Assembled.{ImagesAreProper, NamesStayDifferent, PartsAreTheCode, StartsAreInRange, StaticFaultsWantNoMemory, WhatElaboratesIsWell};
 ghost use Rattle.il_assemble.specs.Examples.{ExamplesHold};
 ghost use Rattle.il_assemble.specs.Correct.{CodeIsOfBytes, CodeDoesWhatTheProgramMeans, EachEndIsTheMeaning, NumberedCountersFindTheirLimits, RunsThatAreOverStayOver, SizesDependOnTheFormAlone, TurnsNeverRunOut};
-ghost use Rattle.il_assemble.specs.Faulty.{StaticFaultsAreTold, TheFirstFaultIsTold, TheFirstUseCounts};
+ghost use Rattle.il_assemble.specs.Faulty.{StaticFaultsAreTold, TagsAreOfUses, TheFirstFaultIsTold, TheFirstUseCounts};
 ghost use Rattle.il_assemble.specs.LineTable.{InstructionsHaveTheirLines};
 ghost use Rattle.il_assemble.specs.Texts.{TextsKeepTheLimits};
 
@@ -79,6 +79,11 @@ pub fn static_faults_are_told()
 /// Each external is an input or an output as its first use is a load or a store.
 pub fn the_first_use_counts()
     ensures { TheFirstUseCounts }
+{}
+
+/// The tags of an image are those of the externals that are used, each as its first use is.
+pub fn tags_are_of_uses()
+    ensures { TagsAreOfUses }
 {}
 
 /// Want of memory is no static fault.
