@@ -38,6 +38,14 @@ pub fn obey_command_line(
     let mut out = io::writer(rt);
     match words(rt) {
         Ok(words) => obey_words(rt, words.as_slice(), &mut out),
+        Err(fault) if fault.kind() == io::ErrorKind::InvalidData => {
+            tell_misuse(
+                rt,
+                rt.alloc(),
+                "a word of the command line isn't UTF-8",
+                &mut out,
+            )
+        }
         Err(_) => tell_no_memory(&mut out),
     }
 }
@@ -72,7 +80,12 @@ fn trial_of_input<W: Write>(
             notes.explain(rt, &cause);
             status
         }
-        Err(SourceFault::Unusable) => write_lines(out, b"refused: file -\n", 1),
+        Err(SourceFault::Unusable(fault)) => {
+            if !quiet {
+                explain_unusable(rt, STANDARD_INPUT, fault);
+            }
+            write_lines(out, b"refused: file -\n", 1)
+        }
         Err(SourceFault::OutOfMemory) => tell_no_memory(out),
     }
 }
@@ -99,8 +112,10 @@ fn tell_usage<W: Write>(rt: &(impl Print + Eprint), fault: &Error, out: &mut W) 
     if fault.kind() == ErrorKind::OutOfMemory {
         return tell_no_memory(out);
     }
-    let _ = fault.print(rt);
-    fault.exit_code() as u8
+    match fault.print(rt) {
+        Err(_) if fault.exit_code() == 0 => 1,
+        _ => fault.exit_code() as u8,
+    }
 }
 
 /// Has `clap` tell why the words are no command line, and gives the status.
@@ -223,9 +238,9 @@ fn unread<W: Write>(
     out: &mut W,
 ) -> u8 {
     let status = refusal.tell(alloc, out);
-    if let Refusal::File(path) = refusal {
+    if let Refusal::File(path, fault) = refusal {
         if !matches.get_flag("quiet") {
-            explain_unusable(rt, path);
+            explain_unusable(rt, path, fault);
         }
     }
     status

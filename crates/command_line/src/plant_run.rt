@@ -7,8 +7,8 @@ use commands::{
 };
 use gateway::{Core, Poller, serve_client};
 use modbus_frame::{Link, LinkFault};
-use refusal_notes::{Cause, Notes};
-use std::alloc::Global;
+use refusal_notes::{Cause, Notes, escaped};
+use std::alloc::{AllocError, Global};
 use std::io::{ErrorKind, Read, Write};
 use std::net::{Net, OpenListener, OpenStream, TcpListener, TcpStream};
 use std::process::{Child, Command, Output, Processes, Stdio};
@@ -99,8 +99,31 @@ fn run_behind<R: Net + Processes + Eprint + AllocGlobal, W: Write>(
 ) -> u8 {
     match port_in(line) {
         Some(port) => run_at(rt, alloc, run, port, out),
-        None => write_lines(out, line, 1),
+        None => tell_no_port(rt, alloc, run, line, out),
     }
+}
+
+/// Prints the first line of a plant that doesn't listen. Where it is no refusal, the program that was started is another
+/// one, which is told on standard error.
+fn tell_no_port<R: Eprint, W: Write>(
+    rt: &R,
+    alloc: Global,
+    run: &PlantRun<'_, '_>,
+    line: &[u8],
+    out: &mut W,
+) -> u8 {
+    if !run.notes.quiet && !line.starts_with(b"refused: ") && !line.starts_with(b"link: ") {
+        if let Ok(text) = no_sunsite(alloc, run.exe) {
+            let _ = rt.eprint(text.as_str());
+        }
+    }
+    write_lines(out, line, 1)
+}
+
+fn no_sunsite(alloc: Global, exe: &str) -> Result<String, AllocError> {
+    let path = escaped(alloc, exe)?;
+    let text = format!(in alloc; "{path}: no sunsite: its first line isn't 'listening PORT'\n")?;
+    Ok(text)
 }
 
 /// Scans the plant on a port, and has the gateway probed.

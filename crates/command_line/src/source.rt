@@ -2,6 +2,7 @@
 ghost use Rattle.std.specs.Prelude.{◌≡◌, ◌≤◌, length, string_bytes, IfOk, IfSome, IsOkUnless};
 
 use crate::standard_input::STANDARD_INPUT;
+use refusal_notes::FileFault;
 use std::alloc::Global;
 use std::fs;
 use std::io::{ErrorKind, Read};
@@ -10,11 +11,10 @@ use std::rt::Files;
 /// The most bytes that a file may have.
 const LARGEST_FILE: u64 = 16_777_216;
 
-/// Why a file isn't taken: it can't be read to its end, isn't UTF-8, or has too many bytes; or
-/// memory was refused.
+/// Why a file isn't taken: it can't be used, or memory was refused.
 #[derive(Clone, Copy)]
 pub(crate) enum SourceFault {
-    Unusable,
+    Unusable(FileFault),
     OutOfMemory,
 }
 
@@ -25,13 +25,30 @@ pub(crate) fn read_text<R: Read + Drop>(alloc: Global, reader: R) -> Result<Stri
 {
     let mut bytes = Vec::new(alloc);
     match reader.take(LARGEST_FILE + 1).read_to_end(&mut bytes) {
-        Ok(_) if bytes.len() as u64 > LARGEST_FILE => Err(SourceFault::Unusable),
+        Ok(_) if bytes.len() as u64 > LARGEST_FILE => {
+            Err(SourceFault::Unusable(FileFault::TooLarge))
+        }
         Ok(_) => match String::from_utf8(bytes) {
             Ok(text) => Ok(text),
-            Err(_) => Err(SourceFault::Unusable),
+            Err(fault) => {
+                let before = fault.utf8_error().valid_up_to();
+                Err(SourceFault::Unusable(FileFault::NotUtf8(before)))
+            }
         },
-        Err(fault) if fault.kind() == ErrorKind::OutOfMemory => Err(SourceFault::OutOfMemory),
-        Err(_) => Err(SourceFault::Unusable),
+        Err(fault) => Err(SourceFault::of(fault.kind())),
+    }
+}
+
+impl SourceFault {
+    /// Of a file that can't be opened or read.
+    fn of(kind: ErrorKind) -> SourceFault {
+        match kind {
+            ErrorKind::OutOfMemory => SourceFault::OutOfMemory,
+            ErrorKind::NotFound => SourceFault::Unusable(FileFault::NotFound),
+            ErrorKind::IsADirectory => SourceFault::Unusable(FileFault::Folder),
+            ErrorKind::PermissionDenied => SourceFault::Unusable(FileFault::NotAllowed),
+            _ => SourceFault::Unusable(FileFault::Unreadable),
+        }
     }
 }
 
@@ -48,8 +65,7 @@ pub(crate) fn read_file(
     }
     match fs::open(rt, path) {
         Ok(file) => read_text(alloc, file),
-        Err(fault) if fault.kind() == ErrorKind::OutOfMemory => Err(SourceFault::OutOfMemory),
-        Err(_) => Err(SourceFault::Unusable),
+        Err(fault) => Err(SourceFault::of(fault.kind())),
     }
 }
 
@@ -64,7 +80,6 @@ pub(crate) fn read_kept(
     match fs::open(rt, path) {
         Ok(file) => read_text(alloc, file),
         Err(fault) if fault.kind() == ErrorKind::NotFound => Ok(String::new(alloc)),
-        Err(fault) if fault.kind() == ErrorKind::OutOfMemory => Err(SourceFault::OutOfMemory),
-        Err(_) => Err(SourceFault::Unusable),
+        Err(fault) => Err(SourceFault::of(fault.kind())),
     }
 }

@@ -3,6 +3,7 @@ use crate::source::{SourceFault, read_file, read_kept};
 use crate::standard_input::STANDARD_INPUT;
 use clap::ArgMatches;
 use commands::{tell_no_memory, tell_unusable};
+use refusal_notes::{FileFault, escaped};
 use std::alloc::{AllocFailed, Global};
 use std::io::Write;
 use std::rt::Files;
@@ -18,7 +19,7 @@ pub(crate) struct Sources {
 /// Why the files' texts aren't had: the first file that can't be used, or want of memory.
 #[derive(Clone, Copy)]
 pub(crate) enum Refusal<'a> {
-    File(&'a str),
+    File(&'a str, FileFault),
     OutOfMemory,
 }
 
@@ -27,8 +28,17 @@ impl Refusal<'_> {
     pub fn tell<W: Write>(self, alloc: Global, out: &mut W) -> u8 {
         match self {
             Refusal::OutOfMemory => tell_no_memory(out),
-            Refusal::File(path) => tell_unusable(alloc, path, out),
+            Refusal::File(path, _) => tell_file(alloc, path, out),
         }
+    }
+}
+
+/// Writes that the file at a path can't be used, and gives the status. Control characters in the path are escaped, so that
+/// it can't pass for another line.
+fn tell_file<W: Write>(alloc: Global, path: &str, out: &mut W) -> u8 {
+    match escaped(alloc, path) {
+        Ok(path) => tell_unusable(alloc, path.as_str(), out),
+        Err(_) => tell_no_memory(out),
     }
 }
 
@@ -126,7 +136,7 @@ fn text<'a>(
 fn taken(path: &str, text: Result<String, SourceFault>) -> Result<String, Refusal<'_>> {
     match text {
         Ok(text) => Ok(text),
-        Err(SourceFault::Unusable) => Err(Refusal::File(path)),
+        Err(SourceFault::Unusable(fault)) => Err(Refusal::File(path, fault)),
         Err(SourceFault::OutOfMemory) => Err(Refusal::OutOfMemory),
     }
 }

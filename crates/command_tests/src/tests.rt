@@ -3,6 +3,7 @@ mod check;
 mod explained;
 mod explained_files;
 mod explained_limits;
+mod explained_mistakes;
 mod explained_verdicts;
 mod files;
 mod gateways;

@@ -1,6 +1,8 @@
 //! Why a command refuses, and the note that tells it on standard error.
 use crate::link_texts::{link_help, link_meaning};
 use crate::marks::{mark_of_trapped, mark_of_unassembled, mark_of_unread, mark_of_unverified};
+use crate::mistakes::mistake_on;
+use crate::nearest::nearest_name;
 use il_assemble::AsmFault;
 use il_reader::ReadFault;
 use inverter_sim::PlantFault;
@@ -156,8 +158,41 @@ impl Cause {
         Cause::of_file(alloc, NotedFile::Link, texts)
     }
 
-    /// The note, on the text of the file at the path.
+    /// The note, on the text of the file at the path. A mistake that people make in a program has words of its own there,
+    /// and an unknown name the one that may be meant.
     pub fn note<'a>(&'a self, path: &'a str, text: &'a str) -> Note<'a> {
+        let mut note = self.plain_note(path, text);
+        if self.file != NotedFile::Program {
+            return note;
+        }
+        if let Some(found) = mistake_on(text, self.line, self.kind) {
+            note.line = found.line;
+            note.mark = found.mark;
+            note.meaning = found.hint.meaning;
+            note.help = found.hint.help;
+        }
+        if self.kind == "UnknownName" {
+            if let Some(name) = self.meant_name(text) {
+                note.name = name;
+                note.help =
+                    "did you mean {}? Else declare it: in VAR for a variable of the program, in VAR_EXTERNAL for a tag of the site";
+            }
+        }
+        note
+    }
+
+    /// The declared name that is nearest to the one on the line.
+    fn meant_name<'a>(&self, text: &'a str) -> Option<&'a str> {
+        let line = text.lines().nth(self.line.checked_sub(1)? as usize)?;
+        let code = match line.split_once("(*") {
+            Some((code, _)) => code,
+            None => line,
+        };
+        nearest_name(text, code.split_whitespace().last()?)
+    }
+
+    /// The note in the words of its kind.
+    fn plain_note<'a>(&'a self, path: &'a str, text: &'a str) -> Note<'a> {
         Note {
             path,
             text,

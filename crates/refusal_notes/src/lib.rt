@@ -4,12 +4,17 @@
 
 mod cause;
 mod file_causes;
+mod file_fault;
 mod link_texts;
 mod marks;
+mod mistakes;
+mod nearest;
 mod notes;
 mod verdict_cause;
 
 pub use cause::{Cause, NotedFile};
 pub use file_causes::{cause_of_definition, cause_of_plant, cause_of_site};
+pub use file_fault::FileFault;
 pub use notes::{Notes, explain_unusable};
+pub use source_notes::escaped;
 pub use verdict_cause::cause_of_refusal;

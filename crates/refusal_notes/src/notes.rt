@@ -1,6 +1,8 @@
 //! What is printed on standard error of a refusal.
 use crate::cause::{Cause, NotedFile};
+use crate::file_fault::FileFault;
 use source_notes::{Mark, Note};
+use std::alloc::{AllocError, Global};
 
 /// The files that the notes of a command are on, each by its path and its text, and whether there are notes.
 #[derive(Clone, Copy)]
@@ -65,20 +67,35 @@ impl<'a> Notes<'a> {
     }
 }
 
-/// Prints that a file can't be used.
-pub fn explain_unusable(rt: &(impl Eprint + AllocGlobal), path: &str) {
+/// Prints why a file can't be used.
+pub fn explain_unusable(rt: &(impl Eprint + AllocGlobal), path: &str, fault: FileFault) {
+    let Ok(detail) = place_of_byte(rt.alloc(), fault) else {
+        return;
+    };
     let note = Note {
         path,
         text: "",
         line: 0,
         mark: Mark::Line,
         kind: "file",
-        meaning: "it can't be read, isn't UTF-8, or has more than 16,777,216 bytes",
-        help: "look for the path and the right to read it, and save it as UTF-8",
+        meaning: fault.meaning(),
+        help: fault.help(),
         name: "",
-        detail: "",
+        detail: detail.as_str(),
     };
     print(rt, &note);
+}
+
+/// Where the byte stands that isn't UTF-8; empty for other faults.
+fn place_of_byte(alloc: Global, fault: FileFault) -> Result<String, AllocError> {
+    match fault {
+        FileFault::NotUtf8(before) => {
+            let number = before.saturating_add(1);
+            let text = format!(in alloc; "byte {number} of it isn't")?;
+            Ok(text)
+        }
+        _ => Ok(String::new(alloc)),
+    }
 }
 
 fn path_at<'a>(paths: &[&'a str], number: usize) -> &'a str {

@@ -2,10 +2,12 @@
 //! meant, and what to do.
 #![tactic(auto)]
 
+mod escaping;
 mod marking;
 mod note;
 #[cfg(test)]
 mod tests;
 
+pub use escaping::escaped;
 pub use marking::Mark;
 pub use note::Note;

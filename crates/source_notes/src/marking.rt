@@ -11,6 +11,8 @@ pub enum Mark {
     Operand,
     /// The letter of this number, counted from 1; all that stands on the line, where it has none.
     Column(usize),
+    /// The bytes from this place on, counted from 0, so many.
+    Bytes(usize, usize),
 }
 
 /// The bytes of a line that are meant: the first one's place, and the place behind the last one.
@@ -22,6 +24,7 @@ pub(crate) fn marked(line: &str, mark: Mark) -> (usize, usize) {
     match mark {
         Mark::Line => whole(code),
         Mark::Column(number) => letter_at(line, number),
+        Mark::Bytes(place, count) => (place, place.saturating_add(count)),
         Mark::Operand if !operand.is_empty() => (end.saturating_sub(operand.len()), end),
         Mark::Operand | Mark::Operator => (
             end.saturating_sub(body.len()),

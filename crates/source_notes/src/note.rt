@@ -1,4 +1,5 @@
 //! A note on a line of a text.
+use crate::escaping::{escaped, is_control, push_escaped};
 use crate::marking::{Mark, marked};
 use std::alloc::{AllocError, Global};
 
@@ -63,9 +64,9 @@ impl Note<'_> {
 
     /// The path, and the line where there is one.
     fn place(&self, alloc: Global) -> Result<String, AllocError> {
-        let path = self.path;
+        let path = escaped(alloc, self.path)?;
         if self.line == 0 {
-            return String::from_str(alloc, path);
+            return Ok(path);
         }
         let line = self.line;
         format!(in alloc; "{path}:{line}")
@@ -99,7 +100,9 @@ fn push_known(lines: &mut String, before: &str, detail: &str) -> Result<(), Allo
     if detail.is_empty() {
         return Ok(());
     }
-    push_all(lines, &[before, detail, "\n"])
+    lines.push_str(before)?;
+    push_escaped(lines, detail)?;
+    lines.push_str("\n")
 }
 
 /// Appends a text with the name in place of each `{}`.
@@ -107,7 +110,7 @@ fn push_named(lines: &mut String, text: &str, name: &str) -> Result<(), AllocErr
     let name = if name.is_empty() { "it" } else { name };
     for (number, part) in text.split("{}").enumerate() {
         if number > 0 {
-            lines.push_str(name)?;
+            push_escaped(lines, name)?;
         }
         lines.push_str(part)?;
     }
@@ -130,12 +133,6 @@ fn shown(letter: char) -> char {
     } else {
         letter
     }
-}
-
-/// Whether a letter has no shape of its own, and may move what stands behind it.
-fn is_control(letter: char) -> bool {
-    let code = letter as u32;
-    code < 0x20 || (0x7f <= code && code < 0xa0)
 }
 
 /// Appends a caret below each letter that is meant, and blanks before.

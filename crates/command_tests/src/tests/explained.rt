@@ -5,7 +5,7 @@ use refusal_notes::Cause;
 use std::process::Abort;
 
 /// A text, what is printed, and what is explained.
-type Explained = (&'static str, &'static str, &'static str);
+pub(crate) type Explained = (&'static str, &'static str, &'static str);
 
 const OF_READING: &[Explained] = &[
     (
@@ -167,7 +167,8 @@ fn a_trap_is_explained_by_what_met(rt: HostRuntime) {
     assert_explained(&rt, OF_TRIALS);
 }
 
-fn assert_explained(rt: &(impl AllocGlobal + Abort), rows: &[Explained]) {
+/// Each text has these lines, and this note.
+pub(crate) fn assert_explained(rt: &(impl AllocGlobal + Abort), rows: &[Explained]) {
     for (text, lines, note) in rows.iter() {
         let mut out = Vec::new(rt.alloc());
         let (_, cause) = try_input(rt.alloc(), text, &mut out);
