@@ -130,16 +130,20 @@ leaves_behind unit p m q first (inl alone) = inl (alone_behind unit p m q first 
 leaves_behind unit p m q first (inr (fault, stops)) = inr (fault, stops_behind unit p m q fault first stops)
 
 pub told_behind : (unit : ℕ) (models : List ModelDef) (map : Layout) (p m q : Polling) (told : Told) → Searches unit None p (Ok map) m → TellsMap unit models map m told q → Probes unit models p told q
-told_behind unit models map p m q told (es, found, talks) (inl (lines, read, is)) = inl (lines, record {
-  searched = es;
-  map = map;
-  found = found;
-  read = read.read;
-  shown = read.shown;
-  points = read.points;
-  talks = talks_behind p m q es read.read talks read.talks;
-  all = read.all;
-}, is)
+told_behind unit models map p m q told (es, found, talks) (inl (lines, read, is)) = inl (
+  lines,
+  record {
+    searched = es;
+    map = map;
+    found = found;
+    read = read.read;
+    shown = read.shown;
+    points = read.points;
+    talks = talks_behind p m q es read.read talks read.talks;
+    all = read.all;
+  },
+  is,
+)
 told_behind unit models map p m q told search (inr (fault, stops, is)) = inr (inr (inl (fault, stops_behind unit p m q fault (searched_alone unit p m (Ok map) search) stops, is)))
 
 -- ---- results

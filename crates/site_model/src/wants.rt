@@ -80,9 +80,7 @@ fn add_want(wants: &mut Items<Want>, want: Option<Want>) -> Result<(), AllocErro
 fn is_wanted(wants: &[Want], want: Want) -> bool
     ensures { result ≡ list_any (same_want want) wants.now }
 {
-    wants
-        .iter()
-        .any(|known| known.device == want.device && known.model == want.model)
+    wants.iter().any(|known| known.device == want.device && known.model == want.model)
 }
 
 /// The number of a want among these.
@@ -90,9 +88,7 @@ pub fn place_of_want(wants: &[Want], want: Want) -> Option<usize>
     ensures place { result ≡ position (same_want want) wants.now }
     ensures inside { IfSome result (λ i. i < length wants.now) }
 {
-    wants
-        .iter()
-        .position(|known| known.device == want.device && known.model == want.model)
+    wants.iter().position(|known| known.device == want.device && known.model == want.model)
 }
 
 fn is_of_device(access: Access) -> bool

@@ -52,7 +52,12 @@ fn assert_step(rt: &impl Abort, core: &mut Core<32>, step: &Step) {
             let block = Event::Block(want(0, 123), controls(rt));
             assert_answer(rt, core, block, &Answer::None);
         }
-        Step::Lost(device) => assert_answer(rt, core, Event::Lost(want(*device, 103)), &Answer::None),
+        Step::Lost(device) => assert_answer(
+            rt,
+            core,
+            Event::Lost(want(*device, 103)),
+            &Answer::None,
+        ),
         Step::Scan => assert_answer(rt, core, Event::Scan, &Answer::Writes(2)),
         Step::Asks(request, reply) => assert_reply(rt, core, request, reply),
         Step::Replay => assert_replayed(rt, core),

@@ -18,7 +18,7 @@ returns-in-Ok-push_answer-clause-read g c = (
 pub returns-in-Err-push_answer-clause-stopped : goal.returns-in-Err-push_answer-clause-stopped
 returns-in-Err-push_answer-clause-stopped g c =
     points_alone c.args.unit c.args.block.now (Some c.in-Some.model.now) c.args.poller.now c.ask.new.self (points_by c.in-Some.model.now c.in-Ok.answer)
-        (points_read c.args.unit c.args.block.now c.in-Some.model.now c.args.poller.now c.ask.new.self c.in-Ok.answer c.points_request.result c.points_request.ensures.request (c.in-Ok.ensures.asks c.requires))
+    (points_read c.args.unit c.args.block.now c.in-Some.model.now c.args.poller.now c.ask.new.self c.in-Ok.answer c.points_request.result c.points_request.ensures.request (c.in-Ok.ensures.asks c.requires))
 
 pub returns-in-Err-clause-stopped : goal.returns-in-Err-clause-stopped
 returns-in-Err-clause-stopped g c =
