@@ -16,6 +16,7 @@ mod socket;
 mod source;
 mod sources;
 mod standard_input;
+mod unwritten;
 mod watched_link;
 
 // what a program's `main` calls, and its parts

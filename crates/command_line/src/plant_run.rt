@@ -1,6 +1,7 @@
 //! A whole run over loopback: a simulated plant in a second process, the gateway's scans of it, and a probe of the gateway.
 use crate::link_cause::cause_of_link;
 use crate::socket::{SocketLink, link_over, loopback};
+use crate::unwritten::tell_unwritten;
 use crate::watched_link::WatchedLink;
 use commands::{
     DEPTH, FAILED_LINK, scans_noting, tell_no_memory, tell_unlinked, tell_unusable, write_lines,
@@ -155,6 +156,9 @@ fn run_over<R: Net + Processes + Eprint + AllocGlobal, L: Link + Drop, W: Write>
     let mut cause = None;
     let mut scanned = scans_over(alloc, run, link, &mut cause, out);
     run.notes.explain(rt, &cause);
+    if let Some(core) = &scanned.0 {
+        tell_unwritten(rt, alloc, run, core);
+    }
     probed_behind(rt, alloc, run, &mut scanned, out)
 }
 
