@@ -8,7 +8,7 @@ use point_types::{IlType, Kind, Name};
 use point_writer::plan::plan_of;
 use point_writer::{NoWrite, Write};
 use register_map::Map;
-use site_model::{Access, Sf, SiteTag, Words};
+use site_model::{Access, Sf, SiteTag, Want, Words};
 use std::alloc::Global;
 use std::process::Abort;
 
@@ -93,7 +93,11 @@ fn planned(
     if let Some(v) = output {
         assert!(rt; tag.low <= v && v <= tag.high);
     }
-    plan_of(tag, output, &[(0, 123)], &[controls(factor)], &[Some(map)])
+    let want = Want {
+        device: 0,
+        model: 123,
+    };
+    plan_of(tag, output, &[want], &[controls(factor)], &[Some(map)])
 }
 
 #[test]

@@ -8,7 +8,7 @@ use crate::tests::{assert_same, definitions, edited, site_of};
 use model_defs::ModelDef;
 use point_types::{Cause, IlType, Kind, Name, Reading};
 use site_model::readings::readings;
-use site_model::{Access, Sf, Site, SiteTag, Words};
+use site_model::{Access, Sf, Site, SiteTag, Want, Words};
 use std::alloc::Global;
 use std::process::Abort;
 
@@ -90,7 +90,11 @@ fn read(rt: &impl Abort, tag: &SiteTag, registers: &[u16]) -> Reading {
     words[14..end].copy_from_slice(registers);
     let block = Words::from_slice(&words[..end]);
     let mut read = [Reading::Absent(Cause::NoBlock)];
-    readings(&[*tag], &[(0, 103)], &[block], &[None], &mut read);
+    let want = Want {
+        device: 0,
+        model: 103,
+    };
+    readings(&[*tag], &[want], &[block], &[None], &mut read);
     read[0]
 }
 

@@ -3,7 +3,7 @@
 use crate::tests::assert_same;
 use point_types::{IlType, Kind, Name};
 use site_model::wants::{length_of, outs_of, place_of, wants_of};
-use site_model::{Access, Sf, SiteTag};
+use site_model::{Access, Sf, SiteTag, Want};
 use std::alloc::Global;
 use std::process::Abort;
 
@@ -47,11 +47,16 @@ fn tags(rt: &impl Abort, alloc: Global) -> Vec<SiteTag> {
     tags
 }
 
+fn want(device: usize, model: u16) -> Want {
+    Want { device, model }
+}
+
 #[test]
 fn blocks_are_wanted_by_first_use(rt: HostRuntime) {
     let tags = tags(&rt, rt.alloc());
     let wants = wants_of(rt.alloc(), &tags).expect(&rt, "memory");
-    assert_same(&rt, &wants.as_slice(), &&[(1, 103), (0, 123), (0, 103)][..]);
+    let first = [want(1, 103), want(0, 123), want(0, 103)];
+    assert_same(&rt, &wants.as_slice(), &&first[..]);
     let outs = outs_of(rt.alloc(), &tags).expect(&rt, "memory");
     assert_same(&rt, &outs.as_slice(), &&[2, 4][..]);
 }
