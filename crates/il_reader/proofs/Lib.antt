@@ -23,3 +23,4 @@ pub mod Fresh
 pub mod Numerals
 pub mod Completion
 pub mod Lines
+pub mod PlaceLemmas

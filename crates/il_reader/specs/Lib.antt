@@ -13,6 +13,8 @@ pub mod Nesting
 pub mod Drafting
 pub mod Instructions
 pub mod Reading
+pub mod Places
+pub mod Tracing
 pub mod Grammar
 pub mod Laws
 pub mod Examples

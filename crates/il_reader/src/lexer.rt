@@ -107,6 +107,14 @@ impl Mode {
         mode.is_colon()
     }
 
+    /// Whether nothing stands open.
+    pub(crate) fn is_clear(&self) -> bool {
+        match self {
+            Mode::Clear => true,
+            _ => false,
+        }
+    }
+
     fn is_colon(&self) -> bool
         ensures { result ≡ is_colon self.now }
     {

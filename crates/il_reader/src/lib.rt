@@ -13,8 +13,10 @@ mod lexer;
 mod nest;
 mod nesting;
 mod numeral;
+mod place;
 mod reader;
 mod scope;
+mod spots;
 mod stage;
 mod state;
 mod text;
@@ -24,6 +26,7 @@ mod typing;
 
 // from a text to its tree, or the first line at fault
 pub use fault::{ReadFault, ReadFaultKind};
+pub use place::{FaultPlace, fault_at};
 pub use reader::read;
 // the tree
 pub use computation::Computation;

@@ -1,12 +1,14 @@
 //! From a text to a program's tree.
 use crate::fault::{ReadFault, ReadFaultKind};
 use crate::lexer::{Lexed, Mode};
+use crate::place::{FaultPlace, Misfit, Tracer, refused, take};
+use crate::spots::{Spots, is_turned};
 use crate::state::{Move, State};
 use crate::tree::Program;
 use std::alloc::{AllocError, Global};
 
 /// The most bytes of a text.
-const MOST_BYTES: usize = 1_048_576;
+pub(crate) const MOST_BYTES: usize = 1_048_576;
 
 /// How a text stands between two of its bytes.
 pub(crate) struct Reader {
@@ -31,8 +33,9 @@ impl Drop for Reader {
 }
 
 impl Reader {
-    ghost use Rattle.std.specs.Prelude.{◌≡◌, ◌<◌, ◌^◌, IfOk};
+    ghost use Rattle.std.specs.Prelude.{◌≡◌, ◌<◌, ◌^◌, IfErr, IfOk};
     ghost use Rattle.il_reader.specs.Reading.{answered, byte_fed, judged};
+    ghost use Rattle.il_reader.specs.Tracing.{AreInOrder, IsPassed, IsThere, fault_or_reader};
 
     /// Reads one byte; the bytes behind it tell what a name at fault is.
     fn feed(
@@ -73,8 +76,57 @@ impl Reader {
         }
     }
 
+    /// Reads one byte, as `feed` does, and tells how far the text is read, or which bytes are at fault. Reading takes
+    /// `feed`, which has less to do.
+    pub(crate) fn trace(
+        self,
+        alloc: Global,
+        byte: u8,
+        behind: &[u8],
+        spots: Spots,
+    ) -> Result<Result<Tracer, FaultPlace>, AllocError>
+        requires line { self.line < 2 ^ 31 }
+        requires order { AreInOrder spots }
+        requires few { spots.next < 2 ^ 31 }
+        ensures fed { IfOk result (λ fed. fault_or_reader fed ≡ byte_fed self byte behind.now) }
+        ensures passed { IfOk result (λ fed. IfOk fed (IsPassed byte (record { reader = self; spots = spots }))) }
+        ensures placed { IfOk result (λ fed. IfErr fed (IsThere (record { reader = self; spots = spots }))) }
+    {
+        let Reader {
+            line,
+            last: _,
+            mode,
+            state,
+        } = self;
+        let turned = is_turned(&mode, byte);
+        let lexed = match mode.feed(byte) {
+            Ok(lexed) => lexed,
+            Err(fault) => {
+                let misfit = refused(alloc, state, fault, line, spots, byte)?;
+                return Ok(Err(misfit.in_line(line)));
+            }
+        };
+        let tokens = spots.tokens(turned, lexed.ended.is_some());
+        let inside = state.is_at_inner_line();
+        match take(alloc, state, &lexed, line, tokens)? {
+            Ok(state) => Ok(Ok(Tracer {
+                spots: spots.pass(byte, &lexed, tokens),
+                reader: Reader {
+                    line: line_after(byte, line),
+                    last: line,
+                    mode: lexed.mode,
+                    state,
+                },
+            })),
+            Err(misfit) => {
+                let kind = fault_told(inside && lexed.is_label(behind), misfit.kind);
+                let span = misfit.span;
+                Ok(Err(Misfit { kind, span }.in_line(line)))
+            }
+        }
+    }
     /// The answer at the end of the text.
-    fn finish(self, alloc: Global) -> Result<Result<Program, ReadFault>, AllocError>
+    pub(crate) fn finish(self, alloc: Global) -> Result<Result<Program, ReadFault>, AllocError>
         ensures { IfOk result (λ answer. answer ≡ answered (judged (Ok self))) }
     {
         let Reader {

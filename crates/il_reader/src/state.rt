@@ -67,6 +67,14 @@ impl State {
         }
     }
 
+    /// Whether this is behind a name at the beginning of a line of the body.
+    pub(crate) fn is_behind_name(&self) -> bool {
+        match self {
+            State::Within(Stage::BehindLabel(_, _), _) => true,
+            _ => false,
+        }
+    }
+
     /// Why a text that ends here has ended too soon.
     pub(crate) fn end_fault(&self) -> ReadFaultKind
         ensures { result ≡ early self.now }

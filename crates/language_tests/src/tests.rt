@@ -5,6 +5,7 @@ mod codes;
 mod images;
 mod memory;
 mod nesting;
+mod places;
 mod points;
 mod programs;
 mod refusals;

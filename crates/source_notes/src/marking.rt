@@ -13,6 +13,8 @@ pub enum Mark {
     Column(usize),
     /// The bytes from this place on, counted from 0, so many.
     Bytes(usize, usize),
+    /// What is missing behind all that stands on the line.
+    Behind,
 }
 
 /// The bytes of a line that are meant: the first one's place, and the place behind the last one.
@@ -25,6 +27,7 @@ pub(crate) fn marked(line: &str, mark: Mark) -> (usize, usize) {
         Mark::Line => whole(code),
         Mark::Column(number) => letter_at(line, number),
         Mark::Bytes(place, count) => (place, place.saturating_add(count)),
+        Mark::Behind => one_behind(line),
         Mark::Operand if !operand.is_empty() => (end.saturating_sub(operand.len()), end),
         Mark::Operand | Mark::Operator => (
             end.saturating_sub(body.len()),
@@ -37,6 +40,16 @@ pub(crate) fn marked(line: &str, mark: Mark) -> (usize, usize) {
 fn whole(code: &str) -> (usize, usize) {
     let end = code.len();
     (end.saturating_sub(code.trim_start().len()), end)
+}
+
+/// The place behind all that stands on a line, but for a comment at its end.
+fn one_behind(line: &str) -> (usize, usize) {
+    let all = line.trim_end();
+    let code = match all.rsplit_once("(*") {
+        Some((code, comment)) if comment.ends_with("*)") => code.trim_end(),
+        _ => all,
+    };
+    (code.len(), code.len().saturating_add(1))
 }
 
 /// The letter of a number; all that stands on the line, where it has none.

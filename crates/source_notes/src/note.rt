@@ -135,13 +135,16 @@ fn shown(letter: char) -> char {
     }
 }
 
-/// Appends a caret below each letter that is meant, and blanks before.
+/// Appends a caret below each letter that is meant, and one where what is meant comes behind the last; blanks before.
 fn push_carets(lines: &mut String, line: &str, start: usize, end: usize) -> Result<(), AllocError> {
     for (place, _) in line.char_indices() {
         if place >= end {
             return Ok(());
         }
         lines.push(if place < start { ' ' } else { '^' })?;
+    }
+    if end > line.len() {
+        lines.push('^')?;
     }
     Ok(())
 }

@@ -7,7 +7,7 @@ const TEXT: &str =
     "PROGRAM p\n  LD inv1_w  (* power *)\nhold: {LOOP 3} JMPC hold\n\tADD( x\r\n  NOT\nEND_PROGRAM\n";
 
 /// A line, what is meant on it, and how the line and its carets are shown.
-static SHOWN: [(u32, Mark, &str); 10] = [
+static SHOWN: [(u32, Mark, &str); 13] = [
     (
         2,
         Mark::Operand,
@@ -41,6 +41,13 @@ static SHOWN: [(u32, Mark, &str); 10] = [
         "    2 |   LD inv1_w  (* power *)\n      |      ^\n",
     ),
     (5, Mark::Column(9), "    5 |   NOT\n      |   ^^^\n"),
+    (
+        2,
+        Mark::Behind,
+        "    2 |   LD inv1_w  (* power *)\n      |            ^\n",
+    ),
+    (5, Mark::Behind, "    5 |   NOT\n      |      ^\n"),
+    (5, Mark::Bytes(2, 2), "    5 |   NOT\n      |   ^^\n"),
     (7, Mark::Operand, ""),
 ];
 
