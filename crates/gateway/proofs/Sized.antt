@@ -88,4 +88,4 @@ are_set_points g i w within h =
     let tag = tag_of g.site i g.site.written within in
     let set = h.set_point tag.0 tag.2 w tag.1 tag.3 refl in
     let range = h.ranged tag.0 tag.2 set.0 tag.3 (known_in (g.standing.last).outputs tag.0 set.0 set.1) in
-    (tag.2, set.0, set.2, range.0, range.1)
+    record { number = tag.0; output = tag.1; tag = tag.2; named = tag.3; value = set.0; stored = set.1; sets = set.2; low = range.0; high = range.1 }

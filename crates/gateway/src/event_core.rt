@@ -22,7 +22,7 @@ use modbus_frame::{Exception, Pdu, Request, Response, exception_pdu, parse_reque
 use opening::opening_for;
 use point_types::{Items, Reading};
 use point_writer::plan::plan;
-use point_writer::{NoWrite, Write};
+use point_writer::{NoWrite, Write, factor};
 use register_map::Map;
 use request::read;
 use restoring::request_to_set;
@@ -81,7 +81,7 @@ impl<const DEPTH: usize> Core<DEPTH> {
     ghost use Rattle.verifier.specs.Verified.{HasLinks};
     ghost use Rattle.gateway.specs.declared.event_core.fault.CoreFault.TheVariants.{Foreign, OutOfMemory};
     ghost use Rattle.modbus_frame.specs.Message.{request_of, IsAnswerTo, IsRequest};
-    ghost use Rattle.point_writer.specs.SetPoint.{IsPlanFor, WritesASetPoint};
+    ghost use Rattle.point_writer.specs.SetPoint.{IsFactorFor, IsPlanFor, WritesASetPoint};
     ghost use Rattle.site_model.specs.Readings.{AreSettings, known_at};
     ghost use Rattle.gateway.specs.event_core.Core.{IsSame, RunsOn, StepsOn, gateway_of, numbers_of};
     ghost use Rattle.gateway.specs.event_core.Driving.{Drives, ScansOnce};
@@ -178,6 +178,15 @@ impl<const DEPTH: usize> Core<DEPTH> {
             &self.maps,
             i,
         )
+    }
+
+    /// The factor that the device gave, at the last scan, for the point of the i-th of the site's `out` tags: the one by which
+    /// [`write`](Core::write) judges. None where the point has no place, or the device gave none.
+    pub fn factor(&self, i: usize) -> Option<i16>
+        requires { i < length self.now.site.outs }
+        ensures { IsFactorFor self.now.site.tags self.now.site.outs self.now.site.wants self.now.maps self.now.standing.last.blocks i result }
+    {
+        factor(&self.site, &self.known.scanned, &self.maps, i)
     }
 
     /// The site that was handed in.

@@ -12,7 +12,8 @@ pub fn scans_follow_the_site_run()
     ensures { ScansFollowTheSiteRun }
 {}
 
-/// What a scan over a link writes for an output is a set point of its tag, for a number in the tag's range.
+/// What a scan over a link writes for an output is a set point of the site's tag of that output, for the number that the
+/// program stored, which lies in the tag's range.
 pub fn writes_are_set_points()
     ensures { WritesAreSetPoints }
 {}

@@ -16,12 +16,18 @@ same_value : {A : Type 0} {o : Option A} {a b : A} → o ≡ Some a → o ≡ So
 same_value p q = cc
 
 module _ (tags known : List SiteTag) (outs places : List ℕ) (eo : places ≡ outs) (et : known ≡ tags) (outputs : List (Option ℤ)) (i : ℕ) (tag : SiteTag) (is : tag ≡ get_or known (get_or places i 0) tag) where
+  -- the tag is the one whose number is the i-th
+  pub tag_of : (number : ℕ) (t : SiteTag) → slice_get outs i ≡ Some number → slice_get tags number ≡ Some t → tag ≡ t
+  tag_of number t p q =
+      let en = ap (λ (xs : List ℕ). get_or xs i 0) eo ∙ get_or_from_slice_get outs i number 0 p in
+      is ∙ ap (λ (n : ℕ). get_or known n tag) en ∙ ap (λ (xs : List SiteTag). get_or xs number tag) et ∙ get_or_from_slice_get tags number t tag q
+
   pub planned : (maps : List (Option Layout)) (wants asked : List Want) (blocks : List (Option (List ℕ))) (r : Result Write NoWrite) → asked ≡ wants →
       IsPlan maps asked blocks tag (get_or outputs (get_or places i 0) None) r →
       (number : ℕ) (t : SiteTag) → slice_get outs i ≡ Some number → slice_get tags number ≡ Some t → IsPlan maps wants blocks t (known_at outputs number) r
   planned maps wants asked blocks r ew h number t p q =
       let en = ap (λ (xs : List ℕ). get_or xs i 0) eo ∙ get_or_from_slice_get outs i number 0 p in
-      let eq = is ∙ ap (λ (n : ℕ). get_or known n tag) en ∙ ap (λ (xs : List SiteTag). get_or xs number tag) et ∙ get_or_from_slice_get tags number t tag q in
+      let eq = tag_of number t p q in
       let a = subst (λ (n : ℕ). IsPlan maps asked blocks tag (get_or outputs n None) r) en h in
       let b = subst (λ (o : Option ℤ). IsPlan maps asked blocks tag o r) (known-read outputs number) a in
       let d = subst (λ (ws : List Want). IsPlan maps ws blocks tag (known_at outputs number) r) ew b in

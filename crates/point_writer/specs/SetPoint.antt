@@ -83,3 +83,13 @@ abbrev pub WritesASetPoint : List SiteTag → (outs : List ℕ) → List Want �
 WritesASetPoint tags outs wants maps blocks outputs i r =
     (number : ℕ) (t : SiteTag) (w : Write) → slice_get outs i ≡ Some number → slice_get tags number ≡ Some t → r ≡ Ok w →
     (v : ℤ) × (known_at outputs number ≡ Some v) × IsSetPoint maps wants blocks t v w
+
+-- ---- by which factor
+
+abbrev pub factor_of : List (Option Layout) → List Want → List (Option (List ℕ)) → SiteTag → Option ℤ
+factor_of maps wants blocks t = option_and_then (λ (place : Place). place.factor) (place_of maps wants blocks t)
+
+-- the same for the tag whose number is the i-th of these
+abbrev pub IsFactorFor : List SiteTag → (outs : List ℕ) → List Want → List (Option Layout) → List (Option (List ℕ)) → ℕ → Option ℤ → Type 0
+IsFactorFor tags outs wants maps blocks i factor =
+    (number : ℕ) (t : SiteTag) → slice_get outs i ≡ Some number → slice_get tags number ≡ Some t → factor ≡ factor_of maps wants blocks t

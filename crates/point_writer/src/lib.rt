@@ -4,6 +4,8 @@
 pub mod laws;
 mod place;
 pub mod plan;
+mod scale;
 mod write;
 
+pub use scale::factor;
 pub use write::{NoWrite, Write};
