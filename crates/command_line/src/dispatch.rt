@@ -226,6 +226,7 @@ fn explain_on(
         def_paths,
         defs: sources.defs.as_slice(),
     };
+    notes.warn(rt);
     notes.explain(rt, cause);
 }
 
@@ -287,6 +288,7 @@ fn simulated_on<W: Write>(
         port: matches.get_one("port").unwrap_or(0),
         connections: matches.get_one("connections"),
     };
+    notes.warn(rt);
     simulate(rt, alloc, &notes, at, out)
 }
 
@@ -335,6 +337,7 @@ fn ran_on<W: Write>(
         scans: matches.get_one("scans").unwrap_or(1),
         exe,
     };
+    run.notes.warn(rt);
     run_plant(rt, alloc, &run, out)
 }
 
@@ -415,6 +418,7 @@ fn served_with<W: Write>(
                 serving,
                 keeping: keeping_of(matches, state),
             };
+            run.notes.warn(rt);
             run_service(rt, alloc, &run, out)
         }
         Err(why) => tell_misuse(rt, alloc, why, out),

@@ -1,7 +1,7 @@
 //! A whole run over loopback: a simulated plant in a second process, the gateway's scans of it, and a probe of the gateway.
 use crate::link_cause::cause_of_link;
 use crate::socket::{SocketLink, link_over, loopback};
-use crate::unwritten::tell_unwritten;
+use crate::unwritten::UnwrittenWatch;
 use crate::watched_link::WatchedLink;
 use commands::{
     DEPTH, FAILED_LINK, scans_noting, tell_no_memory, tell_unlinked, tell_unusable, write_lines,
@@ -154,16 +154,14 @@ fn run_over<R: Net + Processes + Eprint + AllocGlobal, L: Link + Drop, W: Write>
     out: &mut W,
 ) -> u8 {
     let mut cause = None;
-    let mut scanned = scans_over(alloc, run, link, &mut cause, out);
+    let mut scanned = scans_over(rt, alloc, run, link, &mut cause, out);
     run.notes.explain(rt, &cause);
-    if let Some(core) = &scanned.0 {
-        tell_unwritten(rt, alloc, run, core);
-    }
     probed_behind(rt, alloc, run, &mut scanned, out)
 }
 
 /// Does the scans over a link, and closes it. Gives the cause where they are refused or the link fails.
-fn scans_over<L: Link + Drop, W: Write>(
+fn scans_over<R: Eprint, L: Link + Drop, W: Write>(
+    rt: &R,
     alloc: Global,
     run: &PlantRun<'_, '_>,
     link: L,
@@ -172,6 +170,7 @@ fn scans_over<L: Link + Drop, W: Write>(
 ) -> (Option<Core<DEPTH>>, u8) {
     let notes = &run.notes;
     let mut poller = Poller::new(WatchedLink::new(alloc, link));
+    let mut watch = UnwrittenWatch::new(rt, alloc, notes.quiet);
     let scanned = scans_noting(
         alloc,
         notes.site,
@@ -179,6 +178,7 @@ fn scans_over<L: Link + Drop, W: Write>(
         notes.defs,
         run.scans,
         &mut poller,
+        &mut watch,
         cause,
         out,
     );

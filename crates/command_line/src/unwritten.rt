@@ -1,85 +1,157 @@
-//! What the last scan of a run stored and didn't write.
+//! What the scans of a run stored and didn't write.
 ghost use Rattle.std.specs.Prelude.{◌<◌, length};
 
-use crate::plant_run::PlantRun;
-use commands::DEPTH;
+use commands::{DEPTH, ScanWatch};
 use gateway::Core;
 use point_writer::NoWrite;
 use refusal_notes::escaped;
 use std::alloc::{AllocError, Global};
 
-/// Tells on standard error, for each output that the last scan stored and that wasn't written, which cause that had. Where
-/// memory for a line is refused, it isn't told.
-pub(crate) fn tell_unwritten<R: Eprint>(
-    rt: &R,
+/// Tells on standard error, at the first scan and at each change, which outputs a scan stored and doesn't write.
+#[derive(Drop)]
+pub(crate) struct UnwrittenWatch<'r, R> {
+    rt: &'r R,
     alloc: Global,
-    run: &PlantRun<'_, '_>,
-    core: &Core<DEPTH>,
-) {
-    if run.notes.quiet {
-        return;
+    quiet: bool,
+    /// Of each output, why it wasn't written when it was last looked at.
+    told: Vec<Option<NoWrite>>,
+}
+
+impl<'r, R: Eprint> UnwrittenWatch<'r, R> {
+    /// Nothing was told yet; where it is quiet, nothing will be.
+    pub(crate) fn new(rt: &'r R, alloc: Global, quiet: bool) -> UnwrittenWatch<'r, R> {
+        UnwrittenWatch {
+            rt,
+            alloc,
+            quiet,
+            told: Vec::new(alloc),
+        }
     }
-    for i in 0..core.site().outs().len() {
-        if let Some(Ok(line)) = unwritten(alloc, core, run.scans, i) {
-            let _ = rt.eprint(line.as_str());
+
+    /// Tells of an output where its cause isn't the one that was told last.
+    fn look(&mut self, core: &Core<DEPTH>, scan: u32, i: usize)
+        requires { i < length core.now.site.outs }
+    {
+        let cause = unwritten(core, i);
+        if !self.is_news(i, cause) {
+            return;
+        }
+        if let Some(Ok(line)) = line_of(self.alloc, core, scan, i, cause) {
+            let _ = self.rt.eprint(line.as_str());
+        }
+    }
+
+    /// Whether this cause isn't the one that was told last of an output; it is the next one to be so. Where memory for it is
+    /// refused it is told again.
+    fn is_news(&mut self, i: usize, cause: Option<NoWrite>) -> bool {
+        if self.told.len() == i {
+            let _ = self.told.push(None);
+        }
+        match self.told.get_mut(i) {
+            Some(told) => {
+                let news = *told != cause;
+                *told = cause;
+                news
+            }
+            None => cause.is_some(),
         }
     }
 }
 
-/// What is told of an output by its number; nothing where it was written, or the scan stored nothing in it.
-fn unwritten(
+impl<R: Eprint> ScanWatch for UnwrittenWatch<'_, R> {
+    fn scanned(&mut self, core: &Core<DEPTH>, scan: u32) {
+        if self.quiet {
+            return;
+        }
+        for i in 0..core.site().outs().len() {
+            self.look(core, scan, i);
+        }
+    }
+}
+
+/// Why a scan doesn't write an output that it stored; None where it writes it, or stored nothing.
+fn unwritten(core: &Core<DEPTH>, i: usize) -> Option<NoWrite>
+    requires { i < length core.now.site.outs }
+{
+    match core.write(i) {
+        Ok(_) | Err(NoWrite::NotSet) => None,
+        Err(cause) => Some(cause),
+    }
+}
+
+/// What is told of an output: `scan K: NAME isn't written: CAUSE (NUMBER by factor F)`, or that it is written again.
+fn line_of(
     alloc: Global,
     core: &Core<DEPTH>,
     scan: u32,
     i: usize,
+    cause: Option<NoWrite>,
 ) -> Option<Result<String, AllocError>>
     requires { i < length core.now.site.outs }
 {
     let number = *core.site().outs().get(i)?;
-    let tag = core.site().tags().get(number)?;
-    let stored = *core.outputs().get(number)?;
-    let cause = core.write(i).err()?;
-    Some(line_of(alloc, scan, tag.name.as_str(), stored?, cause))
+    let name = core.site().tags().get(number)?.name.as_str();
+    let stored = (*core.outputs().get(number)?)?;
+    match cause {
+        Some(cause) => Some(cause_line(alloc, scan, name, stored, core.factor(i), cause)),
+        None => Some(again_line(alloc, scan, name)),
+    }
 }
 
-fn line_of(
+fn again_line(alloc: Global, scan: u32, name: &str) -> Result<String, AllocError> {
+    let name = escaped(alloc, name)?;
+    let line = format!(in alloc; "scan {scan}: {name} is written again\n")?;
+    Ok(line)
+}
+
+fn cause_line(
     alloc: Global,
     scan: u32,
     name: &str,
     stored: i64,
+    factor: Option<i16>,
     cause: NoWrite,
 ) -> Result<String, AllocError> {
     let name = escaped(alloc, name)?;
     let word = cause.word();
-    let mut line = format!(in alloc; "scan {scan}: {name} isn't written: {word}: ")?;
-    let number = format!(in alloc; "{stored} ")?;
-    line.push_str(number.as_str())?;
-    line.push_str(why(cause))?;
-    line.push_str("\n  help: ")?;
-    line.push_str(help(cause))?;
+    let met = met(alloc, stored, factor, cause)?;
+    let help = help(cause);
+    let mut line = format!(in alloc; "scan {scan}: {name} isn't written: {word} ({met})\n")?;
+    line.push_str("  help: ")?;
+    line.push_str(help)?;
     line.push_str("\n")?;
     Ok(line)
 }
 
-fn why(cause: NoWrite) -> &'static str {
-    match cause {
-        NoWrite::NotSet => "is no number of this scan",
-        NoWrite::NoBlock => {
-            "has no place: the device's block didn't come, or its map lacks the model or the point"
-        }
-        NoWrite::BadScale => "has no words: the device gives no factor, or none in -10..10",
-        NoWrite::Inexact => "isn't exact by the factor that the device gives",
-        NoWrite::OutOfType => "doesn't fit the point's words by the factor that the device gives",
-    }
+/// The number that was stored, and what it meets.
+fn met(
+    alloc: Global,
+    stored: i64,
+    factor: Option<i16>,
+    cause: NoWrite,
+) -> Result<String, AllocError> {
+    let text = match (cause, factor) {
+        (NoWrite::NoBlock, _) => format!(in alloc; "{stored}, for which the device has no place")?,
+        (_, Some(factor)) => format!(in alloc; "{stored} by factor {factor}")?,
+        (_, None) => format!(in alloc; "{stored} without a factor")?,
+    };
+    Ok(text)
 }
 
 fn help(cause: NoWrite) -> &'static str {
     match cause {
         NoWrite::NotSet => "store a number in each scan",
-        NoWrite::NoBlock => "look whether the device answers, and which models it has, with probe",
-        NoWrite::BadScale => "look at the factor with probe, and set it in the device",
-        NoWrite::Inexact | NoWrite::OutOfType => {
-            "store what the factor holds (the tag's exponent, low and high), or set another factor in the device"
+        NoWrite::NoBlock => {
+            "the device's block didn't come, or its map lacks the model or the point: look with probe whether it answers, and which models it has"
+        }
+        NoWrite::BadScale => {
+            "a factor is a number in -10..10: look at it with probe, and set it in the device"
+        }
+        NoWrite::Inexact => {
+            "no raw number is that value by the factor: store what the factor holds (the tag's exponent, low and high), or set another factor in the device"
+        }
+        NoWrite::OutOfType => {
+            "the raw number doesn't fit the point's words by the factor: store what the factor holds (the tag's exponent, low and high), or set another factor in the device"
         }
     }
 }

@@ -14,6 +14,7 @@ mod scans;
 mod simulate;
 mod standard_error;
 mod trial;
+mod warnings;
 
 use std::fmt::Debug;
 use std::process::Abort;
@@ -48,6 +49,12 @@ fn joined(rt: &(impl AllocGlobal + Abort), parts: &[&str]) -> String {
         text.push_str(part).expect(rt, "memory");
     }
     text
+}
+
+/// A text with its first `old` replaced.
+fn edited_once(rt: &(impl AllocGlobal + Abort), text: &str, old: &str, new: &str) -> String {
+    let (before, behind) = text.split_once(old).expect(rt, "what is replaced");
+    joined(rt, &[before, new, behind])
 }
 
 /// A text with each `old` replaced.

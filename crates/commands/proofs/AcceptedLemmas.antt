@@ -16,6 +16,8 @@ use Rattle.verifier.specs.Verdict.{judged}
 use Rattle.verifier.specs.Verified.{Acceptance}
 use Rattle.facts.specs.Word as verdict_word
 use Rattle.facts.specs.declared.refusal.Refusal.{Refusal}
+use Rattle.facts.specs.declared.refusal.RefusedAt.{RefusedAt}
+use Rattle.facts.specs.declared.refusal.RefusedAt.TheVariants as spot
 use Rattle.facts.specs.declared.refusal.RefusalKind.{RefusalKind}
 use Rattle.facts.specs.declared.refusal.RefusalKind.TheVariants as refusal
 use Rattle.gateway.specs.event_core.Core.{Gateway}
@@ -29,11 +31,11 @@ use Rattle.commands.specs.Opening.{IsSearched, LeavesPoller, OpensCore, StartsCo
 use Rattle.commands.specs.Told.{Told, refused_with}
 
 -- what is told of an image that the verdict refuses
-pub verdict_told : {E : Type 0} (site : Site) (image : Image) (at : ℕ) (kind : RefusalKind) (r : Result (Result Acceptance Told) E)
-    → (judged image site.tags most_deferred ≡ Err (record { at = at; kind = kind })) ⊎ ((at ≡ 0) × (kind ≡ refusal.OutOfMemory))
-    → IfOk r (λ none. (kind ≢ refusal.OutOfMemory) × (none ≡ Err (refused_with (unverified_line (verdict_word.word_of kind) at)))) → IfOk r (GivesVerdict site image)
+pub verdict_told : {E : Type 0} (site : Site) (image : Image) (at : RefusedAt) (kind : RefusalKind) (r : Result (Result Acceptance Told) E)
+    → (judged image site.tags most_deferred ≡ Err (record { at = at; kind = kind })) ⊎ ((at ≡ spot.Program) × (kind ≡ refusal.OutOfMemory))
+    → IfOk r (λ none. (kind ≢ refusal.OutOfMemory) × (none ≡ Err (refused_with (unverified_line (verdict_word.word_of kind) (verdict_word.number_of at))))) → IfOk r (GivesVerdict site image)
 verdict_told site image at kind (Ok none) (inl is) h =
-    subst (GivesVerdict site image) (sym h.1) (subst (λ (v : Result ℕ Refusal). RefusesVerdict v (refused_with (unverified_line (verdict_word.word_of kind) at))) (sym is) refl)
+    subst (GivesVerdict site image) (sym h.1) (subst (λ (v : Result ℕ Refusal). RefusesVerdict v (refused_with (unverified_line (verdict_word.word_of kind) (verdict_word.number_of at)))) (sym is) refl)
 verdict_told site image at kind (Ok none) (inr is) h = absurd (h.0 is.1)
 verdict_told site image at kind (Err e) why h = tt
 

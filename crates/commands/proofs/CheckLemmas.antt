@@ -53,7 +53,7 @@ never_well old new told status one (inr h) well = let same = h.1 in omega (arith
 -- ---- status 0 is that of an accepted program
 
 module _ (site program : List ℕ) (texts : List (List ℕ)) (old new : Option (List ℕ)) (status : ℕ) where
-  prints_where : (P : Site → Program → Acceptance → Type 0) → ((s : Site) (p : Program) (a : Acceptance) → Accepts site program texts s p a → P s p a)
+  pub prints_where : (P : Site → Program → Acceptance → Type 0) → ((s : Site) (p : Program) (a : Acceptance) → Accepts site program texts s p a → P s p a)
       → IsCheck site program texts old new status → status ≡ 0 → PrintsAccepted site program texts old new P
   prints_where P holds (told, inl (inl (s, p, a, accepts, is)), tells) well =
       (s, p, a, texts_of site program texts s p a accepts, told_well old new (accepted_lines a.budget) status (subst (λ (t : Told). IsTold old new t status) is tells) well, holds s p a accepts)

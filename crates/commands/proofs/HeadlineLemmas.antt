@@ -11,6 +11,7 @@ use Rattle.site_model.specs.declared.tag.SiteTag.{SiteTag}
 use Rattle.il_assemble.proofs.Elaborating.{what_elaborates_is_well}
 use Rattle.il_assemble.proofs.Lines.{code_does_what_the_program_means, each_end_is_the_meaning}
 use Rattle.il_assemble.proofs.Rules.{images_are_proper}
+use Rattle.il_reader.proofs.Bytes.{reading_is_exact}
 use Rattle.il_assemble.specs.Code.{image_of}
 use Rattle.il_assemble.specs.Correct.{DoesWhatItMeans, IsWell}
 use Rattle.il_assemble.specs.Meaning.{Program}
@@ -36,7 +37,8 @@ use Rattle.gateway.specs.declared.event_core.event.Event.{Event}
 use Rattle.gateway.specs.declared.event_core.event.Event.TheVariants as event
 use Rattle.gateway.proofs.Parts.{same_then}
 use Rattle.commands.specs.Accepted.{Accepts, most_deferred}
-use Rattle.commands.specs.Headline.{AreWholeScans, DoesRun, DoesScan, EndsTold, IsAccepted, IsFailedScan, IsWholeScan}
+use Rattle.commands.specs.Headline.{AreWholeScans, DoesRun, DoesScan, IsAccepted, IsFailedScan, IsWholeScan}
+use Rattle.commands.specs.Printed.{Course, EndsTold}
 use Rattle.commands.specs.Scans.{AreScans, DoesScans, End, IsBroken, IsWhole, PartsAreTheRun, RunsScans}
 use Rattle.commands.proofs.MeaningLemmas.{all_meant}
 use Rattle.commands.proofs.RunLemmas.{scans_from_opening}
@@ -107,8 +109,8 @@ module _ (site : Site) (a : Acceptance) (p : Program) where
     stepped =
         let here : IsScan site a.image (numbers_of a) a.budget (h.before).standing t.standing = record {
           readings = h.readings;
-          each = h.each;
-          read = h.read;
+          each = (h.means).each;
+          read = (h.means).read;
           steps = steps;
           end = h.end;
           ended = (h.safe).ended;
@@ -164,12 +166,12 @@ module _ (site : Site) (a : Acceptance) (p : Program) where
       } in
       ((stop.taken).events ++ event.Scan ∷ [], inr (stop, refl))
 
-  end_again : (n : ℕ) (reports : List Report) (o : Polling) (s : Gateway) (q : Polling) (t : Gateway) (old new : Option (List ℕ)) (status : ℕ) → s.site ≡ site → s.machine.accepted ≡ a
-      → EndsTold site a p n reports o s q t old new status → (events : List Event) × End Advances n reports events o s q t old new status
-  end_again n reports o s q t old new status on_site on_program (inl h) = ([], inl (refl, h))
-  end_again n reports o s q t old new status on_site on_program (inr (inl h)) = ([], inr (inl (refl, h)))
-  end_again n reports o s q t old new status on_site on_program (inr (inr h)) =
-      let k = failed_again o s h.fault q t on_site on_program h.failed in
+  end_again : (n : ℕ) (reports : List Report) (o : Polling) (s t : Gateway) (c : Course) → s.site ≡ site → s.machine.accepted ≡ a
+      → EndsTold (IsFailedScan site a p) n reports o s t c → (events : List Event) × End Advances n reports events o s c.link_behind t c.out_before c.out_behind c.status
+  end_again n reports o s t c on_site on_program (inl h) = ([], inl (refl, h))
+  end_again n reports o s t c on_site on_program (inr (inl h)) = ([], inr (inl (refl, h)))
+  end_again n reports o s t c on_site on_program (inr (inr h)) =
+      let k = failed_again o s h.fault c.link_behind t on_site on_program h.failed in
       (k.0, inr (inr (record { within = h.within; fault = h.fault; broken = k.1; written = h.written; printed = h.printed; told = h.told })))
 
 -- ---- the run
@@ -190,7 +192,7 @@ accepts_again site program texts s a verified h =
       defined = (of.of_site).defined;
       located = (of.of_site).located;
       tree = (of.of_program).tree;
-      read = (of.of_program).read;
+      read = (reading_is_exact program (of.of_program).tree).1 ((of.of_program).spelled, (of.of_program).short);
       accepted = record {
         resolved = (of.of_program).resolved;
         right = right_of h.program (what_elaborates_is_well (of.of_program).tree h.program (of.of_program).resolved);
@@ -204,12 +206,13 @@ accepts_again site program texts s a verified h =
     }
 
 run_again : (site program : List ℕ) (texts : List (List ℕ)) (n : ℕ) (p q : Polling) (old new : Option (List ℕ)) (s : Site) (a : Acceptance) (maps : List (Option Layout)) (core : Gateway) (status : ℕ)
-    → IsVerified most_deferred a → IsAccepted site program texts s a → DoesRun s a maps program n p q old new core status → RunsScans site program texts n p q old new core status
+    → IsVerified most_deferred a → IsAccepted site program texts s a → DoesRun s a maps program n (record { link_before = p; link_behind = q; out_before = old; out_behind = new; status = status }) core → RunsScans site program texts n p q old new core status
 run_again site program texts n p q old new s a maps core status verified h r =
     let of = h.texts_of in
     let start = gateway_of s maps (opened a) in
     let all = scans_again s a r.program r.found_by start r.reports r.behind r.last refl refl r.scans in
-    let end = end_again s a r.program n r.reports r.behind r.last q core old new status all.1.site all.1.accepted r.told in
+    let course : Course = record { link_before = p; link_behind = q; out_before = old; out_behind = new; status = status } in
+    let end = end_again s a r.program n r.reports r.behind r.last core course all.1.site all.1.accepted r.told in
     let events = all.0.0 ++ end.0 in
     let does : DoesScans Advances n r.found_by start events q core old new status = record {
       reports = r.reports;

@@ -1,12 +1,14 @@
 pub mod AcceptedLemmas
 pub mod CheckLemmas
 pub mod CoreLemmas
+pub mod ExplainLemmas
 mod FoundLemmas
 pub mod GivenLemmas
 pub mod HeadlineLemmas
 pub mod LineLemmas
 pub mod MeaningLemmas
 pub mod NumberLemmas
+pub mod ObeyLemmas
 pub mod OutcomeLemmas
 pub mod ReportLemmas
 mod RunLemmas

@@ -22,7 +22,9 @@ use Rattle.gateway.specs.declared.event_core.event.Answer.{Answer}
 use Rattle.gateway.specs.declared.event_core.event.Event.{Event}
 use Rattle.gateway.specs.declared.event_core.event.Event.TheVariants as event
 use Rattle.commands.specs.Accepted.{most_deferred}
-use Rattle.commands.specs.Headline.{AreWholeScans, DoesRun, DoesScan, EndsTold, IsFailedScan, IsSafe, IsTextOf, IsWholeScan}
+use Rattle.commands.specs.Headline.{AreWholeScans, DoesRun, DoesScan, IsFailedScan, IsSafe, IsWholeScan}
+use Rattle.commands.specs.Printed.{Course, EndsTold}
+use Rattle.commands.specs.Sources.{IsTextOf}
 use Rattle.commands.specs.Meant.{AdvancesAsMeant, StepsAsMeant}
 use Rattle.commands.specs.Scans.{AreScans, DoesScans, End, IsBroken, IsWhole}
 use Rattle.commands.proofs.MeaningLemmas.{IsKept, means_end, opening_kept, scan_safe, step_meant}
@@ -171,11 +173,9 @@ module _ (site : Site) (p : Program) (a : Acceptance) (right : DoesWhatItMeans p
         before = before;
         taken = subst (λ (x : Site). TakesBlocks Advances x s.maps x.wants o s asked before lost) on.on_site taken;
         readings = h.readings;
-        each = h.each;
-        read = h.read;
         end = h.end;
         safe = subst (λ (n : ℕ). IsSafe site a h.readings before.standing.variables n h.end) counted (scan_safe site p a right linked proper verdict matched before.standing t.standing middle.kept h);
-        means = means_end site p a right linked proper verdict matched before.standing t.standing middle.kept h;
+        means = record { each = h.each; read = h.read; computed = means_end site p a right linked proper verdict matched before.standing t.standing middle.kept h };
         leaves = subst (λ (n : ℕ). t.standing ≡ scanned site (numbers_of a) before.standing h.readings n h.end) counted h.after;
         same = last.1;
         writes = written;
@@ -207,23 +207,23 @@ module _ (site : Site) (p : Program) (a : Acceptance) (right : DoesWhatItMeans p
         (subst (λ (x : Site). StopsWriting IsPlanned x t stop.middle fault q) on.on_site stop.stops),
   )
 
-  ends_told : (n : ℕ) (reports : List Report) (events : List Event) (o : Polling) (s : Gateway) (q : Polling) (t : Gateway) (old new : Option (List ℕ)) (status : ℕ) → IsOn s
-      → End Advances n reports events o s q t old new status → EndsTold site a p n reports o s q t old new status
-  ends_told n reports events o s q t old new status on (inl h) = inl h.1
-  ends_told n reports events o s q t old new status on (inr (inl h)) = inr (inl h.1)
-  ends_told n reports events o s q t old new status on (inr (inr h)) = inr (inr (record {
+  ends_told : (n : ℕ) (reports : List Report) (events : List Event) (o : Polling) (s t : Gateway) (c : Course) → IsOn s
+      → End Advances n reports events o s c.link_behind t c.out_before c.out_behind c.status → EndsTold (IsFailedScan site a p) n reports o s t c
+  ends_told n reports events o s t c on (inl h) = inl h.1
+  ends_told n reports events o s t c on (inr (inl h)) = inr (inl h.1)
+  ends_told n reports events o s t c on (inr (inr h)) = inr (inr (record {
     within = h.within;
     fault = h.fault;
-    failed = failed_scan o s h.fault q t events on h.broken;
+    failed = failed_scan o s h.fault c.link_behind t events on h.broken;
     written = h.written;
     printed = h.printed;
     told = h.told;
   }))
 
-  pub run_from_opening : (maps : List (Option Layout)) (text : List ℕ) (n : ℕ) (first o : Polling) (events : List Event) (q : Polling) (t : Gateway) (old new : Option (List ℕ)) (status : ℕ)
-      → IsTextOf text p → FindsAll site.devices first maps o → DoesScans Advances n o (gateway_of site maps (vm.opened a)) events q t old new status
-      → DoesRun site a maps text n first q old new t status
-  run_from_opening maps text n first o events q t old new status of found h =
+  pub run_from_opening : (maps : List (Option Layout)) (text : List ℕ) (n : ℕ) (o : Polling) (events : List Event) (t : Gateway) (c : Course)
+      → IsTextOf text p → FindsAll site.devices c.link_before maps o → DoesScans Advances n o (gateway_of site maps (vm.opened a)) events c.link_behind t c.out_before c.out_behind c.status
+      → DoesRun site a maps text n c t
+  run_from_opening maps text n o events t c of found h =
       let start : IsOn (gateway_of site maps (vm.opened a)) = record { on_site = refl; on_program = refl; kept = opening_kept site p a right linked proper verdict matched } in
       let all = whole_scans o (gateway_of site maps (vm.opened a)) h.reports h.before h.middle h.between start h.whole in
       record {
@@ -235,5 +235,5 @@ module _ (site : Site) (p : Program) (a : Acceptance) (right : DoesWhatItMeans p
         behind = h.middle;
         last = h.between;
         scans = all.0;
-        told = ends_told n h.reports h.behind h.middle h.between q t old new status all.1 h.end;
+        told = ends_told n h.reports h.behind h.middle h.between t c all.1 h.end;
       }

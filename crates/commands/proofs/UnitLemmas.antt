@@ -4,7 +4,7 @@ use Rattle.std.proofs.lemmas.List.{append-nil, drop_all, drop_more}
 use Rattle.std.specs.Prelude.{IfOk, OnErr}
 use Rattle.std.specs.List.{AllByRecursion}
 use Rattle.gateway.proofs.Talking.{exchange_of, talks_behind, talks_first, talks_none}
-use Rattle.gateway.specs.poller.Finding.{AreReadsBy, IsSearched, Searches, StopsSearch}
+use Rattle.gateway.specs.poller.Finding.{AreReadsBy, Searches, StopsSearch}
 use Rattle.gateway.specs.poller.LinkRun.{Exchange}
 use Rattle.gateway.specs.declared.poller.outcome.Outcome.{Outcome}
 use Rattle.gateway.specs.poller.Polling.{Polling, Decides, Fails, Talks}

@@ -3,6 +3,7 @@ use Rattle.std.proofs.Common.{◌≡◌, ℕ, List, Option, Ok, subst, sym}
 use Rattle.scan_code.specs.Image.{Image, IsProper}
 use Rattle.scan_vm.specs.Machine.{opened}
 use Rattle.il_assemble.proofs.Rules.{images_are_proper}
+use Rattle.il_reader.proofs.Bytes.{reading_is_exact}
 use Rattle.il_assemble.specs.Correct.{DoesWhatItMeans}
 use Rattle.verifier.specs.Links.{links_from}
 use Rattle.verifier.specs.Verdict.{judged}
@@ -16,6 +17,7 @@ use Rattle.verifier.specs.Verified.{Acceptance}
 use Rattle.gateway.specs.declared.event_core.event.Event.{Event}
 use Rattle.commands.specs.Headline.{AreTextsOf, DoesRun, IsAccepted, RunsProgram}
 use Rattle.commands.specs.Opening.{OpensCore, StartsCore}
+use Rattle.commands.specs.Printed.{Course}
 use Rattle.commands.specs.Scans.{DoesScans, LeavesOff}
 use Rattle.commands.specs.Accepted.{Accepts, most_deferred}
 use Rattle.commands.proofs.RunLemmas.{run_from_opening}
@@ -25,9 +27,10 @@ use Rattle.commands.proofs.ScanLemmas.{follows_all}
 pub texts_of : (site program : List ℕ) (texts : List (List ℕ)) (s : Site) (p : Program) (a : Acceptance) → Accepts site program texts s p a → AreTextsOf site program texts s p a
 texts_of site program texts s p a accepts =
     let on = (accepts.accepted).accepted in
+    let text = (reading_is_exact program accepts.tree).0 accepts.read in
     record {
       of_site = record { models = accepts.models; defined = accepts.defined; located = accepts.located };
-      of_program = record { tree = accepts.tree; read = accepts.read; resolved = (accepts.accepted).resolved };
+      of_program = record { tree = accepts.tree; spelled = text.0; short = text.1; resolved = (accepts.accepted).resolved };
       coded = on.kept;
       linked = subst (λ (i : Image). links_from s.tags 0 i.tags ≡ Ok a.links) (sym on.kept) on.linked;
     }
@@ -40,10 +43,13 @@ over_core site a maps core P same h =
     (subst (λ (x : Acceptance). P site x core.maps) (sym same.accepted)
     (subst (λ (x : List (Option Layout)). P site a x) (sym same.maps) h))
 
+abbrev course_of : Polling → Polling → Option (List ℕ) → Option (List ℕ) → ℕ → Course
+course_of p q old new status = record { link_before = p; link_behind = q; out_before = old; out_behind = new; status = status }
+
 -- a core that was opened for a program, and what it did
 pub record HasRun (site program : List ℕ) (texts : List (List ℕ)) (n : ℕ) (p q : Polling) (old new : Option (List ℕ)) (core : Gateway) (status : ℕ) : Type 0 where
   pub accepted : IsAccepted site program texts core.site core.machine.accepted
-  pub run : RunsProgram program n p q old new core status
+  pub run : RunsProgram program n (course_of p q old new status) core
 
 has_run_opened : (site program : List ℕ) (texts : List (List ℕ)) (n : ℕ) (p middle q : Polling) (old new : Option (List ℕ)) (first core : Gateway) (status : ℕ) (s : Site) (tree : Program) (a : Acceptance)
     → Accepts site program texts s tree a → OpensCore s a p middle (Ok first) → (events : List Event) → DoesScans Advances n middle first events q core old new status → HasRun site program texts n p q old new core status
@@ -58,8 +64,8 @@ has_run_opened site program texts n p middle q old new first core status s tree 
     let verdict = subst (λ (i : Image). judged i s.tags most_deferred ≡ Ok a.budget) (sym on.kept) on.judged in
     record {
       accepted = over_core s a maps core (λ x b ms. IsAccepted site program texts x b) same (record { program = tree; texts_of = of; safe = on.safe });
-      run = over_core s a maps core (λ x b ms. DoesRun x b ms program n p q old new core status) same
-          (run_from_opening s tree a right of.linked proper verdict linked maps program n p middle events q core old new status of.of_program found from_start);
+      run = over_core s a maps core (λ x b ms. DoesRun x b ms program n (course_of p q old new status) core) same
+          (run_from_opening s tree a right of.linked proper verdict linked maps program n middle events core (course_of p q old new status) of.of_program found from_start);
     }
 
 pub has_run : (site program : List ℕ) (texts : List (List ℕ)) (n : ℕ) (p middle q : Polling) (old new : Option (List ℕ)) (first core : Gateway) (status : ℕ)

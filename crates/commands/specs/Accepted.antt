@@ -65,7 +65,7 @@ pub record Accepts (site_text program_text : List ℕ) (texts : List (List ℕ))
 
 abbrev pub RefusesVerdict : Result ℕ Refusal → Told → Type 0
 RefusesVerdict (Ok budget) told = ⊥
-RefusesVerdict (Err refusal) told = told ≡ refused_with (unverified_line (verify.word_of refusal.kind) refusal.at)
+RefusesVerdict (Err refusal) told = told ≡ refused_with (unverified_line (verify.word_of refusal.kind) (verify.number_of refusal.at))
 
 -- the verdict is on the program's image, for these tags of the site
 abbrev pub RefusesAssembled : List SiteTag → Result Program AsmFault → Told → Type 0

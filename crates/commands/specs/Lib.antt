@@ -1,10 +1,12 @@
 pub mod Accepted
 pub mod Check
 pub mod Defined
+pub mod Explained
 pub mod Given
 pub mod Headline
 pub mod Input
 pub mod Meant
+pub mod Obeyed
 pub mod Opening
 pub mod Outcome
 pub mod Printed
@@ -12,5 +14,6 @@ pub mod Probe
 pub mod Report
 pub mod Scans
 pub mod Simulate
+pub mod Sources
 pub mod Told
 pub mod Worked

@@ -1,6 +1,6 @@
 -- What is printed of scans over a link, and with which status they end.
 -- No standard says what is printed; lines and statuses are this project's.
-use Rattle.std.specs.Prelude.{◌≡◌, ◌⊎◌, ℕ, ◌≤◌, List, [], ◌∷◌, ◌++◌, length, Option}
+use Rattle.std.specs.Prelude.{◌≡◌, ◌⊎◌, ℕ, ◌≤◌, ◌<◌, List, [], ◌∷◌, ◌++◌, length, Option}
 use Rattle.std.specs.Io.KnownBytes.{Appends}
 use Rattle.modbus_frame.specs.Fault.{link_fault_word}
 use Rattle.modbus_frame.specs.declared.link.LinkFault.{LinkFault}
@@ -45,3 +45,31 @@ pub record IsLineLost (n : ℕ) (reports : List Report) (p : Polling) (s : Gatew
   pub written : Option (List ℕ)
   pub printed : Appends old written (scan_lines 1 before)
   pub told : IsUnprinted (length reports) last written new status
+
+-- ---- how a run ends
+
+-- What a run begins with and leaves: the poller of its link, what is printed, and the status.
+pub record Course : Type 0 where
+  pub link_before : Polling
+  pub link_behind : Polling
+  pub out_before : Option (List ℕ)
+  pub out_behind : Option (List ℕ)
+  pub status : ℕ
+
+-- `Fails` says how the link fails at a scan.
+module _ (Fails : Polling → Gateway → LinkFault → Polling → Gateway → Type 0) where
+  -- The link failed at the next scan; the lines of all scans before it are printed.
+  pub record IsLinkDown (n : ℕ) (reports : List Report) (p : Polling) (s t : Gateway) (course : Course) : Type 0 where
+    pub within : length reports < n
+    pub fault : LinkFault
+    pub failed : Fails p s fault course.link_behind t
+    pub written : Option (List ℕ)
+    pub printed : Appends course.out_before written (scan_lines 1 reports)
+    pub told : IsUnlinked fault written course.out_behind course.status
+
+  -- all scans were done and told; or the line of the last one was lost; or the link failed at the next
+  abbrev pub EndsTold : ℕ → List Report → Polling → Gateway → Gateway → Course → Type 0
+  EndsTold n reports p s t course =
+      AreAllDone n reports p s course.link_behind t course.out_before course.out_behind course.status
+      ⊎ IsLineLost n reports p s course.link_behind t course.out_before course.out_behind course.status
+      ⊎ IsLinkDown n reports p s t course

@@ -1,6 +1,6 @@
 -- What `probe` asks of a unit, and what it prints of the answers.
 -- SunSpec Device Information Model Specification, models in Modbus registers and the table of types.
-use Rattle.std.specs.Prelude.{◌≡◌, ◌⊎◌, ℕ, ◌+◌, ◌==◌, min, nat_le, ◌&&◌, Bool, List, [], ◌∷◌, ◌++◌, reverse, find, ℤ, Option, None, Some, option_and_then, if◌then◌else◌, Result, Ok, Err, codes}
+use Rattle.std.specs.Prelude.{◌≡◌, ◌⊎◌, ℕ, ◌+◌, ◌==◌, min, nat_le, ◌&&◌, Bool, List, [], ◌∷◌, ◌++◌, reverse, find, ℤ, Option, None, Some, option_and_then, if◌then◌else◌, Ok, Err, codes}
 use Rattle.std.specs.Fmt.{decimal, signed_decimal}
 use Rattle.std.specs.List.{AllByRecursion}
 use Rattle.gateway.specs.declared.poller.outcome.Outcome.{Outcome}

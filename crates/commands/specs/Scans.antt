@@ -115,4 +115,5 @@ abbrev pub PartsAreTheRun : Type 0
 PartsAreTheRun =
     (site program : List ℕ) (texts : List (List ℕ)) (n : ℕ) (p q : Polling) (old new : Option (List ℕ)) (core : Gateway) (status : ℕ)
     → IsVerified most_deferred core.machine.accepted → IsAccepted site program texts core.site core.machine.accepted
-    → RunsProgram program n p q old new core status → RunsScans site program texts n p q old new core status
+    → RunsProgram program n (record { link_before = p; link_behind = q; out_before = old; out_behind = new; status = status }) core
+    → RunsScans site program texts n p q old new core status

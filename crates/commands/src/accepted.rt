@@ -21,7 +21,7 @@ use scan_code::Image;
 use site_model::{Site, SiteFault};
 use std::alloc::{AllocError, Global};
 use verifier::verify::verify;
-use verifier::{RefusalKind, Verified};
+use verifier::{RefusalKind, RefusedAt, Verified};
 
 /// The most values that a program may defer.
 pub const DEPTH: usize = 32;
@@ -97,7 +97,7 @@ fn verified_on(
     texts_keep_the_limits();
     match read(alloc, text) {
         Ok(program) => verified_program(alloc, site, &program),
-        Err(fault) => Ok(Err(Outcome::unread(alloc, fault)?)),
+        Err(fault) => Ok(Err(Outcome::unread(alloc, text, fault)?)),
     }
 }
 
@@ -112,7 +112,7 @@ fn verified_program(
 {
     match assemble(alloc, program) {
         Ok(image) => judged(alloc, site, program, image),
-        Err(fault) => Ok(Err(Outcome::unassembled(alloc, fault)?)),
+        Err(fault) => Ok(Err(Outcome::unassembled(alloc, program, fault)?)),
     }
 }
 
@@ -138,14 +138,14 @@ fn judged(
 fn not_accepted(
     alloc: Global,
     kind: RefusalKind,
-    at: usize,
+    at: RefusedAt,
     cause: Cause,
 ) -> Result<Result<Verified<DEPTH>, Outcome>, AllocError>
-    ensures { IfOk result (λ none. (kind ≢ refusal.OutOfMemory) × (none ≡ Err (refused_with (unverified_line (verdict_word.word_of kind) at)))) }
+    ensures { IfOk result (λ none. (kind ≢ refusal.OutOfMemory) × (none ≡ Err (refused_with (unverified_line (verdict_word.word_of kind) (verdict_word.number_of at))))) }
 {
     if let RefusalKind::OutOfMemory = kind {
         return Err(AllocError);
     }
-    let told = unverified(alloc, kind.word(), at)?;
+    let told = unverified(alloc, kind.word(), at.number())?;
     Ok(Err(Outcome::caused(told, cause)))
 }

@@ -1,9 +1,16 @@
 //! The command `explain`: a program with what the verdict knows before each of its instructions.
+ghost use Rattle.std.specs.Prelude.{◌≡◌, map, string_bytes, IfOk, Ok};
+ghost use Rattle.il_assemble.specs.Elaboration.{elaborated};
+ghost use Rattle.il_assemble.specs.Texts.{elaborated_text};
+ghost use Rattle.il_reader.specs.Reading.{reading};
+ghost use Rattle.commands.specs.Explained.{EndsRefused, ExplainsImage, ExplainsProgram, ExplainsSite, ExplainsTexts, IsExplained};
+
 use crate::accepted::DEPTH;
 use crate::definitions::definitions;
 use crate::outcome::{Outcome, tell_no_memory};
 use crate::report::{no_site, undefined, unverified};
 use il_assemble::assemble;
+use il_assemble::laws::texts_keep_the_limits;
 use il_reader::{Program, read};
 use model_defs::{DefFault, ModelDef};
 use program_notes::table_of;
@@ -13,7 +20,7 @@ use site_model::{Site, SiteFault};
 use std::alloc::{AllocError, Global};
 use std::io::Write;
 use verifier::verify::verify;
-use verifier::{RefusalKind, Refused};
+use verifier::{RefusalKind, Refused, RefusedAt};
 
 /// Prints a program that is judged for a site as the verdict sees it: its lines, with the instructions of each and what
 /// is known before them, to the end or to the instruction that is refused. Behind a refusal, of the definitions, the
@@ -24,7 +31,9 @@ pub fn explain<W: Write>(
     program: &str,
     defs: &[String],
     out: &mut W,
-) -> (u8, Option<Cause>) {
+) -> (u8, Option<Cause>)
+    ensures { IsExplained site.now program.now (map string_bytes defs.now) (W.contents out.old) (W.contents out.new) result.0 }
+{
     match outcome_of(alloc, site, program, defs) {
         Ok(outcome) => (outcome.tell(out), outcome.cause),
         Err(AllocError) => (tell_no_memory(out), None),
@@ -37,7 +46,9 @@ fn outcome_of(
     site: &str,
     program: &str,
     defs: &[String],
-) -> Result<Outcome, AllocError> {
+) -> Result<Outcome, AllocError>
+    ensures { IfOk result (ExplainsTexts site.now program.now (map string_bytes defs.now)) }
+{
     match definitions(alloc, defs) {
         Ok(models) => outcome_over(alloc, site, program, models.as_slice()),
         Err(DefFault::OutOfMemory) => Err(AllocError),
@@ -54,7 +65,9 @@ fn outcome_over(
     site: &str,
     program: &str,
     models: &[ModelDef],
-) -> Result<Outcome, AllocError> {
+) -> Result<Outcome, AllocError>
+    ensures { IfOk result (ExplainsSite models.now site.now program.now) }
+{
     match Site::read(alloc, site, models) {
         Ok(site) => outcome_on(alloc, &site, program),
         Err(SiteFault::OutOfMemory) => Err(AllocError),
@@ -67,10 +80,13 @@ fn outcome_over(
 }
 
 /// The same on a site.
-fn outcome_on(alloc: Global, site: &Site, text: &str) -> Result<Outcome, AllocError> {
+fn outcome_on(alloc: Global, site: &Site, text: &str) -> Result<Outcome, AllocError>
+    ensures { IfOk result (ExplainsProgram site.now (reading text.now)) }
+{
+    texts_keep_the_limits();
     match read(alloc, text) {
         Ok(program) => outcome_of_program(alloc, site, text, &program),
-        Err(fault) => Outcome::unread(alloc, fault),
+        Err(fault) => Outcome::unread(alloc, text, fault),
     }
 }
 
@@ -80,10 +96,13 @@ fn outcome_of_program(
     site: &Site,
     text: &str,
     program: &Program,
-) -> Result<Outcome, AllocError> {
+) -> Result<Outcome, AllocError>
+    requires { elaborated program.now ≡ elaborated_text program.now }
+    ensures { IfOk result (ExplainsProgram site.now (Ok program.now)) }
+{
     match assemble(alloc, program) {
         Ok(image) => outcome_of_image(alloc, site, text, program, image),
-        Err(fault) => Outcome::unassembled(alloc, fault),
+        Err(fault) => Outcome::unassembled(alloc, program, fault),
     }
 }
 
@@ -94,14 +113,27 @@ fn outcome_of_image(
     text: &str,
     program: &Program,
     image: Image,
-) -> Result<Outcome, AllocError> {
+) -> Result<Outcome, AllocError>
+    ensures { IfOk result (ExplainsImage site.now image) }
+{
     match verify::<DEPTH>(alloc, image, site) {
-        Ok(verified) => {
-            let table = table_of(alloc, text, program, verified.image(), site, None)?;
-            Ok(Outcome::listed(table))
-        }
+        Ok(verified) => outcome_of_accepted(alloc, site, text, program, verified.image()),
         Err(refused) => outcome_of_refused(alloc, site, text, program, &refused),
     }
+}
+
+/// What is told of a program that is accepted: the whole table.
+fn outcome_of_accepted(
+    alloc: Global,
+    site: &Site,
+    text: &str,
+    program: &Program,
+    image: &Image,
+) -> Result<Outcome, AllocError>
+    ensures { IfOk result (λ told. told.status ≡ 0) }
+{
+    let table = table_of(alloc, text, program, image, site, None)?;
+    Ok(Outcome::listed(table))
 }
 
 /// What is told of a program that the verdict refuses: the table to there, and the line of the refusal.
@@ -111,13 +143,15 @@ fn outcome_of_refused(
     text: &str,
     program: &Program,
     refused: &Refused,
-) -> Result<Outcome, AllocError> {
+) -> Result<Outcome, AllocError>
+    ensures { IfOk result (EndsRefused refused.now.kind refused.now.at) }
+{
     if let RefusalKind::OutOfMemory = refused.kind {
         return Err(AllocError);
     }
     let at = refused_instruction(refused);
     let mut lines = table_of(alloc, text, program, &refused.image, site, at)?;
-    let line = unverified(alloc, refused.kind.word(), refused.at)?;
+    let line = unverified(alloc, refused.kind.word(), refused.at.number())?;
     lines.push_str(line.as_str())?;
     let cause = cause_of_refusal(alloc, program, site, refused);
     Ok(Outcome::caused(lines, cause))
@@ -125,8 +159,9 @@ fn outcome_of_refused(
 
 /// The number of the instruction that is refused; None where it isn't one that is refused.
 fn refused_instruction(refused: &Refused) -> Option<usize> {
-    match refused.kind {
-        RefusalKind::OverBudget => None,
-        _ => Some(refused.at),
+    match refused.at {
+        RefusedAt::Instruction(number) => Some(number),
+        RefusedAt::Tag(_) => Some(0),
+        RefusedAt::Program => None,
     }
 }

@@ -11,10 +11,13 @@ mod given;
 mod input;
 pub mod laws;
 mod number;
+mod obeyed;
+mod obeyed_over;
 mod outcome;
 mod plant;
 mod report;
 mod scan;
+mod scan_watch;
 mod site_scans;
 mod trap_cause;
 mod trial_scan;
@@ -29,11 +32,15 @@ pub use accepted::{Accepted, accept};
 pub use explained::explain;
 pub use verdict::{check, judge};
 // a plant of simulated inverters
-pub use plant::plant_of;
+pub use plant::{plant_of, plant_told};
 // a program on a site
+pub use scan_watch::{ScanWatch, Unwatched};
 pub use site_scans::{DEPTH, scans, scans_noting};
 // a device
 pub use unit_points::probe;
+// each of these as a command, with a clause for all of them
+pub use obeyed::{Obeyed, TextCommand, obey};
+pub use obeyed_over::{LinkCommand, ObeyedOver, obey_over};
 // what is printed, and its status
 pub use outcome::{
     FAILED_LINK, Outcome, tell_no_memory, tell_unlinked, tell_unusable, write_lines,

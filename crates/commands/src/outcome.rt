@@ -12,7 +12,7 @@ ghost use Rattle.commands.specs.Told.{IsTold, refused_with};
 use crate::report::{accepted, link_failed, unassembled, unread, unusable};
 use crate::writing::write_bytes;
 use il_assemble::{AsmFault, AsmFaultKind};
-use il_reader::{ReadFault, ReadFaultKind};
+use il_reader::{Program, ReadFault, ReadFaultKind};
 use modbus_frame::LinkFault;
 use refusal_notes::Cause;
 use std::alloc::{AllocError, Global};
@@ -84,7 +84,7 @@ impl Outcome {
     }
 
     /// The line of a text that is no program, with status 1; none where memory was refused.
-    pub fn unread(alloc: Global, fault: ReadFault) -> Result<Outcome, AllocError>
+    pub fn unread(alloc: Global, text: &str, fault: ReadFault) -> Result<Outcome, AllocError>
         ensures real { OnOk result (fault.kind ≢ read_fault.OutOfMemory) }
         ensures told { IfOk result (λ o. o ≡ refused_with (unread_line (reading.word_of fault.kind) fault.line)) }
     {
@@ -92,11 +92,15 @@ impl Outcome {
             return Err(AllocError);
         }
         let line = unread(alloc, fault.kind.word(), fault.line)?;
-        Ok(Outcome::caused(line, Cause::unread(alloc, fault)))
+        Ok(Outcome::caused(line, Cause::unread(alloc, text, fault)))
     }
 
     /// The line of a program without code, with status 1; none where memory was refused.
-    pub(crate) fn unassembled(alloc: Global, fault: AsmFault) -> Result<Outcome, AllocError>
+    pub(crate) fn unassembled(
+        alloc: Global,
+        program: &Program,
+        fault: AsmFault,
+    ) -> Result<Outcome, AllocError>
         ensures real { OnOk result (fault.kind ≢ asm_fault.OutOfMemory) }
         ensures told { IfOk result (λ o. o ≡ refused_with (unassembled_line (assembling.word_of fault.kind) fault.line)) }
     {
@@ -104,7 +108,7 @@ impl Outcome {
             return Err(AllocError);
         }
         let line = unassembled(alloc, fault.kind.word(), fault.line)?;
-        Ok(Outcome::caused(line, Cause::unassembled(alloc, fault)))
+        Ok(Outcome::caused(line, Cause::unassembled(alloc, program, fault)))
     }
 
     /// The line `link: KIND`, with status 3.

@@ -1,14 +1,16 @@
 //! The plant of a plant file.
-ghost use Rattle.std.specs.Prelude.{map, string_bytes, IfOk};
-ghost use Rattle.commands.specs.Simulate.{GivesPlant, TellsPlant};
+ghost use Rattle.std.specs.Prelude.{◌≡◌, map, string_bytes, IfErr, IfOk, Ok, OnOk};
+ghost use Rattle.commands.specs.Simulate.{GivesDefined, GivesPlant, TellsNoPlant, TellsPlant};
 
 use crate::definitions::definitions;
-use crate::outcome::Outcome;
+use crate::obeyed::Obeyed;
+use crate::outcome::{Outcome, tell_no_memory};
 use crate::report::{no_plant, undefined};
 use inverter_sim::{Plant, PlantFault};
 use model_defs::{DefFault, ModelDef};
 use refusal_notes::{cause_of_definition, cause_of_plant};
 use std::alloc::{AllocError, Global};
+use std::io::Write;
 
 /// The plant of a file over the shipped definitions and those of the texts, or what is told of its fault.
 pub fn plant_of(
@@ -26,6 +28,24 @@ pub fn plant_of(
             let cause = cause_of_definition(alloc, defs, fault);
             Ok(Err(Outcome::caused(line, cause)))
         }
+    }
+}
+
+/// The same, and what is told of a fault is printed: the plant, of which nothing is printed, or what came of that.
+pub fn plant_told<W: Write>(
+    alloc: Global,
+    plant: &str,
+    defs: &[String],
+    out: &mut W,
+) -> Result<Plant, Obeyed>
+    ensures given { IfOk result (λ p. GivesDefined plant.now (map string_bytes defs.now) (Ok p)) }
+    ensures unprinted { OnOk result (W.contents out.new ≡ W.contents out.old) }
+    ensures told { IfErr result (λ o. TellsNoPlant plant.now (map string_bytes defs.now) (W.contents out.old) (W.contents out.new) o.status) }
+{
+    match plant_of(alloc, plant, defs) {
+        Ok(Ok(plant)) => Ok(plant),
+        Ok(Err(outcome)) => Err(Obeyed::of((outcome.tell(out), outcome.cause))),
+        Err(AllocError) => Err(Obeyed::of((tell_no_memory(out), None))),
     }
 }
 

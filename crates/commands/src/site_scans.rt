@@ -16,6 +16,7 @@ pub use crate::accepted::DEPTH;
 use crate::accepted::{Accepted, accept};
 use crate::outcome::{Outcome, tell_no_memory, tell_unlinked, write_lines};
 use crate::report::{no_core, scanned};
+use crate::scan_watch::{ScanWatch, Unwatched};
 use gateway::{Core, CoreFault, Poller, run_scan};
 use modbus_frame::{Link, LinkFault};
 use refusal_notes::Cause;
@@ -41,32 +42,37 @@ pub fn scans<L: Link, W: Write>(
     out: &mut W,
 ) -> (Option<Core<DEPTH>>, u8)
     ensures accepted { IfSome result.0 (λ core. IsAccepted site.now program.now (map string_bytes defs.now) core.site core.machine.accepted) }
-    ensures run { IfSome result.0 (λ core. RunsProgram program.now n poller.old poller.new (W.contents out.old) (W.contents out.new) core result.1) }
+    ensures run { IfSome result.0 (λ core. RunsProgram program.now n (record { link_before = poller.old; link_behind = poller.new; out_before = W.contents out.old; out_behind = W.contents out.new; status = result.1 }) core) }
     ensures refused { IfNone result.0 (IsRefused site.now program.now (map string_bytes defs.now) poller.old poller.new (W.contents out.old) (W.contents out.new) result.1) }
 {
     let mut cause = None;
-    scans_noting(alloc, site, program, defs, n, poller, &mut cause, out)
+    let watch = &mut Unwatched;
+    scans_noting(
+        alloc, site, program, defs, n, poller, watch, &mut cause, out,
+    )
 }
 
-/// The same, and the cause is noted where the definitions, the site or the program are refused.
-pub fn scans_noting<L: Link, W: Write>(
+/// The same; `watch` looks on at each scan, and the cause is noted where the definitions, the site or the program are
+/// refused.
+pub fn scans_noting<L: Link, V: ScanWatch, W: Write>(
     alloc: Global,
     site: &str,
     program: &str,
     defs: &[String],
     n: u32,
     poller: &mut Poller<L>,
+    watch: &mut V,
     cause: &mut Option<Cause>,
     out: &mut W,
 ) -> (Option<Core<DEPTH>>, u8)
     ensures accepted { IfSome result.0 (λ core. IsAccepted site.now program.now (map string_bytes defs.now) core.site core.machine.accepted) }
-    ensures run { IfSome result.0 (λ core. RunsProgram program.now n poller.old poller.new (W.contents out.old) (W.contents out.new) core result.1) }
+    ensures run { IfSome result.0 (λ core. RunsProgram program.now n (record { link_before = poller.old; link_behind = poller.new; out_before = W.contents out.old; out_behind = W.contents out.new; status = result.1 }) core) }
     ensures refused { IfNone result.0 (IsRefused site.now program.now (map string_bytes defs.now) poller.old poller.new (W.contents out.old) (W.contents out.new) result.1) }
 {
     match core_of(alloc, site, program, defs, poller) {
         Ok(Ok(core)) => {
             let mut core = core;
-            let status = scan_times(alloc, &mut core, poller, n, out);
+            let status = scan_times(alloc, &mut core, poller, n, watch, out);
             (Some(core), status)
         }
         Ok(Err(outcome)) => {
@@ -78,12 +84,13 @@ pub fn scans_noting<L: Link, W: Write>(
     }
 }
 
-/// Does n scans, with a line for each; the first that fails ends them.
-fn scan_times<L: Link, W: Write>(
+/// Does n scans, with a line for each; the first that fails ends them, and is the one that nobody looks on at.
+fn scan_times<L: Link, V: ScanWatch, W: Write>(
     alloc: Global,
     core: &mut Core<DEPTH>,
     poller: &mut Poller<L>,
     n: u32,
+    watch: &mut V,
     out: &mut W,
 ) -> u8
     requires { poller.old.fault ≡ None }
@@ -94,6 +101,7 @@ fn scan_times<L: Link, W: Write>(
         if status != 0 {
             return status;
         }
+        watch.scanned(core, k + 1);
     }
     0
 }

@@ -50,7 +50,7 @@ fn outcome_of(alloc: Global, input: &str) -> Result<Outcome, AllocError>
     let (text, inputs) = input.split_at(program_length(input.as_bytes()));
     match read(alloc, text) {
         Ok(program) => outcome_of_program(alloc, &program, inputs.as_bytes()),
-        Err(fault) => Outcome::unread(alloc, fault),
+        Err(fault) => Outcome::unread(alloc, text, fault),
     }
 }
 
@@ -65,7 +65,7 @@ fn outcome_of_program(
 {
     match assemble(alloc, program) {
         Ok(image) => outcome_of_image(alloc, program, image, inputs),
-        Err(fault) => Outcome::unassembled(alloc, fault),
+        Err(fault) => Outcome::unassembled(alloc, program, fault),
     }
 }
 

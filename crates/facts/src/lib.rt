@@ -22,5 +22,5 @@ mod sparse_list;
 pub mod tag_range;
 
 pub use fact::Fact;
-pub use refusal::{Refusal, RefusalKind};
+pub use refusal::{Refusal, RefusalKind, RefusedAt};
 pub use tag_range::TagRange;

@@ -129,12 +129,43 @@ impl RefusalKind {
     }
 }
 
-/// Why a program is refused, and at which instruction, counted from 0; for the kinds of tags the number
-/// of the image's tag, and 0 for OverBudget and OutOfMemory.
+/// What of a program is refused.
+#[derive(Clone, Copy, PartialEq, Eq, Debug)]
+pub enum RefusedAt {
+    /// The instruction of this number, counted from 0.
+    Instruction(usize),
+    /// The image's tag of this number, counted from 0: TagUnknown, TagType and TagAccess.
+    Tag(usize),
+    /// The whole program: OverBudget and OutOfMemory.
+    Program,
+}
+
+impl RefusedAt {
+    ghost use Rattle.facts.specs.Word.{number_of};
+
+    /// The number that is printed: that of the instruction or of the tag, 0 for the program.
+    pub fn number(self) -> usize
+        ensures { result ≡ number_of self }
+    {
+        match self {
+            RefusedAt::Instruction(number) => number,
+            RefusedAt::Tag(number) => number,
+            RefusedAt::Program => 0,
+        }
+    }
+}
+
+impl fmt::Display for RefusedAt {
+    fn fmt<W: fmt::Write>(&self, f: &mut fmt::Formatter<W>) -> fmt::Result {
+        fmt::Display::fmt(&self.number(), f)
+    }
+}
+
+/// Why a program is refused, and what of it.
 #[derive(Clone, Copy, PartialEq, Eq, Debug, Error)]
 #[error("{kind} at {at}")]
 pub struct Refusal {
-    pub at: usize,
+    pub at: RefusedAt,
     pub kind: RefusalKind,
 }
 
@@ -146,7 +177,7 @@ impl From<AllocError> for Refusal {
 
     fn from(_error: AllocError) -> Refusal {
         Refusal {
-            at: 0,
+            at: RefusedAt::Program,
             kind: RefusalKind::OutOfMemory,
         }
     }
@@ -160,7 +191,7 @@ impl<T: Drop> From<AllocFailed<T>> for Refusal {
 
     fn from(_error: AllocFailed<T>) -> Refusal {
         Refusal {
-            at: 0,
+            at: RefusedAt::Program,
             kind: RefusalKind::OutOfMemory,
         }
     }

@@ -18,3 +18,4 @@ pub use finding::{
     EntryName, Finding, KeyRule, Kind, Rule, Stands, first_broken, first_long, first_outside,
     first_unlisted, named_entry, stands_among, stands_at,
 };
+pub use wording::entry_shown;

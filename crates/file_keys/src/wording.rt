@@ -6,7 +6,7 @@ use std::alloc::{AllocError, Global};
 const MOST_LETTERS: usize = 40;
 
 /// The name of an entry.
-pub(crate) fn entry_shown(alloc: Global, entry: EntryName<'_>) -> Result<String, AllocError> {
+pub fn entry_shown(alloc: Global, entry: EntryName<'_>) -> Result<String, AllocError> {
     match entry {
         EntryName::Alone(section) => String::from_str(alloc, section),
         EntryName::Named(section, name) => named(alloc, section, name),

@@ -2,7 +2,7 @@
 use crate::code_lines::{declared_line, instruction_line};
 use crate::refusing::instruction_text;
 use crate::words::{access_words, type_word};
-use facts::{Refusal, RefusalKind};
+use facts::{Refusal, RefusalKind, RefusedAt};
 use il_reader::Program;
 use point_types::Name;
 use scan_code::{Image, Tag};
@@ -27,17 +27,15 @@ pub fn detail_of(
     site: &Site,
     refusal: &Refusal,
 ) -> Result<Detail, AllocError> {
-    match refusal.kind {
-        RefusalKind::TagUnknown | RefusalKind::TagType | RefusalKind::TagAccess => {
-            tag_detail(alloc, program, image, site, refusal)
-        }
-        RefusalKind::OutOfMemory | RefusalKind::OverBudget => Ok(Detail {
+    match refusal.at {
+        RefusedAt::Instruction(number) => Ok(Detail {
+            line: instruction_line(alloc, program, number),
+            text: instruction_text(alloc, image, site, number, refusal.kind)?,
+        }),
+        RefusedAt::Tag(number) => tag_detail(alloc, program, image, site, number, refusal.kind),
+        RefusedAt::Program => Ok(Detail {
             line: 0,
             text: String::new(alloc),
-        }),
-        _ => Ok(Detail {
-            line: instruction_line(alloc, program, refusal.at),
-            text: instruction_text(alloc, image, site, refusal)?,
         }),
     }
 }
@@ -48,12 +46,13 @@ fn tag_detail(
     program: &Program,
     image: &Image,
     site: &Site,
-    refusal: &Refusal,
+    number: usize,
+    kind: RefusalKind,
 ) -> Result<Detail, AllocError> {
-    match image.tags.as_slice().get(refusal.at) {
+    match image.tags.as_slice().get(number) {
         Some(tag) => Ok(Detail {
             line: declared_line(program, &tag.name),
-            text: tag_text(alloc, tag, site, refusal.kind)?,
+            text: tag_text(alloc, tag, site, kind)?,
         }),
         None => Ok(Detail {
             line: 0,

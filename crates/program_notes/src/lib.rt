@@ -1,5 +1,5 @@
 //! What is known before each instruction of a program, in words: behind a refusal ([`detail_of`]), and line by line
-//! ([`table_of`]); and which line and name an instruction has.
+//! ([`table_of`]); which line and name an instruction has; and where an external is used the other way.
 #![tactic(auto)]
 
 mod code_lines;
@@ -12,10 +12,12 @@ mod rows;
 mod stacking;
 mod table;
 mod typing;
+mod uses;
 mod words;
 
 pub use code_lines::{address_of, declared_line, instruction_line, name_in, number_at, tag_name};
 pub use detail::{Detail, detail_of};
 pub use rows::{Row, rows_of};
 pub use table::table_of;
+pub use uses::other_use_text;
 pub use words::type_word;

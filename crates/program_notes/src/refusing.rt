@@ -24,10 +24,11 @@ pub(crate) fn instruction_text(
     alloc: Global,
     image: &Image,
     site: &Site,
-    refusal: &Refusal,
+    number: usize,
+    kind: RefusalKind,
 ) -> Result<String, AllocError> {
     match framed(alloc, image, site, MOST_DEFERRED) {
-        Ok(context) => text_in(alloc, image, &context, refusal),
+        Ok(context) => text_in(alloc, image, &context, number, kind),
         Err(other) => nothing_told(alloc, other),
     }
 }
@@ -44,23 +45,17 @@ fn text_in(
     alloc: Global,
     image: &Image,
     context: &Context,
-    refusal: &Refusal,
+    number: usize,
+    kind: RefusalKind,
 ) -> Result<String, AllocError>
     requires { length context.now.listing < 65536 }
 {
-    if refusal.at >= context.size() {
+    if number >= context.size() {
         return Ok(String::new(alloc));
     }
-    let (_, op) = context.instruction(refusal.at);
-    match known(alloc, context, refusal.at) {
-        Ok(Arrived::AbstractValue(fact)) => fact_text(
-            alloc,
-            image,
-            context,
-            &fact,
-            op,
-            refusal.kind,
-        ),
+    let (_, op) = context.instruction(number);
+    match known(alloc, context, number) {
+        Ok(Arrived::AbstractValue(fact)) => fact_text(alloc, image, context, &fact, op, kind),
         Ok(Arrived::Clash) => clash_text(alloc),
         Ok(Arrived::Nothing) => Ok(String::new(alloc)),
         Err(other) => nothing_told(alloc, other),

@@ -1,13 +1,16 @@
 //! Why a command refuses, and the note that tells it on standard error.
 use crate::link_texts::{link_help, link_meaning};
-use crate::marks::{mark_of_trapped, mark_of_unassembled, mark_of_unread, mark_of_unverified};
+use crate::marks::{
+    ends_line, mark_of_trapped, mark_of_unassembled, mark_of_unread, mark_of_unverified,
+};
 use crate::mistakes::mistake_on;
 use crate::nearest::nearest_name;
-use il_assemble::AsmFault;
-use il_reader::ReadFault;
+use il_assemble::{AsmFault, AsmFaultKind};
+use il_reader::{FaultPlace, Program, ReadFault, fault_at};
 use inverter_sim::PlantFault;
 use modbus_frame::LinkFault;
 use model_defs::DefFault;
+use program_notes::other_use_text;
 use scan_vm::TrapKind;
 use site_model::SiteFault;
 use source_notes::{Mark, Note};
@@ -67,25 +70,52 @@ impl Cause {
     }
 
     /// The text of the program can't be read.
-    pub fn unread(alloc: Global, fault: ReadFault) -> Cause {
+    pub fn unread(alloc: Global, text: &str, fault: ReadFault) -> Cause {
         let kind = fault.kind;
         let texts = Texts {
             kind: kind.word(),
             meaning: kind.meaning(),
             help: kind.help(),
         };
-        Cause::of_line(alloc, fault.line, mark_of_unread(kind), texts)
+        let mut cause = Cause::of_line(alloc, fault.line, Mark::Line, texts);
+        if let Some(place) = fault_at(alloc, text) {
+            cause.mark_unread(text, place);
+        }
+        cause
+    }
+
+    /// Marks what is at fault in a text that can't be read. There is no more than the line where no byte is, or where
+    /// memory was refused to look for it.
+    fn mark_unread(&mut self, text: &str, place: FaultPlace) {
+        if place.fault.line != self.line || place.at == place.behind {
+            return;
+        }
+        self.mark = mark_of_unread(text.as_bytes(), place);
+        if ends_line(text.as_bytes(), place) {
+            let end = if place.behind == text.len() {
+                "the text ends here"
+            } else {
+                "the line ends here"
+            };
+            let _ = self.detail.push_str(end);
+        }
     }
 
     /// The program has no code.
-    pub fn unassembled(alloc: Global, fault: AsmFault) -> Cause {
+    pub fn unassembled(alloc: Global, program: &Program, fault: AsmFault) -> Cause {
         let kind = fault.kind;
         let texts = Texts {
             kind: kind.word(),
             meaning: kind.meaning(),
             help: kind.help(),
         };
-        Cause::of_line(alloc, fault.line, mark_of_unassembled(kind), texts)
+        let mut cause = Cause::of_line(alloc, fault.line, mark_of_unassembled(kind), texts);
+        if let AsmFaultKind::LoadAndStore = kind {
+            if let Ok(text) = other_use_text(alloc, program, fault.line) {
+                cause.detail = text;
+            }
+        }
+        cause
     }
 
     /// The verdict refuses this line.
@@ -170,6 +200,7 @@ impl Cause {
             note.mark = found.mark;
             note.meaning = found.hint.meaning;
             note.help = found.hint.help;
+            note.detail = "";
         }
         if self.kind == "UnknownName" {
             if let Some(name) = self.meant_name(text) {

@@ -3,6 +3,7 @@
 #![tactic(auto)]
 
 mod cause;
+mod definition_keys;
 mod file_causes;
 mod file_fault;
 mod link_texts;
@@ -10,6 +11,8 @@ mod marks;
 mod mistakes;
 mod nearest;
 mod notes;
+mod table_keys;
+mod unread_keys;
 mod verdict_cause;
 
 pub use cause::{Cause, NotedFile};

@@ -1,24 +1,36 @@
 //! Where the carets of a note stand, by the kind of refusal.
 use il_assemble::AsmFaultKind;
-use il_reader::ReadFaultKind;
+use il_reader::FaultPlace;
 use scan_vm::TrapKind;
 use source_notes::Mark;
 use verifier::RefusalKind;
 
-/// For a line that can't be read.
-pub(crate) fn mark_of_unread(kind: ReadFaultKind) -> Mark {
-    match kind {
-        ReadFaultKind::Operator | ReadFaultKind::Label | ReadFaultKind::Parenthesis => {
-            Mark::Operator
-        }
-        ReadFaultKind::Operand | ReadFaultKind::Literal => Mark::Operand,
-        ReadFaultKind::Word
-        | ReadFaultKind::Header
-        | ReadFaultKind::Declaration
-        | ReadFaultKind::Duplicate
-        | ReadFaultKind::TooLong
-        | ReadFaultKind::OutOfMemory => Mark::Line,
+/// For a text that can't be read: what is at fault; where that is the end of a line, what is missing before it.
+pub(crate) fn mark_of_unread(text: &[u8], place: FaultPlace) -> Mark {
+    if ends_line(text, place) {
+        return Mark::Behind;
     }
+    let count = place.behind.saturating_sub(place.at);
+    Mark::Bytes(place.at.saturating_sub(line_start(text, place.at)), count)
+}
+
+/// Whether the end of a line is at fault.
+pub(crate) fn ends_line(text: &[u8], place: FaultPlace) -> bool {
+    match text.get(place.behind.saturating_sub(1)) {
+        Some(byte) => *byte == b'\n',
+        None => false,
+    }
+}
+
+/// Where the line of a byte begins.
+fn line_start(text: &[u8], at: usize) -> usize {
+    let mut start = 0;
+    for (place, byte) in text.iter().take(at).enumerate() {
+        if *byte == b'\n' {
+            start = place.saturating_add(1);
+        }
+    }
+    start
 }
 
 /// For a line without code.

@@ -1,6 +1,7 @@
 //! What is printed on standard error of a refusal.
 use crate::cause::{Cause, NotedFile};
 use crate::file_fault::FileFault;
+use crate::unread_keys::{KeyedFile, unread_warnings};
 use source_notes::{Mark, Note};
 use std::alloc::{AllocError, Global};
 
@@ -44,6 +45,31 @@ impl<'a> Notes<'a> {
             let (path, text) = (self.path(cause.file), self.text(cause.file));
             print(rt, &cause.note(path, text));
         }
+    }
+
+    /// Warns of what nothing reads in the files. Where that fails, or memory for it is refused, nothing more comes of it.
+    pub fn warn(&self, rt: &(impl Eprint + AllocGlobal)) {
+        if self.quiet {
+            return;
+        }
+        if let Ok(lines) = self.warnings(rt.alloc()) {
+            if !lines.is_empty() {
+                let _ = rt.eprint(lines.as_str());
+            }
+        }
+    }
+
+    /// Warnings of what nothing reads in the files; empty where each key is known.
+    pub fn warnings(&self, alloc: Global) -> Result<String, AllocError> {
+        let mut lines = unread_warnings(alloc, self.site_path, self.site, KeyedFile::Site)?;
+        let plant = unread_warnings(alloc, self.plant_path, self.plant, KeyedFile::Plant)?;
+        lines.push_str(plant.as_str())?;
+        for (number, text) in self.defs.iter().enumerate() {
+            let path = path_at(self.def_paths, number);
+            let of_definition = unread_warnings(alloc, path, text.as_str(), KeyedFile::Definition)?;
+            lines.push_str(of_definition.as_str())?;
+        }
+        Ok(lines)
     }
 
     fn path(&self, file: NotedFile) -> &str {

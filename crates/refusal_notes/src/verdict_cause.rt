@@ -6,7 +6,7 @@ use program_notes::{address_of, detail_of, name_in, tag_name};
 use scan_code::{Image, decode};
 use site_model::Site;
 use std::alloc::Global;
-use verifier::{Refusal, RefusalKind, Refused};
+use verifier::{Refusal, Refused, RefusedAt};
 
 /// The cause of a refusal, with the line that it speaks of and what is known there. Where memory for a part of it is
 /// refused, it goes without.
@@ -32,10 +32,11 @@ pub fn cause_of_refusal(alloc: Global, program: &Program, site: &Site, refused: 
 
 /// The name of the variable or the tag that is refused.
 fn refused_name(refused: &Refused) -> Option<Name> {
-    if is_of_tag(refused.kind) {
-        return tag_name(&refused.image, refused.at);
+    match refused.at {
+        RefusedAt::Instruction(number) => instruction_name(&refused.image, number),
+        RefusedAt::Tag(number) => tag_name(&refused.image, number),
+        RefusedAt::Program => None,
     }
-    instruction_name(&refused.image, refused.at)
 }
 
 fn instruction_name(image: &Image, number: usize) -> Option<Name> {
@@ -43,22 +44,4 @@ fn instruction_name(image: &Image, number: usize) -> Option<Name> {
     let address = address_of(code, number)?;
     let (op, _) = decode(code, address)?;
     name_in(image, op)
-}
-
-/// Whether a refusal speaks of a tag, and not of an instruction.
-fn is_of_tag(kind: RefusalKind) -> bool {
-    match kind {
-        RefusalKind::TagUnknown | RefusalKind::TagType | RefusalKind::TagAccess => true,
-        RefusalKind::OverBudget
-        | RefusalKind::OutOfMemory
-        | RefusalKind::Code
-        | RefusalKind::Jump
-        | RefusalKind::WrongType
-        | RefusalKind::Overflow
-        | RefusalKind::ZeroDivisor
-        | RefusalKind::MayBeMissing
-        | RefusalKind::Stack
-        | RefusalKind::StoreRange
-        | RefusalKind::NoResult => false,
-    }
 }

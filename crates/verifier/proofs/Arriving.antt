@@ -11,6 +11,7 @@ use Rattle.scan_code.specs.Machine.{State}
 use Rattle.facts.specs.Fit.{FitsDeferred, LiesIn, Fits, IfListed, HasOwnValue, reading_number}
 use Rattle.facts.specs.Slots.{Slot, Unreached, Holds, Clash, meets, arriving, flow_of, ways_of, gathered, entry_fact, is_loop_head, address_of, head_slot, slots}
 use Rattle.facts.specs.declared.refusal.Refusal.{Refusal}
+use Rattle.facts.specs.declared.refusal.RefusedAt.TheVariants as spot
 use Rattle.verifier.specs.Verdict.{first_refusal, refusal_of}
 use Rattle.verifier.specs.Sound.{HasRange}
 use Rattle.verifier.proofs.Made.{AreLoaded, IsLoaded, Within}
@@ -93,7 +94,7 @@ module _ (c : Context) (rs : List Reading) where
   accepted_step : (at : ℕ) (y : Slot) (ss : List Slot) → first_refusal c at (y ∷ ss) ≡ None → (ways : List Way) × (flow_of c at y (slice_get c.listing at) ≡ Ok ways) × (first_refusal c (at + 1) ss ≡ None)
   accepted_step at y ss a = go (flow_of c at y (slice_get c.listing at)) refl a
     where
-      go : (r : Flow) → flow_of c at y (slice_get c.listing at) ≡ r → ◌≡◌ {A = Option Refusal} (elim r [ Err e ↦ Some (record { at = at; kind = e }) | Ok ways ↦ first_refusal c (at + 1) ss ]) None → (ways : List Way) × (flow_of c at y (slice_get c.listing at) ≡ Ok ways) × (first_refusal c (at + 1) ss ≡ None)
+      go : (r : Flow) → flow_of c at y (slice_get c.listing at) ≡ r → ◌≡◌ {A = Option Refusal} (elim r [ Err e ↦ Some (record { at = spot.Instruction at; kind = e }) | Ok ways ↦ first_refusal c (at + 1) ss ]) None → (ways : List Way) × (flow_of c at y (slice_get c.listing at) ≡ Ok ways) × (first_refusal c (at + 1) ss ≡ None)
       go (Err f) p b = absurd (cc)
       go (Ok ways) p b = (ways, p, b)
 

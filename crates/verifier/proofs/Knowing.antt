@@ -1,7 +1,9 @@
 -- What is told is told of the one family.
 use Rattle.std.proofs.Common.{◌≡◌, ◌≢◌, ◌∙◌, ℕ, suc, ◌+◌, ◌<◌, ◌++◌, ◌∷◌, [], List, inl, inr, length, map, Option, None, ap, arith, subst, sym}
 use Rattle.facts.specs.declared.refusal.Refusal.{Refusal}
+use Rattle.facts.specs.declared.refusal.RefusedAt.{RefusedAt}
 use Rattle.facts.specs.declared.refusal.RefusalKind.TheVariants.{OutOfMemory}
+use Rattle.facts.specs.Word.{number_of}
 use Rattle.facts.specs.Flow.{Context}
 use Rattle.facts.specs.Slots.{slots}
 use Rattle.verifier.specs.Gathered.{IsRefusedAt, NoneRefuses, slot_before}
@@ -17,7 +19,7 @@ module _ (c : Context) where
   known_there n h = slots_have c [] (length c.listing) n h
 
   pub earlier : (n m : ℕ) (r : Refusal) → n < m → IsRefusedAt c n r → IsEarlierRefusal c m r
-  earlier n m r h (inl first) = inl (first.0, omega (arith, h, first.1))
+  earlier n m r h (inl first) = inl (n, h, first.0, first.1)
   earlier n m r h (inr none) = inr none
 
   abbrev told_to : ℕ → List Standing
@@ -32,5 +34,5 @@ module _ (c : Context) where
       ap told_to e ∙ ap (λ (o : Option Refusal). told_to (judged_count (length c.listing) o)) (sym none)
 
   pub told_first : (n : ℕ) (r : Refusal) → r.kind ≢ OutOfMemory → IsRefusedAt c n r → told_to (n + 1) ≡ all_told c
-  told_first n r k (inl first) = ap (λ (m : ℕ). told_to (m + 1)) (sym first.1) ∙ ap (λ (o : Option Refusal). told_to (judged_count (length c.listing) o)) (sym first.0)
+  told_first n r k (inl first) = ap (λ (at : RefusedAt). told_to (number_of at + 1)) (sym first.1) ∙ ap (λ (o : Option Refusal). told_to (judged_count (length c.listing) o)) (sym first.0)
   told_first n r k (inr none) = absurd (k (ap (λ (x : Refusal). x.kind) none))

@@ -1,6 +1,7 @@
 -- One pass finds the one family: what it leaves at the later instructions is what flows there.
 use Rattle.std.proofs.Common.{◌≡◌, ◌⊎◌, inl, inr, ℕ, zero, suc, ◌+◌, ◌-◌, ◌<◌, ◌≤◌, List, [], ◌∷◌, ◌++◌, length, map, Result, Ok, Err, Option, Some, None, slice_get, slice_set, option_map, Bool, false, nat_eq, refl, sym, ap, subst, ◌∙◌, arith, if◌then◌else◌, length-append}
 use Rattle.facts.specs.declared.refusal.Refusal.{Refusal}
+use Rattle.facts.specs.declared.refusal.RefusedAt.TheVariants as spot
 use Rattle.facts.specs.declared.refusal.RefusalKind.{RefusalKind}
 use Rattle.facts.specs.declared.fact.Fact.{Fact}
 use Rattle.facts.specs.Flow.{Context, Way, Flow}
@@ -162,7 +163,7 @@ module _ (c : Context) where
       let e : at + 1 + length ss ≡ at + suc (length ss) = omega arith in
       go (flow_of c at x (slice_get c.listing at)) _ _ _ (subst (λ (k : ℕ). first_refusal c (at + 1) (ss ++ s ∷ []) ≡ or_else (first_refusal c (at + 1) ss) (first_refusal c k (s ∷ []))) e (refusal_more (at + 1) ss s))
     where
-      go : (r : Flow) (o p q : Option Refusal) → o ≡ or_else p q → ◌≡◌ {A = Option Refusal} (elim r [ Err e ↦ Some (record { at = at; kind = e }) | Ok ways ↦ o ]) (or_else (elim r [ Err e ↦ Some (record { at = at; kind = e }) | Ok ways ↦ p ]) q)
+      go : (r : Flow) (o p q : Option Refusal) → o ≡ or_else p q → ◌≡◌ {A = Option Refusal} (elim r [ Err e ↦ Some (record { at = spot.Instruction at; kind = e }) | Ok ways ↦ o ]) (or_else (elim r [ Err e ↦ Some (record { at = spot.Instruction at; kind = e }) | Ok ways ↦ p ]) q)
       go (Err e) o p q h = refl
       go (Ok ways) o p q h = h
 
@@ -175,10 +176,10 @@ module _ (c : Context) where
       refusal_more 0 (slots c n) (slot_of n) ∙ ap (λ (o : Option Refusal). or_else o (first_refusal c (0 + length (slots c n)) (slot_of n ∷ []))) h ∙ ap (λ (k : ℕ). first_refusal c k (slot_of n ∷ [])) e
 
   pub none_refused : (n : ℕ) (ways : List Way) → refusal_to n ≡ None → flow_of c n (slot_of n) (slice_get c.listing n) ≡ Ok ways → refusal_to (suc n) ≡ None
-  none_refused n ways h f = refusal_next n h ∙ subst (λ (r : Flow). ◌≡◌ {A = Option Refusal} (elim r [ Err e ↦ Some (record { at = n; kind = e }) | Ok ways ↦ first_refusal c (n + 1) [] ]) None) (sym f) refl
+  none_refused n ways h f = refusal_next n h ∙ subst (λ (r : Flow). ◌≡◌ {A = Option Refusal} (elim r [ Err e ↦ Some (record { at = spot.Instruction n; kind = e }) | Ok ways ↦ first_refusal c (n + 1) [] ]) None) (sym f) refl
 
-  one_refused : (n : ℕ) (kind : RefusalKind) → refusal_to n ≡ None → flow_of c n (slot_of n) (slice_get c.listing n) ≡ Err kind → refusal_to (suc n) ≡ Some (record { at = n; kind = kind })
-  one_refused n kind h f = refusal_next n h ∙ subst (λ (r : Flow). ◌≡◌ {A = Option Refusal} (elim r [ Err e ↦ Some (record { at = n; kind = e }) | Ok ways ↦ first_refusal c (n + 1) [] ]) (Some (record { at = n; kind = kind }))) (sym f) refl
+  one_refused : (n : ℕ) (kind : RefusalKind) → refusal_to n ≡ None → flow_of c n (slot_of n) (slice_get c.listing n) ≡ Err kind → refusal_to (suc n) ≡ Some (record { at = spot.Instruction n; kind = kind })
+  one_refused n kind h f = refusal_next n h ∙ subst (λ (r : Flow). ◌≡◌ {A = Option Refusal} (elim r [ Err e ↦ Some (record { at = spot.Instruction n; kind = e }) | Ok ways ↦ first_refusal c (n + 1) [] ]) (Some (record { at = spot.Instruction n; kind = kind }))) (sym f) refl
 
   still_refused : (n : ℕ) (r : Refusal) → refusal_to n ≡ Some r → refusal_to (suc n) ≡ Some r
   still_refused n r h = refusal_more 0 (slots c n) (slot_of n) ∙ ap (λ (o : Option Refusal). or_else o (first_refusal c (0 + length (slots c n)) (slot_of n ∷ []))) h
@@ -188,10 +189,10 @@ module _ (c : Context) where
   refused_later (suc k) n r h = let e : suc n + k ≡ n + suc k = omega arith in
       subst (λ (m : ℕ). refusal_to m ≡ Some r) e (refused_later k (suc n) r (still_refused n r h))
 
-  pub refused_first : (n : ℕ) (kind : RefusalKind) → n < length c.listing → refusal_to n ≡ None → flow_of c n (slot_of n) (slice_get c.listing n) ≡ Err kind → refusal_of c ≡ Some (record { at = n; kind = kind })
+  pub refused_first : (n : ℕ) (kind : RefusalKind) → n < length c.listing → refusal_to n ≡ None → flow_of c n (slot_of n) (slice_get c.listing n) ≡ Err kind → refusal_of c ≡ Some (record { at = spot.Instruction n; kind = kind })
   refused_first n kind k h f =
       let e : suc n + (length c.listing - suc n) ≡ length c.listing = omega arith in
-      subst (λ (m : ℕ). refusal_to m ≡ Some (record { at = n; kind = kind })) e (refused_later (length c.listing - suc n) (suc n) (record { at = n; kind = kind }) (one_refused n kind h f))
+      subst (λ (m : ℕ). refusal_to m ≡ Some (record { at = spot.Instruction n; kind = kind })) e (refused_later (length c.listing - suc n) (suc n) (record { at = spot.Instruction n; kind = kind }) (one_refused n kind h f))
 
   pub passed_refused : (n : ℕ) (r : Refusal) → IsRefusedAt c n r → (passed c ≡ Err r) ⊎ (r ≡ out_of_memory)
   passed_refused n r (inl first) = inl (ap (λ (o : Option Refusal). passed_by o (reached c)) first.0)

@@ -18,6 +18,7 @@ use Rattle.verifier.proofs.Arriving.{slots_have}
 use Rattle.verifier.proofs.Images.{made_from, by_both, ok_is}
 use Rattle.verifier.specs.Verdict.{frame_of, refusal_of, budgeted, most_steps}
 use Rattle.facts.specs.declared.refusal.Refusal.{Refusal}
+use Rattle.facts.specs.declared.refusal.RefusedAt.TheVariants as spot
 use Rattle.facts.specs.declared.refusal.RefusalKind.TheVariants.{OverBudget}
 use Rattle.verifier.proofs.Run.{At, IsKept, run_kept, starting_at, opening_within}
 use Rattle.verifier.proofs.Paths.{starts_out}
@@ -137,7 +138,7 @@ every_scan_ends image site depth c accepted (rs ∷ rows) all variables h =
 pub yes_is_accepted : YesIsAccepted
 yes_is_accepted image site depth steps proper e = by_both (frame_of image site depth) (λ c. budgeted c (refusal_of c)) steps e (λ c p f. unrefused c p (refusal_of c) refl f)
   where
-    bounded : (c : Context) → frame_of image site depth ≡ Ok c → refusal_of c ≡ None → (t : Bool) → nat_le (budget c) most_steps ≡ t → ◌≡◌ {A = Result ℕ Refusal} (if t then Ok (budget c) else Err (record { at = 0; kind = OverBudget })) (Ok steps) → IsYes image site depth steps
+    bounded : (c : Context) → frame_of image site depth ≡ Ok c → refusal_of c ≡ None → (t : Bool) → nat_le (budget c) most_steps ≡ t → ◌≡◌ {A = Result ℕ Refusal} (if t then Ok (budget c) else Err (record { at = spot.Program; kind = OverBudget })) (Ok steps) → IsYes image site depth steps
     bounded c p q false t f = absurd (cc)
     bounded c p q true t f = let s = ok_is (budget c) steps f in record { context = c; accepted = record { proper = proper; framed = p; unrefused = q }; budgeted = sym s; bounded = subst (λ (k : ℕ). k ≤ most_steps) s (at_most (budget c) most_steps t) }
 

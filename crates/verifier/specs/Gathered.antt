@@ -2,6 +2,7 @@
 -- IEC 61131-3 edition 2, 3.2.1 (instructions are done in order, or go on at a label).
 use Rattle.std.specs.Prelude.{◌≡◌, ◌⊎◌, ℕ, ◌≤◌, List, Some, None, slice_get}
 use Rattle.facts.specs.declared.refusal.Refusal.{Refusal}
+use Rattle.facts.specs.declared.refusal.RefusedAt.TheVariants as spot
 use Rattle.facts.specs.Word.{out_of_memory}
 use Rattle.facts.specs.Flow.{Context}
 use Rattle.facts.specs.Slots.{Slot, gathered, slots}
@@ -20,4 +21,4 @@ abbrev pub NoneRefuses : Context → ℕ → Type 0
 NoneRefuses c n = first_refusal c 0 (slots c n) ≡ None
 
 abbrev pub IsRefusedAt : Context → ℕ → Refusal → Type 0
-IsRefusedAt c n refusal = ((refusal_of c ≡ Some refusal) × (refusal.at ≡ n)) ⊎ (refusal ≡ out_of_memory)
+IsRefusedAt c n refusal = ((refusal_of c ≡ Some refusal) × (refusal.at ≡ spot.Instruction n)) ⊎ (refusal ≡ out_of_memory)

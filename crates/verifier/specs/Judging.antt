@@ -7,6 +7,7 @@ use Rattle.scan_code.specs.declared.op.Op.{Op}
 use Rattle.site_model.specs.declared.tag.SiteTag.{SiteTag}
 use Rattle.verifier.specs.declared.tag_link.TagLink.{TagLink}
 use Rattle.facts.specs.declared.refusal.Refusal.{Refusal}
+use Rattle.facts.specs.declared.refusal.RefusedAt.TheVariants as spot
 use Rattle.verifier.specs.declared.refused.Refused.{Refused}
 use Rattle.facts.specs.declared.refusal.RefusalKind.TheVariants.{OverBudget}
 use Rattle.facts.specs.Flow.{Context}
@@ -37,4 +38,4 @@ abbrev pub judged_with : Image → List TagLink → ℕ → Result ℕ Refusal
 judged_with image links depth = listing_of image >>= λ listing. judged_of (linked_frame image links depth listing)
 
 abbrev pub within_budget : ℕ → Result ℕ Refusal
-within_budget steps = if nat_le steps most_steps then Ok steps else Err (record { at = 0; kind = OverBudget })
+within_budget steps = if nat_le steps most_steps then Ok steps else Err (record { at = spot.Program; kind = OverBudget })

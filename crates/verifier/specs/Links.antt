@@ -11,6 +11,7 @@ use Rattle.site_model.specs.declared.tag.SiteTag.{SiteTag}
 use Rattle.facts.specs.Fact.{same_bool}
 use Rattle.verifier.specs.declared.tag_link.TagLink.{TagLink}
 use Rattle.facts.specs.declared.refusal.Refusal.{Refusal}
+use Rattle.facts.specs.declared.refusal.RefusedAt.TheVariants as spot
 use Rattle.facts.specs.declared.refusal.RefusalKind.{RefusalKind}
 use Rattle.facts.specs.declared.refusal.RefusalKind.TheVariants.{TagUnknown, TagType, TagAccess}
 
@@ -48,7 +49,7 @@ link_of site tag = found site tag (number_of site tag.name)
 
 abbrev pub refused_at : {A : Type 0} → ℕ → Result A RefusalKind → Result A Refusal
 refused_at n (Ok a) = Ok a
-refused_at n (Err kind) = Err (record { at = n; kind = kind })
+refused_at n (Err kind) = Err (record { at = spot.Tag n; kind = kind })
 
 -- of tags that are numbered from n on: the link of each, or the first refusal
 abbrev pub links_from : List SiteTag → ℕ → List Tag → Result (List TagLink) Refusal

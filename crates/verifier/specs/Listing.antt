@@ -10,6 +10,7 @@ use Rattle.scan_code.specs.Instruction.{decoded_at}
 use Rattle.facts.specs.Fact.{same_bool}
 use Rattle.facts.specs.declared.refusal.RefusalKind.TheVariants.{Code}
 use Rattle.facts.specs.declared.refusal.Refusal.{Refusal}
+use Rattle.facts.specs.declared.refusal.RefusedAt.TheVariants as spot
 
 -- an address and the instruction there
 abbrev pub Entry : Type 0
@@ -48,7 +49,7 @@ is_end does.End = true
 is_end other = false
 
 abbrev pub wrong_at : {A : Type 0} → ℕ → Result A Refusal
-wrong_at n = Err (record { at = n; kind = Code })
+wrong_at n = Err (record { at = spot.Instruction n; kind = Code })
 
 -- what follows an instruction; others is the listing from the next one on
 abbrev pub listed_with : Image → ℕ → ℕ → ℕ → Option (Op × ℕ) → (Op → ℕ → Result (List Entry) Refusal) → Result (List Entry) Refusal

@@ -7,6 +7,7 @@ use Rattle.site_model.specs.declared.tag.SiteTag.{SiteTag}
 use Rattle.facts.specs.declared.refusal.RefusalKind.TheVariants.{OverBudget}
 use Rattle.facts.specs.Flow.{Context}
 use Rattle.facts.specs.declared.refusal.Refusal.{Refusal}
+use Rattle.facts.specs.declared.refusal.RefusedAt.TheVariants as spot
 use Rattle.verifier.specs.Links.{links_from}
 use Rattle.verifier.specs.Listing.{listing_of}
 pub use Rattle.verifier.specs.Ranges.{range_of}
@@ -21,7 +22,7 @@ frame_of image site depth = links_from site 0 image.tags >>= λ links. listing_o
 -- of the instructions from number at on, the first that a fact reaches and that refuses
 abbrev pub first_refusal : Context → ℕ → List Slot → Option Refusal
 first_refusal c at [] = None
-first_refusal c at (s ∷ rest) = elim (flow_of c at s (slice_get c.listing at)) [ Err e ↦ Some (record { at = at; kind = e }) | Ok ways ↦ first_refusal c (at + 1) rest ]
+first_refusal c at (s ∷ rest) = elim (flow_of c at s (slice_get c.listing at)) [ Err e ↦ Some (record { at = spot.Instruction at; kind = e }) | Ok ways ↦ first_refusal c (at + 1) rest ]
 
 abbrev pub refusal_of : Context → Option Refusal
 refusal_of c = first_refusal c 0 (slots c (length c.listing))
@@ -31,7 +32,7 @@ most_steps = 1000000
 
 abbrev pub budgeted : Context → Option Refusal → Result ℕ Refusal
 budgeted c (Some refusal) = Err refusal
-budgeted c None = if nat_le (budget c) most_steps then Ok (budget c) else Err (record { at = 0; kind = OverBudget })
+budgeted c None = if nat_le (budget c) most_steps then Ok (budget c) else Err (record { at = spot.Program; kind = OverBudget })
 
 -- the greatest number of steps of a scan with so many deferred values at most, or why there is none
 abbrev pub judged : Image → List SiteTag → ℕ → Result ℕ Refusal

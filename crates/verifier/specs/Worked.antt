@@ -12,13 +12,14 @@ use Rattle.facts.specs.declared.refusal.RefusalKind.{RefusalKind}
 use Rattle.facts.specs.declared.refusal.RefusalKind.TheVariants as refused
 use Rattle.facts.specs.Flow.{Context, TagRange}
 use Rattle.facts.specs.declared.refusal.Refusal.{Refusal}
+use Rattle.facts.specs.declared.refusal.RefusedAt.TheVariants as spot
 use Rattle.verifier.specs.Verdict.{refusal_of, budgeted, judged}
 
 abbrev pub accepted : ℕ → Result ℕ Refusal
 accepted budget = Ok budget
 
 abbrev pub refused_with : RefusalKind → ℕ → Result ℕ Refusal
-refused_with kind n = Err (record { at = n; kind = kind })
+refused_with kind n = Err (record { at = spot.Instruction n; kind = kind })
 
 -- instructions at the addresses 0, 1, 2 and so on
 abbrev pub numbered : ℕ → List Op → List (ℕ × Op)
@@ -134,7 +135,7 @@ pub record WorkedVerdicts : Type 0 where
   pub forgets_what_was_tested : said_of (any_dint ∷ []) (watts ∷ []) loop_behind_test ≡ refused_with refused.MayBeMissing 2
   pub tests_in_each_turn : said_of (any_dint ∷ []) (watts ∷ []) loop_with_test ≡ accepted 18
   pub many_loops : said_of [] [] (loops 0 62) ≡ accepted 996093
-  pub too_many_loops : said_of [] [] (loops 0 63) ≡ refused_with refused.OverBudget 0
+  pub too_many_loops : said_of [] [] (loops 0 63) ≡ Err (record { at = spot.Program; kind = refused.OverBudget })
   pub unknown_code : judged (image_of 1 [] (255 ∷ [])) [] 32 ≡ refused_with refused.Code 0
   pub no_code : judged (image_of 1 [] []) [] 32 ≡ refused_with refused.Code 0
   pub no_end : judged (image_of 1 (any_int ∷ []) (1 ∷ 0 ∷ 0 ∷ [])) [] 32 ≡ refused_with refused.Code 1
@@ -145,4 +146,4 @@ pub record WorkedVerdicts : Type 0 where
   pub counted_by_255 : judged (counted 2 255) [] 32 ≡ accepted 3072
   pub counted_in_version_one : judged (counted 1 9) [] 32 ≡ refused_with refused.Code 10
   pub counted_without_limit : judged (image_of 2 (percent ∷ []) (loop_code unlimited)) [] 32 ≡ refused_with refused.StoreRange 6
-  pub unknown_tag : judged with_tag [] 32 ≡ refused_with refused.TagUnknown 0
+  pub unknown_tag : judged with_tag [] 32 ≡ Err (record { at = spot.Tag 0; kind = refused.TagUnknown })

@@ -22,8 +22,8 @@ pub mod verified;
 pub mod verify;
 
 pub use facts::{
-    Refusal, RefusalKind, abstract_value, changed_spans, context, fact, operand, present_inputs,
-    refusal, span,
+    Refusal, RefusalKind, RefusedAt, abstract_value, changed_spans, context, fact, operand,
+    present_inputs, refusal, span,
 };
 pub use refused::Refused;
 pub use tag_link::{TagLink, links};

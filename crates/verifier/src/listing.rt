@@ -4,7 +4,7 @@ ghost use Rattle.verifier.specs.Listing.{is_end, is_placed, is_tag, is_there, ju
 ghost use Rattle.facts.specs.Word.{AnswersOrWantsMemory};
 
 pub use facts::address::number_at;
-use facts::refusal::{Refusal, RefusalKind};
+use facts::refusal::{Refusal, RefusalKind, RefusedAt};
 use point_types::Items;
 use scan_code::{Image, Op, decode};
 use std::alloc::Global;
@@ -42,10 +42,10 @@ pub fn listing(alloc: Global, image: &Image) -> Result<Items<(usize, Op)>, Refus
 
 /// The refusal of a wrong instruction.
 fn wrong_at(at: usize) -> Refusal
-    ensures { result ≡ record { at = at; kind = RefusalKind.Code } }
+    ensures { result ≡ record { at = RefusedAt.Instruction at; kind = RefusalKind.Code } }
 {
     Refusal {
-        at,
+        at: RefusedAt::Instruction(at),
         kind: RefusalKind::Code,
     }
 }

@@ -10,7 +10,7 @@ use crate::arrived::Arrived;
 use crate::fact_domain::{FactDomain, Ways};
 use crate::heads::{is_head, loop_heads};
 use facts::context::Context;
-use facts::refusal::{Refusal, RefusalKind};
+use facts::refusal::{Refusal, RefusalKind, RefusedAt};
 use point_types::Items;
 use std::alloc::{AllocError, Global};
 use std::mem;
@@ -93,7 +93,10 @@ pub(crate) fn pass_on<F: FactDomain>(
             deliver_all(alloc, pending, ways)?;
             Ok(())
         }
-        Err(kind) => Err(Refusal { at, kind }),
+        Err(kind) => Err(Refusal {
+            at: RefusedAt::Instruction(at),
+            kind,
+        }),
     }
 }
 

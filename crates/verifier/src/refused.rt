@@ -1,13 +1,12 @@
 //! A refusal, and the instruction that it speaks of.
-use facts::refusal::{Refusal, RefusalKind};
+use facts::refusal::{Refusal, RefusalKind, RefusedAt};
 use scan_code::Image;
 
-/// An image that is refused: why, and at which instruction, counted from 0; for the kinds of tags the
-/// number of the image's tag, and 0 for OverBudget and OutOfMemory.
+/// An image that is refused: why, and what of it.
 #[derive(Drop)]
 pub struct Refused {
     pub image: Image,
-    pub at: usize,
+    pub at: RefusedAt,
     pub kind: RefusalKind,
 }
 

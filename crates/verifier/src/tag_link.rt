@@ -4,7 +4,7 @@ ghost use Rattle.verifier.specs.Links.{allowed, is_stored, link_of, links_from, 
 ghost use Rattle.verifier.specs.Ranges.{range_of};
 ghost use Rattle.facts.specs.Word.{AnswersOrWantsMemory};
 
-use facts::refusal::{Refusal, RefusalKind};
+use facts::refusal::{Refusal, RefusalKind, RefusedAt};
 use facts::tag_range::TagRange;
 use point_types::{Items, Name};
 use scan_code::Tag;
@@ -30,7 +30,10 @@ pub fn links(alloc: Global, site: &[SiteTag], tags: &[Tag]) -> Result<Items<TagL
     while let [tag, after @ ..] = rest {
         let link = match link_of(site, tag) {
             Ok(link) => link,
-            Err(kind) => return Err(Refusal { at, kind }),
+            Err(kind) => {
+                let at = RefusedAt::Tag(at);
+                return Err(Refusal { at, kind });
+            }
         };
         links.push(link)?;
         at += 1;

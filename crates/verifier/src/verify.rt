@@ -14,7 +14,7 @@ use crate::tag_link::{TagLink, links, ranges};
 use crate::verified::Verified;
 use facts::context::Context;
 use facts::fact::Fact;
-use facts::refusal::{Refusal, RefusalKind};
+use facts::refusal::{Refusal, RefusalKind, RefusedAt};
 use point_types::Items;
 use scan_code::{Image, Op};
 use site_model::Site;
@@ -113,7 +113,7 @@ fn within_budget(steps: usize) -> Result<u32, Refusal>
         Ok(steps as u32)
     } else {
         Err(Refusal {
-            at: 0,
+            at: RefusedAt::Program,
             kind: RefusalKind::OverBudget,
         })
     }

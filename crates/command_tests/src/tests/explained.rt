@@ -11,17 +11,17 @@ const OF_READING: &[Explained] = &[
     (
         "PROGRAM p\nVAR_EXTERNAL\n  inv1_w, inv2_w : DINT;\n  target, lim1 : INT;\n  ena1 : BOOL;\nEND_VAR\nVAR\n  a, z : INT;\n  b : BOOL;\n  d : DINT;\n  x : INT (0..10);\nEND_VAR\n  LD x ?\nEND_PROGRAM\n",
         "refused: read Word line 13\n",
-        "p.il:13: Word: characters that are no word of the language\n   13 |   LD x ?\n      |   ^^^^^^\n  help: write names in letters, digits and single underscores, at most 32 of them; close each comment (* .. *)\n",
+        "p.il:13: Word: characters that are no word of the language\n   13 |   LD x ?\n      |        ^\n  help: write names in letters, digits and single underscores, at most 32 of them; close each comment (* .. *)\n",
     ),
     (
         "PROGRAM p\nLD 1",
         "refused: read Header line 2\n",
-        "p.il:2: Header: the frame of the program is broken\n    2 | LD 1\n      | ^^^^\n  help: begin with PROGRAM and a name, end with END_PROGRAM, and write nothing behind it\n",
+        "p.il:2: Header: the frame of the program is broken\n    2 | LD 1\n      |    ^\n  help: begin with PROGRAM and a name, end with END_PROGRAM, and write nothing behind it\n",
     ),
     (
         "PROGRAM p\nVAR_EXTERNAL\n  inv1_w, inv2_w : DINT;\n  target, lim1 : INT;\n  ena1 : BOOL;\nEND_VAR\nVAR\n  a, z : INT;\n  b : BOOL;\n  d : DINT;\n  x : INT (0..10);\n  k : SINT := 200;\nEND_VAR\nEND_PROGRAM\n",
         "refused: read Declaration line 12\n",
-        "p.il:12: Declaration: no declaration of a variable or an external\n   12 |   k : SINT := 200;\n      |   ^^^^^^^^^^^^^^^^\n  help: write name : TYPE; with (low..high) or := start inside the type; look for a missing semicolon in the line before\n",
+        "p.il:12: Declaration: no declaration of a variable or an external\n   12 |   k : SINT := 200;\n      |               ^^^\n  help: write name : TYPE; with (low..high) or := start inside the type; look for a missing semicolon in the line before\n",
     ),
     (
         "PROGRAM p\nVAR_EXTERNAL\n  inv1_w, inv2_w : DINT;\n  target, lim1 : INT;\n  ena1 : BOOL;\nEND_VAR\nVAR\n  a, z : INT;\n  b : BOOL;\n  d : DINT;\n  x : INT (0..10);\nEND_VAR\n  FOO a\nEND_PROGRAM\n",
@@ -31,12 +31,12 @@ const OF_READING: &[Explained] = &[
     (
         "PROGRAM p\nVAR_EXTERNAL\n  inv1_w, inv2_w : DINT;\n  target, lim1 : INT;\n  ena1 : BOOL;\nEND_VAR\nVAR\n  a, z : INT;\n  b : BOOL;\n  d : DINT;\n  x : INT (0..10);\nEND_VAR\n  LD\nEND_PROGRAM\n",
         "refused: read Operand line 13\n",
-        "p.il:13: Operand: an operand is missing, or one is too many\n   13 |   LD\n      |   ^^\n  help: give one operand; LIMIT and SEL take two with a comma, NOT, ABS and conversions none\n",
+        "p.il:13: Operand: an operand is missing, or one is too many\n   13 |   LD\n      |     ^ the line ends here\n  help: give one operand; LIMIT and SEL take two with a comma, NOT, ABS and conversions none\n",
     ),
     (
         "PROGRAM p\nVAR_EXTERNAL\n  inv1_w, inv2_w : DINT;\n  target, lim1 : INT;\n  ena1 : BOOL;\nEND_VAR\nVAR\n  a, z : INT;\n  b : BOOL;\n  d : DINT;\n  x : INT (0..10);\nEND_VAR\n  JMP\nEND_PROGRAM\n",
         "refused: read Label line 13\n",
-        "p.il:13: Label: a jump without the name of a label\n   13 |   JMP\n      |   ^^^\n  help: name a label that stands before a line, as JMP done\n",
+        "p.il:13: Label: a jump without the name of a label\n   13 |   JMP\n      |      ^ the line ends here\n  help: name a label that stands before a line, as JMP done\n",
     ),
     (
         "PROGRAM p\nVAR_EXTERNAL\n  inv1_w, inv2_w : DINT;\n  target, lim1 : INT;\n  ena1 : BOOL;\nEND_VAR\nVAR\n  a, z : INT;\n  b : BOOL;\n  d : DINT;\n  x : INT (0..10);\nEND_VAR\n  LD a\n  )\nEND_PROGRAM\n",
@@ -51,7 +51,22 @@ const OF_READING: &[Explained] = &[
     (
         "PROGRAM p\nVAR_EXTERNAL\n  inv1_w, inv2_w : DINT;\n  target, lim1 : INT;\n  ena1 : BOOL;\nEND_VAR\nVAR\n  a, z : INT;\n  b : BOOL;\n  d : DINT;\n  x : INT (0..10);\n  a : INT;\nEND_VAR\nEND_PROGRAM\n",
         "refused: read Duplicate line 12\n",
-        "p.il:12: Duplicate: a name that stands already\n   12 |   a : INT;\n      |   ^^^^^^^^\n  help: rename one of the two; case makes no difference\n",
+        "p.il:12: Duplicate: a name that stands already\n   12 |   a : INT;\n      |   ^\n  help: rename one of the two; case makes no difference\n",
+    ),
+    (
+        "PROGRAM p\nVAR\n  a : INT;\nEND_VAR\n  LD a\n  SEL a,   (* and *)\nEND_PROGRAM\n",
+        "refused: read Operand line 6\n",
+        "p.il:6: Operand: an operand is missing, or one is too many\n    6 |   SEL a,   (* and *)\n      |         ^ the line ends here\n  help: give one operand; LIMIT and SEL take two with a comma, NOT, ABS and conversions none\n",
+    ),
+    (
+        "PROGRAM p\n  LD 1\r\n  ADD( 5\r\n",
+        "refused: read Parenthesis line 3\n",
+        "p.il:3: Parenthesis: a parenthesis that closes or opens nothing, or what may not stand inside\n    3 |   ADD( 5\n      |         ^ the text ends here\n  help: give each op( a ) on a line of its own, and store, jump and return behind it\n",
+    ),
+    (
+        "PROGRAM p\nVAR\n  a : INT;\nEND_VAR\n  again LD a\nEND_PROGRAM\n",
+        "refused: read Operator line 5\n",
+        "p.il:5: Operator: no operator stands where one must\n    5 |   again LD a\n      |   ^^^^^\n  help: begin the line with one operator, as LD or ADD; a label has a colon, and {LOOP n} stands before a jump\n",
     ),
 ];
 
@@ -74,7 +89,17 @@ const OF_ASSEMBLING: &[Explained] = &[
     (
         "PROGRAM p\nVAR_EXTERNAL\n  inv1_w, inv2_w : DINT;\n  target, lim1 : INT;\n  ena1 : BOOL;\nEND_VAR\nVAR\n  a, z : INT;\n  b : BOOL;\n  d : DINT;\n  x : INT (0..10);\nEND_VAR\n  LD target\n  ST target\nEND_PROGRAM\n",
         "refused: assemble LoadAndStore line 14\n",
-        "p.il:14: LoadAndStore: an external that is loaded and stored\n   14 |   ST target\n      |      ^^^^^^\n  help: use two tags, or keep the value in a variable: a tag is an input or an output\n",
+        "p.il:14: LoadAndStore: an external that is loaded and stored\n   14 |   ST target\n      |      ^^^^^^ it is loaded in line 13\n  help: use two tags, or keep the value in a variable: a tag is an input or an output\n",
+    ),
+    (
+        "PROGRAM p\nVAR_EXTERNAL\n  target : INT;\nEND_VAR\n  LD 1\n  ST target\n  LD 2\n  ADD( 3\n  MUL target\n  )\nEND_PROGRAM\n",
+        "refused: assemble LoadAndStore line 9\n",
+        "p.il:9: LoadAndStore: an external that is loaded and stored\n    9 |   MUL target\n      |       ^^^^^^ it is stored in line 6\n  help: use two tags, or keep the value in a variable: a tag is an input or an output\n",
+    ),
+    (
+        "PROGRAM p\nVAR_EXTERNAL\n  target : INT;\n  ena : BOOL;\nEND_VAR\n  LD ena\n  ANDN( target_OK\n  OR ena\n  )\n  LD 1\n  ST target\nEND_PROGRAM\n",
+        "refused: assemble LoadAndStore line 11\n",
+        "p.il:11: LoadAndStore: an external that is loaded and stored\n   11 |   ST target\n      |      ^^^^^^ it is loaded in line 7\n  help: use two tags, or keep the value in a variable: a tag is an input or an output\n",
     ),
     (
         "PROGRAM p\nVAR_EXTERNAL\n  inv1_w, inv2_w : DINT;\n  target, lim1 : INT;\n  ena1 : BOOL;\nEND_VAR\nVAR\n  a, z : INT;\n  b : BOOL;\n  d : DINT;\n  x : INT (0..10);\nEND_VAR\n  LD b\n  AND 1\nEND_PROGRAM\n",

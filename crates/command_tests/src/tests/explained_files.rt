@@ -2,7 +2,7 @@
 use crate::tests::explained::assert_note;
 use crate::tests::files::{PROGRAM, SITE};
 use crate::tests::links::{PLANT, PlantLink};
-use crate::tests::{assert_same, joined, printed, texts};
+use crate::tests::{assert_same, edited_once, joined, printed, texts};
 use command_line::{WatchedLink, cause_of_link};
 use commands::{judge, plant_of, scans};
 use gateway::Poller;
@@ -220,12 +220,6 @@ fn assert_plant(rt: &(impl AllocGlobal + Abort), plant: &str, lines: &str, note:
         cause.detail = String::new(rt.alloc());
     }
     assert_note(rt, cause, "plant.toml", "", note);
-}
-
-/// A text with its first `old` replaced.
-fn edited_once(rt: &(impl AllocGlobal + Abort), text: &str, old: &str, new: &str) -> String {
-    let (before, behind) = text.split_once(old).expect(rt, "what is replaced");
-    joined(rt, &[before, new, behind])
 }
 
 /// What the plant does wrong, and what is explained of it.

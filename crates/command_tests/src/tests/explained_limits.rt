@@ -8,7 +8,7 @@ fn an_expression_that_is_nested_too_deep_is_explained(rt: HostRuntime) {
         text.push_str("  ADD( 1\n").expect(&rt, "memory");
     }
     let note =
-        "p.il:103: TooLong: the text has more than a program may have\n  103 |   ADD( 1\n      |   ^^^^^^\n  help: split the program, or store parts of a nested expression in variables\n";
+        "p.il:103: TooLong: the text has more than a program may have\n  103 |   ADD( 1\n      |      ^\n  help: split the program, or store parts of a nested expression in variables\n";
     assert_verdict(&rt, text.as_str(), "refused: read TooLong line 103\n", note);
 }
 

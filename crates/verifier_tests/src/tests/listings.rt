@@ -6,7 +6,7 @@ use scan_code::{Image, Op};
 use std::alloc::Global;
 use std::process::Abort;
 use verifier::listing::listing;
-use verifier::refusal::{Refusal, RefusalKind};
+use verifier::refusal::{Refusal, RefusalKind, RefusedAt};
 use worked_texts::images::{code, variables};
 use worked_texts::programs::DeclaredVariable;
 
@@ -48,7 +48,7 @@ static UNLISTED: [(u8, &[u8], usize); 8] = [
 
 fn refused(at: usize) -> Option<Refusal> {
     Some(Refusal {
-        at,
+        at: RefusedAt::Instruction(at),
         kind: RefusalKind::Code,
     })
 }
@@ -65,7 +65,7 @@ fn refuses_the_first_that_is_no_instruction(rt: HostRuntime) {
 #[test]
 fn prints_kinds(rt: HostRuntime) {
     let refusal = Refusal {
-        at: 3,
+        at: RefusedAt::Instruction(3),
         kind: RefusalKind::WrongType,
     };
     let printed = format!(in rt.alloc(); "{refusal}").expect(&rt, "memory");

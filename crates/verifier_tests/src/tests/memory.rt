@@ -6,7 +6,7 @@ use scan_code::Image;
 use site_model::Site;
 use std::alloc::Global;
 use std::process::Abort;
-use verifier::refusal::RefusalKind;
+use verifier::refusal::{RefusalKind, RefusedAt};
 use verifier::refused::Refused;
 use verifier::verify::verify;
 use worked_texts::images::image;
@@ -16,7 +16,7 @@ use worked_texts::sites::{SITE, site_of};
 /// No memory was left, and the image is that of these bytes still.
 fn assert_unchanged(rt: &impl Abort, alloc: Global, refused: &Refused, bytes: &[u8]) {
     assert_true(rt, refused.kind == RefusalKind::OutOfMemory);
-    assert_same(rt, &refused.at, &0);
+    assert_same(rt, &refused.at, &RefusedAt::Program);
     if let Ok(again) = refused.image.write(alloc) {
         assert_true(rt, again.as_slice() == bytes);
     }

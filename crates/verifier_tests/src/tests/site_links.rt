@@ -6,7 +6,7 @@ use scan_code::Tag;
 use site_model::{Access, SiteTag};
 use std::alloc::Global;
 use std::process::Abort;
-use verifier::refusal::{Refusal, RefusalKind};
+use verifier::refusal::{Refusal, RefusalKind, RefusedAt};
 use verifier::tag_link::{TagLink, links};
 use worked_texts::images::tags;
 use worked_texts::programs::DeclaredTag;
@@ -91,7 +91,7 @@ fn refuses_tags_that_are_not_the_sites(rt: HostRuntime) {
         let tags = image_tags(&rt, rt.alloc(), rows);
         let refusal = links(rt.alloc(), &site, tags.as_slice()).err();
         let wanted = Refusal {
-            at: *at,
+            at: RefusedAt::Tag(*at),
             kind: *kind,
         };
         assert_same(&rt, &refusal, &Some(wanted));

@@ -53,7 +53,7 @@ pub(crate) type Verdict = Result<u32, (RefusalKind, usize)>;
 fn verdict<const DEPTH: usize>(alloc: Global, image: Image, site: &Site) -> Verdict {
     match verify::<DEPTH>(alloc, image, site) {
         Ok(verified) => Ok(verified.budget()),
-        Err(refused) => Err((refused.kind, refused.at)),
+        Err(refused) => Err((refused.kind, refused.at.number())),
     }
 }
 

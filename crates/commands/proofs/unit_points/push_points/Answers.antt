@@ -1,4 +1,4 @@
-use Rattle.std.proofs.Common.{refl, sym, []}
+use Rattle.std.proofs.Common.{sym, []}
 use Rattle.std.proofs.lemmas.List.{append-nil}
 use Rattle.commands.specs.Probe.{points_by}
 use Rattle.commands.proofs.UnitLemmas.{points_alone, points_read, points_stop, points_unread}

@@ -1,6 +1,7 @@
 use Rattle.std.proofs.Common.{rules, ◌≡◌, ◌+◌, ◌<◌, ◌≤◌, length, false, true, Some, Err, List, [], ◌∷◌, ◌++◌, inl, sym, ap, ◌∙◌, arith, length-append}
 use Rattle.scan_code.specs.Instruction.{decoded_at}
 use Rattle.facts.specs.declared.refusal.Refusal.{Refusal}
+use Rattle.facts.specs.declared.refusal.RefusedAt.TheVariants as spot
 use Rattle.facts.specs.declared.refusal.RefusalKind.TheVariants.{Code}
 use Rattle.verifier.specs.Listing.{Entry, is_placed}
 use Rattle.verifier.proofs.Listed.{left_after, left_misplaced, jumps_few}
@@ -13,7 +14,7 @@ returns-then-not-is_placed c =
     let before : l.at < length image.code = search rules in
     let decoded : decoded_at image.code l.at ≡ Some (c.in-Some.op, c.in-Some.next) = search rules in
     let misplaced : is_placed image l.jumps c.in-Some.op ≡ false = search rules in
-    let refusal : ◌≡◌ {A = Refusal} (record { at = length l.listing.items; kind = Code }) c.wrong_at-then-not-is_placed.result = search rules in
+    let refusal : ◌≡◌ {A = Refusal} (record { at = spot.Instruction (length l.listing.items); kind = Code }) c.wrong_at-then-not-is_placed.result = search rules in
     inl (sym l.invariant.0 ∙ left_misplaced image l.listing.items l.at l.jumps c.in-Some.next l.ended c.in-Some.op before l.invariant.1 decoded misplaced ∙ ap (λ (r : Refusal). Err r) refusal)
 
 pub loop-at-preserved : goal.loop-at-preserved

@@ -1,0 +1,131 @@
+//! What the program is asked for over a link to devices, done by one call.
+ghost use Rattle.std.specs.Prelude.{map, string_bytes, IfErr, IfOk};
+ghost use Rattle.commands.specs.Accepted.{TellsUndefined};
+ghost use Rattle.commands.specs.Defined.{AreDefined};
+ghost use Rattle.commands.specs.Obeyed.{ObeysOver, ProbesBy, Runs};
+
+use crate::accepted::DEPTH;
+use crate::definitions::definitions;
+use crate::outcome::{Outcome, tell_no_memory};
+use crate::report::undefined;
+use crate::scan_watch::ScanWatch;
+use crate::site_scans::scans_noting;
+use crate::unit_points::probe;
+use gateway::{Core, Poller};
+use modbus_frame::Link;
+use model_defs::{DefFault, ModelDef};
+use refusal_notes::{Cause, cause_of_definition};
+use std::alloc::{AllocError, Global};
+use std::io::Write;
+
+/// What the program is asked for over a link, with the texts of the files that are named.
+#[derive(Clone, Copy)]
+pub enum LinkCommand<'a> {
+    /// So many scans of a program on a site.
+    Run {
+        site: &'a str,
+        program: &'a str,
+        defs: &'a [String],
+        scans: u32,
+    },
+    /// The points of a unit, by the shipped definitions and those of the texts.
+    Probe {
+        unit: u8,
+        defs: &'a [String],
+    },
+}
+
+/// What came of a command over a link: the core behind the scans, its status, and why a text is refused.
+#[derive(Drop)]
+pub struct ObeyedOver {
+    pub core: Option<Core<DEPTH>>,
+    pub status: u8,
+    pub cause: Option<Cause>,
+}
+
+/// Does what a command asks for, on just its texts and over the poller's link, and prints what comes of it: as
+/// [`scans`](crate::scans) and [`probe`] do. Where a text is refused nothing is asked over the link. `watch` looks on at
+/// the scans.
+pub fn obey_over<L: Link, V: ScanWatch, W: Write>(
+    alloc: Global,
+    command: LinkCommand<'_>,
+    poller: &mut Poller<L>,
+    watch: &mut V,
+    out: &mut W,
+) -> ObeyedOver
+    ensures { ObeysOver command.entry poller.old poller.new (W.contents out.old) (W.contents out.new) result.core result.status }
+{
+    match command {
+        LinkCommand::Run {
+            site,
+            program,
+            defs,
+            scans,
+        } => run_by(alloc, poller, site, program, defs, scans, watch, out),
+        LinkCommand::Probe { unit, defs } => {
+            let (status, cause) = probe_by(alloc, poller, unit, defs, out);
+            ObeyedOver {
+                core: None,
+                status,
+                cause,
+            }
+        }
+    }
+}
+
+/// Does so many scans of a program on a site.
+fn run_by<L: Link, V: ScanWatch, W: Write>(
+    alloc: Global,
+    poller: &mut Poller<L>,
+    site: &str,
+    program: &str,
+    defs: &[String],
+    n: u32,
+    watch: &mut V,
+    out: &mut W,
+) -> ObeyedOver
+    ensures { Runs site.now program.now (map string_bytes defs.now) n poller.old poller.new (W.contents out.old) (W.contents out.new) result.core result.status }
+{
+    let mut cause = None;
+    let (core, status) = scans_noting(
+        alloc, site, program, defs, n, poller, watch, &mut cause, out,
+    );
+    ObeyedOver {
+        core,
+        status,
+        cause,
+    }
+}
+
+/// Probes a unit by the shipped definitions and those of the texts, or tells the first text that is none.
+fn probe_by<L: Link, W: Write>(
+    alloc: Global,
+    poller: &mut Poller<L>,
+    unit: u8,
+    defs: &[String],
+    out: &mut W,
+) -> (u8, Option<Cause>)
+    ensures { ProbesBy unit (map string_bytes defs.now) poller.old poller.new (W.contents out.old) (W.contents out.new) result.0 }
+{
+    match models_of(alloc, defs) {
+        Ok(Ok(models)) => (probe(alloc, poller, unit, models.as_slice(), out), None),
+        Ok(Err(outcome)) => (outcome.tell(out), outcome.cause),
+        Err(AllocError) => (tell_no_memory(out), None),
+    }
+}
+
+/// The shipped definitions and those of the texts, or what is told of the first text that is none.
+fn models_of(alloc: Global, defs: &[String]) -> Result<Result<Vec<ModelDef>, Outcome>, AllocError>
+    ensures defined { IfOk result (λ given. IfOk given (λ models. AreDefined (map string_bytes defs.now) models.items)) }
+    ensures told { IfOk result (λ given. IfErr given (TellsUndefined (map string_bytes defs.now))) }
+{
+    match definitions(alloc, defs) {
+        Ok(models) => Ok(Ok(models)),
+        Err(DefFault::OutOfMemory) => Err(AllocError),
+        Err(fault) => {
+            let line = undefined(alloc, fault.word())?;
+            let cause = cause_of_definition(alloc, defs, fault);
+            Ok(Err(Outcome::caused(line, cause)))
+        }
+    }
+}

@@ -1,0 +1,93 @@
+//! The keys of site and plant files that are read, and which others stand there.
+use crate::unread_keys::{Unread, is_among};
+use file_keys::{EntryName, list_at, named_entry};
+use std::alloc::AllocError;
+use toml::Value;
+
+const SITE: &[&str] = &["gateway", "device", "tag", "served"];
+
+const GATEWAY: &[&str] = &["unit", "base", "models"];
+
+const DEVICE: &[&str] = &["name", "unit", "base", "write", "address", "remote_unit"];
+
+const TAG: &[&str] = &[
+    "name", "access", "device", "model", "point", "type", "exponent", "low", "high", "default",
+    "bit", "round",
+];
+
+const SERVED: &[&str] = &["model", "point", "value", "text", "sum"];
+
+const PLANT: &[&str] = &["device", "fault"];
+
+const INVERTER: &[&str] = &["unit", "models", "wmax", "available", "base", "value"];
+
+const VALUE: &[&str] = &["model", "point", "raw"];
+
+const FAULT: &[&str] = &["request", "kind", "code", "count", "word", "bytes"];
+
+/// Appends the keys of a site file that nothing reads.
+pub(crate) fn push_unread_of_site<'a>(
+    found: &mut Vec<Unread<'a>>,
+    tree: &'a Value,
+) -> Result<(), AllocError> {
+    push_unread(found, EntryName::Alone("the file"), tree, SITE)?;
+    if let Some(gateway) = tree.get("gateway") {
+        push_unread(found, EntryName::Alone("[gateway]"), gateway, GATEWAY)?;
+    }
+    push_each(found, tree, "device", "[[device]]", DEVICE)?;
+    push_each(found, tree, "tag", "[[tag]]", TAG)?;
+    push_each(found, tree, "served", "[[served]]", SERVED)
+}
+
+/// Appends the keys of a plant file that nothing reads.
+pub(crate) fn push_unread_of_plant<'a>(
+    found: &mut Vec<Unread<'a>>,
+    tree: &'a Value,
+) -> Result<(), AllocError> {
+    push_unread(found, EntryName::Alone("the file"), tree, PLANT)?;
+    push_each(found, tree, "device", "[[device]]", INVERTER)?;
+    push_each(found, tree, "fault", "[[fault]]", FAULT)?;
+    let Some(devices) = list_at(tree, "device") else {
+        return Ok(());
+    };
+    for device in devices {
+        push_each(found, device, "value", "[[device.value]]", VALUE)?;
+    }
+    Ok(())
+}
+
+/// Appends what nothing reads of each entry of a section.
+fn push_each<'a>(
+    found: &mut Vec<Unread<'a>>,
+    tree: &'a Value,
+    section: &str,
+    shown: &'static str,
+    known: &'static [&'static str],
+) -> Result<(), AllocError> {
+    let Some(entries) = list_at(tree, section) else {
+        return Ok(());
+    };
+    for (number, entry) in entries.iter().enumerate() {
+        push_unread(found, named_entry(shown, entry, number), entry, known)?;
+    }
+    Ok(())
+}
+
+/// Appends each key of an entry that isn't among those that are known.
+fn push_unread<'a>(
+    found: &mut Vec<Unread<'a>>,
+    entry: EntryName<'a>,
+    table: &'a Value,
+    known: &'static [&'static str],
+) -> Result<(), AllocError> {
+    let Some(table) = table.as_table() else {
+        return Ok(());
+    };
+    for (key, _) in table {
+        let key = key.as_str();
+        if !is_among(known, key) {
+            found.push(Unread { entry, key, known })?;
+        }
+    }
+    Ok(())
+}
