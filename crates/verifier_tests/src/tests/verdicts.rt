@@ -102,17 +102,30 @@ fn budget<F: FactDomain>(
     Ok(steps.expect(rt, "memory"))
 }
 
-fn judged(rt: &impl Abort, alloc: Global, image: &Image, site: &Site) -> Result<usize, Refusal> {
+fn judged(
+    rt: &impl Abort,
+    alloc: Global,
+    image: &Image,
+    site: &Site,
+) -> Result<usize, (RefusalKind, usize)> {
     match frame_of(rt, alloc, image, site) {
-        Ok(context) => budget::<FullFact>(rt, alloc, &context),
-        Err(refusal) => Err(refusal),
+        Ok(context) => numbered(budget::<FullFact>(rt, alloc, &context)),
+        Err(refusal) => numbered(Err(refusal)),
     }
 }
 
-fn as_judged(verdict: Verdict) -> Result<usize, Refusal> {
+/// The same with the number that is printed of what is refused.
+fn numbered(judged: Result<usize, Refusal>) -> Result<usize, (RefusalKind, usize)> {
+    match judged {
+        Ok(budget) => Ok(budget),
+        Err(refusal) => Err((refusal.kind, refusal.at.number())),
+    }
+}
+
+fn as_judged(verdict: Verdict) -> Result<usize, (RefusalKind, usize)> {
     match verdict {
         Ok(budget) => Ok(budget as usize),
-        Err((kind, at)) => Err(Refusal { at, kind }),
+        Err(refused) => Err(refused),
     }
 }
 
@@ -121,7 +134,7 @@ fn assert_judged(
     alloc: Global,
     image: &Image,
     site: &Site,
-    wanted: &Result<usize, Refusal>,
+    wanted: &Result<usize, (RefusalKind, usize)>,
 ) {
     assert_same(rt, &judged(rt, alloc, image, site), wanted);
 }
