@@ -1,4 +1,9 @@
 //! The command line.
+ghost use Rattle.std.specs.Prelude.{◌≡◌, codes, map, string_bytes, IfSome};
+ghost use Rattle.commands.specs.Explained.{IsExplained};
+ghost use Rattle.commands.specs.Obeyed.{Checks, Obeys};
+ghost use Rattle.command_line.specs.Tried.{Tries};
+
 use crate::arguments::command;
 use crate::plant_run::{PlantRun, run_plant};
 use crate::plant_server::{PlantPort, simulate};
@@ -8,16 +13,15 @@ use crate::serve_words::{
 };
 use crate::service_run::{ServiceRun, run_service};
 use crate::source::{SourceFault, read_text};
-use crate::sources::{Refusal, Sources, read_definitions, read_plant, read_served, read_sources};
+use crate::sources::{Refusal, read_sources, read_state};
 use crate::standard_input::{STANDARD_INPUT, misuse};
 use clap::error::ErrorKind;
 use clap::{ArgMatches, Error};
-use commands::definitions::definitions_told;
-use commands::{explain, judge, tell_no_memory, try_input, write_lines};
-use refusal_notes::{Cause, Notes, explain_unusable};
+use commands::{TextCommand, tell_no_memory, write_lines};
+use refusal_notes::{Notes, explain_unusable};
 use site_service::Serving;
 use std::alloc::{AllocError, Global};
-use std::io::Write;
+use std::io::{Read, Write};
 use std::net::Net;
 use std::process::Processes;
 use std::rt::{Env, Files};
@@ -73,12 +77,25 @@ fn trial_of_input<W: Write>(
     quiet: bool,
     out: &mut W,
 ) -> u8 {
-    match read_text(rt.alloc(), rt.reader()) {
+    trial_of(rt, rt.reader(), quiet, out)
+}
+
+/// A trial of the text that a reader gives.
+fn trial_of<S: Read + Drop, W: Write>(
+    rt: &(impl Eprint + AllocGlobal),
+    reader: S,
+    quiet: bool,
+    out: &mut W,
+) -> u8
+    ensures { IfSome (S.remaining reader) (λ bytes. Tries bytes (W.contents out.old) (W.contents out.new) result) }
+{
+    match read_text(rt.alloc(), reader) {
         Ok(text) => {
-            let (status, cause) = try_input(rt.alloc(), text.as_str(), out);
-            let notes = Notes::on_program(quiet, STANDARD_INPUT, text.as_str());
-            notes.explain(rt, &cause);
-            status
+            let input = text.as_str();
+            let notes = Notes::on_program(quiet, STANDARD_INPUT, input);
+            let obeyed = commands::obey(rt.alloc(), TextCommand::Trial { input }, out);
+            notes.explain(rt, &obeyed.cause);
+            obeyed.status
         }
         Err(SourceFault::Unusable(fault)) => {
             if !quiet {
@@ -88,6 +105,22 @@ fn trial_of_input<W: Write>(
         }
         Err(SourceFault::OutOfMemory) => tell_no_memory(out),
     }
+}
+
+/// Has a command obeyed on the texts of its files, warns on standard error of what nothing reads in them, and explains
+/// there why a text is refused.
+fn told<W: Write>(
+    rt: &(impl Eprint + AllocGlobal),
+    command: TextCommand<'_>,
+    notes: &Notes<'_>,
+    out: &mut W,
+) -> u8
+    ensures { Obeys command.entry (W.contents out.old) (W.contents out.new) result }
+{
+    let obeyed = commands::obey(rt.alloc(), command, out);
+    notes.warn(rt);
+    notes.explain(rt, &obeyed.cause);
+    obeyed.status
 }
 
 /// Obeys the words of a command line, of which the first is the program's path, and prints what the command prints to
@@ -147,17 +180,19 @@ fn obey_matches<W: Write>(
     let Some((name, matches)) = matches.subcommand() else {
         return BAD_COMMAND_LINE;
     };
-    if let Some(why) = misuse(name, matches) {
+    if let Some(why) = misuse_of(name, matches) {
         return tell_misuse(rt, alloc, why, out);
     }
-    match name {
-        "check" => checked(rt, alloc, matches, out),
-        "explain" => explained(rt, alloc, matches, out),
-        "simulate" => simulated(rt, alloc, matches, out),
-        "run" => ran(rt, alloc, path_of(words), matches, out),
-        "serve" => served(rt, alloc, path_of(words), matches, out),
-        "probe" => probed(rt, alloc, matches, out),
-        _ => BAD_COMMAND_LINE,
+    obey_on_files(rt, alloc, path_of(words), name, matches, out)
+}
+
+/// Why the words, which have their form, ask for nothing that can be done.
+fn misuse_of(name: &str, matches: &ArgMatches<'_>) -> Option<&'static str> {
+    match misuse(name, matches) {
+        None if name == "probe" && probe_address(matches).is_none() => {
+            Some("PORT is no port, and no HOST:PORT")
+        }
+        why => why,
     }
 }
 
@@ -169,65 +204,77 @@ fn path_of(words: &[String]) -> &str {
     }
 }
 
-/// Runs `check` on the files that are named.
-fn checked<W: Write>(
-    rt: &(impl Input + Eprint + AllocGlobal + Files),
+/// Does what a command asks for on the files that are named; `itself` is this program's path.
+fn obey_on_files<W: Write>(
+    rt: &(impl Input + Print + Eprint + AllocGlobal + Files + Clock + Net + Processes),
     alloc: Global,
+    itself: &str,
+    name: &str,
     matches: &ArgMatches<'_>,
     out: &mut W,
 ) -> u8 {
-    match read_sources(rt, alloc, matches) {
-        Ok(sources) => {
-            let (site, program) = (sources.site.as_str(), sources.program.as_str());
-            let (status, cause) = judge(alloc, site, program, sources.defs.as_slice(), out);
-            explain_on(rt, matches, &sources, &cause);
-            status
-        }
-        Err(refusal) => unread(rt, alloc, matches, refusal, out),
-    }
-}
-
-/// Runs `explain` on the files that are named.
-fn explained<W: Write>(
-    rt: &(impl Input + Eprint + AllocGlobal + Files),
-    alloc: Global,
-    matches: &ArgMatches<'_>,
-    out: &mut W,
-) -> u8 {
-    match read_sources(rt, alloc, matches) {
-        Ok(sources) => {
-            let (site, program) = (sources.site.as_str(), sources.program.as_str());
-            let (status, cause) = explain(alloc, site, program, sources.defs.as_slice(), out);
-            explain_on(rt, matches, &sources, &cause);
-            status
-        }
-        Err(refusal) => unread(rt, alloc, matches, refusal, out),
-    }
-}
-
-/// Prints on standard error why a command refuses the files that are named.
-fn explain_on(
-    rt: &(impl Eprint + AllocGlobal),
-    matches: &ArgMatches<'_>,
-    sources: &Sources,
-    cause: &Option<Cause>,
-) {
-    let site_path = matches.get_str("SITE").unwrap_or(STANDARD_INPUT);
-    let program_path = matches.get_str("PROGRAM").unwrap_or(STANDARD_INPUT);
-    let def_paths = matches.get_strs("def").unwrap_or(&[]);
+    let sources = match read_sources(rt, alloc, matches) {
+        Ok(sources) => sources,
+        Err(refusal) => return unread(rt, alloc, matches, refusal, out),
+    };
     let notes = Notes {
         quiet: matches.get_flag("quiet"),
-        site_path,
+        site_path: matches.get_str("SITE").unwrap_or(""),
         site: sources.site.as_str(),
-        program_path,
+        program_path: matches.get_str("PROGRAM").unwrap_or(""),
         program: sources.program.as_str(),
-        plant_path: "",
-        plant: "",
-        def_paths,
+        plant_path: matches.get_str("PLANT").unwrap_or(""),
+        plant: sources.plant.as_str(),
+        def_paths: matches.get_strs("def").unwrap_or(&[]),
         defs: sources.defs.as_slice(),
     };
-    notes.warn(rt);
-    notes.explain(rt, cause);
+    obey_on(rt, alloc, itself, name, matches, &notes, out)
+}
+
+/// Does what a command asks for on the texts of its files.
+fn obey_on<W: Write>(
+    rt: &(impl Input + Print + Eprint + AllocGlobal + Files + Clock + Net + Processes),
+    alloc: Global,
+    itself: &str,
+    name: &str,
+    matches: &ArgMatches<'_>,
+    notes: &Notes<'_>,
+    out: &mut W,
+) -> u8
+    ensures check { name.now ≡ codes "check" → Checks notes.now.site.now notes.now.program.now (map string_bytes notes.now.defs.now) (W.contents out.old) (W.contents out.new) result }
+    ensures explain { name.now ≡ codes "explain" → IsExplained notes.now.site.now notes.now.program.now (map string_bytes notes.now.defs.now) (W.contents out.old) (W.contents out.new) result }
+{
+    let (site, program, defs) = (notes.site, notes.program, notes.defs);
+    match name {
+        "check" => told(
+            rt,
+            TextCommand::Check {
+                site,
+                program,
+                defs,
+            },
+            notes,
+            out,
+        ),
+        "explain" => told(
+            rt,
+            TextCommand::Explain {
+                site,
+                program,
+                defs,
+            },
+            notes,
+            out,
+        ),
+        "simulate" => {
+            notes.warn(rt);
+            simulate(rt, alloc, notes, plant_port(matches), out)
+        }
+        "run" => ran(rt, alloc, itself, matches, notes, out),
+        "serve" => served(rt, alloc, itself, matches, notes, out),
+        "probe" => probed(rt, alloc, matches, notes, out),
+        _ => BAD_COMMAND_LINE,
+    }
 }
 
 /// Tells why the texts of the files aren't had, with a note on the file, and gives the status.
@@ -247,92 +294,27 @@ fn unread<W: Write>(
     status
 }
 
-/// Runs `simulate` on the files that are named.
-fn simulated<W: Write>(
-    rt: &(impl Input + Eprint + AllocGlobal + Files + Net),
-    alloc: Global,
-    matches: &ArgMatches<'_>,
-    out: &mut W,
-) -> u8 {
-    match read_plant(rt, alloc, matches) {
-        Ok((plant, defs)) => {
-            simulated_on(rt, alloc, matches, plant.as_str(), defs.as_slice(), out)
-        }
-        Err(refusal) => unread(rt, alloc, matches, refusal, out),
-    }
-}
-
-/// Runs `simulate` on the texts of the files.
-fn simulated_on<W: Write>(
-    rt: &(impl Eprint + AllocGlobal + Net),
-    alloc: Global,
-    matches: &ArgMatches<'_>,
-    plant: &str,
-    defs: &[String],
-    out: &mut W,
-) -> u8 {
-    let plant_path = matches.get_str("PLANT").unwrap_or(STANDARD_INPUT);
-    let def_paths = matches.get_strs("def").unwrap_or(&[]);
-    let notes = Notes {
-        quiet: matches.get_flag("quiet"),
-        site_path: "",
-        site: "",
-        program_path: "",
-        program: "",
-        plant_path,
-        plant,
-        def_paths,
-        defs,
-    };
-    let at = PlantPort {
+/// Where `simulate` serves, and for whom.
+fn plant_port(matches: &ArgMatches<'_>) -> PlantPort {
+    PlantPort {
         port: matches.get_one("port").unwrap_or(0),
         connections: matches.get_one("connections"),
-    };
-    notes.warn(rt);
-    simulate(rt, alloc, &notes, at, out)
-}
-
-/// Runs `run` on the files that are named; `itself` is this program's path.
-fn ran<W: Write>(
-    rt: &(impl Input + Eprint + AllocGlobal + Files + Net + Processes),
-    alloc: Global,
-    itself: &str,
-    matches: &ArgMatches<'_>,
-    out: &mut W,
-) -> u8 {
-    match read_sources(rt, alloc, matches) {
-        Ok(sources) => ran_on(rt, alloc, itself, matches, &sources, out),
-        Err(refusal) => unread(rt, alloc, matches, refusal, out),
     }
 }
 
-/// Runs `run` on the texts of the files.
-fn ran_on<W: Write>(
+/// Runs `run` on the texts of the files; `itself` is this program's path.
+fn ran<W: Write>(
     rt: &(impl Eprint + AllocGlobal + Net + Processes),
     alloc: Global,
     itself: &str,
     matches: &ArgMatches<'_>,
-    sources: &Sources,
+    notes: &Notes<'_>,
     out: &mut W,
 ) -> u8 {
-    let site_path = matches.get_str("SITE").unwrap_or(STANDARD_INPUT);
-    let program_path = matches.get_str("PROGRAM").unwrap_or(STANDARD_INPUT);
     let plant = matches.get_str("plant").unwrap_or(STANDARD_INPUT);
-    let def_paths = matches.get_strs("def").unwrap_or(&[]);
     let exe = matches.get_str("exe").unwrap_or(itself);
-    let notes = Notes {
-        quiet: matches.get_flag("quiet"),
-        site_path,
-        site: sources.site.as_str(),
-        program_path,
-        program: sources.program.as_str(),
-        plant_path: "",
-        plant: "",
-        def_paths,
-        defs: sources.defs.as_slice(),
-    };
     let run = PlantRun {
-        notes,
+        notes: *notes,
         plant,
         scans: matches.get_one("scans").unwrap_or(1),
         exe,
@@ -341,29 +323,52 @@ fn ran_on<W: Write>(
     run_plant(rt, alloc, &run, out)
 }
 
-/// Runs `serve` on the files that are named; `itself` is this program's path.
+/// Runs `probe` on the port or the address that is named.
+fn probed<W: Write>(
+    rt: &(impl Eprint + AllocGlobal + Net),
+    alloc: Global,
+    matches: &ArgMatches<'_>,
+    notes: &Notes<'_>,
+    out: &mut W,
+) -> u8 {
+    let Some(address) = probe_address(matches) else {
+        return BAD_COMMAND_LINE;
+    };
+    let run = ProbeRun {
+        address,
+        unit: matches.get_one("unit").unwrap_or(1),
+        timeout: matches.get_one("timeout"),
+    };
+    probe_over(rt, alloc, run, notes, out)
+}
+
+/// Where a device is probed; none where the word is no port and no address.
+fn probe_address<'a>(matches: &ArgMatches<'a>) -> Option<ProbeAddress<'a>> {
+    ProbeAddress::of(matches.get_str("PORT").unwrap_or(""))
+}
+
+/// Runs `serve` on the texts of the files, once the file of set values is read.
 fn served<W: Write>(
     rt: &(impl Input + Print + Eprint + AllocGlobal + Files + Clock + Net + Processes),
     alloc: Global,
     itself: &str,
     matches: &ArgMatches<'_>,
+    notes: &Notes<'_>,
     out: &mut W,
 ) -> u8 {
-    match read_served(rt, alloc, matches) {
-        Ok((sources, state)) => {
-            served_on(rt, alloc, itself, matches, &sources, state.as_str(), out)
-        }
+    match read_state(rt, alloc, matches) {
+        Ok(state) => served_on(rt, alloc, itself, matches, notes, state.as_str(), out),
         Err(refusal) => unread(rt, alloc, matches, refusal, out),
     }
 }
 
-/// Runs `serve` on the texts of the files.
+/// Runs `serve` on the texts of the files and of the set values.
 fn served_on<W: Write>(
     rt: &(impl Print + Eprint + AllocGlobal + Files + Clock + Net + Processes),
     alloc: Global,
     itself: &str,
     matches: &ArgMatches<'_>,
-    sources: &Sources,
+    notes: &Notes<'_>,
     state: &str,
     out: &mut W,
 ) -> u8 {
@@ -376,7 +381,7 @@ fn served_on<W: Write>(
     match writers_of(alloc, matches) {
         Ok(Some(writers)) => {
             let serving = serving_of(matches, listen, writers.as_slice());
-            served_with(rt, alloc, itself, matches, sources, state, serving, out)
+            served_with(rt, alloc, itself, matches, notes, state, serving, out)
         }
         Ok(None) => tell_misuse(rt, alloc, "'--write-from' is no IP address", out),
         Err(AllocError) => tell_no_memory(out),
@@ -388,7 +393,7 @@ fn served_with<W: Write>(
     alloc: Global,
     itself: &str,
     matches: &ArgMatches<'_>,
-    sources: &Sources,
+    notes: &Notes<'_>,
     state: &str,
     serving: Serving<'_>,
     out: &mut W,
@@ -396,22 +401,8 @@ fn served_with<W: Write>(
     match devices_of(matches) {
         Ok(devices) => {
             let exe = matches.get_str("exe").unwrap_or(itself);
-            let site_path = matches.get_str("SITE").unwrap_or(STANDARD_INPUT);
-            let program_path = matches.get_str("PROGRAM").unwrap_or(STANDARD_INPUT);
-            let def_paths = matches.get_strs("def").unwrap_or(&[]);
-            let notes = Notes {
-                quiet: matches.get_flag("quiet"),
-                site_path,
-                site: sources.site.as_str(),
-                program_path,
-                program: sources.program.as_str(),
-                plant_path: "",
-                plant: "",
-                def_paths,
-                defs: sources.defs.as_slice(),
-            };
             let run = ServiceRun {
-                notes,
+                notes: *notes,
                 devices,
                 exe,
                 limits: service_limits(matches),
@@ -423,68 +414,4 @@ fn served_with<W: Write>(
         }
         Err(why) => tell_misuse(rt, alloc, why, out),
     }
-}
-
-/// Runs `probe` on the port or the address that is named.
-fn probed<W: Write>(
-    rt: &(impl Input + Print + Eprint + AllocGlobal + Files + Net),
-    alloc: Global,
-    matches: &ArgMatches<'_>,
-    out: &mut W,
-) -> u8 {
-    let word = matches.get_str("PORT").unwrap_or("");
-    let Some(address) = ProbeAddress::of(word) else {
-        return tell_misuse(rt, alloc, "PORT is no port, and no HOST:PORT", out);
-    };
-    let run = ProbeRun {
-        address,
-        unit: matches.get_one("unit").unwrap_or(1),
-        timeout: matches.get_one("timeout"),
-    };
-    match read_definitions(rt, alloc, matches) {
-        Ok(defs) => probed_by(rt, alloc, matches, run, defs.as_slice(), out),
-        Err(refusal) => unread(rt, alloc, matches, refusal, out),
-    }
-}
-
-/// Runs `probe` with the shipped definitions and those of these texts.
-fn probed_by<W: Write>(
-    rt: &(impl Eprint + AllocGlobal + Net),
-    alloc: Global,
-    matches: &ArgMatches<'_>,
-    run: ProbeRun<'_>,
-    defs: &[String],
-    out: &mut W,
-) -> u8 {
-    match definitions_told(alloc, defs) {
-        Ok(Ok(models)) => probe_over(rt, alloc, run, models.as_slice(), out),
-        Ok(Err(refused)) => {
-            let status = refused.tell(out);
-            let def_paths = matches.get_strs("def").unwrap_or(&[]);
-            explain_definition(rt, def_paths, defs, &refused.cause);
-            status
-        }
-        Err(AllocError) => tell_no_memory(out),
-    }
-}
-
-/// Prints on standard error why a definition is refused, where no other file is named.
-fn explain_definition(
-    rt: &(impl Eprint + AllocGlobal),
-    def_paths: &[&str],
-    defs: &[String],
-    cause: &Option<Cause>,
-) {
-    let notes = Notes {
-        quiet: false,
-        site_path: "",
-        site: "",
-        program_path: "",
-        program: "",
-        plant_path: "",
-        plant: "",
-        def_paths,
-        defs,
-    };
-    notes.explain(rt, cause);
 }

@@ -1,10 +1,14 @@
 //! A whole run over loopback: a simulated plant in a second process, the gateway's scans of it, and a probe of the gateway.
+ghost use Rattle.std.specs.Prelude.{map, string_bytes};
+ghost use Rattle.command_line.specs.Ran.{RunsFrom, polling_of};
+
 use crate::link_cause::cause_of_link;
 use crate::socket::{SocketLink, link_over, loopback};
 use crate::unwritten::UnwrittenWatch;
 use crate::watched_link::WatchedLink;
 use commands::{
-    DEPTH, FAILED_LINK, scans_noting, tell_no_memory, tell_unlinked, tell_unusable, write_lines,
+    DEPTH, FAILED_LINK, LinkCommand, ObeyedOver, ScanWatch, obey_over, tell_no_memory,
+    tell_unlinked, tell_unusable, write_lines,
 };
 use gateway::{Core, Poller, serve_client};
 use modbus_frame::{Link, LinkFault};
@@ -153,40 +157,52 @@ fn run_over<R: Net + Processes + Eprint + AllocGlobal, L: Link + Drop, W: Write>
     link: L,
     out: &mut W,
 ) -> u8 {
-    let mut cause = None;
-    let mut scanned = scans_over(rt, alloc, run, link, &mut cause, out);
-    run.notes.explain(rt, &cause);
-    probed_behind(rt, alloc, run, &mut scanned, out)
+    let mut ran = scans_over(rt, alloc, run, link, out);
+    run.notes.explain(rt, &ran.cause);
+    probed_behind(rt, alloc, run, &mut ran, out)
 }
 
-/// Does the scans over a link, and closes it. Gives the cause where they are refused or the link fails.
+/// Does the scans over a link, and closes it.
 fn scans_over<R: Eprint, L: Link + Drop, W: Write>(
     rt: &R,
     alloc: Global,
     run: &PlantRun<'_, '_>,
     link: L,
-    cause: &mut Option<Cause>,
     out: &mut W,
-) -> (Option<Core<DEPTH>>, u8) {
-    let notes = &run.notes;
+) -> ObeyedOver
+    ensures { RunsFrom (polling_of (L.coming link) (L.sent link) (L.failures link) (L.calls link)) run.now.notes.site.now run.now.notes.program.now (map string_bytes run.now.notes.defs.now) run.now.scans
+        (W.contents out.old) (W.contents out.new) result.core result.status }
+{
     let mut poller = Poller::new(WatchedLink::new(alloc, link));
-    let mut watch = UnwrittenWatch::new(rt, alloc, notes.quiet);
-    let scanned = scans_noting(
-        alloc,
-        notes.site,
-        notes.program,
-        notes.defs,
-        run.scans,
-        &mut poller,
-        &mut watch,
-        cause,
-        out,
-    );
-    if scanned.1 == FAILED_LINK {
-        *cause = cause_of_link(alloc, notes.site, notes.defs, &mut poller);
-    }
+    let mut watch = UnwrittenWatch::new(rt, alloc, run.notes.quiet);
+    let ran = scans_by(alloc, run, &mut poller, &mut watch, out);
     drop(poller.into_link().into_link());
-    scanned
+    ran
+}
+
+/// Does the scans over a poller's link. The cause is that of a refusal, or why the link failed.
+fn scans_by<L: Link, V: ScanWatch, W: Write>(
+    alloc: Global,
+    run: &PlantRun<'_, '_>,
+    poller: &mut Poller<WatchedLink<L>>,
+    watch: &mut V,
+    out: &mut W,
+) -> ObeyedOver
+    ensures { RunsFrom poller.old run.now.notes.site.now run.now.notes.program.now (map string_bytes run.now.notes.defs.now) run.now.scans
+        (W.contents out.old) (W.contents out.new) result.core result.status }
+{
+    let (site, program, defs) = (run.notes.site, run.notes.program, run.notes.defs);
+    let command = LinkCommand::Run {
+        site,
+        program,
+        defs,
+        scans: run.scans,
+    };
+    let mut ran = obey_over(alloc, command, poller, watch, out);
+    if ran.status == FAILED_LINK {
+        ran.cause = cause_of_link(alloc, site, defs, poller);
+    }
+    ran
 }
 
 /// Has the gateway probed behind scans that ended well; else gives their status.
@@ -194,12 +210,15 @@ fn probed_behind<R: Net + Processes + Eprint + AllocGlobal, W: Write>(
     rt: &R,
     alloc: Global,
     run: &PlantRun<'_, '_>,
-    scanned: &mut (Option<Core<DEPTH>>, u8),
+    ran: &mut ObeyedOver,
     out: &mut W,
 ) -> u8 {
-    match scanned {
-        (Some(core), 0) => probed(rt, alloc, run, core, out),
-        (_, status) => *status,
+    if ran.status != 0 {
+        return ran.status;
+    }
+    match &mut ran.core {
+        Some(core) => probed(rt, alloc, run, core, out),
+        None => 0,
     }
 }
 

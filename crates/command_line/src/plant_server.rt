@@ -1,12 +1,12 @@
 //! The simulator of inverters as a program: a plant behind a loopback port.
 use crate::service_run::tell_unserved;
 use crate::socket::{link_over, loopback};
-use commands::{listening, plant_of, tell_no_memory, tell_unlinked, write_lines};
+use commands::{listening, plant_told, tell_no_memory, tell_unlinked, write_lines};
 use inverter_sim::{Plant, serve_link};
 use modbus_frame::LinkFault;
 use refusal_notes::Notes;
 use site_service::PlantDoor;
-use std::alloc::{AllocError, Global};
+use std::alloc::Global;
 use std::io::{Read, Write};
 use std::net::{Net, OpenListener, OpenStream, TcpListener};
 
@@ -29,17 +29,15 @@ pub fn simulate<R: Net + Eprint + AllocGlobal, W: Write>(
     at: PlantPort,
     out: &mut W,
 ) -> u8 {
-    match plant_of(alloc, notes.plant, notes.defs) {
-        Ok(Ok(mut plant)) => match at.connections {
+    match plant_told(alloc, notes.plant, notes.defs, out) {
+        Ok(mut plant) => match at.connections {
             Some(connections) => served_to(rt, alloc, &mut plant, at.port, connections, out),
             None => served(rt, alloc, &mut plant, at.port, out),
         },
-        Ok(Err(refused)) => {
-            let status = refused.tell(out);
+        Err(refused) => {
             notes.explain(rt, &refused.cause);
-            status
+            refused.status
         }
-        Err(AllocError) => tell_no_memory(out),
     }
 }
 

@@ -1,13 +1,16 @@
 //! The connection over which a device is probed.
+ghost use Rattle.std.specs.Prelude.{map, string_bytes};
+ghost use Rattle.commands.specs.Obeyed.{ProbesBy};
+
 use crate::socket::{SocketLink, link_over, loopback};
-use commands::{probe, tell_unlinked};
+use commands::{LinkCommand, Unwatched, obey_over};
 use gateway::Poller;
-use modbus_frame::{Link, LinkFault};
-use model_defs::ModelDef;
+use modbus_frame::{Down, Link};
+use refusal_notes::Notes;
 use site_service::has_port;
 use std::alloc::{AllocError, Global};
 use std::io;
-use std::io::{ErrorKind, Write};
+use std::io::{ErrorKind, Read, Write};
 use std::net::{Net, OpenStream, SocketAddr, TcpStream, ToSocketAddrs};
 use std::time::Duration;
 
@@ -48,39 +51,110 @@ impl<'a> ProbeAddress<'a> {
     }
 }
 
-/// Prints the points of a device by these definitions, and gives the status. Where no connection comes to a `HOST:PORT`,
-/// the cause is told on standard error.
-pub(crate) fn probe_over<R: Net + Eprint + AllocGlobal, W: Write>(
-    rt: &R,
-    alloc: Global,
-    run: ProbeRun<'_>,
-    models: &[ModelDef],
-    out: &mut W,
-) -> u8 {
-    match connected(rt, run) {
-        Ok(link) => probe_link(alloc, link, run.unit, models, out),
-        Err(cause) => {
-            let status = tell_unlinked(alloc, LinkFault::Read, out);
-            if let ProbeAddress::Word(word) = run.address {
-                explain(rt, alloc, word, cause);
-            }
-            status
+/// A link that connects when something is written to it first. Where no connection comes, what is written goes nowhere and
+/// reads fail.
+#[derive(Drop)]
+struct DialedLink<'r, 'a, R: Net> {
+    rt: &'r R,
+    run: ProbeRun<'a>,
+    dialed: Dialed<R::Stream>,
+}
+
+/// Whether there is a connection.
+#[derive(Drop)]
+enum Dialed<S: Read + Write + Drop> {
+    Not,
+    Open(SocketLink<S>),
+    Failed(NoConnection),
+}
+
+impl<R: Net> DialedLink<'_, '_, R> {
+    fn dial(&mut self) {
+        self.dialed = match connected(self.rt, self.run) {
+            Ok(link) => Dialed::Open(link),
+            Err(cause) => Dialed::Failed(cause),
+        };
+    }
+
+    /// Why there is no connection, where one was wanted.
+    fn cause(&self) -> Option<NoConnection> {
+        match self.dialed {
+            Dialed::Failed(cause) => Some(cause),
+            _ => None,
         }
     }
 }
 
-/// Prints the points of a device over a link, and closes it.
-fn probe_link<L: Link + Drop, W: Write>(
+impl<R: Net> Link for DialedLink<'_, '_, R> {
+    ghost use Rattle.std.specs.Prelude.{None};
+    ghost use Rattle.modbus_frame.specs.Link.{untold};
+
+    ghost calls = { λ _. None };
+
+    ghost failures = { λ _. untold };
+
+    ghost coming = { λ _. None };
+
+    ghost sent = { λ _. None };
+
+    fn read(&mut self, into: &mut [u8]) -> Result<usize, Down> {
+        match &mut self.dialed {
+            Dialed::Open(link) => link.read(into),
+            Dialed::Not | Dialed::Failed(_) => Err(Down),
+        }
+    }
+
+    fn write(&mut self, from: &[u8]) -> Result<usize, Down> {
+        if let Dialed::Not = self.dialed {
+            self.dial();
+        }
+        match &mut self.dialed {
+            Dialed::Open(link) => link.write(from),
+            Dialed::Not | Dialed::Failed(_) => Ok(from.len()),
+        }
+    }
+}
+
+/// Prints the points of a device by the shipped definitions and those of the notes, and gives the status. It is told on
+/// standard error which definition is none, and why no connection comes to a `HOST:PORT`.
+pub(crate) fn probe_over<R: Net + Eprint + AllocGlobal, W: Write>(
+    rt: &R,
     alloc: Global,
-    link: L,
-    unit: u8,
-    models: &[ModelDef],
+    run: ProbeRun<'_>,
+    notes: &Notes<'_>,
     out: &mut W,
 ) -> u8 {
-    let mut poller = Poller::new(link);
-    let status = probe(alloc, &mut poller, unit, models, out);
-    drop(poller.into_link());
+    let mut poller = Poller::new(DialedLink {
+        rt,
+        run,
+        dialed: Dialed::Not,
+    });
+    let status = probe_by(rt, alloc, run.unit, notes, &mut poller, out);
+    let link = poller.into_link();
+    if let (ProbeAddress::Word(word), Some(cause)) = (run.address, link.cause()) {
+        explain(rt, alloc, word, cause);
+    }
     status
+}
+
+/// Prints the points of a unit over a poller's link, and on standard error which definition is none. Gives the status.
+fn probe_by<R: Eprint + AllocGlobal, L: Link, W: Write>(
+    rt: &R,
+    alloc: Global,
+    unit: u8,
+    notes: &Notes<'_>,
+    poller: &mut Poller<L>,
+    out: &mut W,
+) -> u8
+    ensures { ProbesBy unit (map string_bytes notes.now.defs.now) poller.old poller.new (W.contents out.old) (W.contents out.new) result }
+{
+    let command = LinkCommand::Probe {
+        unit,
+        defs: notes.defs,
+    };
+    let obeyed = obey_over(alloc, command, poller, &mut Unwatched, out);
+    notes.explain(rt, &obeyed.cause);
+    obeyed.status
 }
 
 fn explain<R: Eprint>(rt: &R, alloc: Global, word: &str, cause: NoConnection) {

@@ -1,6 +1,5 @@
 //! The texts of the files that a command line names.
 use crate::source::{SourceFault, read_file, read_kept};
-use crate::standard_input::STANDARD_INPUT;
 use clap::ArgMatches;
 use commands::{tell_no_memory, tell_unusable};
 use refusal_notes::{FileFault, escaped};
@@ -8,11 +7,12 @@ use std::alloc::{AllocFailed, Global};
 use std::io::Write;
 use std::rt::Files;
 
-/// The texts of the files that are named.
+/// The texts of the files that are named; empty where a command names none.
 #[derive(Drop)]
 pub(crate) struct Sources {
     pub site: String,
     pub program: String,
+    pub plant: String,
     pub defs: Vec<String>,
 }
 
@@ -48,57 +48,38 @@ impl<T: Drop> From<AllocFailed<T>> for Refusal<'_> {
     }
 }
 
-/// Reads the files in the order site, program, definitions.
+/// Reads the files that the command names, in the order site, program, plant, definitions.
 pub(crate) fn read_sources<'a>(
     rt: &(impl Input + AllocGlobal + Files),
     alloc: Global,
     matches: &ArgMatches<'a>,
 ) -> Result<Sources, Refusal<'a>> {
-    let site = text(rt, alloc, matches.get_str("SITE").unwrap_or(STANDARD_INPUT))?;
-    let program = text(
-        rt,
-        alloc,
-        matches.get_str("PROGRAM").unwrap_or(STANDARD_INPUT),
-    )?;
+    let site = named_text(rt, alloc, matches.get_str("SITE"))?;
+    let program = named_text(rt, alloc, matches.get_str("PROGRAM"))?;
+    let plant = named_text(rt, alloc, matches.get_str("PLANT"))?;
     let defs = read_definitions(rt, alloc, matches)?;
     Ok(Sources {
         site,
         program,
+        plant,
         defs,
     })
 }
 
-/// Reads the plant file, and then the definitions.
-pub(crate) fn read_plant<'a>(
-    rt: &(impl Input + AllocGlobal + Files),
+/// The text of the file of set values; empty where there is none, or none is kept.
+pub(crate) fn read_state<'a>(
+    rt: &(impl AllocGlobal + Files),
     alloc: Global,
     matches: &ArgMatches<'a>,
-) -> Result<(String, Vec<String>), Refusal<'a>> {
-    let plant = text(
-        rt,
-        alloc,
-        matches.get_str("PLANT").unwrap_or(STANDARD_INPUT),
-    )?;
-    let defs = read_definitions(rt, alloc, matches)?;
-    Ok((plant, defs))
-}
-
-/// Reads the files of a service: those of a program on a site, and then the file of set values, which is empty where there
-/// is none.
-pub(crate) fn read_served<'a>(
-    rt: &(impl Input + AllocGlobal + Files),
-    alloc: Global,
-    matches: &ArgMatches<'a>,
-) -> Result<(Sources, String), Refusal<'a>> {
-    let sources = read_sources(rt, alloc, matches)?;
+) -> Result<String, Refusal<'a>> {
     match matches.get_str("state") {
-        Some(path) => Ok((sources, taken(path, read_kept(rt, alloc, path))?)),
-        None => Ok((sources, String::new(alloc))),
+        Some(path) => taken(path, read_kept(rt, alloc, path)),
+        None => Ok(String::new(alloc)),
     }
 }
 
 /// The texts of the model definitions that are handed in, in order.
-pub(crate) fn read_definitions<'a>(
+fn read_definitions<'a>(
     rt: &(impl Input + AllocGlobal + Files),
     alloc: Global,
     matches: &ArgMatches<'a>,
@@ -121,6 +102,18 @@ fn push_texts<'a>(
         texts.push(text)?;
     }
     Ok(())
+}
+
+/// The text of a file where one is named, and else none.
+fn named_text<'a>(
+    rt: &(impl Input + AllocGlobal + Files),
+    alloc: Global,
+    path: Option<&'a str>,
+) -> Result<String, Refusal<'a>> {
+    match path {
+        Some(path) => text(rt, alloc, path),
+        None => Ok(String::new(alloc)),
+    }
 }
 
 /// The text of a file.

@@ -1,4 +1,6 @@
 //! A link that remembers what was asked over it last, and what came.
+ghost use Rattle.std.specs.Prelude.{◌≡◌};
+
 use modbus_frame::{Down, Link};
 use std::alloc::Global;
 
@@ -8,7 +10,8 @@ const KEPT: usize = 12;
 /// The function that reads registers (Modbus Application Protocol V1.1b3, 6.3).
 const READ: u8 = 3;
 
-/// A link that remembers the last request that went out, what came behind it, and the models whose ID was read.
+/// A link that remembers the last request that went out, what came behind it, and the models whose ID was read. What is
+/// read and written is what the link inside reads and writes.
 #[derive(Drop)]
 pub struct WatchedLink<L: Link> {
     link: L,
@@ -84,7 +87,9 @@ impl Front {
 
 impl<L: Link> WatchedLink<L> {
     /// The link, over which nothing was asked yet.
-    pub fn new(alloc: Global, link: L) -> WatchedLink<L> {
+    pub fn new(alloc: Global, link: L) -> WatchedLink<L>
+        ensures { result.link ≡ link }
+    {
         WatchedLink {
             link,
             request: Front::new(),
@@ -126,8 +131,21 @@ impl<L: Link> WatchedLink<L> {
         found
     }
 
+    /// Where something came behind the last request, notes the ID that it brought, and forgets both.
+    fn turn(&mut self)
+        ensures { self.new.link ≡ self.old.link }
+    {
+        if self.reply.count > 0 {
+            self.learn();
+            self.request = Front::new();
+            self.reply = Front::new();
+        }
+    }
+
     /// Notes the ID that the last reply brought. A length, which follows an ID in the next register, isn't one.
-    fn learn(&mut self) {
+    fn learn(&mut self)
+        ensures { self.new.link ≡ self.old.link }
+    {
         let Some(
             Asked {
                 unit,
@@ -157,16 +175,13 @@ impl<L: Link> WatchedLink<L> {
 }
 
 impl<L: Link> Link for WatchedLink<L> {
-    ghost use Rattle.std.specs.Prelude.{None};
-    ghost use Rattle.modbus_frame.specs.Link.{untold};
+    ghost calls = { λ l. L.calls l.link };
 
-    ghost calls = { λ _. None };
+    ghost failures = { λ l. L.failures l.link };
 
-    ghost failures = { λ _. untold };
+    ghost coming = { λ l. L.coming l.link };
 
-    ghost coming = { λ _. None };
-
-    ghost sent = { λ _. None };
+    ghost sent = { λ l. L.sent l.link };
 
     fn read(&mut self, into: &mut [u8]) -> Result<usize, Down> {
         let count = self.link.read(into)?;
@@ -175,11 +190,7 @@ impl<L: Link> Link for WatchedLink<L> {
     }
 
     fn write(&mut self, from: &[u8]) -> Result<usize, Down> {
-        if self.reply.count > 0 {
-            self.learn();
-            self.request = Front::new();
-            self.reply = Front::new();
-        }
+        self.turn();
         let count = self.link.write(from)?;
         self.request.push(from.split_at(count).0);
         Ok(count)

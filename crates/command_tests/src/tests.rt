@@ -13,6 +13,7 @@ mod probe;
 mod scans;
 mod simulate;
 mod standard_error;
+mod text_commands;
 mod trial;
 mod warnings;
 

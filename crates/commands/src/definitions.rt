@@ -5,11 +5,8 @@ ghost use Rattle.model_defs.specs.declared.model.ModelDef.{ModelDef};
 ghost use Rattle.model_defs.specs.Definition.{Breaks, IsRead};
 ghost use Rattle.commands.specs.Defined.{AreDefined, AreRead, IsFirstBroken, IsUndefined};
 
-use crate::outcome::Outcome;
-use crate::report::undefined;
 use model_defs::{DefFault, ModelDef, read, shipped_models};
-use refusal_notes::cause_of_definition;
-use std::alloc::{AllocError, Global};
+use std::alloc::Global;
 
 /// The definitions that are shipped, and behind them those of the texts, so that the last one of an ID counts; or the
 /// fault of the first text that is none.
@@ -21,22 +18,6 @@ pub fn definitions(alloc: Global, texts: &[String]) -> Result<Vec<ModelDef>, Def
     push_shipped(alloc, &mut models, shipped_models())?;
     push_definitions(alloc, &mut models, texts)?;
     Ok(models)
-}
-
-/// The definitions of a command that has no other file, or what is told of the first text that is none.
-pub fn definitions_told(
-    alloc: Global,
-    texts: &[String],
-) -> Result<Result<Vec<ModelDef>, Outcome>, AllocError> {
-    match definitions(alloc, texts) {
-        Ok(models) => Ok(Ok(models)),
-        Err(DefFault::OutOfMemory) => Err(AllocError),
-        Err(fault) => {
-            let line = undefined(alloc, fault.word())?;
-            let cause = cause_of_definition(alloc, texts, fault);
-            Ok(Err(Outcome::caused(line, cause)))
-        }
-    }
 }
 
 /// Appends the definitions of models that are shipped, in order.
