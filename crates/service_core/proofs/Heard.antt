@@ -1,41 +1,28 @@
 -- What is said of a client's place, call by call.
-use Rattle.std.proofs.Common.{◌≡◌, ℕ, zero, suc, ◌+◌, ◌-◌, ◌≤◌, ◌≢◌, ◌⊎◌, inl, inr, Bool, true, false, eqb, List, [], ◌∷◌, ◌++◌, Option, None, Some, take, drop, refl, sym, ap, subst, ◌∙◌, arith, append_assoc, ◌<◌}
+use Rattle.std.proofs.Common.{◌≡◌, ℕ, zero, suc, ◌+◌, ◌-◌, ◌≤◌, Bool, List, [], ◌∷◌, ◌++◌, Option, None, Some, take, drop, refl, sym, ap, subst, ◌∙◌, arith, append_assoc, ◌<◌, length, map, get_or, add-one}
 use Rattle.std.specs.Prelude.{min, slice_get, slice_set, ◌^◌}
 use Rattle.std.proofs.lemmas.List.{append-nil, drop-drop, take-take}
 use Rattle.std.proofs.Math.Seq.{take-add}
-use Rattle.std.proofs.lemmas.Bool.Decides.{eqb_tells}
 use Rattle.modbus_frame.specs.declared.frame.Frame.{Frame}
 use Rattle.modbus_frame.specs.Framing.{IsRead}
-use Rattle.service.specs.Sessions.{AnsweredTo, Puts, Serving, ServesOn, Turn, frames_in, fresh, opened, others, puts}
+use Rattle.service.specs.Sessions.{AnsweredTo, Puts, Serving, Turn, frames_in, fresh, opened, others, puts}
 use Rattle.service.proofs.Talking.{any_cut_is_answered}
 use Rattle.service.specs.Talk.{Talk}
 use Rattle.service_core.specs.declared.client_place.ClientPlace.{ClientPlace}
 use Rattle.service_core.specs.Counting.{more_by}
-use Rattle.service_core.specs.Clients.{ClientsAreAnswered, DoesAt, Hears, IsOpen, IsServed, OthersStay, PlacesStay, Sends, ready_of}
+use Rattle.service_core.specs.Clients.{ClientsAreAnswered, DoesAt, Hears, IsOpen, IsSame, IsServed, OthersStay, Sends, ready_of}
 
 pub counted : (k n r : ℕ) → n < 2 ^ 64 → r ≡ min (n + k) (2 ^ 64 - 1) → r ≡ more_by k n
 counted zero n r fits is = omega (arith, fits, is)
 counted (suc k) n r fits is = is
 
 module _ {S : Type 0} (Answers : S → Frame → List ℕ → Bool → S → Type 0) where
-  -- a turn puts its answers where nothing was to go out
-  pub hears_turn : (s t : S) (old new : ClientPlace) (bytes out : List ℕ) (frames : ℕ) → ServesOn Answers frames s old.session bytes out t new.session → frames ≤ 8
-      → ready_of old ≡ [] → ready_of new ≡ out → new.requests ≡ more_by frames old.requests → Hears Answers s old bytes t new
-  hears_turn s t old new bytes out frames serves few none ready count = record {
-    turns = serves.turns;
-    few = subst (λ n. n ≤ 8) (sym serves.count) few;
-    chain = serves.chain;
-    count = count ∙ ap (λ n. more_by n old.requests) (sym serves.count);
-    served = λ before stream gone is.
-        let empty : gone ++ ready_of old ≡ gone = ap (λ l. gone ++ l) none ∙ append-nil gone in
-        subst (λ r. Serving Answers (before ++ serves.turns) (stream ++ bytes) (gone ++ r) t new.session) (sym ready)
-        (serves.serves before stream gone (subst (λ l. Serving Answers before stream l s old.session) empty is));
-  }
-
   -- nothing is taken while answers are to go out
-  pub hears_nothing : (s t : S) (c : ClientPlace) → t ≡ s → Hears Answers s c [] t c
-  hears_nothing s t c same = record {
+  pub hears_nothing : (now : ℕ) (s t : S) (c : ClientPlace) → t ≡ s → Hears Answers now s c [] t c
+  hears_nothing now s t c same = record {
+    same = record { taken = refl; closing = refl; right = refl };
     turns = [];
+    since = refl;
     few = omega arith;
     chain = same;
     count = refl;
@@ -52,8 +39,8 @@ module _ {S : Type 0} (Answers : S → Frame → List ℕ → Bool → S → Typ
       append_assoc gone (ready_of old) sends.put ∙ ap (λ l. gone ++ l) sends.ready ∙ sym (append_assoc gone (take n (ready_of old)) (ready_of new)) in
       subst (λ l. Serving Answers turns stream l s new.session) e (puts before sends.put new.session sends.puts)
 
-  begins : (may_write : Bool) (s : S) (c : ClientPlace) → IsOpen may_write c → IsServed Answers [] [] [] s c
-  begins may_write s c is_open = subst (λ (talk : Talk). Serving Answers [] [] (ready_of c) s talk) (sym is_open.begins) (subst (λ l. Serving Answers [] [] l s fresh) (sym is_open.ready) (opened s))
+  begins : (may_write : Bool) (now : ℕ) (s : S) (c : ClientPlace) → IsOpen may_write now c → IsServed Answers [] [] [] s c
+  begins may_write now s c is_open = subst (λ (talk : Talk). Serving Answers [] [] (ready_of c) s talk) (sym is_open.begins) (subst (λ l. Serving Answers [] [] l s fresh) (sym is_open.ready) (opened s))
 
   answered : (turns : List (Turn S)) (stream gone : List ℕ) (s : S) (c : ClientPlace) → IsServed Answers turns stream gone s c →
       IsRead stream (frames_in turns) c.session.held × AnsweredTo Answers c.session.goes_on turns (gone ++ (ready_of c ++ c.session.waiting))
@@ -70,8 +57,8 @@ module _ {S : Type 0} (Answers : S → Frame → List ℕ → Bool → S → Typ
   }
 
 -- some more of the ready bytes are gone, and not all
-pub sends_some : (old new : ClientPlace) (n : ℕ) → old.start + n ≤ old.end → new.session ≡ old.session → new.out ≡ old.out → new.start ≡ old.start + n → new.end ≡ old.end → new.requests ≡ old.requests → Sends old n new
-sends_some old new n some session out start end_ count =
+pub sends_some : (old new : ClientPlace) (n : ℕ) → old.start + n ≤ old.end → new.session ≡ old.session → new.out ≡ old.out → new.start ≡ old.start + n → new.end ≡ old.end → new.requests ≡ old.requests → IsSame old new → new.last ≡ old.last → Sends old n new
+sends_some old new n some session out start end_ count same since =
     let all : ℕ = old.end - old.start in
     let here : List ℕ = drop old.start old.out in
     let ready : ready_of new ≡ take (all - n) (drop n here) =
@@ -81,6 +68,8 @@ sends_some old new n some session out start end_ count =
     let whole : n + (all - n) ≡ all = omega (arith, some) in
     let both : take n here ++ take (all - n) (drop n here) ≡ ready_of old = sym (take-add n (all - n) here) ∙ ap (λ k. take k here) whole in
     record {
+      same = same;
+      since = since;
       put = [];
       puts = subst (λ (s : Talk). Puts old.session [] s) (sym session) (record { front = refl; held = refl; goes_on = refl });
       count = count;
@@ -128,25 +117,16 @@ nobody_at Does places now place same none = (
   (λ other away. ap (λ (l : List ClientPlace). slice_get l other) same),
 )
 
--- ---- all places
+-- ---- all places, one after another
 
-pub all_stay : (places : List ClientPlace) → PlacesStay places places
-all_stay places place c at = (c, at, refl)
+mapped_next : {X : Type 0} (f : X → X) (xs : List X) (i : ℕ) (x y : X) → i < length xs → x ≡ get_or (map f (take i xs) ++ drop i xs) i x → y ≡ f x
+    → slice_set (map f (take i xs) ++ drop i xs) i y ≡ map f (take (suc i) xs) ++ drop (suc i) xs
+mapped_next f [] i x y h is new = absurd (omega arith)
+mapped_next f (a ∷ xs) zero x y h is new = ap (λ b. b ∷ xs) (new ∙ ap f is)
+mapped_next f (a ∷ xs) (suc i) x y h is new = ap (λ l. f a ∷ l) (mapped_next f xs i x y (omega arith) is new)
 
-pub stay_then : (old middle new : List ClientPlace) → PlacesStay old middle → PlacesStay middle new → PlacesStay old new
-stay_then old middle new first second place c at =
-    let one = first place c at in
-    let two = second place one.0 one.1 in
-    (two.0, two.1, two.2 ∙ ap (λ (d : ClientPlace). record d { is_closing = (two.0).is_closing }) one.2)
-
-pub stay_closing : (places : List ClientPlace) (place : ℕ) (old new : ClientPlace) → slice_get places place ≡ Some old → new ≡ record old { is_closing = new.is_closing } → PlacesStay places (slice_set places place new)
-stay_closing places place old new at is k c is_at = go (eqb_tells k place)
-  where
-    go : ((eqb k place ≡ true) × (k ≡ place)) ⊎ ((eqb k place ≡ false) × (k ≢ place)) → (d : ClientPlace) × (slice_get (slice_set places place new) k ≡ Some d) × (d ≡ record c { is_closing = d.is_closing })
-    go (inl here) =
-        let same : old ≡ c = same_some at (ap (λ i. slice_get places i) (sym here.1) ∙ is_at) in
-        (new, ap (λ i. slice_get (slice_set places place new) i) here.1 ∙ there places place old new at, is ∙ ap (λ (x : ClientPlace). record x { is_closing = new.is_closing }) same)
-    go (inr other) = (c, elsewhere places place k new other.1 ∙ is_at, refl)
-
-pub stay_between : (old before behind new : List ClientPlace) → before ≡ old → PlacesStay before behind → new ≡ behind → PlacesStay old new
-stay_between old before behind new first stay last = subst (λ (l : List ClientPlace). PlacesStay old l) (sym last) (subst (λ (l : List ClientPlace). PlacesStay l behind) first stay)
+-- one more is mapped
+pub mapped_more : {X : Type 0} (f : X → X) (xs ys : List X) (i : ℕ) (x y : X) → i < length xs → ys ≡ map f (take i xs) ++ drop i xs → x ≡ get_or ys i x → y ≡ f x
+    → slice_set ys i y ≡ map f (take (i + 1) xs) ++ drop (i + 1) xs
+mapped_more f xs ys i x y h so_far is new =
+    ap (λ l. slice_set l i y) so_far ∙ mapped_next f xs i x y h (rw (← so_far) is) new ∙ ap (λ k. map f (take k xs) ++ drop k xs) (sym (add-one i))

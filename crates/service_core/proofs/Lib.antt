@@ -6,3 +6,4 @@ pub mod Opening
 pub mod Heard
 pub mod Restored
 pub mod Whole
+pub mod Told

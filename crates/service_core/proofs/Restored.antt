@@ -1,5 +1,5 @@
 -- A request that sets one tag alone sets it.
-use Rattle.std.proofs.Common.{◌≡◌, ℕ, ℤ, List, Some, Result, Ok, Err, sym, ap, subst, ◌∙◌}
+use Rattle.std.proofs.Common.{◌≡◌, ℕ, ℤ, List, Some, Result, Ok, subst}
 use Rattle.std.specs.Prelude.{slice_set}
 use Rattle.modbus_frame.specs.declared.message.Request.{Request}
 use Rattle.modbus_frame.specs.declared.message.Exception.{Exception}

@@ -9,6 +9,7 @@ use Rattle.std.proofs.Math.Seq.{drop-nil}
 use Rattle.modbus_frame.specs.declared.message.Request.{Request}
 use Rattle.modbus_frame.specs.Frame.{frame_bytes}
 use Rattle.site_model.proofs.Entries.{set-cases}
+use Rattle.gateway.specs.declared.event_core.event.Event.{Event}
 use Rattle.gateway.specs.declared.poller.cycle.Call.{Call}
 use Rattle.gateway.specs.event_core.Core.{Gateway}
 use Rattle.gateway.specs.poller.LinkRun.{frame_of}
@@ -18,9 +19,10 @@ use Rattle.service_core.specs.declared.limits.Station.{Station}
 use Rattle.service_core.specs.declared.line.Line.{Line}
 use Rattle.service_core.specs.declared.lines.Lines.{Lines}
 use Rattle.service_core.specs.Calls.{IsCallOf}
-use Rattle.service_core.specs.Course.{Goes, LeadsOn, Reached, stays}
-use Rattle.service_core.specs.Requests.{AreRightful, AreRightfulBy, IsFoundOn, IsOfRound, IsRest, IsRightful, IsRightfulOn, MayBeAsked, MayGoOver}
+use Rattle.service_core.specs.Course.{IsOfClients, IsOfRounds, LeadsOnBy, Reached, stays}
+use Rattle.service_core.specs.Requests.{AreRightful, AreRightfulBy, IsFoundOn, IsOfRound, IsRightful, MayBeAsked, MayGoOver}
 use Rattle.service_core.specs.Seeking.{IsSought}
+use Rattle.service_core.proofs.Runs.{goes_behind}
 
 -- ---- what may be asked
 
@@ -170,9 +172,10 @@ module _ (now : Gateway) where
 
 -- ---- the state goes on
 
-pub right_since : (old new : Gateway) (stations : List Station) (found_on : List (Option ℕ)) (link number : ℕ) (bytes : List ℕ) → LeadsOn old new → IsRightful old stations found_on link number bytes → ∥ IsRightful new stations found_on link number bytes ∥₁
-right_since old new stations found_on link number bytes goes (inl none) = ∣ inl none ∣₁
-right_since old new stations found_on link number bytes goes (inr rest) = ∥∥₁_elim (goes rest.core ∣ rest.since ∣₁) ∥∥₁_prop (λ since. ∣ inr (record {
+pub right_since : (Kinds : Event → Type 0) (old new : Gateway) (stations : List Station) (found_on : List (Option ℕ)) (link number : ℕ) (bytes : List ℕ) → LeadsOnBy Kinds old new → IsRightful old stations found_on link number bytes
+    → ∥ IsRightful new stations found_on link number bytes ∥₁
+right_since Kinds old new stations found_on link number bytes goes (inl none) = ∣ inl none ∣₁
+right_since Kinds old new stations found_on link number bytes goes (inr rest) = ∥∥₁_elim (goes_behind Kinds rest.core old new rest.since goes) ∥∥₁_prop (λ since. ∣ inr (record {
   device = rest.device;
   unit = rest.unit;
   station = rest.station;
@@ -186,6 +189,12 @@ right_since old new stations found_on link number bytes goes (inr rest) = ∥∥
   whole = rest.whole;
 }) ∣₁)
 
-pub right_on : (old new : Gateway) (lines : Lines) → LeadsOn old new → AreRightfulBy old lines → AreRightfulBy new lines
-right_on old new lines goes before link number line has at = ∥∥₁_elim (before link number line has at) ∥∥₁_prop (λ right.
-    right_since old new lines.links.stations.items lines.found_on.items link number line.out.items goes right)
+right_by : (Kinds : Event → Type 0) (old new : Gateway) (lines : Lines) → LeadsOnBy Kinds old new → AreRightfulBy old lines → AreRightfulBy new lines
+right_by Kinds old new lines goes before link number line has at = ∥∥₁_elim (before link number line has at) ∥∥₁_prop (λ right.
+    right_since Kinds old new lines.links.stations.items lines.found_on.items link number line.out.items goes right)
+
+pub right_on : (old new : Gateway) (lines : Lines) → LeadsOnBy IsOfRounds old new → AreRightfulBy old lines → AreRightfulBy new lines
+right_on old new lines goes before = right_by IsOfRounds old new lines goes before
+
+pub right_behind_clients : (old new : Gateway) (lines : Lines) → LeadsOnBy IsOfClients old new → AreRightfulBy old lines → AreRightfulBy new lines
+right_behind_clients old new lines goes before = right_by IsOfClients old new lines goes before

@@ -18,7 +18,7 @@ use Rattle.service.specs.Guarding.{AnswersUnless, Guards, is_write}
 use Rattle.service.specs.Rounds.{IsRoundFor, Progress}
 use Rattle.service.specs.Searches.{Sought}
 use Rattle.service.specs.Sessions.{IsChain, Turn}
-use Rattle.service_core.specs.Course.{CoursesAreSiteRuns, Goes, LeadsOn, IsNew, Reached, stays, steps, learns}
+use Rattle.service_core.specs.Course.{CoursesAreSiteRuns, Goes, GoesBy, IsOfClients, IsOfRounds, LeadsOn, LeadsOnBy, IsNew, Reached, stays, steps, learns}
 use Rattle.service_core.specs.Seeking.{AreOf, IsFound}
 
 runs_then : (site : Site) (image : Image) (links : List ℕ) (budget : ℕ) (s : Standing) (es : List Event) (answers : List Answer) (t : Standing) (e : Event) (a : Answer) (u : Standing)
@@ -37,7 +37,7 @@ moved g h e a i site accepted step =
 pub courses_are_site_runs : CoursesAreSiteRuns
 courses_are_site_runs g h (stays s) = ([], [], (refl, refl), refl, refl)
 courses_are_site_runs g h (learns {h = middle} before device found is) = courses_are_site_runs g middle before
-courses_are_site_runs g h (steps {h = middle} before e a i one) =
+courses_are_site_runs g h (steps {h = middle} before e kind a i one) =
     let (es, answers, run, site, accepted) = courses_are_site_runs g middle before in (
       es ++ e ∷ [],
       answers ++ a ∷ [],
@@ -47,7 +47,7 @@ courses_are_site_runs g h (steps {h = middle} before e a i one) =
     )
 
 step_on : (g : Gateway) (e : Event) (a : Answer) (h : Gateway) → Reached g → StepsOn g e a h → IsSame g h → Reached h
-step_on g e a h from step same = record { first = from.first; opening = from.opening; goes = steps from.goes e a h (step, same) }
+step_on g e a h from step same = record { first = from.first; opening = from.opening; goes = steps from.goes e tt a h (step, same) }
 
 learn_on : (g : Gateway) (device : ℕ) (found : Option Layout) (h : Gateway) → Reached g → IsFound g.site device found → h ≡ record g { maps = set g.maps device found } → Reached h
 learn_on g device found h from own is = subst Reached (sym is) (record { first = from.first; opening = from.opening; goes = learns from.goes device found own })
@@ -110,34 +110,49 @@ sought_behind g m frame bytes goes_on h searches own same answers = sought_stays
 
 -- ---- each goes on
 
-pub goes_step : (g : Gateway) (e : Event) (a : Answer) (h : Gateway) → StepsOn g e a h → IsSame g h → LeadsOn g h
-goes_step g e a h step same from before = ∥∥₁_elim before ∥∥₁_prop (λ b. ∣ steps b e a h (step, same) ∣₁)
+pub goes_step : (g : Gateway) (e : Event) (a : Answer) (h : Gateway) → IsOfRounds e → StepsOn g e a h → IsSame g h → LeadsOn g h
+goes_step g e a h kind step same from before = ∥∥₁_elim before ∥∥₁_prop (λ b. ∣ steps b e kind a h (step, same) ∣₁)
 
 pub goes_learn : (g : Gateway) (device : ℕ) (found : Option Layout) (h : Gateway) → ∥ IsFound g.site device found ∥₁ → h ≡ record g { maps = set g.maps device found } → LeadsOn g h
-goes_learn g device found h own is from before = ∥∥₁_elim before ∥∥₁_prop (λ b. ∥∥₁_elim own ∥∥₁_prop (λ o. ∣ subst (Goes from) (sym is) (learns b device found o) ∣₁))
+goes_learn g device found h own is from before = ∥∥₁_elim before ∥∥₁_prop (λ b. ∥∥₁_elim own ∥∥₁_prop (λ o. ∣ subst (GoesBy IsOfRounds from) (sym is) (learns b device found o) ∣₁))
 
-pub goes_after : (g m : Gateway) (e : Event) (a : Answer) (h : Gateway) → m ≡ g → Advances m e a h → LeadsOn g h
-goes_after g m e a h same one = subst (λ x. LeadsOn x h) same (goes_step m e a h one.0 one.1)
+pub goes_after : (Kinds : Event → Type 0) (g m : Gateway) (e : Event) (a : Answer) (h : Gateway) → Kinds e → m ≡ g → Advances m e a h → LeadsOnBy Kinds g h
+goes_after Kinds g m e a h kind same one = subst (λ x. LeadsOnBy Kinds x h) same (λ from before. ∥∥₁_elim before ∥∥₁_prop (λ b. ∣ steps b e kind a h one ∣₁))
 
-goes_answer : (g : Gateway) (frame : Frame) (bytes : List ℕ) (goes_on : Bool) (h : Gateway) → AnswersFrame g frame bytes goes_on h → LeadsOn g h
+goes_answer : (g : Gateway) (frame : Frame) (bytes : List ℕ) (goes_on : Bool) (h : Gateway) → AnswersFrame g frame bytes goes_on h → LeadsOnBy IsOfClients g h
 goes_answer g frame bytes goes_on h answers = go (eqb_tells frame.unit g.site.unit)
   where
-    go : ((eqb frame.unit g.site.unit ≡ true) × (frame.unit ≡ g.site.unit)) ⊎ ((eqb frame.unit g.site.unit ≡ false) × (frame.unit ≢ g.site.unit)) → LeadsOn g h
-    go (inl own) = let on = (answers.answers).own own.1 in goes_step g (event.Client frame.pdu) (answer.Reply answers.pdu) h on.0 on.1
-    go (inr other) = subst (LeadsOn g) (sym ((answers.answers).other other.1).1) (λ from before. before)
+    go : ((eqb frame.unit g.site.unit ≡ true) × (frame.unit ≡ g.site.unit)) ⊎ ((eqb frame.unit g.site.unit ≡ false) × (frame.unit ≢ g.site.unit)) → LeadsOnBy IsOfClients g h
+    go (inl own) = let on = (answers.answers).own own.1 in goes_after IsOfClients g g (event.Client frame.pdu) (answer.Reply answers.pdu) h tt refl (on.0, on.1)
+    go (inr other) = subst (LeadsOnBy IsOfClients g) (sym ((answers.answers).other other.1).1) (λ from before. before)
 
-guarded : (refused : Bool) (g : Gateway) (frame : Frame) (bytes : List ℕ) (goes_on : Bool) (h : Gateway) → AnswersUnless AnswersFrame refused g frame bytes goes_on h → LeadsOn g h
-guarded true g frame bytes goes_on h (bytes_are, more, same) = subst (LeadsOn g) (sym same) (λ from before. before)
+guarded : (refused : Bool) (g : Gateway) (frame : Frame) (bytes : List ℕ) (goes_on : Bool) (h : Gateway) → AnswersUnless AnswersFrame refused g frame bytes goes_on h → LeadsOnBy IsOfClients g h
+guarded true g frame bytes goes_on h (bytes_are, more, same) = subst (LeadsOnBy IsOfClients g) (sym same) (λ from before. before)
 guarded false g frame bytes goes_on h answers = goes_answer g frame bytes goes_on h answers
 
-pub goes_guarded : (may_write : Bool) (g : Gateway) (frame : Frame) (bytes : List ℕ) (goes_on : Bool) (h : Gateway) → Guards AnswersFrame may_write g frame bytes goes_on h → LeadsOn g h
+pub goes_guarded : (may_write : Bool) (g : Gateway) (frame : Frame) (bytes : List ℕ) (goes_on : Bool) (h : Gateway) → Guards AnswersFrame may_write g frame bytes goes_on h → LeadsOnBy IsOfClients g h
 goes_guarded may_write g frame bytes goes_on h answers = guarded (not may_write && is_write frame.pdu) g frame bytes goes_on h answers
 
 -- frames that are answered in a row
 module _ {S : Type 0} (Answers : S → Frame → List ℕ → Bool → S → Type 0) (core_of : S → Gateway)
-    (each : (s : S) (frame : Frame) (bytes : List ℕ) (goes_on : Bool) (t : S) → Answers s frame bytes goes_on t → LeadsOn (core_of s) (core_of t)) where
-  pub goes_chain : (s : S) (turns : List (Turn S)) (t : S) → IsChain Answers s turns t → LeadsOn (core_of s) (core_of t)
-  goes_chain s [] t same = subst (λ x. LeadsOn (core_of s) (core_of x)) (sym same) (λ from before. before)
+    (each : (s : S) (frame : Frame) (bytes : List ℕ) (goes_on : Bool) (t : S) → Answers s frame bytes goes_on t → LeadsOnBy IsOfClients (core_of s) (core_of t)) where
+  pub goes_chain : (s : S) (turns : List (Turn S)) (t : S) → IsChain Answers s turns t → LeadsOnBy IsOfClients (core_of s) (core_of t)
+  goes_chain s [] t same = subst (λ x. LeadsOnBy IsOfClients (core_of s) (core_of x)) (sym same) (λ from before. before)
   goes_chain s (turn ∷ turns) t (first, (bytes, goes_on, answered), rest) =
-      let here : LeadsOn (core_of s) (core_of turn.after) = subst (λ x. LeadsOn (core_of x) (core_of turn.after)) first (each turn.before turn.frame bytes goes_on turn.after answered) in
+      let here : LeadsOnBy IsOfClients (core_of s) (core_of turn.after) = subst (λ x. LeadsOnBy IsOfClients (core_of x) (core_of turn.after)) first (each turn.before turn.frame bytes goes_on turn.after answered) in
       λ from before. goes_chain turn.after turns t rest from (here from before)
+
+-- ---- whatever kinds there are
+
+of_any : (Kinds : Event → Type 0) (g h : Gateway) → GoesBy Kinds g h → Goes g h
+of_any Kinds g h (stays s) = stays g
+of_any Kinds g h (learns {h = middle} before device found is) = learns (of_any Kinds g middle before) device found is
+of_any Kinds g h (steps {h = middle} before e kind a i one) = steps (of_any Kinds g middle before) e tt a i one
+
+and_then : (f g h : Gateway) → Goes f g → Goes g h → Goes f h
+and_then f g h first (stays s) = first
+and_then f g h first (learns {h = middle} before device found is) = learns (and_then f g middle first before) device found is
+and_then f g h first (steps {h = middle} before e kind a i one) = steps (and_then f g middle first before) e kind a i one
+
+pub goes_behind : (Kinds : Event → Type 0) (f old new : Gateway) → Goes f old → LeadsOnBy Kinds old new → ∥ Goes f new ∥₁
+goes_behind Kinds f old new before goes = ∥∥₁_elim (goes old ∣ stays old ∣₁) ∥∥₁_prop (λ more. ∣ and_then f old new before (of_any Kinds old new more) ∣₁)

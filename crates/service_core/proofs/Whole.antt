@@ -1,5 +1,5 @@
 -- The parts of what a service does.
-use Rattle.std.proofs.Common.{◌≡◌, ℕ, Bool, List, Option, sym}
+use Rattle.std.proofs.Common.{ℕ, Bool, List}
 use Rattle.modbus_frame.specs.declared.frame.Frame.{Frame}
 use Rattle.service_core.specs.Whole.{RestsAreOfTheRun, SiteIsServed}
 use Rattle.service_core.proofs.Heard.{clients_are_answered}

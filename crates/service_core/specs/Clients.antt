@@ -1,6 +1,6 @@
 -- What a client gets, over all calls: the answers to its frames, in order, each at its place in the run.
 -- MODBUS Messaging on TCP/IP Implementation Guide, section 4.4.2.
-use Rattle.std.specs.Prelude.{◌≡◌, ◌⊎◌, ◌≤◌, ◌-◌, ℕ, Bool, true, false, List, [], ◌++◌, length, take, drop, Some, slice_get}
+use Rattle.std.specs.Prelude.{◌≡◌, ◌⊎◌, ◌≤◌, ◌-◌, ℕ, zero, suc, Bool, true, false, List, [], ◌++◌, length, take, drop, Some, slice_get}
 use Rattle.modbus_frame.specs.declared.frame.Frame.{Frame}
 use Rattle.modbus_frame.specs.Framing.{IsRead}
 use Rattle.service.specs.Sessions.{AnsweredTo, IsChain, IsOver, Puts, Serving, Turn, frames_in, fresh}
@@ -15,21 +15,35 @@ ready_of c = take (c.end - c.start) (drop c.start c.out)
 abbrev pub IsDeaf : ClientPlace → Type 0
 IsDeaf c = (c.is_taken ≡ false) ⊎ (c.is_closing ≡ true) ⊎ IsOver c.session
 
--- A client came that may write, or may not: its stream begins, and nothing is to go out.
-pub record IsOpen (may_write : Bool) (c : ClientPlace) : Type 0 where
+-- A client came now that may write, or may not: its stream begins, and nothing is to go out.
+pub record IsOpen (may_write : Bool) (now : ℕ) (c : ClientPlace) : Type 0 where
   pub taken : c.is_taken ≡ true
   pub stays : c.is_closing ≡ false
   pub begins : c.session ≡ fresh
   pub ready : ready_of c ≡ []
   pub right : c.may_write ≡ may_write
+  pub since : c.last ≡ now
   pub count : c.requests ≡ 0
+
+-- The same client is there, with the same right to write, and it is to be closed only if it was.
+pub record IsSame (old new : ClientPlace) : Type 0 where
+  pub taken : new.is_taken ≡ old.is_taken
+  pub closing : new.is_closing ≡ old.is_closing
+  pub right : new.may_write ≡ old.may_write
 
 -- So many of the ready bytes went out, and the session may have put more behind them.
 pub record Sends (old : ClientPlace) (n : ℕ) (new : ClientPlace) : Type 0 where
+  pub same : IsSame old new
+  pub since : new.last ≡ old.last
   pub put : List ℕ
   pub puts : Puts old.session put new.session
   pub ready : ready_of old ++ put ≡ take n (ready_of old) ++ ready_of new
   pub count : new.requests ≡ old.requests
+
+-- when it was heard of last, where so many whole frames of it came now
+abbrev pub heard_at : ℕ → ℕ → ℕ → ℕ
+heard_at now zero last = last
+heard_at now (suc frames) last = now
 
 -- `Answers` says which bytes answer a frame, whether more may be answered behind them, and what that leaves.
 module _ {S : Type 0} (Answers : S → Frame → List ℕ → Bool → S → Type 0) where
@@ -38,8 +52,10 @@ module _ {S : Type 0} (Answers : S → Frame → List ℕ → Bool → S → Typ
   IsServed turns stream gone s c = Serving Answers turns stream (gone ++ ready_of c) s c.session
 
   -- These bytes are taken, and at most 8 frames answered in a row, each in the state that the one before it left.
-  pub record Hears (s : S) (old : ClientPlace) (bytes : List ℕ) (t : S) (new : ClientPlace) : Type 0 where
+  pub record Hears (now : ℕ) (s : S) (old : ClientPlace) (bytes : List ℕ) (t : S) (new : ClientPlace) : Type 0 where
+    pub same : IsSame old new
     pub turns : List (Turn S)
+    pub since : new.last ≡ heard_at now (length turns) old.last
     pub few : length turns ≤ 8
     pub chain : IsChain Answers s turns t
     pub count : new.requests ≡ more_by (length turns) old.requests
@@ -51,7 +67,7 @@ module _ {S : Type 0} (Answers : S → Frame → List ℕ → Bool → S → Typ
   pub record ClientsAreAnswered : Type 0 where
     pub answered : (turns : List (Turn S)) (stream gone : List ℕ) (s : S) (c : ClientPlace) → IsServed turns stream gone s c →
         IsRead stream (frames_in turns) c.session.held × AnsweredTo Answers c.session.goes_on turns (gone ++ (ready_of c ++ c.session.waiting))
-    pub begins : (may_write : Bool) (s : S) (c : ClientPlace) → IsOpen may_write c → IsServed [] [] [] s c
+    pub begins : (may_write : Bool) (now : ℕ) (s : S) (c : ClientPlace) → IsOpen may_write now c → IsServed [] [] [] s c
     pub goes_out : (turns : List (Turn S)) (stream gone : List ℕ) (s : S) (old new : ClientPlace) (n : ℕ) → Sends old n new → IsServed turns stream gone s old →
         IsServed turns stream (gone ++ take n (ready_of old)) s new
     pub between : (turns : List (Turn S)) (stream gone : List ℕ) (s t : S) (c : ClientPlace) → IsServed turns stream gone s c → IsServed turns stream gone t c
@@ -63,7 +79,3 @@ OthersStay old place new = (other : ℕ) → (other ≡ place → ⊥) → slice
 -- `Does` says what becomes of the client at a place, where one of this number is; no other place changes.
 abbrev pub DoesAt : (Does : ClientPlace → ClientPlace → Type 0) → List ClientPlace → ℕ → List ClientPlace → Type 0
 DoesAt Does old place new = ((c : ClientPlace) → slice_get old place ≡ Some c → (d : ClientPlace) × (slice_get new place ≡ Some d) × Does c d) × OthersStay old place new
-
--- At each place the same client stands as before; it may be to be closed from now on.
-abbrev pub PlacesStay : List ClientPlace → List ClientPlace → Type 0
-PlacesStay old new = (place : ℕ) (c : ClientPlace) → slice_get old place ≡ Some c → (d : ClientPlace) × (slice_get new place ≡ Some d) × (d ≡ record c { is_closing = d.is_closing })

@@ -1,24 +1,45 @@
 -- What happens to a core: events of the site run (IEC 61131-3 edition 2, 3.2), and maps that searches find or that are
 -- forgotten.
-use Rattle.std.specs.Prelude.{◌≡◌, ℕ, List, Option, set}
+use Rattle.std.specs.Prelude.{◌≡◌, ℕ, List, Option, ⊤, set}
 use Rattle.register_map.specs.Layout.{Layout}
 use Rattle.scan_vm.specs.Machine.{Running}
 use Rattle.site_model.specs.declared.site.Site.{Site}
 use Rattle.gateway.specs.declared.event_core.event.Event.{Event}
+use Rattle.gateway.specs.declared.event_core.event.Event.TheVariants as event
 use Rattle.gateway.specs.declared.event_core.event.Answer.{Answer}
 use Rattle.gateway.specs.event_core.Control.{Advances}
 use Rattle.gateway.specs.event_core.Core.{Gateway, RunsOn, gateway_of}
 use Rattle.service_core.specs.Seeking.{IsFound}
 
--- From the one state to the other by events and learned maps alone, one after another.
-pub data Goes : Gateway → Gateway → Type 0 where
-  stays : (g : Gateway) → Goes g g
-  steps : {g h : Gateway} → Goes g h → (e : Event) (a : Answer) (i : Gateway) → Advances h e a i → Goes g i
-  learns : {g h : Gateway} → Goes g h → (device : ℕ) (found : Option Layout) → IsFound h.site device found → Goes g (record h { maps = set h.maps device found })
+-- A client asks: the one kind of event that clients bring.
+abbrev pub IsOfClients : Event → Type 0
+IsOfClients (event.Client _) = ⊤
+IsOfClients _ = ⊥
 
--- Whatever led to the one state leads to the other: events and learned maps alone lie between.
+-- What devices answer, or don't, and scans: all other kinds.
+abbrev pub IsOfRounds : Event → Type 0
+IsOfRounds (event.Client _) = ⊥
+IsOfRounds _ = ⊤
+
+abbrev pub IsAny : Event → Type 0
+IsAny _ = ⊤
+
+-- From the one state to the other by events of these kinds and by learned maps alone, one after another.
+pub data GoesBy (Kinds : Event → Type 0) : Gateway → Gateway → Type 0 where
+  stays : (g : Gateway) → GoesBy Kinds g g
+  steps : {g h : Gateway} → GoesBy Kinds g h → (e : Event) → Kinds e → (a : Answer) (i : Gateway) → Advances h e a i → GoesBy Kinds g i
+  learns : {g h : Gateway} → GoesBy Kinds g h → (device : ℕ) (found : Option Layout) → IsFound h.site device found → GoesBy Kinds g (record h { maps = set h.maps device found })
+
+abbrev pub Goes : Gateway → Gateway → Type 0
+Goes g h = GoesBy IsAny g h
+
+-- Whatever led to the one state leads to the other: such events and learned maps alone lie between.
+abbrev pub LeadsOnBy : (Kinds : Event → Type 0) → Gateway → Gateway → Type 0
+LeadsOnBy Kinds old new = (from : Gateway) → ∥ GoesBy Kinds from old ∥₁ → ∥ GoesBy Kinds from new ∥₁
+
+-- by what devices answer and by scans: no client is answered, and none sets anything
 abbrev pub LeadsOn : Gateway → Gateway → Type 0
-LeadsOn old new = (from : Gateway) → ∥ Goes from old ∥₁ → ∥ Goes from new ∥₁
+LeadsOn old new = LeadsOnBy IsOfRounds old new
 
 -- A core on which nothing happened.
 pub record IsNew (g : Gateway) : Type 0 where

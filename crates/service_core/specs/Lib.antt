@@ -4,4 +4,6 @@ pub mod Calls
 pub mod Requests
 pub mod Counting
 pub mod Clients
+pub mod Places
 pub mod Whole
+pub mod Standing

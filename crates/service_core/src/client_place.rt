@@ -2,14 +2,18 @@
 ghost use Rattle.std.specs.Prelude.{◌≡◌, ◌≤◌, ◌<◌, ◌↔◌, [], length, take, IsTrue, true, false};
 ghost use Rattle.service.specs.Sessions.{IsFree, ServesOn};
 ghost use Rattle.service_core.specs.Counting.{more_by};
-ghost use Rattle.service_core.specs.Course.{LeadsOn};
+ghost use Rattle.service_core.specs.Course.{IsOfClients, LeadsOnBy};
 
 use crate::scan_cycle::ScanCycle;
+use crate::times::heard_at;
 use modbus_frame::Responder;
 use service::{Session, Turned};
 
 /// Room for the answers of one turn.
 const ROOM: usize = 2080;
+
+/// A client that was silent for more than this may lose its place to another one.
+const GIVES_WAY: u64 = 30_000;
 
 /// A place for a client, with the bytes that wait to go out to it.
 #[derive(Drop)]
@@ -31,7 +35,8 @@ pub(crate) struct ClientPlace {
 }
 
 impl ClientPlace {
-    ghost use Rattle.service_core.specs.Clients.{Hears, IsDeaf, IsOpen, Sends, ready_of};
+    ghost use Rattle.service_core.specs.Clients.{Hears, IsDeaf, IsOpen, IsSame, Sends, heard_at, ready_of};
+    ghost use Rattle.service_core.specs.Places.{closed_if_idle, is_free, is_silent};
 
     pub(crate) fn new() -> ClientPlace {
         ClientPlace {
@@ -47,8 +52,18 @@ impl ClientPlace {
         }
     }
 
-    pub(crate) fn is_taken(&self) -> bool {
-        self.is_taken
+    /// Whether nobody is there.
+    pub(crate) fn is_free(&self) -> bool
+        ensures { result ≡ is_free self.now }
+    {
+        !self.is_taken
+    }
+
+    /// Whether nothing was heard of its client for over half a minute.
+    pub(crate) fn is_silent(&self, now: u64) -> bool
+        ensures { result ≡ is_silent now self.now }
+    {
+        self.last.saturating_add(GIVES_WAY) < now
     }
 
     /// How many of its frames were answered.
@@ -59,7 +74,9 @@ impl ClientPlace {
     }
 
     /// When its client came, or sent its last whole frame.
-    pub(crate) fn last(&self) -> u64 {
+    pub(crate) fn last(&self) -> u64
+        ensures { result ≡ self.now.last }
+    {
         self.last
     }
 
@@ -70,7 +87,7 @@ impl ClientPlace {
 
     /// A client comes.
     pub(crate) fn open(&mut self, may_write: bool, now: u64)
-        ensures { IsOpen may_write self.new }
+        ensures { IsOpen may_write now self.new }
     {
         self.session = Session::new();
         self.may_write = may_write;
@@ -90,12 +107,12 @@ impl ClientPlace {
         self.is_taken = false;
     }
 
-    /// Its client is to be closed.
-    pub(crate) fn close(&mut self)
-        ensures closing { self.new.is_closing ≡ true }
-        ensures rest { self.new ≡ record self.old { is_closing = self.new.is_closing } }
+    /// Its client is to be closed, where nothing was heard of it for so long.
+    pub(crate) fn close_if_idle(&mut self, now: u64, idle: u64)
+        ensures { self.new ≡ closed_if_idle now idle self.old }
     {
-        self.is_closing = true;
+        let is_idle = self.is_taken && self.last.saturating_add(idle) <= now;
+        self.is_closing = self.is_closing || is_idle;
     }
 
     pub(crate) fn wants_close(&self) -> bool {
@@ -137,10 +154,10 @@ impl ClientPlace {
         now: u64,
     ) -> usize
         ensures used { result ≤ length bytes.now }
-        ensures hears { (IsDeaf self.old → ⊥) → Hears ⟦<ScanCycle<DEPTH> as Responder>⟧.answers (record cycle.old { may_write = self.old.may_write })
+        ensures hears { (IsDeaf self.old → ⊥) → Hears ⟦<ScanCycle<DEPTH> as Responder>⟧.answers now (record cycle.old { may_write = self.old.may_write })
             self.old (take result bytes.now) cycle.new self.new }
         ensures takes { (IsDeaf self.old → ⊥) → ready_of self.old ≡ [] → 0 < length bytes.now → 0 < result }
-        ensures goes { LeadsOn cycle.old.core.value cycle.new.core.value }
+        ensures goes { LeadsOnBy IsOfClients cycle.old.core.value cycle.new.core.value }
         ensures deaf { IsDeaf self.old → (self.new ≡ self.old) × (cycle.new ≡ cycle.old) }
     {
         if self.is_deaf() {
@@ -150,29 +167,33 @@ impl ClientPlace {
         if self.start < self.end {
             return 0;
         }
-        let turned = self.serve(cycle, bytes);
-        if turned.frames > 0 {
-            self.last = now;
-        }
-        turned.used
+        self.serve(cycle, bytes, now).used
     }
 
     // One turn of the client.
     #[tactic(auto, using(crate::proofs::Heard::counted))]
-    fn serve<const DEPTH: usize>(&mut self, cycle: &mut ScanCycle<DEPTH>, bytes: &[u8]) -> Turned
+    fn serve<const DEPTH: usize>(
+        &mut self,
+        cycle: &mut ScanCycle<DEPTH>,
+        bytes: &[u8],
+        now: u64,
+    ) -> Turned
         ensures serves { ServesOn ⟦<ScanCycle<DEPTH> as Responder>⟧.answers result.frames cycle.old
             self.old.session (take result.used bytes.now) (take self.new.end self.new.out) cycle.new self.new.session }
         ensures few { result.frames ≤ 8 }
-        ensures goes { LeadsOn cycle.old.core.value cycle.new.core.value }
+        ensures goes { LeadsOnBy IsOfClients cycle.old.core.value cycle.new.core.value }
         ensures used { result.used ≤ length bytes.now }
         ensures takes { IsFree self.old.session → 0 < length bytes.now → 0 < result.used }
         ensures front { self.new.start ≡ 0 }
+        ensures same { IsSame self.old self.new }
+        ensures since { self.new.last ≡ heard_at now result.frames self.old.last }
         ensures count { self.new.requests ≡ more_by result.frames self.old.requests }
     {
         let turned = self.session.turn(cycle, bytes, &mut self.out);
         self.start = 0;
         self.end = turned.put;
         self.requests = self.requests.saturating_add(turned.frames as u64);
+        self.last = heard_at(turned.frames, now, self.last);
         turned
     }
 }

@@ -1,61 +1,39 @@
 //! The clients' side.
-ghost use Rattle.std.specs.Prelude.{◌≡◌, ◌≤◌, ◌<◌, List, [], length, take, slice_get, Some, IfNone, IfSome, false};
-ghost use Rattle.service_core.specs.Course.{LeadsOn};
+ghost use Rattle.std.specs.Prelude.{◌≡◌, ◌≤◌, ◌<◌, List, [], length, map, take, slice_get, Some, IfNone, IfSome, false};
+ghost use Rattle.std.specs.List.{position};
+ghost use Rattle.service_core.specs.Course.{IsOfClients, LeadsOnBy};
 ghost use Rattle.service_core.specs.declared.client_place.ClientPlace.{ClientPlace as Place};
-ghost use Rattle.service_core.specs.Clients.{DoesAt, Hears, IsDeaf, IsOpen, OthersStay, PlacesStay, Sends, ready_of};
+ghost use Rattle.service_core.specs.Clients.{DoesAt, Hears, IsDeaf, IsOpen, OthersStay, Sends, ready_of};
+ghost use Rattle.service_core.specs.Places.{closed_if_idle, given_place, is_free, is_silent};
 
+use crate::client_place::ClientPlace;
 use crate::scan_cycle::ScanCycle;
 use crate::service_state::Service;
 use modbus_frame::Responder;
 
-/// A client that was silent for more than this may lose its place to another one.
-const GIVES_WAY: u64 = 30_000;
-
 impl<const DEPTH: usize> Service<DEPTH> {
-    /// A client came: its place, or none where it is to be closed. That may be the place of the one that was silent
-    /// longest, for over half a minute: that one's connection is to be closed.
+    /// A client came: its place, or none where it is to be closed, since each place is taken and each client was heard of
+    /// within half a minute. Where each is taken it may be the place of a client that was silent: that one's connection is
+    /// to be closed.
     pub fn client_came(&mut self, may_write: bool, now: u64) -> Option<usize>
         ensures links { self.new.lines.links ≡ self.old.lines.links }
-        ensures goes { LeadsOn self.old.cycle.core.value self.new.cycle.core.value }
+        ensures core { self.new.cycle.core.value ≡ self.old.cycle.core.value }
+        ensures given { result ≡ given_place self.new.now self.old.places.items }
         ensures refused { IfNone result (self.new.places.items ≡ self.old.places.items) }
-        ensures open { IfSome result (λ place. (c : Place) × (slice_get self.new.places.items place ≡ Some c) × IsOpen may_write c) }
+        ensures open { IfSome result (λ place. (c : Place) × (slice_get self.new.places.items place ≡ Some c) × IsOpen may_write self.new.now c) }
         ensures others { IfSome result (λ place. OthersStay self.old.places.items place self.new.places.items) }
     {
-        self.turn_to(now);
-        let place = match self.free_place() {
-            Some(place) => place,
-            None => self.silent_place()?,
-        };
-        let now = self.now;
-        self.places.get_mut(place)?.open(may_write, now);
+        let now = self.now.max(now);
+        self.now = now;
+        let place = place_for(&self.places, now)?;
+        self.places[place].open(may_write, now);
         Some(place)
-    }
-
-    fn free_place(&self) -> Option<usize> {
-        for (place, client) in self.places.iter().enumerate() {
-            if !client.is_taken() {
-                return Some(place);
-            }
-        }
-        None
-    }
-
-    fn silent_place(&self) -> Option<usize> {
-        let mut found = None;
-        let mut last = self.now;
-        for (place, client) in self.places.iter().enumerate() {
-            if client.last() < last && self.now > client.last().saturating_add(GIVES_WAY) {
-                found = Some(place);
-                last = client.last();
-            }
-        }
-        found
     }
 
     /// The client at the place is gone.
     pub fn client_gone(&mut self, place: usize)
         ensures links { self.new.lines.links ≡ self.old.lines.links }
-        ensures goes { LeadsOn self.old.cycle.core.value self.new.cycle.core.value }
+        ensures core { self.new.cycle.core.value ≡ self.old.cycle.core.value }
         ensures gone { DoesAt (λ c d. d.is_taken ≡ false) self.old.places.items place self.new.places.items }
     {
         if let Some(client) = self.places.get_mut(place) {
@@ -67,10 +45,11 @@ impl<const DEPTH: usize> Service<DEPTH> {
     /// given again.
     pub fn from_client(&mut self, place: usize, bytes: &[u8], now: u64) -> usize
         ensures links { self.new.lines.links ≡ self.old.lines.links }
-        ensures goes { LeadsOn self.old.cycle.core.value self.new.cycle.core.value }
+        ensures goes { LeadsOnBy IsOfClients self.old.cycle.core.value self.new.cycle.core.value }
         ensures used { result ≤ length bytes.now }
         ensures takes { (c : Place) → slice_get self.old.places.items place ≡ Some c → (IsDeaf c → ⊥) → ready_of c ≡ [] → 0 < length bytes.now → 0 < result }
-        ensures hears { DoesAt (λ c d. (IsDeaf c → ⊥) → Hears ⟦<ScanCycle<DEPTH> as Responder>⟧.answers (record self.old.cycle { may_write = c.may_write })
+        ensures deaf { DoesAt (λ c d. IsDeaf c → (d ≡ c) × (self.new.cycle.core.value ≡ self.old.cycle.core.value)) self.old.places.items place self.new.places.items }
+        ensures hears { DoesAt (λ c d. (IsDeaf c → ⊥) → Hears ⟦<ScanCycle<DEPTH> as Responder>⟧.answers self.new.now (record self.old.cycle { may_write = c.may_write })
             c (take result bytes.now) self.new.cycle d) self.old.places.items place self.new.places.items }
     {
         let now = self.now.max(now);
@@ -104,7 +83,7 @@ impl<const DEPTH: usize> Service<DEPTH> {
     /// So many bytes are written to a client.
     pub fn sent_to_client(&mut self, place: usize, n: usize)
         ensures links { self.new.lines.links ≡ self.old.lines.links }
-        ensures goes { LeadsOn self.old.cycle.core.value self.new.cycle.core.value }
+        ensures core { self.new.cycle.core.value ≡ self.old.cycle.core.value }
         ensures sends { DoesAt (λ c d. Sends c n d) self.old.places.items place self.new.places.items }
     {
         if let Some(client) = self.places.get_mut(place) {
@@ -119,38 +98,38 @@ impl<const DEPTH: usize> Service<DEPTH> {
             None => true,
         }
     }
+}
 
-    /// Clients that were silent for too long are to be closed.
-    pub(crate) fn close_idle(&mut self)
-        ensures links { self.new.lines.links ≡ self.old.lines.links }
-        ensures goes { LeadsOn self.old.cycle.core.value self.new.cycle.core.value }
-        ensures places { PlacesStay self.old.places.items self.new.places.items }
-    {
-        for place in 0..self.places.len() {
-            self.close_if_idle(place);
-        }
+/// Clients of whom nothing was heard for so long are to be closed.
+pub(crate) fn close_idle(places: &mut [ClientPlace], now: u64, idle: u64)
+    ensures { places.new ≡ map (closed_if_idle now idle) places.old }
+{
+    for client in places.iter_mut() {
+        client.close_if_idle(now, idle);
     }
+}
 
-    fn close_if_idle(&mut self, place: usize)
-        ensures links { self.new.lines.links ≡ self.old.lines.links }
-        ensures goes { LeadsOn self.old.cycle.core.value self.new.cycle.core.value }
-        ensures places { PlacesStay self.old.places.items self.new.places.items }
-    {
-        if !self.is_idle(place) {
-            return;
-        }
-        if let Some(client) = self.places.get_mut(place) {
-            client.close();
-        }
+/// The place of a client that comes.
+fn place_for(places: &[ClientPlace], now: u64) -> Option<usize>
+    ensures place { result ≡ given_place now places.now }
+    ensures inside { IfSome result (λ i. i < length places.now) }
+{
+    match free_place(places) {
+        Some(place) => Some(place),
+        None => silent_place(places, now),
     }
+}
 
-    /// Whether a client was silent for too long.
-    fn is_idle(&self, place: usize) -> bool {
-        match self.places.get(place) {
-            Some(client) => {
-                client.is_waited_for() && self.now >= client.last().saturating_add(self.limits.idle)
-            }
-            None => false,
-        }
-    }
+fn free_place(places: &[ClientPlace]) -> Option<usize>
+    ensures place { result ≡ position is_free places.now }
+    ensures inside { IfSome result (λ i. i < length places.now) }
+{
+    places.iter().position(|client| client.is_free())
+}
+
+fn silent_place(places: &[ClientPlace], now: u64) -> Option<usize>
+    ensures place { result ≡ position (is_silent now) places.now }
+    ensures inside { IfSome result (λ i. i < length places.now) }
+{
+    places.iter().position(|client| client.is_silent(now))
 }

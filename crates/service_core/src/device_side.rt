@@ -22,10 +22,10 @@ impl<const DEPTH: usize> Service<DEPTH> {
     /// A dial began. It may take as long as a device may take to answer; then it is to be given up, and told as down.
     pub fn dial_began(&mut self, link: usize, now: u64)
         ensures links { self.new.lines.links ≡ self.old.lines.links }
-        ensures goes { LeadsOn self.old.cycle.core.value self.new.cycle.core.value }
+        ensures core { self.new.cycle.core.value ≡ self.old.cycle.core.value }
         ensures places { self.new.places.items ≡ self.old.places.items }
     {
-        self.turn_to(now);
+        self.now = self.now.max(now);
         let until = self.now.saturating_add(self.limits.timeout);
         if let Some(wire) = self.wires.get_mut(link) {
             wire.dial(until);

@@ -1,7 +1,7 @@
 //! What clients set is set again behind a restart.
 ghost use Rattle.std.specs.Prelude.{◌≡◌, IsTrue, Some, false, slice_set};
 ghost use Rattle.gateway.specs.event_core.Restoring.{NothingSets};
-ghost use Rattle.service_core.specs.Course.{LeadsOn};
+ghost use Rattle.service_core.specs.Course.{IsOfClients, LeadsOnBy};
 
 use crate::service_state::Service;
 
@@ -11,7 +11,7 @@ impl<const DEPTH: usize> Service<DEPTH> {
     /// point read as the number, exactly and in its range.
     pub fn restore(&mut self, tag: usize, number: i64) -> bool
         ensures links { self.new.lines.links ≡ self.old.lines.links }
-        ensures goes { LeadsOn self.old.cycle.core.value self.new.cycle.core.value }
+        ensures goes { LeadsOnBy IsOfClients self.old.cycle.core.value self.new.cycle.core.value }
         ensures sets { IsTrue result → self.new.cycle.core.value.standing
             ≡ record self.old.cycle.core.value.standing { sets = slice_set self.old.cycle.core.value.standing.sets tag (Some number) } }
         ensures refused { result ≡ false → (self.new.cycle.core.value ≡ self.old.cycle.core.value) × NothingSets self.old.cycle.core.value.site tag number }

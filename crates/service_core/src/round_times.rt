@@ -1,8 +1,9 @@
 //! Rounds, by the time.
-ghost use Rattle.std.specs.Prelude.{◌≡◌};
+ghost use Rattle.std.specs.Prelude.{◌≡◌, map, max};
 ghost use Rattle.service_core.specs.Course.{LeadsOn};
-ghost use Rattle.service_core.specs.Clients.{PlacesStay};
+ghost use Rattle.service_core.specs.Places.{closed_if_idle};
 
+use crate::client_side::close_idle;
 use crate::note::{Loss, Note, Unwritten};
 use crate::output::OutputState;
 use crate::scan_cycle::Phase;
@@ -15,11 +16,12 @@ impl<const DEPTH: usize> Service<DEPTH> {
     pub fn tick(&mut self, now: u64)
         ensures links { self.new.lines.links ≡ self.old.lines.links }
         ensures goes { LeadsOn self.old.cycle.core.value self.new.cycle.core.value }
-        ensures places { PlacesStay self.old.places.items self.new.places.items }
+        ensures places { self.new.places.items ≡ map (closed_if_idle (max self.old.now now) self.old.limits.idle) self.old.places.items }
     {
-        self.turn_to(now);
+        let now = self.now.max(now);
+        self.now = now;
+        close_idle(&mut self.places, now, self.limits.idle);
         self.end_waits();
-        self.close_idle();
         self.end_reading();
         self.begin_round();
         self.go_on();

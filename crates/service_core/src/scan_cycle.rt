@@ -5,9 +5,10 @@ ghost use Rattle.gateway.specs.event_core.Restoring.{NothingSets, SetsAlone};
 ghost use Rattle.service.specs.Rounds.{IsRoundFor};
 ghost use Rattle.service.specs.Searches.{HasStepQuantity};
 ghost use Rattle.service_core.specs.Calls.{IsCallOf};
-ghost use Rattle.service_core.specs.Course.{LeadsOn, Reached};
+ghost use Rattle.service_core.specs.Course.{IsOfClients, IsOfRounds, LeadsOn, LeadsOnBy, Reached};
 ghost use Rattle.service_core.specs.Requests.{IsOfRound};
 ghost use Rattle.service_core.specs.Seeking.{AreOf, IsFound, IsSought};
+ghost use Rattle.service_core.specs.Standing.{has_map};
 
 use gateway::{Call, Core, Event, Outcome, Report};
 use modbus_frame::{Frame, FrameReply, Request, Responder, request_pdu};
@@ -89,7 +90,9 @@ impl<const DEPTH: usize> ScanCycle<DEPTH> {
     }
 
     /// Whether the device has a map.
-    pub(crate) fn is_mapped(&self, device: usize) -> bool {
+    pub(crate) fn is_mapped(&self, device: usize) -> bool
+        ensures { result ≡ has_map self.now.core.value device }
+    {
         has_map(&self.core, device)
     }
 
@@ -186,7 +189,7 @@ impl<const DEPTH: usize> ScanCycle<DEPTH> {
         self.next_call(device)
     }
 
-    #[tactic(auto, using(crate::proofs::Calls::opened_call))]
+    #[tactic(auto, using(crate::proofs::Calls::opened_call, crate::proofs::Told::opened_of_rounds))]
     fn next_call(&mut self, device: usize) -> Option<Call>
         ensures goes { LeadsOn self.old.core.value self.new.core.value }
         ensures called { IfSome result (IsCallOf self.new.core.value device) }
@@ -203,6 +206,7 @@ impl<const DEPTH: usize> ScanCycle<DEPTH> {
     }
 
     /// What became of a device's request; whether the words that came are no block of its model.
+    #[tactic(auto, using(crate::proofs::Told::closed_of_rounds))]
     pub(crate) fn close(&mut self, device: usize, fate: Fate) -> bool
         ensures goes { LeadsOn self.old.core.value self.new.core.value }
     {
@@ -228,6 +232,7 @@ impl<const DEPTH: usize> ScanCycle<DEPTH> {
     }
 
     // Whether there may be more.
+    #[tactic(auto, using(crate::proofs::Told::opened_of_rounds))]
     fn give_up_next(&mut self, device: usize) -> bool
         ensures goes { LeadsOn self.old.core.value self.new.core.value }
     {
@@ -245,6 +250,7 @@ impl<const DEPTH: usize> ScanCycle<DEPTH> {
     }
 
     fn tell(&mut self, event: Event)
+        requires { IsOfRounds event }
         ensures goes { LeadsOn self.old.core.value self.new.core.value }
     {
         if is_lost(&event) {
@@ -255,6 +261,7 @@ impl<const DEPTH: usize> ScanCycle<DEPTH> {
 
     #[tactic(auto, using(crate::proofs::Runs::reached_step, crate::proofs::Runs::goes_step))]
     fn step(&mut self, event: Event)
+        requires { IsOfRounds event }
         ensures goes { LeadsOn self.old.core.value self.new.core.value }
     {
         self.core.step(event);
@@ -274,7 +281,7 @@ impl<const DEPTH: usize> ScanCycle<DEPTH> {
     pub(crate) fn set(&mut self, request: &Request, tag: usize, number: i64)
         requires request { IsRequest request.now }
         requires alone { SetsAlone self.old.core.value.site tag number request.now }
-        ensures goes { LeadsOn self.old.core.value self.new.core.value }
+        ensures goes { LeadsOnBy IsOfClients self.old.core.value self.new.core.value }
         ensures sets { self.new.core.value.standing ≡ record self.old.core.value.standing { sets = slice_set self.old.core.value.standing.sets tag (Some number) } }
     {
         self.core.step(Event::Client(request_pdu(request)));
@@ -372,7 +379,9 @@ fn take(search: &mut Search, outcome: &Outcome)
     }
 }
 
-fn has_map<const DEPTH: usize>(core: &Core<DEPTH>, device: usize) -> bool {
+fn has_map<const DEPTH: usize>(core: &Core<DEPTH>, device: usize) -> bool
+    ensures { result ≡ has_map core.now device }
+{
     match core.maps().get(device) {
         Some(Some(_)) => true,
         _ => false,

@@ -39,7 +39,7 @@ impl<const DEPTH: usize> Service<DEPTH> {
     /// What happened, the oldest first.
     pub fn next_note(&mut self) -> Option<Note>
         ensures links { self.new.lines.links ≡ self.old.lines.links }
-        ensures goes { LeadsOn self.old.cycle.core.value self.new.cycle.core.value }
+        ensures core { self.new.cycle.core.value ≡ self.old.cycle.core.value }
         ensures places { self.new.places.items ≡ self.old.places.items }
     {
         self.notes.next()

@@ -1,4 +1,8 @@
 //! How a service stands, for whoever looks after it.
+ghost use Rattle.std.specs.Prelude.{◌≡◌, ◌≤◌, IfNone, IfSome, Some, length, slice_get};
+ghost use Rattle.service_core.specs.declared.device.Device.{Device as Own};
+ghost use Rattle.service_core.specs.Standing.{IsStatus};
+
 use crate::counts::Counts;
 use crate::note::Loss;
 use crate::output::OutputState;
@@ -21,7 +25,10 @@ pub struct DeviceStatus {
 
 impl<const DEPTH: usize> Service<DEPTH> {
     /// How a device stands, by its number; None where the site has no such device.
-    pub fn device_status(&self, device: usize) -> Option<DeviceStatus> {
+    pub fn device_status(&self, device: usize) -> Option<DeviceStatus>
+        ensures stands { IfSome result (λ status. (own : Own) → slice_get self.entry.now.devices.items device ≡ Some own → IsStatus self.entry.now.cycle.core.value device own status) }
+        ensures none { IfNone result (length self.entry.now.devices.items ≤ device) }
+    {
         let found = self.devices.get(device)?;
         let is_up = match self.wire_of(device) {
             Some(wire) => wire.is_up(),

@@ -8,4 +8,4 @@ returns-else-self c =
     let begins = c.args.self.now.begins in
     let some : c.args.self.now.start + c.args.n ≤ c.args.self.now.end = grind (arith, nat_tests, c.min.ensures, c.if-self.false, begins) in
     let start : c.args.self.now.start + c.min.result ≡ c.args.self.now.start + c.args.n = grind (arith, nat_tests, c.min.ensures, c.if-self.false, begins) in
-    sends_some c.args.self.now _ c.args.n some refl refl start refl refl
+    sends_some c.args.self.now _ c.args.n some refl refl start refl refl (record { taken = refl; closing = refl; right = refl }) refl

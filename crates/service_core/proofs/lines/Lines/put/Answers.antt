@@ -1,4 +1,4 @@
-use Rattle.std.proofs.Common.{◌≡◌, ℕ, List, sym, subst}
+use Rattle.std.proofs.Common.{sym, subst}
 use Rattle.service_core.specs.Requests.{IsRightfulOn}
 use Rattle.service_core.proofs.Rightful.{with_line}
 use Rattle.service_core.proofs.lines.Lines.put.Goals as goal

@@ -1,6 +1,7 @@
 use Rattle.std.proofs.Common.{rules, ◌≡◌, length}
 use Rattle.gateway.specs.declared.event_core.event.Event.TheVariants as event
 use Rattle.gateway.specs.declared.event_core.event.Answer.TheVariants as answer
+use Rattle.service_core.specs.Course.{IsOfRounds}
 use Rattle.service_core.proofs.Runs.{goes_after, reached_after, sought_after}
 use Rattle.service_core.proofs.scan_cycle.ScanCycle.scan.Goals as goal
 
@@ -15,4 +16,4 @@ invariant_of-self-2 g c =
     }
 
 pub returns : goal.returns
-returns g c = record { goes = goes_after _ _ event.Scan (answer.Writes (length c.deref_mut.result.now.site.outs)) _ c.deref_mut.ensures.value c.scan.ensures.scanned }
+returns g c = record { goes = goes_after IsOfRounds _ _ event.Scan (answer.Writes (length c.deref_mut.result.now.site.outs)) _ tt c.deref_mut.ensures.value c.scan.ensures.scanned }

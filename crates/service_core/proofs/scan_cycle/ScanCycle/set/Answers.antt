@@ -3,6 +3,7 @@ use Rattle.site_model.specs.declared.site.Site.{Site}
 use Rattle.gateway.specs.event_core.Core.{Gateway}
 use Rattle.gateway.specs.declared.event_core.event.Event.TheVariants as event
 use Rattle.service.specs.Rounds.{IsRoundFor}
+use Rattle.service_core.specs.Course.{IsOfClients}
 use Rattle.service_core.proofs.Runs.{goes_after, reached_after, sought_after}
 use Rattle.service_core.proofs.scan_cycle.ScanCycle.set.Goals as goal
 
@@ -18,4 +19,4 @@ invariant_of-self g c =
     }
 
 pub returns-clause-goes : goal.returns-clause-goes
-returns-clause-goes g c = goes_after _ _ (event.Client c.request_pdu.result) c.step.result _ c.deref_mut.ensures.value (c.step.ensures.run, c.step.ensures.same)
+returns-clause-goes g c = goes_after IsOfClients _ _ (event.Client c.request_pdu.result) c.step.result _ tt c.deref_mut.ensures.value (c.step.ensures.run, c.step.ensures.same)

@@ -1,10 +1,10 @@
-use Rattle.std.proofs.Common.{rules, ◌≡◌, ◌≤◌, ◌<◌, [], Some, length, refl}
+use Rattle.std.proofs.Common.{rules, ◌≡◌, ◌≤◌, ◌<◌, [], Some, length, refl, ap}
 use Rattle.std.specs.Prelude.{slice_get}
 use Rattle.std.proofs.lemmas.Option.{slice_get_past, slice_get_read}
 use Rattle.service_core.proofs.Heard.{done_at, nobody_at, that_one}
 use Rattle.service_core.specs.declared.client_place.ClientPlace.{ClientPlace}
 use Rattle.service_core.specs.Clients.{IsDeaf, ready_of}
-use Rattle.service_core.proofs.Rightful.{right_on}
+use Rattle.service_core.proofs.Rightful.{right_behind_clients}
 use Rattle.service_core.proofs.service_state.Service.from_client.Goals as goal
 
 pub returns-in-Some-clause-hears : goal.returns-in-Some-clause-hears
@@ -28,4 +28,12 @@ returns-in-Some-clause-takes g c =
     that_one (λ (x : ClientPlace). (IsDeaf x → ⊥) → ready_of x ≡ [] → 0 < length c.args.bytes.now → 0 < c.take.result) places c.args.place c.in-Some.client.now at c.take.ensures.takes
 
 pub invariant_of-self : goal.invariant_of-self
-invariant_of-self g c = record { rightful = right_on _ _ c.args.self.now.lines c.take.ensures.goes c.args.self.now.rightful }
+invariant_of-self g c = record { rightful = right_behind_clients _ _ c.args.self.now.lines c.take.ensures.goes c.args.self.now.rightful }
+
+pub returns-in-Some-clause-deaf : goal.returns-in-Some-clause-deaf
+returns-in-Some-clause-deaf g c =
+    let places = c.args.self.now.places.items in
+    let within : c.args.place < length places = search rules in
+    let at : slice_get places c.args.place ≡ Some c.in-Some.client.now = slice_get_read places _ c.args.place c.in-Some.client.now refl within c.in-Some.ensures.value in
+    done_at (λ (old new : ClientPlace). IsDeaf old → (new ≡ old) × (c.take.new.cycle.core.value ≡ c.args.self.now.cycle.core.value)) places places c.args.place c.in-Some.client.now c.take.new.self refl at
+    (λ deaf. ((c.take.ensures.deaf deaf).0, ap (λ x. x.core.value) (c.take.ensures.deaf deaf).1))
