@@ -3,6 +3,7 @@
 
 mod finding;
 mod keys;
+mod looking;
 mod place;
 mod wording;
 
@@ -12,10 +13,13 @@ pub use keys::{
     optional_number_at, optional_text_at, optional_texts_at, section_at, text_at,
 };
 // the place of a fault
-pub use place::{FilePlace, Placed};
+pub use place::{Advice, FilePlace, Placed};
 // what is found there
 pub use finding::{
-    EntryName, Finding, KeyRule, Kind, Rule, Stands, first_broken, first_long, first_outside,
-    first_unlisted, named_entry, stands_among, stands_at,
+    EntryName, Finding, KeyRule, Kind, Rule, Stands, entry_named, named_entry, stands_at,
+    stands_for,
+};
+pub use looking::{
+    first_alike, first_broken, first_long, first_outside, first_repeated, first_unlisted, is_alike,
 };
 pub use wording::entry_shown;

@@ -1,6 +1,6 @@
 //! Where in a file a fault was found.
 use crate::finding::{EntryName, Finding};
-use crate::wording::{entry_shown, rule_shown, stands_shown};
+use crate::wording::{entry_shown, help_of, meaning_of, rule_shown, stands_shown};
 use std::alloc::{AllocError, Global};
 
 /// A fault of a file, and where it was found; no place where memory for it was refused.
@@ -24,7 +24,33 @@ pub enum FilePlace {
         key: &'static str,
         stands: Option<String>,
         rule: String,
+        advice: Advice,
     },
+}
+
+/// What is told of an entry in place of the words of the fault's kind, where it is known more closely.
+#[derive(Debug, Drop)]
+pub struct Advice {
+    /// What is wrong.
+    pub meaning: Option<&'static str>,
+    /// What to do; `{}` stands for the key.
+    pub help: Option<&'static str>,
+    /// The name that may be meant.
+    pub meant: Option<String>,
+}
+
+impl Advice {
+    fn of(alloc: Global, finding: Finding<'_>) -> Result<Advice, AllocError> {
+        let meant = match finding.meant {
+            Some(name) => Some(String::from_str(alloc, name)?),
+            None => None,
+        };
+        Ok(Advice {
+            meaning: meaning_of(finding.rule),
+            help: finding.help.or(help_of(finding.rule)),
+            meant,
+        })
+    }
 }
 
 impl FilePlace {
@@ -66,10 +92,11 @@ impl FilePlace {
             key: finding.key,
             stands,
             rule,
+            advice: Advice::of(alloc, finding)?,
         })
     }
 
-    /// The place in one line of plain text: `[[tag]] inv1_w: low = 5 is over high = 4`, or `line 12, column 7`.
+    /// The place in one line of plain text: `[[tag]] inv1_w (the 1st): low = 5 is over high = 4`, or `line 12, column 7`.
     pub fn shown(&self, alloc: Global) -> Result<String, AllocError> {
         match self {
             FilePlace::Text { line, column } => format!(in alloc; "line {line}, column {column}"),
@@ -78,6 +105,7 @@ impl FilePlace {
                 key,
                 stands,
                 rule,
+                advice: _,
             } => match stands {
                 Some(stands) => format!(in alloc; "{entry}: {key} = {stands} {rule}"),
                 None => format!(in alloc; "{entry}: {key} {rule}"),

@@ -6,7 +6,7 @@ use crate::fault::PlantFault;
 use crate::reader::{MOST_DEVICES, MOST_FAULTS, MOST_MODELS, MOST_WATTS};
 use crate::spot::Spot;
 use device::device_finding;
-use entries::{fault_finding, value_finding};
+use entries::{fault_finding, value_finding, value_name};
 use file_keys::{
     EntryName, FilePlace, Finding, first_long, first_unlisted, named_entry, section_at,
 };
@@ -45,7 +45,7 @@ fn place_in(
 /// What is found at the spot, or else a section that is no list.
 fn found<'a>(
     file: &'a Value,
-    defs: &[ModelDef],
+    defs: &'a [ModelDef],
     spot: Spot,
     fault: PlantFault,
 ) -> Option<(EntryName<'a>, Finding<'a>)> {
@@ -61,7 +61,7 @@ fn in_file<'a>(finding: Option<Finding<'a>>) -> Option<(EntryName<'a>, Finding<'
 
 fn found_at<'a>(
     file: &'a Value,
-    defs: &[ModelDef],
+    defs: &'a [ModelDef],
     spot: Spot,
     fault: PlantFault,
 ) -> Option<(EntryName<'a>, Finding<'a>)> {
@@ -69,7 +69,7 @@ fn found_at<'a>(
         Spot::File => too_long(file),
         Spot::Device(number) => in_device(section_at(file, "device")?, defs, number, fault),
         Spot::Value(number, value) => {
-            in_value(section_at(file, "device")?, number, value, fault)
+            in_value(section_at(file, "device")?, defs, number, value, fault)
         }
         Spot::Faults => in_file(first_long(file, &[("fault", MOST_FAULTS)])),
         Spot::Fault(number) => in_fault(section_at(file, "fault")?, number, fault),
@@ -106,18 +106,14 @@ fn in_device<'a>(
 
 fn in_value<'a>(
     entries: &'a [Value],
+    defs: &'a [ModelDef],
     number: usize,
     value: usize,
     fault: PlantFault,
 ) -> Option<(EntryName<'a>, Finding<'a>)> {
-    let entry = section_at(entries.get(number)?, "value")?.get(value)?;
-    let name = EntryName::Inner(
-        "[[device.value]]",
-        value.saturating_add(1),
-        "[[device]]",
-        number.saturating_add(1),
-    );
-    Some((name, value_finding(entry, fault)?))
+    let values = section_at(entries.get(number)?, "value")?;
+    let finding = value_finding(values, defs, number, value, fault)?;
+    Some((value_name(number, value), finding))
 }
 
 fn in_fault<'a>(
@@ -125,7 +121,7 @@ fn in_fault<'a>(
     number: usize,
     fault: PlantFault,
 ) -> Option<(EntryName<'a>, Finding<'a>)> {
-    let finding = fault_finding(entries.get(number)?, fault)?;
+    let finding = fault_finding(entries.get(..number)?, entries.get(number)?, fault)?;
     Some((
         EntryName::Numbered("[[fault]]", number.saturating_add(1)),
         finding,

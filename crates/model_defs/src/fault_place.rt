@@ -1,9 +1,30 @@
 //! Where a text breaks a rule of model definitions. Nothing is proved of what is told here but that it ends and is safe.
 use crate::fault::DefFault;
 use crate::point_object::{kind_named, whole_number};
-use file_keys::{EntryName, FilePlace, Finding, Rule, Stands};
+use file_keys::{EntryName, FilePlace, Finding, Kind, Rule, Stands, entry_named};
 use serde_json::{Error, Value};
+use source_notes::{nearer, nearest_of};
 use std::alloc::Global;
+
+/// The words of the types that points may have.
+const TYPES: &[&str] = &[
+    "int16",
+    "uint16",
+    "acc16",
+    "enum16",
+    "bitfield16",
+    "sunssf",
+    "pad",
+    "int32",
+    "uint32",
+    "acc32",
+    "enum32",
+    "bitfield32",
+    "int64",
+    "uint64",
+    "acc64",
+    "string",
+];
 
 /// The place of a fault, where `point` is the number of the point that the reader had come to.
 pub(crate) fn place_of(
@@ -44,7 +65,10 @@ fn found(tree: &Value, point: Option<usize>, fault: DefFault) -> (EntryName<'_>,
         return (EntryName::Alone("the model"), whole);
     }
     match object_of(tree, point) {
-        Some((number, object)) => (point_name(object, number), in_point(object, fault)),
+        Some((number, object)) => {
+            let name = entry_named("point", text_at(object, "name"), number);
+            (name, in_point(tree, number, object, fault))
+        }
         None => (EntryName::Alone("the model"), in_model(tree, fault)),
     }
 }
@@ -68,72 +92,137 @@ fn of_whole(fault: DefFault) -> Option<Finding<'static>> {
 /// The object of a point, and its number.
 fn object_of(tree: &Value, point: Option<usize>) -> Option<(usize, &Value)> {
     let number = point?;
-    let points = tree.get("group")?.get("points")?.as_array()?;
-    Some((number, points.as_slice().get(number)?))
-}
-
-fn point_name(object: &Value, number: usize) -> EntryName<'_> {
-    match text_at(object, "name") {
-        Some(name) => EntryName::Named("point", name),
-        None => EntryName::Numbered("point", number.saturating_add(1)),
-    }
+    Some((number, points_in(tree)?.get(number)?))
 }
 
 fn in_model(tree: &Value, fault: DefFault) -> Finding<'_> {
     if fault == DefFault::BadType {
-        return Finding {
-            key: "id",
-            stands: stands_at(tree, "id"),
-            rule: Rule::Within(1, 65534),
-        };
+        return Finding::by("id", stands_at(tree, "id"), Rule::Within(1, 65534));
     }
     if !is_whole(tree, "id") {
-        return at(tree, "id", "is no whole number");
+        return unlike(tree, "id", Kind::Number);
     }
     match tree.get("group") {
-        None => Finding::of("group", "is missing"),
+        None => Finding::missing("group"),
         Some(group) => match group.get("points") {
-            None => Finding::of("group.points", "is missing"),
-            Some(_) => Finding::of("group.points", "is no list"),
+            None => Finding::missing("group.points"),
+            Some(_) => Finding::by("group.points", Stands::Nothing, Rule::Unlike(Kind::List)),
         },
     }
 }
 
-fn in_point(object: &Value, fault: DefFault) -> Finding<'_> {
+fn in_point<'a>(tree: &'a Value, number: usize, object: &'a Value, fault: DefFault) -> Finding<'a> {
     match fault {
         DefFault::BadType => bad_word(object),
-        DefFault::BadSize => at(object, "size", "isn't the size of its type"),
-        DefFault::DuplicateName => at(object, "name", "is the name of a point before it"),
-        DefFault::BadScalePoint => at(
-            object,
-            "sf",
-            "is neither the name of a point of type sunssf nor in -10..10",
-        ),
-        _ => unlike(object),
+        DefFault::BadSize => bad_size(object),
+        DefFault::DuplicateName => known_name(tree, number, object),
+        DefFault::BadScalePoint => bad_factor(tree, object),
+        _ => unlike_point(object),
     }
 }
 
 fn bad_word(object: &Value) -> Finding<'_> {
     match text_at(object, "type").and_then(kind_named) {
-        None => at(object, "type", "is no type of a point"),
-        Some(_) => at(object, "access", "is neither R nor RW"),
+        None => {
+            let finding = at(object, "type", "is no type that is served");
+            finding.meaning(meant_type(object))
+        }
+        Some(_) => at(object, "access", "is neither R nor RW").helped("write R or RW"),
     }
 }
 
+fn meant_type(object: &Value) -> Option<&'static str> {
+    nearest_of(TYPES, text_at(object, "type")?)
+}
+
+/// A size that isn't the one of its type.
+fn bad_size(object: &Value) -> Finding<'_> {
+    let words = match text_at(object, "type").and_then(kind_named) {
+        None | Some(point_types::Kind::String) => "is under 1, the least of a string",
+        Some(kind) => match kind.size() {
+            1 => "isn't 1, the registers of its type",
+            2 => "isn't 2, the registers of its type",
+            _ => "isn't 4, the registers of its type",
+        },
+    };
+    at(object, "size", words)
+}
+
+/// The point before that has the same name.
+fn known_name<'a>(tree: &'a Value, number: usize, object: &'a Value) -> Finding<'a> {
+    let name = text_at(object, "name");
+    for (place, other) in points_of(tree).iter().enumerate() {
+        if place < number && text_at(other, "name") == name {
+            let rule = Rule::Repeats("is the name of", entry_named("point", name, place));
+            return Finding::by("name", stands_at(object, "name"), rule);
+        }
+    }
+    at(object, "name", "is the name of a point before it")
+}
+
+/// A factor that is no point and no power of ten, with the point that may be meant.
+fn bad_factor<'a>(tree: &'a Value, object: &'a Value) -> Finding<'a> {
+    if is_whole(object, "sf") {
+        return Finding::by("sf", stands_at(object, "sf"), Rule::Within(-10, 10));
+    }
+    let finding = at(object, "sf", "is the name of no point of type sunssf");
+    finding.meaning(nearest_factor(tree, object))
+}
+
+fn nearest_factor<'a>(tree: &'a Value, object: &Value) -> Option<&'a str> {
+    let written = text_at(object, "sf")?;
+    let mut found = None;
+    for point in points_of(tree) {
+        if let Some(name) = factor_name(point) {
+            found = nearer(found, name, written);
+        }
+    }
+    found.map(|near| near.name)
+}
+
+/// The name of a point, where its type is sunssf.
+fn factor_name(point: &Value) -> Option<&str> {
+    match text_at(point, "type")? {
+        "sunssf" => text_at(point, "name"),
+        _ => None,
+    }
+}
+
+/// The objects of the points.
+fn points_of(tree: &Value) -> &[Value] {
+    match points_in(tree) {
+        Some(points) => points,
+        None => &[],
+    }
+}
+
+fn points_in(tree: &Value) -> Option<&[Value]> {
+    let points = tree.get("group")?.get("points")?.as_array()?;
+    Some(points.as_slice())
+}
+
 /// The first key that is missing or of another kind.
-fn unlike(object: &Value) -> Finding<'_> {
+fn unlike_point(object: &Value) -> Finding<'_> {
     for key in ["name", "type"] {
         if text_at(object, key).is_none() {
-            return at(object, key, "is no text");
+            return unlike(object, key, Kind::Text);
         }
     }
     if !is_whole(object, "size") {
-        return at(object, "size", "is no whole number");
+        return unlike(object, "size", Kind::Number);
     }
     if object.get("sf").is_some() && text_at(object, "sf").is_none() && !is_whole(object, "sf") {
-        return at(object, "sf", "is neither a text nor a whole number");
+        return unlike(object, "sf", Kind::TextOrNumber);
     }
-    at(object, "access", "is no text")
+    unlike(object, "access", Kind::Text)
+}
+
+/// What stands at a key and is of another kind, or that it is missing.
+fn unlike<'a>(object: &'a Value, key: &'static str, kind: Kind) -> Finding<'a> {
+    if object.get(key).is_none() {
+        return Finding::missing(key);
+    }
+    Finding::by(key, stands_at(object, key), Rule::Unlike(kind))
 }
 
 fn text_at<'a>(object: &'a Value, key: &str) -> Option<&'a str> {
@@ -147,27 +236,30 @@ fn is_whole(object: &Value, key: &str) -> bool {
     }
 }
 
-/// What stands at a key, or that it is missing.
+/// What stands at a key, which breaks a rule in words.
 fn at<'a>(object: &'a Value, key: &'static str, words: &'static str) -> Finding<'a> {
-    if object.get(key).is_none() {
-        return Finding::of(key, "is missing");
-    }
-    Finding {
-        key,
-        stands: stands_at(object, key),
-        rule: Rule::Words(words),
-    }
+    Finding::by(key, stands_at(object, key), Rule::Words(words))
 }
 
 fn stands_at<'a>(object: &'a Value, key: &str) -> Stands<'a> {
-    let Some(value) = object.get(key) else {
-        return Stands::Nothing;
-    };
+    match object.get(key) {
+        Some(value) => stands_for(value),
+        None => Stands::Nothing,
+    }
+}
+
+fn stands_for(value: &Value) -> Stands<'_> {
     if let Some(text) = value.as_str() {
         return Stands::Text(text);
     }
-    match value.as_i64() {
-        Some(number) => Stands::Number(number),
+    if let Some(number) = value.as_i64() {
+        return Stands::Number(number);
+    }
+    if let Some(number) = value.as_f64() {
+        return Stands::Float(number);
+    }
+    match value.as_bool() {
+        Some(truth) => Stands::Truth(truth),
         None => Stands::Other(kind_of(value)),
     }
 }
@@ -175,7 +267,6 @@ fn stands_at<'a>(object: &'a Value, key: &str) -> Stands<'a> {
 fn kind_of(value: &Value) -> &'static str {
     match value {
         Value::Null => "null",
-        Value::Bool(_) => "boolean",
         Value::Number(_) => "number",
         Value::Array(_) => "array",
         _ => "object",

@@ -1,6 +1,6 @@
 //! The keys of a model definition that are known, and which others stand there.
 use crate::unread_keys::{Unread, is_among};
-use file_keys::EntryName;
+use file_keys::{EntryName, entry_named};
 use serde_json::Value;
 use std::alloc::AllocError;
 
@@ -54,10 +54,7 @@ pub(crate) fn push_unread_of_definition<'a>(
 }
 
 fn point_name(point: &Value, number: usize) -> EntryName<'_> {
-    match point.get("name").and_then(Value::as_str) {
-        Some(name) => EntryName::Named("point", name),
-        None => EntryName::Numbered("point", number.saturating_add(1)),
-    }
+    entry_named("point", point.get("name").and_then(Value::as_str), number)
 }
 
 /// Appends each key of an object that isn't among those that are known.

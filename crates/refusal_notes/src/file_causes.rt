@@ -1,6 +1,6 @@
 //! What is noted of a file that is refused.
 use crate::cause::Cause;
-use file_keys::FilePlace;
+use file_keys::{Advice, FilePlace};
 use inverter_sim::{Plant, PlantFault};
 use model_defs::{DefFault, ModelDef, read_placed};
 use site_model::{Site, SiteFault};
@@ -14,6 +14,7 @@ pub fn cause_of_site(alloc: Global, text: &str, models: &[ModelDef], fault: Site
     if let Err(placed) = Site::read_placed(alloc, text, models) {
         put_place(alloc, &mut cause, placed.place);
     }
+    put_brackets(text, &mut cause);
     cause
 }
 
@@ -24,6 +25,7 @@ pub fn cause_of_plant(alloc: Global, text: &str, models: &[ModelDef], fault: Pla
     if let Err(placed) = Plant::read_placed(alloc, text, models) {
         put_place(alloc, &mut cause, placed.place);
     }
+    put_brackets(text, &mut cause);
     cause
 }
 
@@ -42,16 +44,72 @@ pub fn cause_of_definition(alloc: Global, defs: &[String], fault: DefFault) -> C
 
 /// Adds a place: the line and the column, or else the entry and what is wrong there.
 fn put_place(alloc: Global, cause: &mut Cause, place: Option<FilePlace>) {
+    let Some(place) = place else {
+        return;
+    };
+    if let Ok(shown) = place.shown(alloc) {
+        cause.detail = shown;
+    }
     match place {
-        None => {}
-        Some(FilePlace::Text { line, column }) => {
+        FilePlace::Text { line, column } => {
             cause.line = u32::try_from(line).unwrap_or(0);
             cause.mark = Mark::Column(column);
+            cause.detail = String::new(alloc);
         }
-        Some(entry) => {
-            if let Ok(shown) = entry.shown(alloc) {
-                cause.detail = shown;
-            }
+        FilePlace::Entry { key, advice, .. } => put_advice(cause, key, advice),
+    }
+}
+
+/// The sections that are lists, each as it stands by mistake, in one pair of brackets, and as each entry begins.
+const LISTS: &[(&str, &str, &str)] = &[
+    ("device", "[device]", "[[device]]"),
+    ("tag", "[tag]", "[[tag]]"),
+    ("served", "[served]", "[[served]]"),
+    ("device.value", "[device.value]", "[[device.value]]"),
+    ("fault", "[fault]", "[[fault]]"),
+];
+
+/// Puts words of its own where the text isn't TOML because the entries of a list stand in one pair of brackets.
+fn put_brackets(text: &str, cause: &mut Cause) {
+    let Some(line) = line_of(text, cause.line) else {
+        return;
+    };
+    for (section, single, double) in LISTS {
+        if line == *single || (line == *double && has_line(text, single)) {
+            cause.meaning = "the entries of a list stand in one pair of brackets";
+            cause.help = "begin each entry with [[{}]], in two pairs of brackets";
+            let _ = cause.name.push_str(section);
+            return;
         }
+    }
+}
+
+/// What stands on a line of a text, counted from 1.
+fn line_of(text: &str, number: u32) -> Option<&str> {
+    let before = number.checked_sub(1)?;
+    Some(text.lines().nth(before as usize)?.trim())
+}
+
+fn has_line(text: &str, wanted: &str) -> bool {
+    for line in text.lines() {
+        if line.trim() == wanted {
+            return true;
+        }
+    }
+    false
+}
+
+/// Puts what is known of an entry in place of the words of the fault.
+fn put_advice(cause: &mut Cause, key: &'static str, advice: Advice) {
+    if let Some(meaning) = advice.meaning {
+        cause.meaning = meaning;
+    }
+    if let Some(help) = advice.help {
+        cause.help = help;
+        let _ = cause.name.push_str(key);
+    }
+    if let Some(meant) = advice.meant {
+        cause.help = "did you mean {}?";
+        cause.name = meant;
     }
 }

@@ -1,9 +1,8 @@
 //! Warnings of the keys of a file that nothing reads.
 use crate::definition_keys::push_unread_of_definition;
-use crate::nearest::nearest_of;
 use crate::table_keys::{push_unread_of_plant, push_unread_of_site};
 use file_keys::{EntryName, entry_shown};
-use source_notes::escaped;
+use source_notes::{escaped, nearest_of};
 use std::alloc::{AllocError, Global};
 
 /// The most keys of a file that are told.

@@ -1,6 +1,8 @@
 //! Where a text breaks a rule of site files. Nothing is proved of what is told here but that it ends and is safe.
 mod gateway;
+mod named;
 mod served;
+mod tag_words;
 mod tags;
 
 use crate::fault::SiteFault;
@@ -47,7 +49,7 @@ fn place_in(
 /// What is found at the spot, or else a section that is no list.
 fn found<'a>(
     file: &'a Value,
-    defs: &[ModelDef],
+    defs: &'a [ModelDef],
     spot: Spot,
     fault: SiteFault,
 ) -> Option<(EntryName<'a>, Finding<'a>)> {
@@ -63,7 +65,7 @@ fn in_file<'a>(finding: Option<Finding<'a>>) -> Option<(EntryName<'a>, Finding<'
 
 fn found_at<'a>(
     file: &'a Value,
-    defs: &[ModelDef],
+    defs: &'a [ModelDef],
     spot: Spot,
     fault: SiteFault,
 ) -> Option<(EntryName<'a>, Finding<'a>)> {
@@ -71,8 +73,8 @@ fn found_at<'a>(
         Spot::File => too_long(file),
         Spot::Gateway => in_gateway(file, defs, fault),
         Spot::Device(number) => in_device(section_at(file, "device")?, number, fault),
-        Spot::Tag(number) => in_tag(section_at(file, "tag")?, number, fault),
-        Spot::Served(number) => in_served(section_at(file, "served")?, number, fault),
+        Spot::Tag(number) => in_tag(file, defs, number, fault),
+        Spot::Served(number) => in_served(file, defs, number, fault),
     }
 }
 
@@ -97,7 +99,9 @@ fn in_gateway<'a>(
     fault: SiteFault,
 ) -> Option<(EntryName<'a>, Finding<'a>)> {
     let Some(gateway) = file.get("gateway") else {
-        return in_file(Some(Finding::of("[gateway]", "is missing")));
+        return in_file(Some(Finding::missing("[gateway]").helped(
+            "write [gateway] with its unit and its models, once",
+        )));
     };
     let finding = gateway_finding(gateway, defs, fault)?;
     Some((EntryName::Alone("[gateway]"), finding))
@@ -114,22 +118,24 @@ fn in_device<'a>(
 }
 
 fn in_tag<'a>(
-    entries: &'a [Value],
+    file: &'a Value,
+    defs: &'a [ModelDef],
     number: usize,
     fault: SiteFault,
 ) -> Option<(EntryName<'a>, Finding<'a>)> {
-    let entry = entries.get(number)?;
-    let finding = tag_finding(entries.get(..number)?, entry, fault)?;
+    let entry = section_at(file, "tag")?.get(number)?;
+    let finding = tag_finding(file, defs, number, entry, fault)?;
     Some((named_entry("[[tag]]", entry, number), finding))
 }
 
 fn in_served<'a>(
-    entries: &'a [Value],
+    file: &'a Value,
+    defs: &'a [ModelDef],
     number: usize,
     fault: SiteFault,
 ) -> Option<(EntryName<'a>, Finding<'a>)> {
-    let entry = entries.get(number)?;
-    let finding = served_finding(entry, fault)?;
+    let entry = section_at(file, "served")?.get(number)?;
+    let finding = served_finding(file, defs, number, entry, fault)?;
     Some((
         EntryName::Numbered("[[served]]", number.saturating_add(1)),
         finding,

@@ -39,6 +39,7 @@ pub use tag::{Sf, SiteTag};
 pub use want::Want;
 // what it serves to clients
 pub use served::{Served, Source};
+pub use serving::raw_range;
 // a text of the file, and the words of a block
 pub use modbus_frame::Words;
 pub use text::Text;

@@ -205,8 +205,8 @@ fn can_be_encoded(point: Kind, raw: i64) -> bool
     }
 }
 
-/// The least and the greatest raw number of a kind, without the unimplemented one.
-fn raw_range(point: Kind) -> Option<(i128, i128)>
+/// The least and the greatest raw number of a kind, without the unimplemented one; None for kinds without a number.
+pub fn raw_range(point: Kind) -> Option<(i128, i128)>
     ensures { result ≡ raw_range point }
 {
     match point {

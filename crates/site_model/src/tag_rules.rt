@@ -133,7 +133,7 @@ fn bit_of(point: Kind, bit: Option<i64>) -> Option<Option<u8>>
 }
 
 /// The last bit of a bitfield that may be a tag.
-fn last_bit(point: Kind) -> Option<u8>
+pub(crate) fn last_bit(point: Kind) -> Option<u8>
     ensures { result ≡ last_bit point }
 {
     match point {

@@ -172,7 +172,7 @@ fn is_same_point(tag: &SiteTag, other: &SiteTag) -> bool
 }
 
 /// Whether both are written to devices, or both are the gateway's own.
-fn is_same_side(access: Access, other: Access) -> bool
+pub(crate) fn is_same_side(access: Access, other: Access) -> bool
     ensures { result ≡ is_same_side access other }
 {
     match (access, other) {

@@ -9,15 +9,20 @@ pub fn escaped(alloc: Global, text: &str) -> Result<String, AllocError> {
 }
 
 /// Appends a text with its control characters escaped.
-pub(crate) fn push_escaped(lines: &mut String, text: &str) -> Result<(), AllocError> {
+pub fn push_escaped(lines: &mut String, text: &str) -> Result<(), AllocError> {
     for letter in text.chars() {
-        if is_control(letter) {
-            push_code(lines, letter)?;
-        } else {
-            lines.push(letter)?;
-        }
+        push_letter(lines, letter)?;
     }
     Ok(())
+}
+
+/// Appends a letter, escaped where it is a control character.
+pub fn push_letter(line: &mut String, letter: char) -> Result<(), AllocError> {
+    if is_control(letter) {
+        push_code(line, letter)
+    } else {
+        line.push(letter)
+    }
 }
 
 fn push_code(lines: &mut String, letter: char) -> Result<(), AllocError> {
@@ -27,8 +32,29 @@ fn push_code(lines: &mut String, letter: char) -> Result<(), AllocError> {
     Ok(())
 }
 
-/// Whether a letter has no shape of its own, and may move what stands behind it.
-pub(crate) fn is_control(letter: char) -> bool {
+/// A letter of a line that moves nothing behind it: a blank for a tab, and `?` for another control character.
+pub fn plain_letter(letter: char) -> char {
+    if letter == '\t' {
+        ' '
+    } else if is_control(letter) {
+        '?'
+    } else {
+        letter
+    }
+}
+
+/// Whether a letter has no shape of its own, and may move or turn what stands beside it: the control characters, the
+/// separators of lines and paragraphs, and those that turn the direction of writing (Unicode, Bidi_Control) or have no width.
+fn is_control(letter: char) -> bool {
     let code = letter as u32;
-    code < 0x20 || (0x7f <= code && code < 0xa0)
+    code < 0x20
+        || is_within(code, 0x7f, 0x9f)
+        || code == 0x61c
+        || is_within(code, 0x200b, 0x200f)
+        || is_within(code, 0x2028, 0x202e)
+        || is_within(code, 0x2060, 0x206f)
+}
+
+fn is_within(code: u32, low: u32, high: u32) -> bool {
+    low <= code && code <= high
 }

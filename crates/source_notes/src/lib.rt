@@ -1,13 +1,15 @@
 //! Notes on a line of a text, in the form that compilers use: where, what is wrong, the line with carets under what is
-//! meant, and what to do.
+//! meant, and what to do; and what all notes share: texts without control characters, and the name that may be meant.
 #![tactic(auto)]
 
 mod escaping;
 mod marking;
+mod nearest;
 mod note;
 #[cfg(test)]
 mod tests;
 
-pub use escaping::escaped;
+pub use escaping::{escaped, plain_letter, push_letter};
 pub use marking::Mark;
+pub use nearest::{Near, nearer, nearest_of};
 pub use note::Note;

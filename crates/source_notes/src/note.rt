@@ -1,5 +1,5 @@
 //! A note on a line of a text.
-use crate::escaping::{escaped, is_control, push_escaped};
+use crate::escaping::{escaped, plain_letter, push_escaped};
 use crate::marking::{Mark, marked};
 use std::alloc::{AllocError, Global};
 
@@ -120,19 +120,9 @@ fn push_named(lines: &mut String, text: &str, name: &str) -> Result<(), AllocErr
 /// Appends a line with nothing in it that moves what stands behind.
 fn push_shown(lines: &mut String, line: &str) -> Result<(), AllocError> {
     for letter in line.chars() {
-        lines.push(shown(letter))?;
+        lines.push(plain_letter(letter))?;
     }
     Ok(())
-}
-
-fn shown(letter: char) -> char {
-    if letter == '\t' {
-        ' '
-    } else if is_control(letter) {
-        '?'
-    } else {
-        letter
-    }
 }
 
 /// Appends a caret below each letter that is meant, and one where what is meant comes behind the last; blanks before.

@@ -25,16 +25,28 @@ const OF_SITES: &[Edited] = &[
         "site.toml: NotToml: the text is no TOML\n  help: look for a missing quote, bracket or value, or a key that is there twice in one table\n",
     ),
     (
+        "[[tag]]\nname = \"inv1_w\"",
+        "[tag]\nname = \"inv1_w\"",
+        "refused: site NotToml\n",
+        "site.toml: NotToml: the entries of a list stand in one pair of brackets\n  help: begin each entry with [[tag]], in two pairs of brackets\n",
+    ),
+    (
+        "low = -100000",
+        "low = \"0\"",
+        "refused: site MissingKey\n",
+        "site.toml: MissingKey: the value of a key is of another kind\n  help: write a whole number, without quotes and without a point\n",
+    ),
+    (
         "type = \"DINT\"",
         "typ = \"DINT\"",
         "refused: site MissingKey\n",
-        "site.toml: MissingKey: a key is missing, or of another kind\n  help: add the key; a tag needs name, access, model, point, type, exponent, low, high, and device for in and out\n",
+        "site.toml: MissingKey: a key is missing\n  help: add the key; a tag needs name, access, model, point, type, exponent, low, high, and device for in and out\n",
     ),
     (
         "device = \"inv1\"",
         "device = \"inv3\"",
         "refused: site UnknownDevice\n",
-        "site.toml: UnknownDevice: no device has this name\n  help: correct the name: device names are compared exactly\n",
+        "site.toml: UnknownDevice: no device has this name\n  help: did you mean inv1?\n",
     ),
     (
         "model = 103",
@@ -91,7 +103,7 @@ const OF_PLANTS: &[Edited] = &[
         "wmax = 5000",
         "w = 5000",
         "refused: plant MissingKey\n",
-        "plant.toml: MissingKey: a key is missing, or of another kind\n  help: add it: a device needs unit, models, wmax and available, a value model, point and raw\n",
+        "plant.toml: MissingKey: a key is missing\n  help: add it: a device needs unit, models, wmax and available, a value model, point and raw\n",
     ),
     (
         "model = 103",
@@ -103,13 +115,13 @@ const OF_PLANTS: &[Edited] = &[
         "\"W_SF\"",
         "\"WSF\"",
         "refused: plant UnknownPoint\n",
-        "plant.toml: UnknownPoint: the model has no point of this name\n  help: take the name from the model's definition; case counts\n",
+        "plant.toml: UnknownPoint: the model has no point of this name\n  help: did you mean W_SF?\n",
     ),
     (
         "raw = 0",
         "raw = 40000",
         "refused: plant BadRange\n",
-        "plant.toml: BadRange: a number outside its limits\n  help: correct the number: models begin with 1, available has an entry, and a raw is within its point's words\n",
+        "plant.toml: BadRange: a number outside its limits\n  help: write a number within these limits\n",
     ),
     (
         "unit = 2",
@@ -129,7 +141,7 @@ const OF_DEFINITIONS: &[(&str, &str, &str)] = &[
     (
         "{\"id\": 64001, \"group\": {\"points\": [\n  {\"name\": \"ID\", \"type\": \"uint16\", \"size\": \"1\"},\n  {\"name\": \"L\", \"type\": \"uint16\", \"size\": 1},\n  {\"name\": \"X\", \"type\": \"int16\", \"size\": 1, \"sf\": \"X_SF\", \"access\": \"RW\"},\n  {\"name\": \"X_SF\", \"type\": \"sunssf\", \"size\": 1}\n]}}\n",
         "refused: definition MissingKey\n",
-        "d.json: MissingKey: a key is missing, or of another kind\n  help: add id, group and points, and to each point name, type and size\n",
+        "d.json: MissingKey: the value of a key is of another kind\n  help: write a whole number, without quotes and without a point\n",
     ),
     (
         "{\"id\": 64001, \"group\": {\"points\": [\n  {\"name\": \"ID\", \"type\": \"uint16\", \"size\": 1},\n  {\"name\": \"L\", \"type\": \"uint16\", \"size\": 1},\n  {\"name\": \"X\", \"type\": \"float32\", \"size\": 1, \"sf\": \"X_SF\", \"access\": \"RW\"},\n  {\"name\": \"X_SF\", \"type\": \"sunssf\", \"size\": 1}\n]}}\n",

@@ -11,7 +11,7 @@ const OF_SITES: &[(&str, &str, &str)] = &[
     (
         "default = 50",
         "defualt = 50",
-        "s.toml: warning: [[tag]] target: nothing reads defualt\n  help: did you mean default?\n",
+        "s.toml: warning: [[tag]] target (the 3rd): nothing reads defualt\n  help: did you mean default?\n",
     ),
     (
         "[[served]]",
@@ -61,7 +61,8 @@ fn keys_of_a_plant_that_nothing_reads_are_told(rt: HostRuntime) {
 
 #[test]
 fn keys_of_a_definition_that_nothing_reads_are_told(rt: HostRuntime) {
-    let warnings = "d.json: warning: point ID: nothing reads acess\n  help: did you mean access?\n";
+    let warnings =
+        "d.json: warning: point ID (the 1st): nothing reads acess\n  help: did you mean access?\n";
     assert_warned(&rt, SITE, "", &[DEFINITION], warnings);
 }
 

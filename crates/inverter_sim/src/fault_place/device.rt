@@ -2,8 +2,8 @@
 use crate::fault::PlantFault;
 use crate::reader::definition_of;
 use file_keys::{
-    Finding, KeyRule, Kind, Rule, Stands, first_broken, first_outside, first_unlisted, list_at,
-    stands_among,
+    Finding, KeyRule, Kind, Rule, Stands, first_alike, first_broken, first_outside, first_repeated,
+    first_unlisted, list_at, stands_at,
 };
 use model_defs::ModelDef;
 use toml::Value;
@@ -24,7 +24,7 @@ static LIMITS: [(&str, i64, i64); 3] = [
 ];
 
 pub(super) fn device_finding<'a>(
-    before: &[Value],
+    before: &'a [Value],
     entry: &'a Value,
     defs: &[ModelDef],
     fault: PlantFault,
@@ -50,11 +50,8 @@ fn undefined<'a>(entry: &'a Value, defs: &[ModelDef]) -> Option<Finding<'a>> {
     for model in list_at(entry, "models")? {
         let number = model.as_integer()?;
         if definition_of(defs, number).is_none() {
-            return Some(Finding {
-                key: "models",
-                stands: Stands::Number(number),
-                rule: Rule::Words("has no definition"),
-            });
+            let rule = Rule::Words("has no definition");
+            return Some(Finding::by("models", Stands::Number(number), rule));
         }
     }
     None
@@ -64,12 +61,25 @@ fn outside(entry: &Value) -> Finding<'_> {
     if let Some(finding) = first_outside(entry, &LIMITS) {
         return finding;
     }
-    match bad_watts(entry) {
-        Some(finding) => finding,
-        None => Finding::of(
-            "models",
-            "don't begin with 1, or don't end by register 65535",
-        ),
+    if let Some(finding) = bad_watts(entry) {
+        return finding;
+    }
+    if begins_with_one(entry) {
+        Finding::of("models", "don't end by register 65535").helped(
+            "take models away, or begin the map at a lower base",
+        )
+    } else {
+        Finding::of("models", "don't begin with 1").helped("put 1 first, the common model")
+    }
+}
+
+fn begins_with_one(entry: &Value) -> bool {
+    match list_at(entry, "models") {
+        Some(models) => match models.first() {
+            Some(first) => first.as_integer() == Some(1),
+            None => false,
+        },
+        None => false,
     }
 }
 
@@ -77,24 +87,34 @@ fn outside(entry: &Value) -> Finding<'_> {
 fn bad_watts(entry: &Value) -> Option<Finding<'_>> {
     let watts = list_at(entry, "available")?;
     if watts.is_empty() {
-        return Some(Finding::of("available", "is empty"));
+        let finding = Finding::of("available", "is empty");
+        return Some(finding.helped("write at least one number of watts"));
     }
     for value in watts {
         let number = value.as_integer()?;
         if number < 0 || number > 1_000_000 {
-            return Some(Finding {
-                key: "available",
-                stands: Stands::Number(number),
-                rule: Rule::Within(0, 1_000_000),
-            });
+            let rule = Rule::Within(0, 1_000_000);
+            return Some(Finding::by("available", Stands::Number(number), rule));
         }
     }
     None
 }
 
-fn known_device<'a>(before: &[Value], entry: &'a Value) -> Finding<'a> {
-    if stands_among(before, entry, "unit") {
-        return Finding::at(entry, "unit", "is the unit of a device before it");
+fn known_device<'a>(before: &'a [Value], entry: &'a Value) -> Finding<'a> {
+    if let Some(other) = first_alike("[[device]]", before, entry, &["unit"]) {
+        let rule = Rule::Repeats("is the unit of", other);
+        return Finding::by("unit", stands_at(entry, "unit"), rule);
     }
-    Finding::of("models", "name one twice")
+    match repeated_model(entry) {
+        Some(model) => Finding::by(
+            "models",
+            Stands::Number(model),
+            Rule::Words("is there twice"),
+        ),
+        None => Finding::of("models", "name one twice"),
+    }
+}
+
+fn repeated_model(entry: &Value) -> Option<i64> {
+    first_repeated(list_at(entry, "models")?.as_slice())
 }

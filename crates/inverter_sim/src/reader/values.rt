@@ -121,6 +121,19 @@ fn number_of_point(point: &Point, raw: i64) -> Option<u64>
     }
 }
 
+/// The least and the greatest raw number that a point's registers stand for; none for ID and L, and for a string.
+pub(crate) fn numbers_of(point: &Point) -> Option<(i128, i128)> {
+    if point.offset < 2 || matches!(point.kind, Kind::String) {
+        return None;
+    }
+    let words = numbers_in(point.kind.size() as u32);
+    if is_signed(point.kind) {
+        Some((-words / 2, words / 2 - 1))
+    } else {
+        Some((0, words - 1))
+    }
+}
+
 fn is_signed(kind: Kind) -> bool
     ensures { result ≡ is_signed kind }
 {

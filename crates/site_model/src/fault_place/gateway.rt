@@ -2,7 +2,8 @@
 use crate::fault::SiteFault;
 use crate::gateway::definition_of;
 use file_keys::{
-    Finding, KeyRule, Kind, Rule, Stands, first_broken, first_outside, list_at, stands_among,
+    Finding, KeyRule, Kind, Rule, Stands, first_alike, first_broken, first_outside, first_repeated,
+    list_at, stands_at,
 };
 use model_defs::ModelDef;
 use toml::Value;
@@ -44,28 +45,44 @@ fn undefined<'a>(gateway: &'a Value, defs: &[ModelDef]) -> Option<Finding<'a>> {
     for model in list_at(gateway, "models")? {
         let number = model.as_integer()?;
         if definition_of(defs, number).is_none() {
-            return Some(Finding {
-                key: "models",
-                stands: Stands::Number(number),
-                rule: Rule::Words("has no definition"),
-            });
+            let rule = Rule::Words("has no definition");
+            return Some(Finding::by("models", Stands::Number(number), rule));
         }
     }
     None
 }
 
 fn unfit_gateway(gateway: &Value) -> Finding<'_> {
-    match first_outside(gateway, &LIMITS) {
+    if let Some(finding) = first_outside(gateway, &LIMITS) {
+        return finding;
+    }
+    match unfit_models(gateway) {
         Some(finding) => finding,
-        None => Finding::of(
-            "models",
-            "don't begin with 1, name one twice, or don't end by register 65535",
+        None => Finding::of("models", "don't end by register 65535").helped(
+            "take models away, or begin the map at a lower base",
         ),
     }
 }
 
+/// The model that isn't 1 in front, or the one that is there twice.
+fn unfit_models(gateway: &Value) -> Option<Finding<'_>> {
+    let models = list_at(gateway, "models")?.as_slice();
+    let begins = match models.first() {
+        Some(first) => first.as_integer() == Some(1),
+        None => false,
+    };
+    if !begins {
+        let finding = Finding::of("models", "don't begin with 1");
+        return Some(finding.helped("put 1 first, the common model"));
+    }
+    let repeated = first_repeated(models)?;
+    let rule = Rule::Words("is there twice");
+    let finding = Finding::by("models", Stands::Number(repeated), rule);
+    Some(finding.helped("take one of the two away"))
+}
+
 pub(super) fn device_finding<'a>(
-    before: &[Value],
+    before: &'a [Value],
     entry: &'a Value,
     fault: SiteFault,
 ) -> Option<Finding<'a>> {
@@ -80,14 +97,20 @@ pub(super) fn device_finding<'a>(
 fn unfit_device(entry: &Value) -> Finding<'_> {
     match first_outside(entry, &LIMITS) {
         Some(finding) => finding,
-        None => Finding::at(entry, "write", "is neither 6 nor 16"),
+        None => Finding::at(entry, "write", "is neither 6 nor 16").helped(
+            "write 16, or 6 for a device that takes one register at a time",
+        ),
     }
 }
 
-fn known_device<'a>(before: &[Value], entry: &'a Value) -> Finding<'a> {
-    if stands_among(before, entry, "name") {
-        Finding::at(entry, "name", "is the name of a device before it")
-    } else {
-        Finding::at(entry, "unit", "is the unit of a device before it")
+fn known_device<'a>(before: &'a [Value], entry: &'a Value) -> Finding<'a> {
+    if let Some(other) = first_alike("[[device]]", before, entry, &["name"]) {
+        let rule = Rule::Repeats("is the name of", other);
+        return Finding::by("name", stands_at(entry, "name"), rule);
+    }
+    let stands = stands_at(entry, "unit");
+    match first_alike("[[device]]", before, entry, &["unit"]) {
+        Some(other) => Finding::by("unit", stands, Rule::Repeats("is the unit of", other)),
+        None => Finding::at(entry, "unit", "is the unit of a device before it"),
     }
 }

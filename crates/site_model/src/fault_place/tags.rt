@@ -1,12 +1,16 @@
 //! What breaks a rule in the entry of a tag.
+use super::named::{nearest_entry, nearest_point, point_at};
+use super::tag_words::bad_word;
 use crate::access::Access;
 use crate::fault::SiteFault;
-use crate::tag_keys::{access_of, tag_name, type_of};
-use crate::tag_rules::is_polled;
+use crate::tag_keys::{access_of, type_of};
+use crate::tag_rules::{is_polled, last_bit};
+use crate::tags::is_same_side;
 use file_keys::{
-    Finding, KeyRule, Kind, Rule, Stands, first_broken, first_outside, number_at, stands_among,
-    text_at,
+    EntryName, Finding, KeyRule, Kind, Rule, Stands, first_alike, first_broken, first_outside,
+    is_alike, named_entry, number_at, section_at, stands_at, text_at,
 };
+use model_defs::ModelDef;
 use point_types::IlType;
 use toml::Value;
 
@@ -30,38 +34,53 @@ static OPTIONAL: [KeyRule; 4] = [
 
 static EXPONENT: [(&str, i64, i64); 1] = [("exponent", -10, 10)];
 
+/// What breaks the rule in the tag of a number.
 pub(super) fn tag_finding<'a>(
-    before: &[Value],
+    file: &'a Value,
+    defs: &'a [ModelDef],
+    number: usize,
     entry: &'a Value,
     fault: SiteFault,
 ) -> Option<Finding<'a>> {
     match fault {
         SiteFault::MissingKey => missing(entry),
-        SiteFault::UnknownDevice => {
-            Some(Finding::at(entry, "device", "is the name of no device"))
-        }
+        SiteFault::UnknownDevice => Some(unknown_device(file, entry)),
         SiteFault::UnknownModel => Some(Finding::at(entry, "model", unknown_model(entry))),
-        SiteFault::UnknownPoint => Some(Finding::at(entry, "point", "is no point of its model")),
+        SiteFault::UnknownPoint => {
+            let finding = Finding::at(entry, "point", "is no point of its model");
+            Some(finding.meaning(nearest_point(entry, defs)))
+        }
         SiteFault::NotWritable => Some(Finding::at(entry, "point", "can't be written")),
-        SiteFault::BadRange => Some(outside(entry)),
+        SiteFault::BadRange => Some(outside(entry, defs)),
         SiteFault::BadType => Some(bad_word(entry)),
-        SiteFault::Duplicate => Some(known_tag(before, entry)),
+        SiteFault::Duplicate => { Some(known_tag(section_at(file, "tag")?.get(..number)?, entry)) }
         _ => None,
     }
 }
 
-fn access(entry: &Value) -> Option<Access> {
+/// The access that an entry names.
+pub(super) fn access(entry: &Value) -> Option<Access> {
     access_of(text_at(entry, "access")?)
 }
 
-fn kind(entry: &Value) -> Option<IlType> {
+/// The type that an entry names.
+pub(super) fn kind(entry: &Value) -> Option<IlType> {
     type_of(text_at(entry, "type")?)
 }
 
-fn is_of_device(entry: &Value) -> bool {
+/// Whether the tag's point is a device's.
+pub(super) fn is_of_device(entry: &Value) -> bool {
     match access(entry) {
         Some(access) => is_polled(access),
         None => false,
+    }
+}
+
+fn unknown_device<'a>(file: &'a Value, entry: &'a Value) -> Finding<'a> {
+    let finding = Finding::at(entry, "device", "is the name of no device");
+    match text_at(entry, "device") {
+        Some(written) => finding.meaning(nearest_entry(file, "device", written)),
+        None => finding,
     }
 }
 
@@ -71,7 +90,7 @@ fn missing(entry: &Value) -> Option<Finding<'_>> {
         return Some(finding);
     }
     if is_of_device(entry) && entry.get("device").is_none() {
-        return Some(Finding::of("device", "is missing"));
+        return Some(Finding::missing("device"));
     }
     None
 }
@@ -85,7 +104,7 @@ fn unknown_model(entry: &Value) -> &'static str {
 }
 
 /// The number that is outside its range.
-fn outside(entry: &Value) -> Finding<'_> {
+fn outside<'a>(entry: &'a Value, defs: &[ModelDef]) -> Finding<'a> {
     if let Some(finding) = out_of_order(entry) {
         return finding;
     }
@@ -94,6 +113,21 @@ fn outside(entry: &Value) -> Finding<'_> {
     }
     match first_outside(entry, &EXPONENT) {
         Some(finding) => finding,
+        None => no_bit(entry, defs),
+    }
+}
+
+/// A bit that the point doesn't have.
+fn no_bit<'a>(entry: &'a Value, defs: &[ModelDef]) -> Finding<'a> {
+    let last = point_at(entry, defs).and_then(|point| last_bit(point.kind));
+    match last {
+        Some(last) => {
+            Finding::by(
+                "bit",
+                stands_at(entry, "bit"),
+                Rule::Within(0, i64::from(last)),
+            )
+        }
         None => Finding::at(entry, "bit", "is no bit of its point"),
     }
 }
@@ -115,12 +149,8 @@ fn out_of_order(entry: &Value) -> Option<Finding<'_>> {
     None
 }
 
-fn numbered(key: &'static str, number: i64, rule: Rule) -> Finding<'static> {
-    Finding {
-        key,
-        stands: Stands::Number(number),
-        rule,
-    }
+fn numbered(key: &'static str, number: i64, rule: Rule<'static>) -> Finding<'static> {
+    Finding::by(key, Stands::Number(number), rule)
 }
 
 fn out_of_type(entry: &Value) -> Option<Finding<'_>> {
@@ -129,53 +159,36 @@ fn out_of_type(entry: &Value) -> Option<Finding<'_>> {
     first_outside(entry, &[("low", low, high), ("high", low, high)])
 }
 
-/// The word that isn't allowed, or the key that doesn't go with the others.
-fn bad_word(entry: &Value) -> Finding<'_> {
-    if !is_name(entry) {
-        return Finding::at(entry, "name", "is no name of a tag");
+/// The name that a tag before has, or its point.
+fn known_tag<'a>(before: &'a [Value], entry: &'a Value) -> Finding<'a> {
+    if let Some(other) = first_alike("[[tag]]", before, entry, &["name"]) {
+        let rule = Rule::Repeats("is the name of", other);
+        return Finding::by("name", stands_at(entry, "name"), rule);
     }
-    if access(entry).is_none() {
-        return Finding::at(entry, "access", "is none of in, out, set, site");
-    }
-    if kind(entry).is_none() {
-        return Finding::at(entry, "type", "is no type of a tag");
-    }
-    unlike_others(entry)
-}
-
-fn is_name(entry: &Value) -> bool {
-    match text_at(entry, "name") {
-        Some(name) => tag_name(name).is_some(),
-        None => false,
+    match on_same_point(before, entry) {
+        Some(other) => {
+            let rule = Rule::Repeats("is the point of", other);
+            Finding::by("point", stands_at(entry, "point"), rule)
+        }
+        None => Finding::at(entry, "point", "is the ID or the length of a model").helped(
+            "take another point: the gateway has these two itself",
+        ),
     }
 }
 
-fn unlike_others(entry: &Value) -> Finding<'_> {
-    let is_input = matches!(access(entry), Some(Access::Input));
-    if !is_of_device(entry) && entry.get("device").is_some() {
-        return Finding::at(entry, "device", "is for tags on devices, in and out");
+/// The tag before that has the same point for itself.
+fn on_same_point<'a>(before: &'a [Value], entry: &Value) -> Option<EntryName<'a>> {
+    for (number, other) in before.iter().enumerate() {
+        if is_on_same_side(other, entry) && is_alike(other, entry, &["device", "model", "point"]) {
+            return Some(named_entry("[[tag]]", other, number));
+        }
     }
-    if entry.get("bit").is_some() && !(is_input && matches!(kind(entry), Some(IlType::Bool))) {
-        return Finding::at(entry, "bit", "is for tags in of type BOOL");
-    }
-    if entry.get("round").is_some() && !is_rounding(entry, is_input) {
-        return Finding::at(entry, "round", "may be down, for tags in without a bit");
-    }
-    Finding::at(entry, "point", "is of a kind that such a tag can't have")
+    None
 }
 
-fn is_rounding(entry: &Value, is_input: bool) -> bool {
-    is_input && entry.get("bit").is_none() && text_at(entry, "round") == Some("down")
-}
-
-fn known_tag<'a>(before: &[Value], entry: &'a Value) -> Finding<'a> {
-    if stands_among(before, entry, "name") {
-        Finding::at(entry, "name", "is the name of a tag before it")
-    } else {
-        Finding::at(
-            entry,
-            "point",
-            "has a tag before it, or is the ID or the length of a model",
-        )
+fn is_on_same_side(one: &Value, other: &Value) -> bool {
+    match (access(one), access(other)) {
+        (Some(one), Some(other)) => is_same_side(other, one),
+        _ => false,
     }
 }

@@ -68,7 +68,17 @@ const SECTIONS: &[(&str, &str, &str)] = &[
     (
         "[1, 103, 123]",
         "[103, 1]",
-        "BadRange: [gateway]: models don't begin with 1, name one twice, or don't end by register 65535",
+        "BadRange: [gateway]: models don't begin with 1",
+    ),
+    (
+        "[1, 103, 123]",
+        "[1, 103, 103]",
+        "BadRange: [gateway]: models = 103 is there twice",
+    ),
+    (
+        "base = 40000",
+        "base = 65500",
+        "BadRange: [gateway]: models don't end by register 65535",
     ),
     (
         "1, 103, 123]",
@@ -83,12 +93,12 @@ const SECTIONS: &[(&str, &str, &str)] = &[
     (
         "unit = 2",
         "unit = 1",
-        "Duplicate: [[device]] inv2: unit = 1 is the unit of a device before it",
+        "Duplicate: [[device]] inv2 (the 2nd): unit = 1 is the unit of [[device]] inv1 (the 1st)",
     ),
     (
         "unit = 2",
         "unit = 2\nwrite = 5",
-        "BadRange: [[device]] inv2: write = 5 is neither 6 nor 16",
+        "BadRange: [[device]] inv2 (the 2nd): write = 5 is neither 6 nor 16",
     ),
 ];
 
@@ -96,57 +106,87 @@ const TAGS: &[(&str, &str, &str)] = &[
     (
         "device = \"inv1\"\n",
         "",
-        "MissingKey: [[tag]] inv1_w: device is missing",
+        "MissingKey: [[tag]] inv1_w (the 1st): device is missing",
     ),
     (
         "device = \"inv1\"",
         "device = \"inv\\u001b3\"",
-        "UnknownDevice: [[tag]] inv1_w: device = \"inv?3\" is the name of no device",
+        "UnknownDevice: [[tag]] inv1_w (the 1st): device = \"inv\\u{1b}3\" is the name of no device",
     ),
     (
         "model = 103",
         "model = 160",
-        "UnknownModel: [[tag]] inv1_w: model = 160 has no definition",
+        "UnknownModel: [[tag]] inv1_w (the 1st): model = 160 has no definition",
     ),
     (
         "point = \"W\"",
         "point = \"WX\"",
-        "UnknownPoint: [[tag]] inv1_w: point = \"WX\" is no point of its model",
+        "UnknownPoint: [[tag]] inv1_w (the 1st): point = \"WX\" is no point of its model",
     ),
     (
         "model = 123\npoint = \"WMaxLimPct\"",
         "model = 103\npoint = \"W\"",
-        "NotWritable: [[tag]] target: point = \"W\" can't be written",
+        "NotWritable: [[tag]] target (the 3rd): point = \"W\" can't be written",
     ),
     (
         "low = -100000\nhigh = 100000",
         "low = 5\nhigh = 4",
-        "BadRange: [[tag]] inv1_w: low = 5 is over high = 4",
+        "BadRange: [[tag]] inv1_w (the 1st): low = 5 is over high = 4",
     ),
     (
         "default = 50",
         "default = -1",
-        "BadRange: [[tag]] target: default = -1 is under low = 0",
+        "BadRange: [[tag]] target (the 3rd): default = -1 is under low = 0",
     ),
     (
         "exponent = 0",
         "exponent = 11",
-        "BadRange: [[tag]] inv1_w: exponent = 11 is not in -10..10",
+        "BadRange: [[tag]] inv1_w (the 1st): exponent = 11 is not in -10..10",
     ),
     (
         "\"in\"",
         "\"inn\"",
-        "BadType: [[tag]] inv1_w: access = \"inn\" is none of in, out, set, site",
+        "BadType: [[tag]] inv1_w (the 1st): access = \"inn\" is none of in, out, set, site",
+    ),
+    (
+        "low = -100000",
+        "low = 1.50",
+        "MissingKey: [[tag]] inv1_w (the 1st): low = 1.5 is no whole number",
+    ),
+    (
+        "low = -100000",
+        "low = 2.0",
+        "MissingKey: [[tag]] inv1_w (the 1st): low = 2.0 is no whole number",
+    ),
+    (
+        "low = -100000",
+        "low = true",
+        "MissingKey: [[tag]] inv1_w (the 1st): low = true is no whole number",
+    ),
+    (
+        "name = \"inv1_w\"",
+        "name = \"inv1\\u202e_w\"",
+        "BadType: [[tag]] inv1\\u{202e}_w (the 1st): name = \"inv1\\u{202e}_w\" is no name of a tag",
+    ),
+    (
+        "type = \"DINT\"",
+        "type = \"REAL\"",
+        "BadType: [[tag]] inv1_w (the 1st): type = \"REAL\" is none of BOOL, SINT, INT, DINT, LINT, USINT, UINT, UDINT",
     ),
     (
         "access = \"set\"",
         "access = \"set\"\ndevice = \"inv1\"",
-        "BadType: [[tag]] target: device = \"inv1\" is for tags on devices, in and out",
+        "BadType: [[tag]] target (the 3rd): device = \"inv1\" is for tags on devices, in and out",
     ),
     (
         "\"inv2_w\"",
         "\"inv1_w\"",
-        "Duplicate: [[tag]] inv1_w: name = \"inv1_w\" is the name of a tag before it",
+        "Duplicate: [[tag]] inv1_w (the 2nd): name = \"inv1_w\" is the name of [[tag]] inv1_w (the 1st)",
+    ),
+    (
+        "point = \"WMaxLim_Ena\"\ntype = \"BOOL\"",
+        "point = \"WMaxLimPct\"\ntype = \"BOOL\"",
+        "Duplicate: [[tag]] ena1 (the 5th): point = \"WMaxLimPct\" is the point of [[tag]] lim1 (the 4th)",
     ),
 ];
 
@@ -159,7 +199,7 @@ const SERVED: &[(&str, &str, &str)] = &[
     (
         "point = \"WMaxLimPct_SF\"\nvalue = 0",
         "point = \"WMaxLimPct_SF\"\nvalue = 40000",
-        "BadRange: [[served]] 3: value = 40000 can't be encoded in its point",
+        "BadRange: [[served]] 3: value = 40000 can't be encoded in its point, which holds -32767..32767",
     ),
     (
         "sum = [\"inv1_w\", \"inv2_w\"]",
@@ -167,9 +207,24 @@ const SERVED: &[(&str, &str, &str)] = &[
         "BadType: [[served]] 1: text = \"a\" is for points of kind string",
     ),
     (
+        "\"inv1_w\", \"inv2_w\"]",
+        "\"inv1_w\", \"target\"]",
+        "BadType: [[served]] 1: sum = \"target\" is the name of no tag of access in",
+    ),
+    (
+        "point = \"WMaxLimPct_SF\"\nvalue = 0",
+        "point = \"WMaxLimPct\"\nvalue = 0",
+        "Duplicate: [[served]] 3: point = \"WMaxLimPct\" is the point of [[tag]] target (the 3rd)",
+    ),
+    (
+        "sum = [\"inv1_w\", \"inv2_w\"]",
+        "value = 1\n[[served]]\nmodel = 1\npoint = \"Opt\"\ntext = \"01234567890123456\"",
+        "BadRange: [[served]] 2: text = \"01234567890123456\" is longer than its point, which has 16 bytes",
+    ),
+    (
         "sum = [\"inv1_w\", \"inv2_w\"]",
         "value = 1\n[[served]]\nmodel = 103\npoint = \"W\"\nvalue = 1",
-        "Duplicate: [[served]] 2: point = \"W\" has a value already, or is the ID or the length of a model",
+        "Duplicate: [[served]] 2: point = \"W\" is the point of [[served]] 1",
     ),
 ];
 
@@ -209,7 +264,7 @@ const LINES: &[(&str, &str)] = &[
     ("x = ", "NotToml: line 6, column 5"),
     (
         "base = 1.0\n",
-        "MissingKey: [[device]] 1: base = (float) is no whole number",
+        "MissingKey: [[device]] 1: base = 1.0 is no whole number",
     ),
     (
         "base = 65535\n",
@@ -221,7 +276,7 @@ const LINES: &[(&str, &str)] = &[
     ),
     (
         "[[device]]\nunit = 1\nmodels = [1]\nwmax = 1\navailable = [1]\n",
-        "Duplicate: [[device]] 2: unit = 1 is the unit of a device before it",
+        "Duplicate: [[device]] 2: unit = 1 is the unit of [[device]] 1",
     ),
     (
         "[[device]]\nmodels = [1,1,1,1,1,1,1,1,1,1,1,1,1,1,1,1,1]\n",
@@ -233,7 +288,7 @@ const LINES: &[(&str, &str)] = &[
     ),
     (
         "[[device.value]]\nmodel = 103\npoint = \"W\"\nraw = 32768\n",
-        "BadRange: [[device]] 1, [[device.value]] 1: raw = 32768 can't stand in its point",
+        "BadRange: [[device]] 1, [[device.value]] 1: raw = 32768 can't be encoded in its point, which holds -32768..32767",
     ),
     (
         "[[fault]]\nrequest = 1\n",
@@ -242,6 +297,14 @@ const LINES: &[(&str, &str)] = &[
     (
         "[[fault]]\nrequest = 1\nkind = \"stale\"\ncount = 101\n",
         "BadRange: [[fault]] 1: count = 101 is not in 1..100",
+    ),
+    (
+        "[[fault]]\nrequest = 1\nkind = \"exeption\"\ncode = 1\n",
+        "BadRange: [[fault]] 1: kind = \"exeption\" is none of exception, stale, garbage, length, cut",
+    ),
+    (
+        "[[fault]]\nrequest = 1\nkind = \"length\"\n[[fault]]\nrequest = 1\nkind = \"length\"\n",
+        "Duplicate: [[fault]] 2: request = 1 is the request of [[fault]] 1",
     ),
 ];
 
@@ -287,7 +350,7 @@ const EDITS: &[(&str, &str, &str)] = &[
     (
         "\"type\": \"int16\", ",
         "",
-        "MissingKey: point A: type is missing",
+        "MissingKey: point A (the 3rd): type is missing",
     ),
     (
         "64001",
@@ -297,22 +360,22 @@ const EDITS: &[(&str, &str, &str)] = &[
     (
         "\"int16\"",
         "\"int17\"",
-        "BadType: point A: type = \"int17\" is no type of a point",
+        "BadType: point A (the 3rd): type = \"int17\" is no type that is served",
     ),
     (
         "\"int16\", \"size\": 1",
         "\"int16\", \"size\": 2",
-        "BadSize: point A: size = 2 isn't the size of its type",
+        "BadSize: point A (the 3rd): size = 2 isn't 1, the registers of its type",
     ),
     (
         "\"A_SF\", \"type\"",
         "\"A\", \"type\"",
-        "DuplicateName: point A: name = \"A\" is the name of a point before it",
+        "DuplicateName: point A (the 4th): name = \"A\" is the name of point A (the 3rd)",
     ),
     (
         "\"sf\": \"A_SF\"",
         "\"sf\": 11",
-        "BadScalePoint: point A: sf = 11 is neither the name of a point of type sunssf nor in -10..10",
+        "BadScalePoint: point A (the 3rd): sf = 11 is not in -10..10",
     ),
     (
         "{\"points\"",
