@@ -9,7 +9,7 @@ use std::alloc::{AllocError, Global};
 pub fn command<'a>(alloc: Global) -> Result<Command<'a>, AllocError> {
     let command = Command::new(alloc, "sunsite")
         .about(
-            "A SunSpec Modbus gateway; without words, a trial scan of the program on standard input",
+            "A SunSpec Modbus gateway; without arguments, a trial scan of the program on standard input",
         )
         .version(help::VERSION)
         .after_help(help::PROGRAM)
@@ -49,6 +49,7 @@ fn explain_command<'a>(alloc: Global) -> Result<Command<'a>, AllocError> {
         .after_help(help::EXPLAIN)
         .arg(site_file(alloc))?
         .arg(program_file(alloc))?
+        .arg(listing_flag(alloc))?
         .arg(quiet_flag(alloc))?
         .arg(definition_files(alloc))
 }
@@ -86,6 +87,7 @@ fn probe_command<'a>(alloc: Global) -> Result<Command<'a>, AllocError> {
         .arg(port_word(alloc))?
         .arg(unit_option(alloc))?
         .arg(probe_timeout_option(alloc))?
+        .arg(quiet_flag(alloc))?
         .arg(definition_files(alloc))
 }
 
@@ -154,6 +156,13 @@ fn unit_option<'a>(alloc: Global) -> Arg<'a> {
     option(alloc, "unit", "U", "the unit that is asked")
         .value_parser(ValueParser::unsigned(0, 255))
         .default_value("1")
+}
+
+fn listing_flag<'a>(alloc: Global) -> Arg<'a> {
+    Arg::new(alloc, "listing")
+        .long("listing")
+        .action(ArgAction::SetTrue)
+        .help("the lines and their instructions alone, without what is known")
 }
 
 pub(crate) fn quiet_flag<'a>(alloc: Global) -> Arg<'a> {

@@ -34,7 +34,7 @@ const BAD_COMMAND_LINE: u8 = 2;
 /// The word that asks for no explanation.
 const QUIET: &str = "--quiet";
 
-/// Does what the words of the program's own command line ask for, or without words a trial of the program on standard
+/// Does what the words of the program's own command line ask for, or without arguments a trial of the program on standard
 /// input. Gives the exit status.
 pub fn obey_command_line(
     rt: &(impl Input + Print + Eprint + AllocGlobal + Env + Files + Clock + Net + Processes),
@@ -262,6 +262,7 @@ fn obey_on<W: Write>(
                 site,
                 program,
                 defs,
+                listing: matches.get_flag("listing"),
             },
             notes,
             out,
@@ -339,6 +340,7 @@ fn probed<W: Write>(
         unit: matches.get_one("unit").unwrap_or(1),
         timeout: matches.get_one("timeout"),
     };
+    notes.warn(rt);
     probe_over(rt, alloc, run, notes, out)
 }
 

@@ -4,7 +4,7 @@
 pub(crate) const VERSION: &str = "0.1.0 (rattle-kit-13f logic dac8208d650f15bf)";
 
 pub const PROGRAM: &str =
-    "Without words it reads a program (Instruction List) from standard input, and behind END_PROGRAM a
+    "Without arguments it reads a program (Instruction List) from standard input, and behind END_PROGRAM a
 line NAME=VALUE for each input that has a value, and runs one scan:
   sunsite < examples/average.il
 
@@ -21,6 +21,7 @@ pub(crate) const EXPLAIN: &str =
     "Prints the program with its instructions and what is known before each of them, to the one that is
 refused where one is. One of the files can be '-', standard input:
   sunsite explain examples/site.toml examples/limiter.il
+  sunsite explain examples/site.toml examples/limiter.il --listing
 
 Status: 0 accepted; 1 refused; 2 no such command line";
 

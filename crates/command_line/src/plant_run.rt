@@ -4,15 +4,16 @@ ghost use Rattle.command_line.specs.Ran.{RunsFrom, polling_of};
 
 use crate::link_cause::cause_of_link;
 use crate::socket::{SocketLink, link_over, loopback};
+use crate::sources::Refusal;
 use crate::unwritten::UnwrittenWatch;
 use crate::watched_link::WatchedLink;
 use commands::{
     DEPTH, FAILED_LINK, LinkCommand, ObeyedOver, ScanWatch, obey_over, tell_no_memory,
-    tell_unlinked, tell_unusable, write_lines,
+    tell_unlinked, write_lines,
 };
 use gateway::{Core, Poller, serve_client};
 use modbus_frame::{Link, LinkFault};
-use refusal_notes::{Cause, Notes, escaped};
+use refusal_notes::{Cause, FileFault, Notes, escaped, explain_unusable};
 use std::alloc::{AllocError, Global};
 use std::io::{ErrorKind, Read, Write};
 use std::net::{Net, OpenListener, OpenStream, TcpListener, TcpStream};
@@ -45,7 +46,7 @@ pub fn run_plant<R: Net + Processes + Eprint + AllocGlobal, W: Write>(
 ) -> u8 {
     match start_plant(rt, alloc, &run.notes, run.plant, run.exe) {
         Ok(plant) => run_started(rt, alloc, run, plant, out),
-        Err(fault) => no_start(alloc, run.exe, &fault, out),
+        Err(fault) => no_start(rt, alloc, &run.notes, run.exe, &fault, out),
     }
 }
 
@@ -257,7 +258,7 @@ where
             let printed = probe.wait_with_output(alloc);
             tell_probed(rt, alloc, &run.notes, served, &printed, out)
         }
-        Err(fault) => no_start(alloc, run.exe, &fault, out),
+        Err(fault) => no_start(rt, alloc, &run.notes, run.exe, &fault, out),
     }
 }
 
@@ -404,12 +405,26 @@ pub(crate) fn port_in(line: &[u8]) -> Option<u16> {
         .ok()
 }
 
-/// Tells that the program at the path can't be started.
-pub(crate) fn no_start<W: Write>(alloc: Global, path: &str, fault: &io::Error, out: &mut W) -> u8 {
-    match fault.kind() {
-        ErrorKind::OutOfMemory => tell_no_memory(out),
-        _ => tell_unusable(alloc, path, out),
+/// Tells that the program at the path can't be started, with a note on it.
+pub(crate) fn no_start<R: Eprint + AllocGlobal, W: Write>(
+    rt: &R,
+    alloc: Global,
+    notes: &Notes<'_>,
+    path: &str,
+    fault: &io::Error,
+    out: &mut W,
+) -> u8 {
+    let why = match fault.kind() {
+        ErrorKind::OutOfMemory => return tell_no_memory(out),
+        ErrorKind::NotFound => FileFault::NotFound,
+        ErrorKind::PermissionDenied => FileFault::NotRunnable,
+        _ => FileFault::NoProgram,
+    };
+    let status = Refusal::File(path, why).tell(alloc, out);
+    if !notes.quiet {
+        explain_unusable(rt, path, why);
     }
+    status
 }
 
 /// Tells that a process or a connection gives nothing.

@@ -131,7 +131,11 @@ pub(crate) fn probe_over<R: Net + Eprint + AllocGlobal, W: Write>(
     });
     let status = probe_by(rt, alloc, run.unit, notes, &mut poller, out);
     let link = poller.into_link();
-    if let (ProbeAddress::Word(word), Some(cause)) = (run.address, link.cause()) {
+    if let (ProbeAddress::Word(word), Some(cause), false) = (
+        run.address,
+        link.cause(),
+        notes.quiet,
+    ) {
         explain(rt, alloc, word, cause);
     }
     status

@@ -316,7 +316,7 @@ fn serve_plant<R: Net + Clock + Processes + Eprint + AllocGlobal + Files, W: Wri
 ) -> u8 {
     match start_plant(rt, alloc, &run.notes, plant, run.exe) {
         Ok(plant) => serve_started(rt, alloc, run, plant, service, out),
-        Err(fault) => no_start(alloc, run.exe, &fault, out),
+        Err(fault) => no_start(rt, alloc, &run.notes, run.exe, &fault, out),
     }
 }
 

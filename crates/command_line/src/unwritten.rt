@@ -5,6 +5,7 @@ use commands::{DEPTH, ScanWatch};
 use gateway::Core;
 use point_writer::NoWrite;
 use refusal_notes::escaped;
+use site_model::{SiteTag, raw_range};
 use std::alloc::{AllocError, Global};
 
 /// Tells on standard error, at the first scan and at each change, which outputs a scan stored and doesn't write.
@@ -90,11 +91,11 @@ fn line_of(
     requires { i < length core.now.site.outs }
 {
     let number = *core.site().outs().get(i)?;
-    let name = core.site().tags().get(number)?.name.as_str();
+    let tag = core.site().tags().get(number)?;
     let stored = (*core.outputs().get(number)?)?;
     match cause {
-        Some(cause) => Some(cause_line(alloc, scan, name, stored, core.factor(i), cause)),
-        None => Some(again_line(alloc, scan, name)),
+        Some(cause) => Some(cause_line(alloc, scan, tag, stored, core.factor(i), cause)),
+        None => Some(again_line(alloc, scan, tag.name.as_str())),
     }
 }
 
@@ -107,14 +108,17 @@ fn again_line(alloc: Global, scan: u32, name: &str) -> Result<String, AllocError
 fn cause_line(
     alloc: Global,
     scan: u32,
-    name: &str,
+    tag: &SiteTag,
     stored: i64,
     factor: Option<i16>,
     cause: NoWrite,
 ) -> Result<String, AllocError> {
-    let name = escaped(alloc, name)?;
+    let name = escaped(alloc, tag.name.as_str())?;
     let word = cause.word();
-    let met = met(alloc, stored, factor, cause)?;
+    let mut met = met(alloc, stored, factor, cause)?;
+    if let (NoWrite::OutOfType, Some(factor)) = (cause, factor) {
+        push_raw(alloc, &mut met, tag, stored, factor)?;
+    }
     let help = help(cause);
     let mut line = format!(in alloc; "scan {scan}: {name} isn't written: {word} ({met})\n")?;
     line.push_str("  help: ")?;
@@ -136,6 +140,39 @@ fn met(
         (_, None) => format!(in alloc; "{stored} without a factor")?,
     };
     Ok(text)
+}
+
+/// Appends the raw number that a number is by a factor, and those that the tag's point holds.
+fn push_raw(
+    alloc: Global,
+    text: &mut String,
+    tag: &SiteTag,
+    stored: i64,
+    factor: i16,
+) -> Result<(), AllocError> {
+    let shift = i16::from(tag.exponent).saturating_sub(factor);
+    let (Some(raw), Some((low, high))) = (shifted(stored, shift), raw_range(tag.point)) else {
+        return Ok(());
+    };
+    let raw = format!(in alloc; " is raw {raw}")?;
+    text.push_str(raw.as_str())?;
+    let range = format!(in alloc; ", the point holds {low}..{high}")?;
+    text.push_str(range.as_str())
+}
+
+/// A number times this power of ten; none where it isn't whole or leaves 128 bits.
+fn shifted(number: i64, power: i16) -> Option<i128> {
+    let mut raw = i128::from(number);
+    for _ in 0..power {
+        raw = raw.checked_mul(10)?;
+    }
+    for _ in power..0 {
+        if raw % 10 != 0 {
+            return None;
+        }
+        raw /= 10;
+    }
+    Some(raw)
 }
 
 fn help(cause: NoWrite) -> &'static str {

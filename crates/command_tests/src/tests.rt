@@ -2,6 +2,7 @@
 mod check;
 mod explained;
 mod explained_files;
+mod explained_inputs;
 mod explained_limits;
 mod explained_mistakes;
 mod explained_verdicts;

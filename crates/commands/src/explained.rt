@@ -13,7 +13,7 @@ use il_assemble::assemble;
 use il_assemble::laws::texts_keep_the_limits;
 use il_reader::{Program, read};
 use model_defs::{DefFault, ModelDef};
-use program_notes::table_of;
+use program_notes::{Beside, table_of};
 use refusal_notes::{Cause, cause_of_definition, cause_of_refusal, cause_of_site};
 use scan_code::Image;
 use site_model::{Site, SiteFault};
@@ -22,19 +22,20 @@ use std::io::Write;
 use verifier::verify::verify;
 use verifier::{RefusalKind, Refused, RefusedAt};
 
-/// Prints a program that is judged for a site as the verdict sees it: its lines, with the instructions of each and what
-/// is known before them, to the end or to the instruction that is refused. Behind a refusal, of the definitions, the
-/// site or the program, comes its line. Gives the status, that of `check`, and the cause of a refusal.
+/// Prints a program that is judged for a site as the verdict sees it: its lines, with the instructions of each and, as
+/// `beside` says, what is known before them, to the end or to the instruction that is refused. Behind a refusal, of the
+/// definitions, the site or the program, comes its line. Gives the status, that of `check`, and the cause of a refusal.
 pub fn explain<W: Write>(
     alloc: Global,
     site: &str,
     program: &str,
     defs: &[String],
+    beside: Beside,
     out: &mut W,
 ) -> (u8, Option<Cause>)
     ensures { IsExplained site.now program.now (map string_bytes defs.now) (W.contents out.old) (W.contents out.new) result.0 }
 {
-    match outcome_of(alloc, site, program, defs) {
+    match outcome_of(alloc, site, program, defs, beside) {
         Ok(outcome) => (outcome.tell(out), outcome.cause),
         Err(AllocError) => (tell_no_memory(out), None),
     }
@@ -46,11 +47,12 @@ fn outcome_of(
     site: &str,
     program: &str,
     defs: &[String],
+    beside: Beside,
 ) -> Result<Outcome, AllocError>
     ensures { IfOk result (ExplainsTexts site.now program.now (map string_bytes defs.now)) }
 {
     match definitions(alloc, defs) {
-        Ok(models) => outcome_over(alloc, site, program, models.as_slice()),
+        Ok(models) => outcome_over(alloc, site, program, models.as_slice(), beside),
         Err(DefFault::OutOfMemory) => Err(AllocError),
         Err(fault) => {
             let line = undefined(alloc, fault.word())?;
@@ -65,11 +67,12 @@ fn outcome_over(
     site: &str,
     program: &str,
     models: &[ModelDef],
+    beside: Beside,
 ) -> Result<Outcome, AllocError>
     ensures { IfOk result (ExplainsSite models.now site.now program.now) }
 {
     match Site::read(alloc, site, models) {
-        Ok(site) => outcome_on(alloc, &site, program),
+        Ok(site) => outcome_on(alloc, &site, program, beside),
         Err(SiteFault::OutOfMemory) => Err(AllocError),
         Err(fault) => {
             let line = no_site(alloc, fault.word())?;
@@ -80,12 +83,12 @@ fn outcome_over(
 }
 
 /// The same on a site.
-fn outcome_on(alloc: Global, site: &Site, text: &str) -> Result<Outcome, AllocError>
+fn outcome_on(alloc: Global, site: &Site, text: &str, beside: Beside) -> Result<Outcome, AllocError>
     ensures { IfOk result (ExplainsProgram site.now (reading text.now)) }
 {
     texts_keep_the_limits();
     match read(alloc, text) {
-        Ok(program) => outcome_of_program(alloc, site, text, &program),
+        Ok(program) => outcome_of_program(alloc, site, text, &program, beside),
         Err(fault) => Outcome::unread(alloc, text, fault),
     }
 }
@@ -96,12 +99,13 @@ fn outcome_of_program(
     site: &Site,
     text: &str,
     program: &Program,
+    beside: Beside,
 ) -> Result<Outcome, AllocError>
     requires { elaborated program.now ≡ elaborated_text program.now }
     ensures { IfOk result (ExplainsProgram site.now (Ok program.now)) }
 {
     match assemble(alloc, program) {
-        Ok(image) => outcome_of_image(alloc, site, text, program, image),
+        Ok(image) => outcome_of_image(alloc, site, text, program, image, beside),
         Err(fault) => Outcome::unassembled(alloc, program, fault),
     }
 }
@@ -113,12 +117,13 @@ fn outcome_of_image(
     text: &str,
     program: &Program,
     image: Image,
+    beside: Beside,
 ) -> Result<Outcome, AllocError>
     ensures { IfOk result (ExplainsImage site.now image) }
 {
     match verify::<DEPTH>(alloc, image, site) {
-        Ok(verified) => outcome_of_accepted(alloc, site, text, program, verified.image()),
-        Err(refused) => outcome_of_refused(alloc, site, text, program, &refused),
+        Ok(verified) => outcome_of_accepted(alloc, site, text, program, verified.image(), beside),
+        Err(refused) => outcome_of_refused(alloc, site, text, program, &refused, beside),
     }
 }
 
@@ -129,10 +134,11 @@ fn outcome_of_accepted(
     text: &str,
     program: &Program,
     image: &Image,
+    beside: Beside,
 ) -> Result<Outcome, AllocError>
     ensures { IfOk result (λ told. told.status ≡ 0) }
 {
-    let table = table_of(alloc, text, program, image, site, None)?;
+    let table = table_of(alloc, text, program, image, site, None, beside)?;
     Ok(Outcome::listed(table))
 }
 
@@ -143,6 +149,7 @@ fn outcome_of_refused(
     text: &str,
     program: &Program,
     refused: &Refused,
+    beside: Beside,
 ) -> Result<Outcome, AllocError>
     ensures { IfOk result (EndsRefused refused.now.kind refused.now.at) }
 {
@@ -150,7 +157,7 @@ fn outcome_of_refused(
         return Err(AllocError);
     }
     let at = refused_instruction(refused);
-    let mut lines = table_of(alloc, text, program, &refused.image, site, at)?;
+    let mut lines = table_of(alloc, text, program, &refused.image, site, at, beside)?;
     let line = unverified(alloc, refused.kind.word(), refused.at.number())?;
     lines.push_str(line.as_str())?;
     let cause = cause_of_refusal(alloc, program, site, refused);

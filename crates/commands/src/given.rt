@@ -136,8 +136,8 @@ fn entry_of(tags: &[Tag], line: &[u8]) -> Option<Entry>
     }
 }
 
-// Where the first equals sign stands.
-fn equals_sign(line: &[u8]) -> Option<usize>
+/// Where the first equals sign stands.
+pub(crate) fn equals_sign(line: &[u8]) -> Option<usize>
     ensures place { result ≡ given.equals_from 0 line.now }
     ensures within { IfSome result (λ i. i < length line.now) }
 {
@@ -153,8 +153,8 @@ fn equals_sign(line: &[u8]) -> Option<usize>
     None
 }
 
-// Where the input of a name stands.
-fn input_place(tags: &[Tag], name: &Name) -> Option<usize>
+/// Where the input of a name stands.
+pub(crate) fn input_place(tags: &[Tag], name: &Name) -> Option<usize>
     ensures place { result ≡ given.input_from 0 tags.now name.now }
     ensures within { IfSome result (λ i. i < length tags.now) }
 {
@@ -176,8 +176,8 @@ fn is_input(tag: &Tag, name: &Name) -> bool
     !tag.output && tag.name.as_bytes() == name.as_bytes()
 }
 
-// The reading of a type that a text spells.
-fn reading_of(kind: IlType, text: &[u8]) -> Option<Reading>
+/// The reading of a type that a text spells.
+pub(crate) fn reading_of(kind: IlType, text: &[u8]) -> Option<Reading>
     ensures { result ≡ given.reading_given kind text.now }
 {
     if text == b"absent".as_slice() {

@@ -9,6 +9,7 @@ pub mod definitions;
 mod explained;
 mod given;
 mod input;
+mod input_cause;
 pub mod laws;
 mod number;
 mod obeyed;
@@ -30,6 +31,7 @@ pub use trial_scan::{trial, try_input};
 // a program and a site
 pub use accepted::{Accepted, accept};
 pub use explained::explain;
+pub use program_notes::Beside;
 pub use verdict::{check, judge};
 // a plant of simulated inverters
 pub use plant::{plant_of, plant_told};

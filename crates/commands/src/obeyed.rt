@@ -5,6 +5,7 @@ ghost use Rattle.commands.specs.Obeyed.{Checks, Obeys};
 use crate::explained::explain;
 use crate::trial_scan::try_input;
 use crate::verdict::judge;
+use program_notes::Beside;
 use refusal_notes::Cause;
 use std::alloc::Global;
 use std::io::Write;
@@ -22,11 +23,12 @@ pub enum TextCommand<'a> {
         program: &'a str,
         defs: &'a [String],
     },
-    /// The program, with what the verdict knows before each instruction.
+    /// The program with its instructions, and but for a listing what the verdict knows before each of them.
     Explain {
         site: &'a str,
         program: &'a str,
         defs: &'a [String],
+        listing: bool,
     },
 }
 
@@ -62,7 +64,17 @@ pub fn obey<W: Write>(alloc: Global, command: TextCommand<'_>, out: &mut W) -> O
             site,
             program,
             defs,
-        } => Obeyed::of(explain(alloc, site, program, defs, out)),
+            listing,
+        } => Obeyed::of(explain(alloc, site, program, defs, beside(listing), out)),
+    }
+}
+
+/// What stands beside the lines of the program.
+fn beside(listing: bool) -> Beside {
+    if listing {
+        Beside::Instructions
+    } else {
+        Beside::Known
     }
 }
 

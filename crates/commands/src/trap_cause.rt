@@ -1,7 +1,7 @@
 //! What is noted of a trial that stopped: the line, and the values that met there.
 use crate::report::shown;
 use il_reader::Program;
-use point_types::IlType;
+use point_types::{IlType, Operator};
 use program_notes::{instruction_line, name_in, number_at, type_word};
 use refusal_notes::Cause;
 use scan_code::{Image, Op, decode};
@@ -15,7 +15,8 @@ type Typed = (IlType, i64);
 pub(crate) fn cause_of_trap(alloc: Global, program: &Program, trial: &Trial, trap: Trap) -> Cause {
     let code = trial.image().code.as_slice();
     let address = trial.stopped_at();
-    let line = match number_at(code, address) {
+    let number = number_at(code, address);
+    let line = match number {
         Some(number) => instruction_line(alloc, program, number),
         None => 0,
     };
@@ -28,7 +29,29 @@ pub(crate) fn cause_of_trap(alloc: Global, program: &Program, trial: &Trial, tra
             cause.detail = met;
         }
     }
+    if let Some(number) = number {
+        let _ = push_place(alloc, &mut cause.detail, trap.at, number);
+    }
     cause
+}
+
+/// Appends what `at` counts, and the number of the instruction where jumps make it another one.
+fn push_place(
+    alloc: Global,
+    text: &mut String,
+    begun: u32,
+    number: usize,
+) -> Result<(), AllocError> {
+    if begun as usize == number {
+        return Ok(());
+    }
+    if !text.is_empty() {
+        text.push_str("; ")?;
+    }
+    let place = format!(in alloc;
+        "after {begun} instructions, at instruction {number} of the code"
+    )?;
+    text.push_str(place.as_str())
 }
 
 /// The values that met in an instruction, and what would have held them.
@@ -44,11 +67,8 @@ fn met(alloc: Global, trial: &Trial, kind: TrapKind, op: Op) -> Result<String, A
     match kind {
         TrapKind::Overflow => push_limits(alloc, &mut text, op, trial.last_result())?,
         TrapKind::StoreRange => push_range(alloc, &mut text, trial.image(), op)?,
-        TrapKind::WrongType
-        | TrapKind::ZeroDivisor
-        | TrapKind::MissingPoint
-        | TrapKind::Code
-        | TrapKind::Stack => {}
+        TrapKind::WrongType => push_wanted(&mut text, trial.image(), op)?,
+        TrapKind::ZeroDivisor | TrapKind::MissingPoint | TrapKind::Code | TrapKind::Stack => {}
     }
     Ok(text)
 }
@@ -80,6 +100,47 @@ fn push_value(alloc: Global, text: &mut String, value: Option<Typed>) -> Result<
     text.push_str(" ")?;
     text.push_str(shown(alloc, kind, number)?.as_str())?;
     Ok(())
+}
+
+/// Appends what an instruction wants.
+fn push_wanted(text: &mut String, image: &Image, op: Op) -> Result<(), AllocError> {
+    text.push_str(", and ")?;
+    text.push_str(wanted_by(image, op))?;
+    text.push_str(" wanted")
+}
+
+/// What an instruction wants of the values that it takes.
+fn wanted_by(image: &Image, op: Op) -> &'static str {
+    match op {
+        Op::StoreVariable(place) => match image.vars.as_slice().get(place as usize) {
+            Some(var) => wanted_type(var.kind),
+            None => "another type is",
+        },
+        Op::StoreOutput(place) => match image.tags.as_slice().get(place as usize) {
+            Some(tag) => wanted_type(tag.kind),
+            None => "another type is",
+        },
+        Op::Convert(from, _) => wanted_type(from),
+        Op::Absolute => "a whole number is",
+        Op::Apply(Operator::And | Operator::Or | Operator::Xor) => "two BOOL are",
+        Op::Apply(Operator::Eq | Operator::Ne) => "two of one type are",
+        Op::Apply(_) => "two whole numbers of one type are",
+        Op::Select => "a BOOL and two of one type are",
+        _ => wanted_type(IlType::Bool),
+    }
+}
+
+fn wanted_type(kind: IlType) -> &'static str {
+    match kind {
+        IlType::Bool => "BOOL is",
+        IlType::Sint => "SINT is",
+        IlType::Int => "INT is",
+        IlType::Dint => "DINT is",
+        IlType::Lint => "LINT is",
+        IlType::Usint => "USINT is",
+        IlType::Uint => "UINT is",
+        IlType::Udint => "UDINT is",
+    }
 }
 
 /// Appends what the type of the wanted result holds.

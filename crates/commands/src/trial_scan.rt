@@ -1,4 +1,4 @@
-//! The command without words: a trial scan of a program by itself.
+//! The command without arguments: a trial scan of a program by itself.
 ghost use Rattle.std.specs.Prelude.{◌≡◌, IfOk};
 ghost use Rattle.il_assemble.specs.Elaboration.{elaborated};
 ghost use Rattle.il_assemble.specs.Texts.{elaborated_text};
@@ -10,7 +10,8 @@ ghost use Rattle.commands.specs.Report.{bad_input_line};
 ghost use Rattle.commands.specs.Told.{refused_with};
 
 use crate::given::readings_given;
-use crate::input::{input_line, program_length};
+use crate::input::program_length;
+use crate::input_cause::cause_of_input;
 use crate::outcome::{Outcome, tell_no_memory};
 use crate::report::bad_input;
 use crate::scan::scan_outcome;
@@ -93,18 +94,22 @@ fn outcome_of_trial(
 {
     match readings_given(alloc, trial.image().tags.as_slice(), inputs) {
         Ok(Ok(readings)) => scan_outcome(alloc, program, trial, readings.as_slice()),
-        Ok(Err(number)) => {
-            let line = input_line(inputs, number).saturating_add(program.end_line);
-            refused_input(alloc, number, line)
-        }
+        Ok(Err(number)) => refused_input(alloc, program, trial.image(), inputs, number),
         Err(AllocError) => Err(AllocError),
     }
 }
 
-/// What is told of an input line that is refused, by its number and its line in the input.
-fn refused_input(alloc: Global, number: usize, place: u32) -> Result<Outcome, AllocError>
+/// What is told of an input line that is refused, by its number.
+fn refused_input(
+    alloc: Global,
+    program: &Program,
+    image: &Image,
+    inputs: &[u8],
+    number: usize,
+) -> Result<Outcome, AllocError>
     ensures { IfOk result (λ o. o ≡ refused_with (bad_input_line number)) }
 {
     let line = bad_input(alloc, number)?;
-    Ok(Outcome::caused(line, Cause::no_input(alloc, place)))
+    let cause = cause_of_input(alloc, program, image, inputs, number);
+    Ok(Outcome::caused(line, cause))
 }

@@ -18,6 +18,6 @@ mod words;
 pub use code_lines::{address_of, declared_line, instruction_line, name_in, number_at, tag_name};
 pub use detail::{Detail, detail_of};
 pub use rows::{Row, rows_of};
-pub use table::table_of;
+pub use table::{Beside, table_of};
 pub use uses::other_use_text;
 pub use words::type_word;

@@ -13,18 +13,31 @@ use il_reader::Program;
 use point_types::Items;
 use scan_code::Image;
 use site_model::Site;
+use source_notes::plain_letter;
 use std::alloc::{AllocError, Global};
 use verifier::known::framed;
 
-/// The column behind a line of the text, and the letters that are shown of one.
+/// The column behind a line of the text, the letters that are shown of one that is cut, and the column that no line that
+/// is shown longer passes.
 const SOURCE_END: usize = 38;
 
 const SOURCE_SHOWN: usize = 32;
 
-/// The lines of a program's text, each with its instructions and what is known before them: the result (r), the deferred
-/// values (d), the last one first, the variables and tags that lie in less than their range, and the inputs that are
-/// present. Behind them stands the longest path, which makes the budget. Where an instruction is refused, of which
-/// `refused` is the number, the lines end with it.
+const SOURCE_MOST: usize = 98;
+
+/// What the table has beside the lines of the text.
+#[derive(Clone, Copy, PartialEq, Eq, Debug)]
+pub enum Beside {
+    /// The instructions.
+    Instructions,
+    /// The instructions, and what is known before each.
+    Known,
+}
+
+/// The lines of a program's text, each with its instructions, and where that is asked for with what is known before them:
+/// the result (r), the deferred values (d), the last one first, the variables and tags that lie in less than their range,
+/// and the inputs that are present. Behind them stands the longest path, which makes the budget. Where an instruction is
+/// refused, of which `refused` is the number, the lines end with it.
 pub fn table_of(
     alloc: Global,
     text: &str,
@@ -32,9 +45,10 @@ pub fn table_of(
     image: &Image,
     site: &Site,
     refused: Option<usize>,
+    beside: Beside,
 ) -> Result<String, AllocError> {
     match framed(alloc, image, site, MOST_DEFERRED) {
-        Ok(context) => table_in(alloc, text, program, image, &context, refused),
+        Ok(context) => table_in(alloc, text, program, image, &context, refused, beside),
         Err(refusal) => match refusal.kind {
             RefusalKind::OutOfMemory => Err(AllocError),
             _ => String::from_str(alloc, ""),
@@ -49,58 +63,109 @@ fn table_in(
     image: &Image,
     context: &Context,
     refused: Option<usize>,
+    beside: Beside,
 ) -> Result<String, AllocError>
     requires { length context.now.listing < 65536 }
 {
     let rows: Items<Row> = rows_of(alloc, program, context)?;
     let rows = rows.as_slice();
+    let table = Table {
+        text,
+        image,
+        beside,
+    };
     let mut line = Line {
         text: String::new(alloc),
         column: 0,
     };
     match refused {
-        Some(at) => push_to(alloc, &mut line, text, image, rows, at)?,
+        Some(at) => table.push_to(alloc, &mut line, rows, at)?,
         None => {
-            push_lines(alloc, &mut line, text, image, rows, usize::MAX)?;
+            table.push_lines(alloc, &mut line, rows, usize::MAX)?;
             push_longest(alloc, &mut line, context, rows)?;
         }
     }
     Ok(line.text)
 }
 
-/// Appends the lines up to an instruction.
-fn push_to(
-    alloc: Global,
-    line: &mut Line,
-    text: &str,
-    image: &Image,
-    rows: &[Row],
-    at: usize,
-) -> Result<(), AllocError> {
-    let judged = rows.get(..at.saturating_add(1)).unwrap_or(rows);
-    let last = line_of(rows, at);
-    push_lines(alloc, line, text, image, judged, last as usize)
+/// What the lines of a table are made of.
+#[derive(Clone, Copy)]
+struct Table<'a> {
+    text: &'a str,
+    image: &'a Image,
+    beside: Beside,
 }
 
-/// Appends the lines up to one, with these instructions.
-fn push_lines(
-    alloc: Global,
-    line: &mut Line,
-    text: &str,
-    image: &Image,
-    rows: &[Row],
-    last: usize,
-) -> Result<(), AllocError> {
-    let index = LineIndex::of(alloc, rows, text.lines().count())?;
-    for (before, source) in text.lines().enumerate() {
-        let number = before.saturating_add(1);
-        if number > last {
-            break;
-        }
-        push_source(alloc, line, number, source)?;
-        push_rows(alloc, line, image, rows, &index, number)?;
+impl Table<'_> {
+    /// Appends the lines up to an instruction.
+    fn push_to(
+        &self,
+        alloc: Global,
+        line: &mut Line,
+        rows: &[Row],
+        at: usize,
+    ) -> Result<(), AllocError> {
+        let judged = rows.get(..at.saturating_add(1)).unwrap_or(rows);
+        let last = line_of(rows, at);
+        self.push_lines(alloc, line, judged, last as usize)
     }
-    Ok(())
+
+    /// Appends the lines up to one, with these instructions.
+    fn push_lines(
+        &self,
+        alloc: Global,
+        line: &mut Line,
+        rows: &[Row],
+        last: usize,
+    ) -> Result<(), AllocError> {
+        let index = LineIndex::of(alloc, rows, self.text.lines().count())?;
+        for (before, source) in self.text.lines().enumerate() {
+            let number = before.saturating_add(1);
+            if number > last {
+                break;
+            }
+            push_source(alloc, line, number, source)?;
+            self.push_rows(alloc, line, rows, &index, number)?;
+        }
+        Ok(())
+    }
+
+    /// Appends the instructions of a line, each on a line of the table, and ends it.
+    fn push_rows(
+        &self,
+        alloc: Global,
+        line: &mut Line,
+        rows: &[Row],
+        index: &LineIndex,
+        number: usize,
+    ) -> Result<(), AllocError> {
+        let mut at = index.first_on(number);
+        if at.is_some() && line.column > SOURCE_END {
+            line.end()?;
+        }
+        for _ in 0..rows.len() {
+            let Some(row) = row_at(rows, at) else {
+                break;
+            };
+            self.push_row(alloc, line, row)?;
+            at = index.behind(row.number);
+            if at.is_some() {
+                line.end()?;
+            }
+        }
+        line.end()
+    }
+
+    fn push_row(&self, alloc: Global, line: &mut Line, row: &Row) -> Result<(), AllocError> {
+        line.pad_to(SOURCE_END)?;
+        let (number, word) = (row.number, mnemonic(row.op));
+        let instruction = format!(in alloc; "{number:>5} {word}")?;
+        line.push(instruction.as_str())?;
+        match self.beside {
+            Beside::Instructions => Ok(()),
+            Beside::Known => push_known(alloc, line, self.image, &row.known),
+        }
+    }
 }
 
 /// Appends a line of the text with its number.
@@ -113,48 +178,33 @@ fn push_source(
     let number = format!(in alloc; "{number:>4} ")?;
     line.push(number.as_str())?;
     let source = source.trim_end();
-    let long = source.chars().count() > SOURCE_SHOWN;
-    let shown = if long { SOURCE_SHOWN - 2 } else { SOURCE_SHOWN };
+    let shown = letters_shown(source);
     for letter in source.chars().take(shown) {
-        line.text.push(shown_letter(letter))?;
+        line.text.push(plain_letter(letter))?;
         line.column = line.column.saturating_add(1);
     }
-    if long { line.push("..") } else { Ok(()) }
-}
-
-/// A letter that moves nothing behind it.
-fn shown_letter(letter: char) -> char {
-    let code = letter as u32;
-    if letter == '\t' {
-        ' '
-    } else if code < 0x20 || (0x7f <= code && code < 0xa0) {
-        '?'
+    if source.chars().nth(shown).is_some() {
+        line.push("..")
     } else {
-        letter
+        Ok(())
     }
 }
 
-/// Appends the instructions of a line, each on a line of the table, and ends it.
-fn push_rows(
-    alloc: Global,
-    line: &mut Line,
-    image: &Image,
-    rows: &[Row],
-    index: &LineIndex,
-    number: usize,
-) -> Result<(), AllocError> {
-    let mut at = index.first_on(number);
-    for _ in 0..rows.len() {
-        let Some(row) = row_at(rows, at) else {
-            break;
-        };
-        push_row(alloc, line, image, row)?;
-        at = index.behind(row.number);
-        if at.is_some() {
-            line.end()?;
-        }
+/// How many letters are shown of a line: all of a short one, and of a long one as many as have room beside the
+/// instructions, or those before its comment.
+fn letters_shown(source: &str) -> usize {
+    let code = match source.split_once("(*") {
+        Some((code, _)) => code.trim_end(),
+        None => source,
+    };
+    let (all, code) = (source.chars().count(), code.chars().count());
+    if all <= SOURCE_SHOWN {
+        all
+    } else if code < SOURCE_SHOWN || code > SOURCE_MOST - 7 {
+        SOURCE_SHOWN - 2
+    } else {
+        code
     }
-    line.end()
 }
 
 fn row_at(rows: &[Row], at: Option<usize>) -> Option<&Row> {
@@ -162,12 +212,4 @@ fn row_at(rows: &[Row], at: Option<usize>) -> Option<&Row> {
         Some(at) => rows.get(at),
         None => None,
     }
-}
-
-fn push_row(alloc: Global, line: &mut Line, image: &Image, row: &Row) -> Result<(), AllocError> {
-    line.pad_to(SOURCE_END)?;
-    let (number, word) = (row.number, mnemonic(row.op));
-    let instruction = format!(in alloc; "{number:>5} {word}")?;
-    line.push(instruction.as_str())?;
-    push_known(alloc, line, image, &row.known)
 }

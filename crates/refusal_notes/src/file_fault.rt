@@ -12,6 +12,10 @@ pub enum FileFault {
     TooLarge,
     /// The system gives another reason.
     Unreadable,
+    /// It may not be run as a program.
+    NotRunnable,
+    /// The system can't start it as a program.
+    NoProgram,
 }
 
 impl FileFault {
@@ -24,6 +28,8 @@ impl FileFault {
             FileFault::NotUtf8(_) => "the text isn't UTF-8",
             FileFault::TooLarge => "it has more than 16,777,216 bytes",
             FileFault::Unreadable => "it can't be read to its end",
+            FileFault::NotRunnable => "it may not be run as a program",
+            FileFault::NoProgram => "the system can't start it as a program",
         }
     }
 
@@ -37,6 +43,9 @@ impl FileFault {
             FileFault::NotUtf8(_) => "save it as UTF-8",
             FileFault::TooLarge => "look whether the path is that of another file",
             FileFault::Unreadable => "look whether its disk or its connection works",
+            FileFault::NotRunnable | FileFault::NoProgram => {
+                "name a program with --exe that may be run here, as by chmod +x"
+            }
         }
     }
 }

@@ -118,17 +118,17 @@ const OF_TRIALS: &[Explained] = &[
     (
         "PROGRAM p\nVAR_EXTERNAL\n  inv1_w, inv2_w : DINT;\n  target, lim1 : INT;\n  ena1 : BOOL;\nEND_VAR\nVAR\n  a, z : INT;\n  b : BOOL;\n  d : DINT;\n  x : INT (0..10);\nEND_VAR\n  LD a\n  ST d\nEND_PROGRAM\n",
         "a=0\nz=0\nb=FALSE\nd=0\nx=0\ntrap Type at 1\n",
-        "p.il:14: Type: no result, or a value of another type than is wanted\n   14 |   ST d\n      |      ^ the result is INT 0\n  help: load first, convert one of the operands, or write the type of a literal, as INT#8\n",
+        "p.il:14: Type: no result, or a value of another type than is wanted\n   14 |   ST d\n      |      ^ the result is INT 0, and DINT is wanted\n  help: load first, convert one of the operands, or write the type of a literal, as INT#8\n",
     ),
     (
         "PROGRAM p\nVAR_EXTERNAL\n  inv1_w, inv2_w : DINT;\n  target, lim1 : INT;\n  ena1 : BOOL;\nEND_VAR\nVAR\n  a, z : INT;\n  b : BOOL;\n  d : DINT;\n  x : INT (0..10);\nEND_VAR\n  LDN a\nEND_PROGRAM\n",
         "a=0\nz=0\nb=FALSE\nd=0\nx=0\ntrap Type at 1\n",
-        "p.il:13: Type: no result, or a value of another type than is wanted\n   13 |   LDN a\n      |       ^ the result is INT 0\n  help: load first, convert one of the operands, or write the type of a literal, as INT#8\n",
+        "p.il:13: Type: no result, or a value of another type than is wanted\n   13 |   LDN a\n      |       ^ the result is INT 0, and BOOL is wanted\n  help: load first, convert one of the operands, or write the type of a literal, as INT#8\n",
     ),
     (
         "PROGRAM p\nVAR_EXTERNAL\n  inv1_w, inv2_w : DINT;\n  target, lim1 : INT;\n  ena1 : BOOL;\nEND_VAR\nVAR\n  a, z : INT;\n  b : BOOL;\n  d : DINT;\n  x : INT (0..10);\nEND_VAR\n  ST a\nEND_PROGRAM\n",
         "a=0\nz=0\nb=FALSE\nd=0\nx=0\ntrap Type at 0\n",
-        "p.il:13: Type: no result, or a value of another type than is wanted\n   13 |   ST a\n      |      ^ the result is none\n  help: load first, convert one of the operands, or write the type of a literal, as INT#8\n",
+        "p.il:13: Type: no result, or a value of another type than is wanted\n   13 |   ST a\n      |      ^ the result is none, and INT is wanted\n  help: load first, convert one of the operands, or write the type of a literal, as INT#8\n",
     ),
     (
         "PROGRAM p\nVAR_EXTERNAL\n  inv1_w, inv2_w : DINT;\n  target, lim1 : INT;\n  ena1 : BOOL;\nEND_VAR\nVAR\n  a, z : INT;\n  b : BOOL;\n  d : DINT;\n  x : INT (0..10);\nEND_VAR\n  LD INT#32767\n  ADD 1\nEND_PROGRAM\n",
@@ -158,22 +158,27 @@ const OF_TRIALS: &[Explained] = &[
     (
         "PROGRAM p\nVAR_EXTERNAL\n  inv1_w, inv2_w : DINT;\n  target, lim1 : INT;\n  ena1 : BOOL;\nEND_VAR\nVAR\n  a, z : INT;\n  b : BOOL;\n  d : DINT;\n  x : INT (0..10);\nEND_VAR\n  LD a\n  SEL 1, 2\nEND_PROGRAM\n",
         "a=0\nz=0\nb=FALSE\nd=0\nx=0\ntrap Type at 5\n",
-        "p.il:14: Type: no result, or a value of another type than is wanted\n   14 |   SEL 1, 2\n      |       ^^^^ INT 0 chooses between DINT 1 and DINT 2\n  help: load first, convert one of the operands, or write the type of a literal, as INT#8\n",
+        "p.il:14: Type: no result, or a value of another type than is wanted\n   14 |   SEL 1, 2\n      |       ^^^^ INT 0 chooses between DINT 1 and DINT 2, and a BOOL and two of one type are wanted\n  help: load first, convert one of the operands, or write the type of a literal, as INT#8\n",
     ),
     (
         "PROGRAM p\nVAR_EXTERNAL\n  inv1_w, inv2_w : DINT;\n  target, lim1 : INT;\n  ena1 : BOOL;\nEND_VAR\nVAR\n  a, z : INT;\n  b : BOOL;\n  d : DINT;\n  x : INT (0..10);\nEND_VAR\n  LD b\n  SEL d, a\nEND_PROGRAM\n",
         "a=0\nz=0\nb=FALSE\nd=0\nx=0\ntrap Type at 5\n",
-        "p.il:14: Type: no result, or a value of another type than is wanted\n   14 |   SEL d, a\n      |       ^^^^ BOOL FALSE chooses between DINT 0 and INT 0\n  help: load first, convert one of the operands, or write the type of a literal, as INT#8\n",
+        "p.il:14: Type: no result, or a value of another type than is wanted\n   14 |   SEL d, a\n      |       ^^^^ BOOL FALSE chooses between DINT 0 and INT 0, and a BOOL and two of one type are wanted\n  help: load first, convert one of the operands, or write the type of a literal, as INT#8\n",
     ),
     (
         "PROGRAM p\nVAR_EXTERNAL\n  inv1_w, inv2_w : DINT;\n  target, lim1 : INT;\n  ena1 : BOOL;\nEND_VAR\nVAR\n  a, z : INT;\n  b : BOOL;\n  d : DINT;\n  x : INT (0..10);\nEND_VAR\nEND_PROGRAM\n\nq=1\n",
         "refused: input 1\n",
-        "p.il:15: input: the line gives no value to an input\n   15 | q=1\n      | ^^^\n  help: write NAME=VALUE without blanks: an external that the program loads, once, and a value of its type or absent\n",
+        "p.il:15: input: the line gives no value to an input\n   15 | q=1\n      | ^^^ the program has no input of this name\n  help: write NAME=VALUE without blanks: an external that the program loads, once, and a value of its type or absent\n",
     ),
     (
         "PROGRAM p\nVAR_EXTERNAL\n  inv1_w, inv2_w : DINT;\n  target, lim1 : INT;\n  ena1 : BOOL;\nEND_VAR\nVAR\n  a, z : INT;\n  b : BOOL;\n  d : DINT;\n  x : INT (0..10);\nEND_VAR\n  LD inv1_w\n  ST d\nEND_PROGRAM\ninv1_w=5\n\ninv1_w=6\n",
         "refused: input 2\n",
-        "p.il:18: input: the line gives no value to an input\n   18 | inv1_w=6\n      | ^^^^^^^^\n  help: write NAME=VALUE without blanks: an external that the program loads, once, and a value of its type or absent\n",
+        "p.il:18: input: the line gives no value to an input\n   18 | inv1_w=6\n      | ^^^^^^^^ line 16 names it already\n  help: write NAME=VALUE without blanks: an external that the program loads, once, and a value of its type or absent\n",
+    ),
+    (
+        "PROGRAM p\nVAR\n  a : INT;\nEND_VAR\n  LD TRUE\n  JMPC e\n  LD 1\n  ST a\ne: LD INT#5\n  DIV a\nEND_PROGRAM\n",
+        "a=0\ntrap ZeroDivisor at 5\n",
+        "p.il:10: ZeroDivisor: a division by 0\n   10 |   DIV a\n      |       ^ INT 5 meets INT 0; after 5 instructions, at instruction 7 of the code\n  help: test the divisor before (LE 0 / JMPC elsewhere), or bound it, as by MAX 1\n",
     ),
 ];
 

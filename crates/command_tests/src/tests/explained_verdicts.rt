@@ -2,7 +2,7 @@
 use crate::tests::explained::assert_note;
 use crate::tests::files::SITE;
 use crate::tests::{assert_same, printed, texts};
-use commands::{explain, judge};
+use commands::{Beside, explain, judge};
 use std::process::Abort;
 
 /// A program, what is printed, and what is explained, but for what is known at the instruction.
@@ -153,7 +153,14 @@ fn explain_ends_as_check_does(rt: HostRuntime) {
     for (program, defs, ending, ends) in ENDS.iter() {
         let defs = texts(&rt, defs);
         let mut out = Vec::new(rt.alloc());
-        let (status, cause) = explain(rt.alloc(), SITE, program, defs.as_slice(), &mut out);
+        let (status, cause) = explain(
+            rt.alloc(),
+            SITE,
+            program,
+            defs.as_slice(),
+            Beside::Known,
+            &mut out,
+        );
         let lines = printed(&rt, out);
         assert_same(&rt, &status, ends);
         assert_same(&rt, &cause.is_some(), &(*ends == 1));
