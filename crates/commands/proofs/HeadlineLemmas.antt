@@ -1,11 +1,13 @@
 -- The parts of the headline, put together again: they are a site run.
-use Rattle.std.proofs.Common.{◌≡◌, ℕ, ◌+◌, inl, inr, Bool, true, false, not, List, [], ◌∷◌, ◌++◌, length, Option, Some, None, Result, Ok, Err, slice_get, nat_eq, refl, sym, ap, subst, ◌∙◌, if◌then◌else◌}
+use Rattle.std.proofs.Common.{◌≡◌, ℕ, zero, suc, ◌+◌, ◌≤◌, inl, inr, Bool, true, false, not, List, [], ◌∷◌, ◌++◌, length, map, arith, Option, Some, None, Result, Ok, Err, slice_get, nat_eq, refl, sym, ap, subst, ◌∙◌, if◌then◌else◌}
 use Rattle.point_types.specs.Value.{code_of, ◌>>=◌}
 use Rattle.modbus_frame.specs.declared.link.LinkFault.{LinkFault}
 use Rattle.register_map.specs.Layout.{Layout}
 use Rattle.scan_code.specs.Image.{Image, IsProper}
+use Rattle.scan_code.specs.Machine.{Ended, State, Unfinished}
 use Rattle.scan_code.specs.declared.image.Tag.{Tag}
 use Rattle.scan_vm.specs.Machine.{opened}
+use Rattle.site_model.specs.Readings.{AreReadings, AreSettings}
 use Rattle.site_model.specs.declared.site.Site.{Site}
 use Rattle.site_model.specs.declared.tag.SiteTag.{SiteTag}
 use Rattle.il_assemble.proofs.Elaborating.{what_elaborates_is_well}
@@ -26,23 +28,28 @@ use Rattle.verifier.specs.Listing.{listing_of}
 use Rattle.verifier.specs.Verdict.{budgeted, judged, refusal_of}
 use Rattle.verifier.specs.Verified.{Acceptance, HasAlike, HasLinks, IsAlike, IsVerified}
 use Rattle.verifier.proofs.Images.{by_both, ok_is}
-use Rattle.gateway.specs.event_core.Control.{Advances, IsPlanned, steps_of}
+use Rattle.gateway.specs.event_core.Control.{IsPlanned, steps_of}
 use Rattle.gateway.specs.event_core.Core.{Gateway, IsSame, gateway_of, numbers_of}
-use Rattle.gateway.specs.poller.Cycle.{RunsTo, Scans, StopsBehind, StopsTaking, StopsWriting, TakesBlocks, WritesFirst}
+use Rattle.gateway.specs.event_core.Driving.{TakesEvent}
+use Rattle.gateway.specs.poller.Cycle.{RunsTo, Scans, TakesBlocks, WritesFirst}
+use Rattle.gateway.specs.poller.Cycle as gateway
 use Rattle.gateway.specs.poller.Polling.{Polling}
-use Rattle.gateway.specs.event_core.SiteRun.{IsScan, Standing}
+use Rattle.gateway.specs.event_core.SiteRun.{none_of, stored_at}
 use Rattle.gateway.specs.declared.poller.cycle.Report.{Report}
 use Rattle.gateway.specs.declared.event_core.event.Answer.TheVariants as reply
 use Rattle.gateway.specs.declared.event_core.event.Event.{Event}
 use Rattle.gateway.specs.declared.event_core.event.Event.TheVariants as event
 use Rattle.gateway.proofs.Parts.{same_then}
 use Rattle.commands.specs.Accepted.{Accepts, most_deferred}
-use Rattle.commands.specs.Headline.{AreWholeScans, DoesRun, DoesScan, IsAccepted, IsFailedScan, IsWholeScan}
-use Rattle.commands.specs.Printed.{Course, EndsTold}
-use Rattle.commands.specs.Scans.{AreScans, DoesScans, End, IsBroken, IsWhole, PartsAreTheRun, RunsScans}
+use Rattle.commands.specs.Headline.{DoesRun, DoesScan, IsAccepted, Tells}
+use Rattle.commands.specs.Printed.{EndsEarly, LineLost, LinkDown}
+use Rattle.commands.specs.Scans.{AreScans, DoesScans, End, IsBroken, IsWhole, PartsAreTheRun, RunsScans, series_of}
+use Rattle.commands.specs.Series.{AreInOrder, Moment, Scan}
+use Rattle.commands.specs.Stopped.{StopsScan}
 use Rattle.commands.proofs.MeaningLemmas.{all_meant}
 use Rattle.commands.proofs.RunLemmas.{scans_from_opening}
 use Rattle.commands.proofs.ScanLemmas.{follows_all, same_self}
+use Rattle.commands.proofs.StepLemmas.{IsHeld, ending_on, held_all, held_behind, planned_all, planned_one, scanned_so, takes_blocks}
 
 -- ---- the links are to the site's own tags
 
@@ -90,89 +97,168 @@ judged_here depth a site h linked = ap (judged_by a.image depth) (linked ∙ sym
 
 -- ---- a scan
 
-same_to : (s : Gateway) (es : List Event) (t : Gateway) → RunsTo Advances s es t → IsSame s t
+same_to : (s : Gateway) (es : List Event) (t : Gateway) → RunsTo (TakesEvent most_deferred) s es t → IsSame s t
 same_to s [] t run = subst (IsSame s) run (same_self s)
-same_to s (e ∷ es) t run = same_then s run.1 t run.2.1 (same_to run.1 es t run.3)
+same_to s (e ∷ es) t run = same_then s run.1 t run.2.0.1 (same_to run.1 es t run.3)
 
 module _ (site : Site) (a : Acceptance) (p : Program) where
-  module _ (Sends : Polling → Gateway → Type 0) (o : Polling) (s t : Gateway) (lost steps : ℕ) (on_site : s.site ≡ site) (on_program : s.machine.accepted ≡ a) (h : DoesScan site a p Sends o s t lost steps) where
-    to_before : IsSame s h.before
-    to_before = same_to s (h.taken).events h.before (h.taken).runs
+  -- a core of this site and this program
+  record IsOf (g : Gateway) : Type 0 where
+    pub on_site : g.site ≡ site
+    pub on_program : g.machine.accepted ≡ a
+    pub held : IsHeld g
 
-    to_end : IsSame s t
-    to_end = same_then s h.before t to_before h.same
+  module _ (n : ℕ) (scan : Scan) (of : IsOf (scan.before).core) (h : DoesScan site a p n scan) where
+    abbrev before : Gateway
+    before = (scan.taken).core
 
-    took : TakesBlocks Advances s.site s.maps s.site.wants o s h.asked h.before lost
-    took = subst (λ (x : Site). TakesBlocks Advances x s.maps x.wants o s h.asked h.before lost) (sym on_site) h.taken
+    abbrev behind : Gateway
+    behind = (scan.behind).core
 
-    stepped : Advances h.before event.Scan (reply.Writes (length (h.before).site.outs)) t
+    took : TakesBlocks (TakesEvent most_deferred) ((scan.before).core).site ((scan.before).core).maps (((scan.before).core).site).wants (scan.before).link (scan.before).core (scan.taken).link before (scan.report).lost
+    took =
+        let blocks = takes_blocks most_deferred site ((scan.before).core).maps site.wants (scan.before).link (scan.before).core (scan.taken).link before (scan.report).lost h.takes in
+        subst (λ (x : Site). TakesBlocks (TakesEvent most_deferred) x ((scan.before).core).maps x.wants (scan.before).link (scan.before).core (scan.taken).link before (scan.report).lost) (sym of.on_site) blocks
+
+    to_before : IsSame (scan.before).core before
+    to_before = same_to (scan.before).core took.events before took.runs
+
+    on_site : before.site ≡ site
+    on_site = to_before.site ∙ of.on_site
+
+    on_program : before.machine.accepted ≡ a
+    on_program = to_before.accepted ∙ of.on_program
+
+    stepped : TakesEvent most_deferred before event.Scan (reply.Writes (length before.site.outs)) behind
     stepped =
-        let here : IsScan site a.image (numbers_of a) a.budget (h.before).standing t.standing = record {
-          readings = h.readings;
-          each = (h.means).each;
-          read = (h.means).read;
-          steps = steps;
-          end = h.end;
-          ended = (h.safe).ended;
-          bounded = (h.safe).bounded;
-          after = h.leaves;
-        } in
-        let there = subst (λ (x : Acceptance). IsScan site x.image (numbers_of x) x.budget (h.before).standing t.standing) (sym (to_before.accepted ∙ on_program)) here in (
-          (refl, subst (λ (x : Site). IsScan x (h.before).machine.accepted.image (numbers_of (h.before).machine.accepted) (h.before).machine.accepted.budget (h.before).standing t.standing) (sym (to_before.site ∙ on_site)) there),
-          h.same,
-        )
+        scanned_so most_deferred before behind scan.readings (scan.report).steps scan.end (held_all (scan.before).core (h.takes).events before (h.takes).runs of.held) h.leaves
+        (subst (λ (x : Site). length scan.readings ≡ length x.tags) (sym on_site) (h.means).each)
+        (subst (λ (x : Site). AreReadings x.tags x.wants before.standing.blocks before.standing.sets scan.readings) (sym on_site) (h.means).read)
+        (subst (λ (x : Acceptance). ending_on x scan.readings before.standing.variables x.budget ≡ Ended (scan.report).steps scan.end) (sym on_program) (h.safe).ended)
+        (subst (λ (x : Acceptance). (scan.report).steps ≤ x.budget) (sym on_program) (h.safe).bounded)
+        (subst (λ (x : Acceptance). (k : ℕ) (y : State) → ending_on x scan.readings before.standing.variables k ≡ Unfinished y → length y.deferred ≤ most_deferred) (sym on_program) (h.safe).shallow)
 
-    counted : steps ≡ steps_of t
-    counted = sym (ap (λ (x : Standing). (x.last).steps) h.leaves)
+    of_behind : IsOf behind
+    of_behind = record {
+      on_site = stepped.0.1.site ∙ on_site;
+      on_program = stepped.0.1.accepted ∙ on_program;
+      held = held_behind before behind scan.readings (scan.report).steps scan.end h.leaves;
+    }
 
-  whole_again : (o : Polling) (s : Gateway) (q : Polling) (t : Gateway) (report : Report) → s.site ≡ site → s.machine.accepted ≡ a → IsWholeScan site a p o s q t report
-      → ((own : List Event) × IsWhole Advances o s q t report own) × IsSame s t
-  whole_again o s q t report on_site on_program h =
-      let Sends : Polling → Gateway → Type 0 = λ asked core. WritesFirst IsPlanned site (length site.outs) core asked q report.writes report.refused in
-      let scan : Scans Advances IsPlanned steps_of s.site s.maps o s q t report = record {
-        middle = h.asked;
-        before = h.before;
-        taken = took Sends o s t report.lost report.steps on_site on_program h;
-        answer = reply.Writes (length (h.before).site.outs);
-        scan = stepped Sends o s t report.lost report.steps on_site on_program h;
-        written = subst (λ (x : Site). WritesFirst IsPlanned x (length x.outs) t h.asked q report.writes report.refused) (sym on_site) h.writes;
-        steps = counted Sends o s t report.lost report.steps on_site on_program h;
+    counted : (scan.report).steps ≡ steps_of behind
+    counted = sym (ap (λ (g : Gateway). (g.standing.last).steps) h.leaves)
+
+    ranged : AreSettings behind.site.tags (behind.standing.last).outputs
+    ranged =
+        subst (λ (g : Gateway). AreSettings g.site.tags (g.standing.last).outputs) (sym h.leaves)
+        (subst (λ (x : Site). AreSettings x.tags (stored_at (numbers_of before.machine.accepted) (scan.end).outputs (none_of x.tags))) (sym on_site)
+        (subst (λ (x : Acceptance). AreSettings site.tags (stored_at (numbers_of x) (scan.end).outputs (none_of site.tags))) (sym on_program) (h.safe).outputs))
+
+    written : WritesFirst IsPlanned site n behind (scan.taken).link (scan.behind).link (scan.report).writes (scan.report).refused
+    written = record {
+      plans = (h.writes).plans;
+      planned = planned_all behind 0 (h.writes).plans ranged (h.writes).set_points;
+      all = (h.writes).each;
+      es = (h.writes).calls;
+      points = (h.writes).in_order;
+      talks = (h.writes).went;
+      sent = (h.writes).sent;
+      unacknowledged = (h.writes).refused;
+    }
+
+  whole_again : (scan : Scan) → IsOf (scan.before).core → DoesScan site a p (length site.outs) scan
+      → (own : List Event) × IsWhole (TakesEvent most_deferred) (scan.before).link (scan.before).core (scan.behind).link (scan.behind).core scan.report own
+  whole_again scan of h =
+      let n = length site.outs in
+      let whole : Scans (TakesEvent most_deferred) IsPlanned steps_of ((scan.before).core).site ((scan.before).core).maps (scan.before).link (scan.before).core (scan.behind).link (scan.behind).core scan.report = record {
+        middle = (scan.taken).link;
+        before = (scan.taken).core;
+        taken = took n scan of h;
+        answer = reply.Writes (length ((scan.taken).core).site.outs);
+        scan = stepped n scan of h;
+        written = subst (λ (x : Site). WritesFirst IsPlanned x (length x.outs) (scan.behind).core (scan.taken).link (scan.behind).link (scan.report).writes (scan.report).refused) (sym of.on_site) (written n scan of h);
+        steps = counted n scan of h;
       } in
-      (((scan.taken).events ++ event.Scan ∷ [], (scan, refl)), to_end Sends o s t report.lost report.steps on_site on_program h)
+      ((whole.taken).events ++ event.Scan ∷ [], (whole, refl))
 
-  scans_again : (o : Polling) (s : Gateway) (reports : List Report) (q : Polling) (t : Gateway) → s.site ≡ site → s.machine.accepted ≡ a → AreWholeScans site a p o s reports q t
-      → ((events : List Event) × AreScans Advances o s reports events q t) × IsSame s t
-  scans_again o s [] q t on_site on_program (here, there) = (([], (refl, here, there)), subst (IsSame s) (sym there) (same_self s))
-  scans_again o s (r ∷ rs) q t on_site on_program (middle, between, one, rest) =
-      let k = whole_again o s middle between r on_site on_program one in
-      let m = scans_again middle between rs q t (k.1.site ∙ on_site) (k.1.accepted ∙ on_program) rest in
-      ((k.0.0 ++ m.0.0, (middle, between, k.0.0, m.0.0, refl, k.0.1, m.0.1)), same_then s between t k.1 m.1)
+  abbrev reports_of : List Scan → List Report
+  reports_of scans = map (λ (scan : Scan). scan.report) scans
 
-  failed_again : (o : Polling) (s : Gateway) (fault : LinkFault) (q : Polling) (t : Gateway) → s.site ≡ site → s.machine.accepted ≡ a → IsFailedScan site a p o s fault q t
-      → (events : List Event) × IsBroken Advances o s fault q t events
-  failed_again o s fault q t on_site on_program (inl h) =
-      let stop : StopsTaking Advances s.site s.maps o s fault q t = subst (λ (x : Site). StopsTaking Advances x s.maps o s fault q t) (sym on_site) h in
+  scans_again : (first : Moment) (scans : List Scan) (last : Moment) → IsOf first.core → AreInOrder (DoesScan site a p (length site.outs)) first scans last
+      → ((events : List Event) × AreScans (TakesEvent most_deferred) first.link first.core (reports_of scans) events last.link last.core) × IsOf last.core
+  scans_again first [] last of h = (([], (refl, ap (λ (m : Moment). m.link) h, ap (λ (m : Moment). m.core) h)), subst (λ (m : Moment). IsOf m.core) (sym h) of)
+  scans_again first (scan ∷ scans) last of (here, does, rest) =
+      let there = subst (λ (m : Moment). IsOf m.core) (sym here) of in
+      let k = whole_again scan there does in
+      let m = scans_again scan.behind scans last (of_behind (length site.outs) scan there does) rest in
+      let all : (events : List Event) × AreScans (TakesEvent most_deferred) (scan.before).link (scan.before).core (scan.report ∷ reports_of scans) events last.link last.core =
+      (k.0 ++ m.0.0, ((scan.behind).link, (scan.behind).core, k.0, m.0.0, refl, k.1, m.0.1)) in
+      (subst (λ (x : Moment). (events : List Event) × AreScans (TakesEvent most_deferred) x.link x.core (scan.report ∷ reports_of scans) events last.link last.core) here all, m.1)
+
+  abbrev Stops : Moment → LinkFault → Moment → Type 0
+  Stops = StopsScan (DoesScan site a p) site
+
+  abbrev Broken : Moment → LinkFault → Polling → Gateway → Type 0
+  Broken first fault q t = (events : List Event) × IsBroken (TakesEvent most_deferred) first.link first.core fault q t events
+
+  broken_again : (first : Moment) (fault : LinkFault) (last : Moment) → IsOf first.core → Stops first fault last → Broken first fault last.link last.core
+  broken_again first fault last of (inl h) =
+      let s = first.core in
+      let here : gateway.StopsTaking (TakesEvent most_deferred) site s.maps first.link s fault last.link last.core = record {
+        before = h.before;
+        want = h.want;
+        behind = h.behind;
+        split = h.split;
+        middle = h.middle;
+        lost = h.lost;
+        taken = takes_blocks most_deferred site s.maps h.before first.link s h.middle last.core h.lost h.taken;
+        stops = h.stops;
+      } in
+      let stop : gateway.StopsTaking (TakesEvent most_deferred) s.site s.maps first.link s fault last.link last.core =
+      subst (λ (x : Site). gateway.StopsTaking (TakesEvent most_deferred) x s.maps first.link s fault last.link last.core) (sym of.on_site) here in
       ((stop.taken).events, inl (stop, refl))
-  failed_again o s fault q t on_site on_program (inr (lost, steps, h)) =
-      let Sends : Polling → Gateway → Type 0 = λ asked core. StopsWriting IsPlanned site core asked fault q in
-      let stop : StopsBehind Advances IsPlanned s.site s.maps o s fault q t = record {
-        middle = h.asked;
-        before = h.before;
-        lost = lost;
-        taken = took Sends o s t lost steps on_site on_program h;
-        answer = reply.Writes (length (h.before).site.outs);
-        scan = stepped Sends o s t lost steps on_site on_program h;
-        stops = subst (λ (x : Site). StopsWriting IsPlanned x t h.asked fault q) (sym on_site) h.writes;
+  broken_again first fault last of (inr h) =
+      let scan = h.scan in
+      let there = subst (λ (m : Moment). IsOf m.core) (sym h.before) of in
+      let stop : gateway.StopsBehind (TakesEvent most_deferred) IsPlanned ((scan.before).core).site ((scan.before).core).maps (scan.before).link (scan.before).core fault last.link (scan.behind).core = record {
+        middle = (scan.taken).link;
+        before = (scan.taken).core;
+        lost = (scan.report).lost;
+        taken = took h.n scan there h.does;
+        answer = reply.Writes (length ((scan.taken).core).site.outs);
+        scan = stepped h.n scan there h.does;
+        stops = subst (λ (x : Site). gateway.StopsWriting IsPlanned x (scan.behind).core (scan.taken).link fault last.link) (sym there.on_site) (record {
+          n = h.n;
+          within = h.within;
+          middle = (scan.behind).link;
+          writes = (scan.report).writes;
+          refused = (scan.report).refused;
+          written = written h.n scan there h.does;
+          plan = h.plan;
+          planned = planned_one (scan.behind).core h.n h.plan (ranged h.n scan there h.does) h.due;
+          stops = h.stops;
+        });
       } in
-      ((stop.taken).events ++ event.Scan ∷ [], inr (stop, refl))
+      let here : Broken scan.before fault last.link (scan.behind).core = ((stop.taken).events ++ event.Scan ∷ [], inr (stop, refl)) in
+      subst (λ (t : Gateway). Broken first fault last.link t) (sym h.core) (subst (λ (m : Moment). Broken m fault last.link (scan.behind).core) h.before here)
 
-  end_again : (n : ℕ) (reports : List Report) (o : Polling) (s t : Gateway) (c : Course) → s.site ≡ site → s.machine.accepted ≡ a
-      → EndsTold (IsFailedScan site a p) n reports o s t c → (events : List Event) × End Advances n reports events o s c.link_behind t c.out_before c.out_behind c.status
-  end_again n reports o s t c on_site on_program (inl h) = ([], inl (refl, h))
-  end_again n reports o s t c on_site on_program (inr (inl h)) = ([], inr (inl (refl, h)))
-  end_again n reports o s t c on_site on_program (inr (inr h)) =
-      let k = failed_again o s h.fault c.link_behind t on_site on_program h.failed in
+  abbrev Ends : ℕ → List Report → Moment → Polling → Gateway → Option (List ℕ) → Option (List ℕ) → ℕ → Type 0
+  Ends n reports last q t old new status = (events : List Event) × End (TakesEvent most_deferred) n reports events last.link last.core q t old new status
+
+  early_again : (n : ℕ) (reports : List Report) (last : Moment) (q : Polling) (t : Gateway) (old new : Option (List ℕ)) (status : ℕ) → IsOf last.core
+      → EndsEarly Stops (series_of n reports last.link last.core q t old new status) → Ends n reports last q t old new status
+  early_again n reports last q t old new status of (LineLost h) = ([], inr (inl (refl, h)))
+  early_again n reports last q t old new status of (LinkDown h) =
+      let k = broken_again last h.fault (record { link = q; core = t }) of h.failed in
       (k.0, inr (inr (record { within = h.within; fault = h.fault; broken = k.1; written = h.written; printed = h.printed; told = h.told })))
+
+  end_again : (n : ℕ) (reports : List Report) (last : Moment) (q : Polling) (t : Gateway) (old new : Option (List ℕ)) (status : ℕ) → IsOf last.core
+      → Tells Stops (series_of n reports last.link last.core q t old new status) → Ends n reports last q t old new status
+  end_again n reports last q t old new status of h = by_status status refl
+    where
+      by_status : (k : ℕ) → status ≡ k → Ends n reports last q t old new status
+      by_status zero e = ([], inl (refl, h.well e))
+      by_status (suc k) e = early_again n reports last q t old new status of (h.badly (λ none. absurd (omega (arith, none, e))))
 
 -- ---- the run
 
@@ -206,21 +292,21 @@ accepts_again site program texts s a verified h =
     }
 
 run_again : (site program : List ℕ) (texts : List (List ℕ)) (n : ℕ) (p q : Polling) (old new : Option (List ℕ)) (s : Site) (a : Acceptance) (maps : List (Option Layout)) (core : Gateway) (status : ℕ)
-    → IsVerified most_deferred a → IsAccepted site program texts s a → DoesRun s a maps program n (record { link_before = p; link_behind = q; out_before = old; out_behind = new; status = status }) core → RunsScans site program texts n p q old new core status
+    → IsVerified most_deferred a → IsAccepted site program texts s a → DoesRun (gateway_of s maps (opened a)) program n (record { link_before = p; link_behind = q; out_before = old; out_behind = new; status = status }) core → RunsScans site program texts n p q old new core status
 run_again site program texts n p q old new s a maps core status verified h r =
     let of = h.texts_of in
     let start = gateway_of s maps (opened a) in
-    let all = scans_again s a r.program r.found_by start r.reports r.behind r.last refl refl r.scans in
-    let course : Course = record { link_before = p; link_behind = q; out_before = old; out_behind = new; status = status } in
-    let end = end_again s a r.program n r.reports r.behind r.last core course all.1.site all.1.accepted r.told in
+    let all = scans_again s a r.program (record { link = r.found_by; core = start }) r.scans r.last (record { on_site = refl; on_program = refl; held = refl }) r.done in
+    let reports = reports_of s a r.program r.scans in
+    let end = end_again s a r.program n reports r.last q core old new status all.1 r.told in
     let events = all.0.0 ++ end.0 in
-    let does : DoesScans Advances n r.found_by start events q core old new status = record {
-      reports = r.reports;
+    let does : DoesScans (TakesEvent most_deferred) n r.found_by start events q core old new status = record {
+      reports = reports;
       before = all.0.0;
       behind = end.0;
       split = refl;
-      middle = r.behind;
-      between = r.last;
+      middle = (r.last).link;
+      between = (r.last).core;
       whole = all.0.1;
       end = end.1;
     } in

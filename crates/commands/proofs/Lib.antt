@@ -13,6 +13,7 @@ pub mod OutcomeLemmas
 pub mod ReportLemmas
 mod RunLemmas
 pub mod ScanLemmas
+mod StepLemmas
 mod Texts
 pub mod UnitLemmas
 pub mod WholeLemmas

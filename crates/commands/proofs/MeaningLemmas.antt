@@ -48,7 +48,7 @@ use Rattle.gateway.specs.declared.event_core.event.Event.{Event}
 use Rattle.gateway.specs.declared.event_core.event.Event.TheVariants as event
 use Rattle.gateway.specs.declared.served.point.OwnPoint.{OwnPoint}
 use Rattle.commands.specs.Accepted.{most_deferred}
-use Rattle.commands.specs.Headline.{IsSafe, stored_of}
+use Rattle.commands.specs.Headline.{stored_of}
 use Rattle.commands.specs.Meant.{IsMeantScan, RunsAsMeant, StepsAsMeant}
 
 -- ---- numbers in their ranges
@@ -177,7 +177,7 @@ module _ (site : Site) (p : Program) (a : Acceptance) (right : DoesWhatItMeans p
         by_end (BareEnded bare b) l k = ap length (sym l.2) ∙ k.variables
         by_end (BareUnfinished b) l k = absurd l
 
-    left_variables : AreVariables a.image.vars (h.end).variables
+    pub left_variables : AreVariables a.image.vars (h.end).variables
     left_variables = from_ranges a.image.vars (h.end).variables (same_length ∙ variables_length a.image.vars s.variables kept.variables) (subst (λ ds. AreInRanges ds (h.end).variables) (sym frames.variables) fine.variables)
 
     pub means_end : meaning p inputs s.variables ≡ Done (h.end).variables (h.end).outputs
@@ -191,12 +191,9 @@ module _ (site : Site) (p : Program) (a : Acceptance) (right : DoesWhatItMeans p
             e ∙ ap (λ xs. Done xs os) (sym (ap (λ z. z.variables) there ∙ v)) ∙ ap (λ ys. Done (h.end).variables ys) (sym (ap (λ z. z.outputs) there ∙ o))
         by_outcome (Fails fault) e (at, same) = cc
 
-    stored_ranged : AreSettings site.tags (stored_of site a h.end)
+    pub stored_ranged : AreSettings site.tags (stored_of site a h.end)
     stored_ranged = stored_in site.tags a.links (h.end).outputs (none_of site.tags) matched
         (subst (λ (tags : List TagRange). (i : ℕ) → OutputInRange (slice_get tags i) (slice_get (h.end).outputs i)) (sym frames.tags) fine.outputs) (none_in site.tags site.tags)
-
-    pub scan_safe : IsSafe site a h.readings s.variables h.steps h.end
-    scan_safe = record { ended = h.ended; bounded = h.bounded; variables = left_variables; outputs = stored_ranged }
 
     scan_meant : IsMeantScan p site a s t
     scan_meant = record { scan = h; means = means_end }

@@ -1,8 +1,10 @@
 -- Scans over a link, each of which does what the program means.
-use Rattle.std.proofs.Common.{◌≡◌, ℕ, inl, inr, List, [], ◌∷◌, length, Option, Ok, refl, sym, ap, subst, ◌∙◌}
+use Rattle.std.proofs.Common.{◌≡◌, ℕ, ◌<◌, ◌≤◌, inl, inr, List, [], ◌∷◌, length, map, Option, Ok, refl, sym, ap, subst, ◌∙◌, arith}
+use Rattle.point_types.specs.declared.reading.Reading.{Reading}
 use Rattle.modbus_frame.specs.declared.link.LinkFault.{LinkFault}
 use Rattle.register_map.specs.Layout.{Layout}
 use Rattle.scan_code.specs.Image.{IsProper}
+use Rattle.scan_code.specs.Machine.{Ended, State, Unfinished}
 use Rattle.scan_vm.specs.Machine as vm
 use Rattle.site_model.specs.declared.want.Want.{Want}
 use Rattle.site_model.specs.declared.site.Site.{Site}
@@ -11,8 +13,9 @@ use Rattle.il_assemble.specs.Meaning.{Program}
 use Rattle.verifier.specs.Links.{links_from}
 use Rattle.verifier.specs.Verdict.{judged}
 use Rattle.verifier.specs.Verified.{Acceptance, HasLinks}
-use Rattle.gateway.specs.event_core.Control.{Advances, IsPlanned}
+use Rattle.gateway.specs.event_core.Control.{IsPlanned, after_scan}
 use Rattle.gateway.specs.event_core.Core.{Gateway, gateway_of, numbers_of}
+use Rattle.gateway.specs.event_core.Driving.{TakesEvent}
 use Rattle.gateway.specs.poller.Cycle.{RunsTo, StopsTaking, StopsWriting, TakesBlocks, WritesFirst}
 use Rattle.gateway.specs.poller.Finding.{FindsAll}
 use Rattle.gateway.specs.poller.Polling.{Polling}
@@ -22,12 +25,16 @@ use Rattle.gateway.specs.declared.event_core.event.Answer.{Answer}
 use Rattle.gateway.specs.declared.event_core.event.Event.{Event}
 use Rattle.gateway.specs.declared.event_core.event.Event.TheVariants as event
 use Rattle.commands.specs.Accepted.{most_deferred}
-use Rattle.commands.specs.Headline.{AreWholeScans, DoesRun, DoesScan, IsFailedScan, IsSafe, IsWholeScan}
-use Rattle.commands.specs.Printed.{Course, EndsTold}
+use Rattle.commands.specs.Headline.{DoesRun, DoesScan, Tells}
+use Rattle.commands.specs.Printed.{LineLost, LinkDown}
 use Rattle.commands.specs.Sources.{IsTextOf}
 use Rattle.commands.specs.Meant.{AdvancesAsMeant, StepsAsMeant}
-use Rattle.commands.specs.Scans.{AreScans, DoesScans, End, IsBroken, IsWhole}
-use Rattle.commands.proofs.MeaningLemmas.{IsKept, means_end, opening_kept, scan_safe, step_meant}
+use Rattle.commands.specs.Scans.{AreScans, DoesScans, End, IsBroken, IsWhole, series_of}
+use Rattle.commands.specs.Series.{AreInOrder, Course, Moment, Scan}
+use Rattle.commands.specs.Stopped.{StopsScan}
+use Rattle.commands.proofs.MeaningLemmas.{IsKept, left_variables, means_end, opening_kept, step_meant, stored_ranged}
+use Rattle.commands.proofs.ScanLemmas.{unlinked_never_well, unprinted_never_well}
+use Rattle.commands.proofs.StepLemmas.{IsBehind, IsHeld, behind_scan, due_all, due_one, ending_on, held_all, held_behind, notes_blocks}
 
 module _ (site : Site) (p : Program) (a : Acceptance) (right : DoesWhatItMeans p a.image) (linked : links_from site.tags 0 a.image.tags ≡ Ok a.links) (proper : IsProper a.image) (verdict : judged a.image site.tags most_deferred ≡ Ok a.budget) (matched : HasLinks site.tags a.links) where
   -- a core of this site and this program, whose numbers lie in their ranges
@@ -36,17 +43,17 @@ module _ (site : Site) (p : Program) (a : Acceptance) (right : DoesWhatItMeans p
     pub on_program : g.machine.accepted ≡ a
     pub kept : IsKept site p a right linked proper verdict matched g.standing
 
-  advance : (s : Gateway) (e : Event) (r : Answer) (t : Gateway) → IsOn s → Advances s e r t → AdvancesAsMeant p s e r t × IsOn t
+  advance : (s : Gateway) (e : Event) (r : Answer) (t : Gateway) → IsOn s → (TakesEvent most_deferred) s e r t → AdvancesAsMeant p s e r t × IsOn t
   advance s e r t on h =
-      let there = subst (λ (x : Site). Steps x s.machine.accepted.image (numbers_of s.machine.accepted) s.machine.accepted.budget s.standing e r t.standing) on.on_site h.0 in
+      let there = subst (λ (x : Site). Steps x s.machine.accepted.image (numbers_of s.machine.accepted) s.machine.accepted.budget s.standing e r t.standing) on.on_site h.0.0 in
       let here = subst (λ (x : Acceptance). Steps site x.image (numbers_of x) x.budget s.standing e r t.standing) on.on_program there in
       let k = step_meant site p a right linked proper verdict matched s.standing e r t.standing on.kept here in
       let back = subst (λ (x : Site). StepsAsMeant p x a s.standing e r t.standing) (sym on.on_site) k.0 in (
-        (subst (λ (x : Acceptance). StepsAsMeant p s.site x s.standing e r t.standing) (sym on.on_program) back, h.1),
-        record { on_site = h.1.site ∙ on.on_site; on_program = h.1.accepted ∙ on.on_program; kept = k.1 },
+        (subst (λ (x : Acceptance). StepsAsMeant p s.site x s.standing e r t.standing) (sym on.on_program) back, h.0.1, h.1),
+        record { on_site = h.0.1.site ∙ on.on_site; on_program = h.0.1.accepted ∙ on.on_program; kept = k.1 },
       )
 
-  runs : (s : Gateway) (es : List Event) (t : Gateway) → IsOn s → RunsTo Advances s es t → RunsTo (AdvancesAsMeant p) s es t × IsOn t
+  runs : (s : Gateway) (es : List Event) (t : Gateway) → IsOn s → RunsTo (TakesEvent most_deferred) s es t → RunsTo (AdvancesAsMeant p) s es t × IsOn t
   runs s [] t on h = (h, subst IsOn h on)
   runs s (e ∷ es) t on (r, u, step, rest) =
       let k = advance s e r u on step in
@@ -54,11 +61,11 @@ module _ (site : Site) (p : Program) (a : Acceptance) (right : DoesWhatItMeans p
       ((r, u, k.0, m.0), m.1)
 
   abbrev taken_meant : (held : Site) (maps : List (Option Layout)) (wants : List Want) (o : Polling) (s : Gateway) (q : Polling) (t : Gateway) (lost : ℕ) → IsOn s
-      → TakesBlocks Advances held maps wants o s q t lost → TakesBlocks (AdvancesAsMeant p) held maps wants o s q t lost
+      → TakesBlocks (TakesEvent most_deferred) held maps wants o s q t lost → TakesBlocks (AdvancesAsMeant p) held maps wants o s q t lost
   taken_meant held maps wants o s q t lost on h =
       record { es = h.es; events = h.events; blocks = h.blocks; talks = h.talks; runs = (runs s h.events t on h.runs).0; counted = h.counted }
 
-  whole_meant : (o : Polling) (s : Gateway) (q : Polling) (t : Gateway) (report : Report) (own : List Event) → IsOn s → IsWhole Advances o s q t report own
+  whole_meant : (o : Polling) (s : Gateway) (q : Polling) (t : Gateway) (report : Report) (own : List Event) → IsOn s → IsWhole (TakesEvent most_deferred) o s q t report own
       → IsWhole (AdvancesAsMeant p) o s q t report own × IsOn t
   whole_meant o s q t report own on (scan, e) =
       let middle = (runs s (scan.taken).events scan.before on (scan.taken).runs).1 in
@@ -78,7 +85,7 @@ module _ (site : Site) (p : Program) (a : Acceptance) (right : DoesWhatItMeans p
         last.1,
       )
 
-  broken_meant : (o : Polling) (s : Gateway) (fault : LinkFault) (q : Polling) (t : Gateway) (events : List Event) → IsOn s → IsBroken Advances o s fault q t events
+  broken_meant : (o : Polling) (s : Gateway) (fault : LinkFault) (q : Polling) (t : Gateway) (events : List Event) → IsOn s → IsBroken (TakesEvent most_deferred) o s fault q t events
       → IsBroken (AdvancesAsMeant p) o s fault q t events
   broken_meant o s fault q t events on (inl (stop, e)) = inl (
     record {
@@ -109,7 +116,7 @@ module _ (site : Site) (p : Program) (a : Acceptance) (right : DoesWhatItMeans p
         e,
       )
 
-  scans_meant : (o : Polling) (s : Gateway) (reports : List Report) (events : List Event) (q : Polling) (t : Gateway) → IsOn s → AreScans Advances o s reports events q t
+  scans_meant : (o : Polling) (s : Gateway) (reports : List Report) (events : List Event) (q : Polling) (t : Gateway) → IsOn s → AreScans (TakesEvent most_deferred) o s reports events q t
       → AreScans (AdvancesAsMeant p) o s reports events q t × IsOn t
   scans_meant o s [] events q t on (none, here, there) = ((none, here, there), subst IsOn (sym there) on)
   scans_meant o s (r ∷ rs) events q t on (middle, between, own, more, split, one, rest) =
@@ -118,7 +125,7 @@ module _ (site : Site) (p : Program) (a : Acceptance) (right : DoesWhatItMeans p
       ((middle, between, own, more, split, k.0, m.0), m.1)
 
   end_meant : (n : ℕ) (reports : List Report) (events : List Event) (o : Polling) (s : Gateway) (q : Polling) (t : Gateway) (old new : Option (List ℕ)) (status : ℕ) → IsOn s
-      → End Advances n reports events o s q t old new status → End (AdvancesAsMeant p) n reports events o s q t old new status
+      → End (TakesEvent most_deferred) n reports events o s q t old new status → End (AdvancesAsMeant p) n reports events o s q t old new status
   end_meant n reports events o s q t old new status on (inl h) = inl h
   end_meant n reports events o s q t old new status on (inr (inl h)) = inr (inl h)
   end_meant n reports events o s q t old new status on (inr (inr h)) = inr (inr (record {
@@ -131,7 +138,7 @@ module _ (site : Site) (p : Program) (a : Acceptance) (right : DoesWhatItMeans p
   }))
 
   does_meant : (n : ℕ) (o : Polling) (s : Gateway) (events : List Event) (q : Polling) (t : Gateway) (old new : Option (List ℕ)) (status : ℕ) → IsOn s
-      → DoesScans Advances n o s events q t old new status → DoesScans (AdvancesAsMeant p) n o s events q t old new status
+      → DoesScans (TakesEvent most_deferred) n o s events q t old new status → DoesScans (AdvancesAsMeant p) n o s events q t old new status
   does_meant n o s events q t old new status on h =
       let all = scans_meant o s h.reports h.before h.middle h.between on h.whole in
       record {
@@ -146,7 +153,7 @@ module _ (site : Site) (p : Program) (a : Acceptance) (right : DoesWhatItMeans p
       }
 
   pub scans_from_opening : (maps : List (Option Layout)) (n : ℕ) (o : Polling) (events : List Event) (q : Polling) (t : Gateway) (old new : Option (List ℕ)) (status : ℕ)
-      → DoesScans Advances n o (gateway_of site maps (vm.opened a)) events q t old new status → DoesScans (AdvancesAsMeant p) n o (gateway_of site maps (vm.opened a)) events q t old new status
+      → DoesScans (TakesEvent most_deferred) n o (gateway_of site maps (vm.opened a)) events q t old new status → DoesScans (AdvancesAsMeant p) n o (gateway_of site maps (vm.opened a)) events q t old new status
   scans_from_opening maps n o events q t old new status h =
       does_meant n o (gateway_of site maps (vm.opened a)) events q t old new status
       (record { on_site = refl; on_program = refl; kept = opening_kept site p a right linked proper verdict matched }) h
@@ -154,86 +161,188 @@ module _ (site : Site) (p : Program) (a : Acceptance) (right : DoesWhatItMeans p
   -- ---- in the parts of the headline
 
   -- what the program does at a scan, on this site
-  scan_here : (s : Gateway) (r : Answer) (t : Gateway) → IsOn s → Advances s event.Scan r t → IsScan site a.image (numbers_of a) a.budget s.standing t.standing
+  scan_here : (s : Gateway) (r : Answer) (t : Gateway) → IsOn s → TakesEvent most_deferred s event.Scan r t → IsScan site a.image (numbers_of a) a.budget s.standing t.standing
   scan_here s r t on h =
-      let there = subst (λ (x : Site). Steps x s.machine.accepted.image (numbers_of s.machine.accepted) s.machine.accepted.budget s.standing event.Scan r t.standing) on.on_site h.0 in
+      let there = subst (λ (x : Site). Steps x s.machine.accepted.image (numbers_of s.machine.accepted) s.machine.accepted.budget s.standing event.Scan r t.standing) on.on_site h.0.0 in
       let here : Steps site a.image (numbers_of a) a.budget s.standing event.Scan r t.standing = subst (λ (x : Acceptance). Steps site x.image (numbers_of x) x.budget s.standing event.Scan r t.standing) on.on_program there in
       here.1
 
-  -- what came of the blocks, the scan, and what went out behind it
-  scan_parts : (Sends : Polling → Gateway → Type 0) (o : Polling) (s : Gateway) (asked : Polling) (before t : Gateway) (answer : Answer) (lost steps : ℕ) → IsOn s
-      → TakesBlocks Advances s.site s.maps s.site.wants o s asked before lost → Advances before event.Scan answer t → steps ≡ (t.standing.last).steps → Sends asked t
-      → DoesScan site a p Sends o s t lost steps
-  scan_parts Sends o s asked before t answer lost steps on taken last count written =
+  -- the core behind it, where the machine's variables were those of the site run
+  behind_here : (s : Gateway) (r : Answer) (t : Gateway) (on : IsOn s) → IsHeld s → (last : TakesEvent most_deferred s event.Scan r t) → (h : IsScan site a.image (numbers_of a) a.budget s.standing t.standing)
+      → IsBehind most_deferred s t h.readings h.steps h.end
+  behind_here s r t on held last h =
+      behind_scan most_deferred s t h.readings h.steps h.end held last.0.1 last.1
+      (subst (λ (x : Site). t.standing ≡ scanned x (numbers_of s.machine.accepted) s.standing h.readings h.steps h.end) (sym on.on_site)
+      (subst (λ (x : Acceptance). t.standing ≡ scanned site (numbers_of x) s.standing h.readings h.steps h.end) (sym on.on_program) h.after))
+      (subst (λ (x : Acceptance). ending_on x h.readings s.standing.variables x.budget ≡ Ended h.steps h.end) (sym on.on_program) h.ended)
+
+  abbrev scan_of : Polling → Gateway → Polling → Gateway → Polling → Gateway → List Reading → State → Report → Scan
+  scan_of o s asked before q t readings end report = record {
+    before = record { link = o; core = s };
+    taken = record { link = asked; core = before };
+    behind = record { link = q; core = t };
+    readings = readings;
+    end = end;
+    report = report;
+  }
+
+  -- a scan up to the writes for the first n outputs
+  record IsPart (o : Polling) (s : Gateway) (q : Polling) (t : Gateway) (n : ℕ) (report : Report) : Type 0 where
+    pub asked : Polling
+    pub taken : Gateway
+    pub readings : List Reading
+    pub end : State
+    pub does : DoesScan site a p n (scan_of o s asked taken q t readings end report)
+    pub on : IsOn t
+    pub held : IsHeld t
+
+  scan_parts : (o : Polling) (s : Gateway) (asked : Polling) (before t : Gateway) (answer : Answer) (q : Polling) (n : ℕ) (report : Report) → IsOn s → IsHeld s
+      → TakesBlocks (TakesEvent most_deferred) s.site s.maps s.site.wants o s asked before report.lost → TakesEvent most_deferred before event.Scan answer t → report.steps ≡ (t.standing.last).steps
+      → WritesFirst IsPlanned site n t asked q report.writes report.refused → n ≤ length site.outs → IsPart o s q t n report
+  scan_parts o s asked before t answer q n report on held taken last count written within =
       let middle = (runs s taken.events before on taken.runs).1 in
+      let blocks = notes_blocks most_deferred site s.maps site.wants o s asked before report.lost (subst (λ (x : Site). TakesBlocks (TakesEvent most_deferred) x s.maps x.wants o s asked before report.lost) on.on_site taken) in
+      let held_there = held_all s blocks.events before blocks.runs held in
       let h = scan_here before answer t middle last in
-      let counted : h.steps ≡ steps = sym (count ∙ ap (λ (x : Standing). (x.last).steps) h.after) in
+      let behind = behind_here before answer t middle held_there last h in
+      let counted : h.steps ≡ report.steps = sym (count ∙ ap (λ (x : Standing). (x.last).steps) h.after) in
+      let on_end = (advance before event.Scan answer t middle last).1 in
+      let few : n ≤ length t.site.outs = subst (λ (x : Site). n ≤ length x.outs) (sym on_end.on_site) within in
+      let planned : length written.plans ≤ length t.site.outs = subst (λ (k : ℕ). k ≤ length t.site.outs) (sym written.all) few in
       record {
         asked = asked;
-        before = before;
-        taken = subst (λ (x : Site). TakesBlocks Advances x s.maps x.wants o s asked before lost) on.on_site taken;
+        taken = before;
         readings = h.readings;
         end = h.end;
-        safe = subst (λ (n : ℕ). IsSafe site a h.readings before.standing.variables n h.end) counted (scan_safe site p a right linked proper verdict matched before.standing t.standing middle.kept h);
-        means = record { each = h.each; read = h.read; computed = means_end site p a right linked proper verdict matched before.standing t.standing middle.kept h };
-        leaves = subst (λ (n : ℕ). t.standing ≡ scanned site (numbers_of a) before.standing h.readings n h.end) counted h.after;
-        same = last.1;
-        writes = written;
+        does = record {
+          takes = blocks;
+          safe = record {
+            ended = subst (λ (k : ℕ). ending_on a h.readings before.standing.variables a.budget ≡ Ended k h.end) counted h.ended;
+            bounded = subst (λ (k : ℕ). k ≤ a.budget) counted h.bounded;
+            shallow = subst (λ (x : Acceptance). (k : ℕ) (y : State) → ending_on x h.readings before.standing.variables k ≡ Unfinished y → length y.deferred ≤ most_deferred) middle.on_program behind.shallow;
+            variables = left_variables site p a right linked proper verdict matched before.standing t.standing middle.kept h;
+            outputs = stored_ranged site p a right linked proper verdict matched before.standing t.standing middle.kept h;
+          };
+          means = record { each = h.each; read = h.read; computed = means_end site p a right linked proper verdict matched before.standing t.standing middle.kept h };
+          leaves = subst (λ (k : ℕ). t ≡ after_scan before h.readings k h.end) counted behind.core;
+          writes = record {
+            plans = written.plans;
+            each = written.all;
+            set_points = due_all t 0 written.plans (omega (arith, planned)) written.planned;
+            calls = written.es;
+            in_order = written.points;
+            went = written.talks;
+            sent = written.sent;
+            refused = written.unacknowledged;
+          };
+        };
+        on = on_end;
+        held = held_behind before t h.readings h.steps h.end behind.core;
       }
 
-  whole_scan : (o : Polling) (s : Gateway) (q : Polling) (t : Gateway) (report : Report) (own : List Event) → IsOn s → IsWhole Advances o s q t report own
-      → IsWholeScan site a p o s q t report × IsOn t
-  whole_scan o s q t report own on (scan, e) =
-      let middle = (runs s (scan.taken).events scan.before on (scan.taken).runs).1 in (
-        scan_parts (λ asked core. WritesFirst IsPlanned site (length site.outs) core asked q report.writes report.refused) o s scan.middle scan.before t scan.answer report.lost report.steps on scan.taken scan.scan scan.steps
-            (subst (λ (x : Site). WritesFirst IsPlanned x (length x.outs) t scan.middle q report.writes report.refused) on.on_site scan.written),
-        (advance scan.before event.Scan scan.answer t middle scan.scan).1,
-      )
+  whole_scan : (o : Polling) (s : Gateway) (q : Polling) (t : Gateway) (report : Report) (own : List Event) → IsOn s → IsHeld s → IsWhole (TakesEvent most_deferred) o s q t report own
+      → IsPart o s q t (length site.outs) report
+  whole_scan o s q t report own on held (scan, e) =
+      scan_parts o s scan.middle scan.before t scan.answer q (length site.outs) report on held scan.taken scan.scan scan.steps
+      (subst (λ (x : Site). WritesFirst IsPlanned x (length x.outs) t scan.middle q report.writes report.refused) on.on_site scan.written) (omega arith)
 
-  whole_scans : (o : Polling) (s : Gateway) (reports : List Report) (events : List Event) (q : Polling) (t : Gateway) → IsOn s → AreScans Advances o s reports events q t
-      → AreWholeScans site a p o s reports q t × IsOn t
-  whole_scans o s [] events q t on (none, here, there) = ((here, there), subst IsOn (sym there) on)
-  whole_scans o s (r ∷ rs) events q t on (middle, between, own, more, split, one, rest) =
-      let k = whole_scan o s middle between r own on one in
-      let m = whole_scans middle between rs more q t k.1 rest in
-      ((middle, between, k.0, m.0), m.1)
+  -- scans, one after another
+  record ArePart (o : Polling) (s : Gateway) (reports : List Report) (q : Polling) (t : Gateway) : Type 0 where
+    pub scans : List Scan
+    pub done : AreInOrder (DoesScan site a p (length site.outs)) (record { link = o; core = s }) scans (record { link = q; core = t })
+    pub reported : map (λ (scan : Scan). scan.report) scans ≡ reports
+    pub on : IsOn t
+    pub held : IsHeld t
 
-  failed_scan : (o : Polling) (s : Gateway) (fault : LinkFault) (q : Polling) (t : Gateway) (events : List Event) → IsOn s → IsBroken Advances o s fault q t events → IsFailedScan site a p o s fault q t
-  failed_scan o s fault q t events on (inl (stop, e)) = inl (subst (λ (x : Site). StopsTaking Advances x s.maps o s fault q t) on.on_site stop)
-  failed_scan o s fault q t events on (inr (stop, e)) = inr (
-    stop.lost,
-    (t.standing.last).steps,
-    scan_parts (λ asked core. StopsWriting IsPlanned site core asked fault q) o s stop.middle stop.before t stop.answer stop.lost (t.standing.last).steps on stop.taken stop.scan refl
-        (subst (λ (x : Site). StopsWriting IsPlanned x t stop.middle fault q) on.on_site stop.stops),
-  )
+  abbrev moment : Polling → Gateway → Moment
+  moment q t = record { link = q; core = t }
 
-  ends_told : (n : ℕ) (reports : List Report) (events : List Event) (o : Polling) (s t : Gateway) (c : Course) → IsOn s
-      → End Advances n reports events o s c.link_behind t c.out_before c.out_behind c.status → EndsTold (IsFailedScan site a p) n reports o s t c
-  ends_told n reports events o s t c on (inl h) = inl h.1
-  ends_told n reports events o s t c on (inr (inl h)) = inr (inl h.1)
-  ends_told n reports events o s t c on (inr (inr h)) = inr (inr (record {
-    within = h.within;
-    fault = h.fault;
-    failed = failed_scan o s h.fault c.link_behind t events on h.broken;
-    written = h.written;
-    printed = h.printed;
-    told = h.told;
-  }))
+  whole_scans : (o : Polling) (s : Gateway) (reports : List Report) (events : List Event) (q : Polling) (t : Gateway) → IsOn s → IsHeld s → AreScans (TakesEvent most_deferred) o s reports events q t
+      → ArePart o s reports q t
+  whole_scans o s [] events q t on held (none, here, there) = record {
+    scans = [];
+    done = ap (λ (x : Polling). moment x t) here ∙ ap (λ (x : Gateway). moment o x) there;
+    reported = refl;
+    on = subst IsOn (sym there) on;
+    held = subst IsHeld (sym there) held;
+  }
+  whole_scans o s (r ∷ rs) events q t on held (middle, between, own, more, split, one, rest) =
+      let k = whole_scan o s middle between r own on held one in
+      let m = whole_scans middle between rs more q t k.on k.held rest in
+      record {
+        scans = scan_of o s k.asked k.taken middle between k.readings k.end r ∷ m.scans;
+        done = (refl, k.does, m.done);
+        reported = ap (λ (l : List Report). r ∷ l) m.reported;
+        on = m.on;
+        held = m.held;
+      }
+
+  abbrev Stops : Moment → LinkFault → Moment → Type 0
+  Stops = StopsScan (DoesScan site a p) site
+
+  stopped_scan : (o : Polling) (s : Gateway) (fault : LinkFault) (q : Polling) (t : Gateway) (events : List Event) → IsOn s → IsHeld s → IsBroken (TakesEvent most_deferred) o s fault q t events
+      → Stops (moment o s) fault (moment q t)
+  stopped_scan o s fault q t events on held (inl (stop, e)) =
+      let here = subst (λ (x : Site). StopsTaking (TakesEvent most_deferred) x s.maps o s fault q t) on.on_site stop in
+      inl (record {
+        before = here.before;
+        want = here.want;
+        behind = here.behind;
+        split = here.split;
+        middle = here.middle;
+        lost = here.lost;
+        taken = notes_blocks most_deferred site s.maps here.before o s here.middle t here.lost here.taken;
+        stops = here.stops;
+      })
+  stopped_scan o s fault q t events on held (inr (stop, e)) =
+      let here = subst (λ (x : Site). StopsWriting IsPlanned x t stop.middle fault q) on.on_site stop.stops in
+      let report : Report = record { steps = (t.standing.last).steps; writes = here.writes; refused = here.refused; lost = stop.lost } in
+      let k = scan_parts o s stop.middle stop.before t stop.answer here.middle here.n report on held stop.taken stop.scan refl here.written (let w = here.within in omega (arith, w)) in
+      inr (record {
+        n = here.n;
+        within = here.within;
+        scan = scan_of o s k.asked k.taken here.middle t k.readings k.end report;
+        before = refl;
+        does = k.does;
+        plan = here.plan;
+        due = due_one t here.n here.plan (subst (λ (x : Site). here.n < length x.outs) (sym (k.on).on_site) here.within) here.planned;
+        stops = here.stops;
+        core = refl;
+      })
+
+  tells : (n : ℕ) (reports : List Report) (events : List Event) (o : Polling) (s : Gateway) (q : Polling) (t : Gateway) (old new : Option (List ℕ)) (status : ℕ) → IsOn s → IsHeld s
+      → End (TakesEvent most_deferred) n reports events o s q t old new status → Tells Stops (series_of n reports o s q t old new status)
+  tells n reports events o s q t old new status on held (inl h) = record { well = λ e. h.1; badly = λ bad. absurd (bad (h.1.well)) }
+  tells n reports events o s q t old new status on held (inr (inl h)) = record {
+    well = λ e. unprinted_never_well (length reports) (h.1.last) (h.1.written) new status (h.1.told) e;
+    badly = λ bad. LineLost h.1;
+  }
+  tells n reports events o s q t old new status on held (inr (inr h)) = record {
+    well = λ e. unlinked_never_well h.fault h.written new status h.told e;
+    badly = λ bad. LinkDown (record {
+      within = h.within;
+      fault = h.fault;
+      failed = stopped_scan o s h.fault q t events on held h.broken;
+      written = h.written;
+      printed = h.printed;
+      told = h.told;
+    });
+  }
 
   pub run_from_opening : (maps : List (Option Layout)) (text : List ℕ) (n : ℕ) (o : Polling) (events : List Event) (t : Gateway) (c : Course)
-      → IsTextOf text p → FindsAll site.devices c.link_before maps o → DoesScans Advances n o (gateway_of site maps (vm.opened a)) events c.link_behind t c.out_before c.out_behind c.status
-      → DoesRun site a maps text n c t
+      → IsTextOf text p → FindsAll site.devices c.link_before maps o → DoesScans (TakesEvent most_deferred) n o (gateway_of site maps (vm.opened a)) events c.link_behind t c.out_before c.out_behind c.status
+      → DoesRun (gateway_of site maps (vm.opened a)) text n c t
   run_from_opening maps text n o events t c of found h =
       let start : IsOn (gateway_of site maps (vm.opened a)) = record { on_site = refl; on_program = refl; kept = opening_kept site p a right linked proper verdict matched } in
-      let all = whole_scans o (gateway_of site maps (vm.opened a)) h.reports h.before h.middle h.between start h.whole in
+      let all = whole_scans o (gateway_of site maps (vm.opened a)) h.reports h.before h.middle h.between start refl h.whole in
       record {
         program = p;
         of_program = of;
         found_by = o;
         found = found;
-        reports = h.reports;
-        behind = h.middle;
-        last = h.between;
-        scans = all.0;
-        told = ends_told n h.reports h.behind h.middle h.between t c all.1 h.end;
+        scans = all.scans;
+        last = moment h.middle h.between;
+        done = all.done;
+        told = subst (λ (reports : List Report). Tells Stops (series_of n reports h.middle h.between c.link_behind t c.out_before c.out_behind c.status)) (sym all.reported)
+            (tells n h.reports h.behind h.middle h.between c.link_behind t c.out_before c.out_behind c.status all.on all.held h.end);
       }

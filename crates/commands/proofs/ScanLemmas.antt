@@ -4,8 +4,9 @@ use Rattle.std.specs.Io.KnownBytes.{Appends}
 use Rattle.std.proofs.KnownBytes.{Appends-nil, Appends-trans}
 use Rattle.std.proofs.lemmas.List.{append-nil, length-append}
 use Rattle.modbus_frame.specs.declared.link.LinkFault.{LinkFault}
-use Rattle.gateway.specs.event_core.Control.{Advances, IsPlanned, steps_of}
+use Rattle.gateway.specs.event_core.Control.{IsPlanned, steps_of}
 use Rattle.gateway.specs.event_core.Core.{Gateway, IsSame, RunsFrom}
+use Rattle.gateway.specs.event_core.Driving.{TakesEvent}
 use Rattle.gateway.specs.poller.Cycle.{RunsTo, Scans, StopsScan}
 use Rattle.gateway.specs.poller.Polling.{Polling}
 use Rattle.gateway.specs.event_core.SiteRun.{Standing}
@@ -14,9 +15,11 @@ use Rattle.gateway.specs.declared.event_core.event.Answer.{Answer}
 use Rattle.gateway.specs.declared.event_core.event.Event.{Event}
 use Rattle.gateway.specs.declared.event_core.event.Event.TheVariants as event
 use Rattle.gateway.proofs.Parts.{same_then, steps_same}
+use Rattle.commands.specs.Accepted.{most_deferred}
 use Rattle.commands.specs.Report.{no_memory_line, scan_line, scan_lines}
 use Rattle.commands.specs.Printed.{IsUnlinked, IsUnprinted}
 use Rattle.commands.specs.Scans.{AreScans, DoesScans, End, IsBroken, IsLast, IsPrinted, IsWhole, LeavesOff}
+use Rattle.commands.specs.Series.{Moment}
 use Rattle.commands.specs.Told.{IsCut, IsTold, refused_with}
 
 -- ---- what is told
@@ -36,14 +39,14 @@ lines_more k j (r ∷ rs) report e = ap (λ l. scan_line k r ++ l) (lines_more (
 -- ---- one scan more
 
 scans_more : (p : Polling) (s : Gateway) (reports : List Report) (events : List Event) (q : Polling) (t : Gateway) (u : Polling) (v : Gateway) (report : Report) (own : List Event)
-    → AreScans Advances p s reports events q t → IsWhole Advances q t u v report own → AreScans Advances p s (reports ++ report ∷ []) (events ++ own) u v
+    → AreScans (TakesEvent most_deferred) p s reports events q t → IsWhole (TakesEvent most_deferred) q t u v report own → AreScans (TakesEvent most_deferred) p s (reports ++ report ∷ []) (events ++ own) u v
 scans_more p s [] events q t u v report own (none, here, there) w = (
   u,
   v,
   own,
   [],
   ap (λ es. es ++ own) none ∙ sym (append-nil own),
-  subst (λ (x : Polling). IsWhole Advances x s u v report own) here (subst (λ (x : Gateway). IsWhole Advances q x u v report own) there w),
+  subst (λ (x : Polling). IsWhole (TakesEvent most_deferred) x s u v report own) here (subst (λ (x : Gateway). IsWhole (TakesEvent most_deferred) q x u v report own) there w),
   (refl, refl, refl),
 )
 scans_more p s (r ∷ rs) events q t u v report own (middle, between, first, more, split, one, rest) w =
@@ -54,7 +57,7 @@ pub record SoFar (k : ℕ) (p : Polling) (s : Gateway) (q : Polling) (t : Gatewa
   pub reports : List Report
   pub events : List Event
   pub all : length reports ≡ k
-  pub whole : AreScans Advances p s reports events q t
+  pub whole : AreScans (TakesEvent most_deferred) p s reports events q t
   pub printed : Appends old new (scan_lines 1 reports)
   pub unfailed : q.fault ≡ None
 
@@ -84,7 +87,7 @@ done_all n k p s q t old new h e = (
     middle = q;
     between = t;
     whole = h.whole;
-    end = inl (refl, record { all = h.all ∙ e; poller = refl; core = refl; printed = h.printed; well = refl });
+    end = inl (refl, record { all = h.all ∙ e; still = refl; printed = h.printed; well = refl });
   },
 )
 
@@ -108,8 +111,7 @@ done_before n k p s q t u v old middle new status h within (inl (report, own, wh
         last = report;
         split = refl;
         within = let e = length-append h.reports (report ∷ []) in omega (arith, e, within, h.all);
-        poller = refl;
-        core = refl;
+        still = refl;
         written = middle;
         printed = h.printed;
         told = subst (λ j. IsUnprinted j report middle new status) (sym (length-append h.reports (report ∷ []) ∙ ap (λ j. j + 1) h.all)) told;
@@ -140,18 +142,18 @@ done_before n k p s q t u v old middle new status h within (inr (fault, own, bro
 
 -- ---- one scan
 
-broken_by : (p : Polling) (s : Gateway) (fault : LinkFault) (q : Polling) (t : Gateway) → StopsScan Advances IsPlanned s.site s.maps p s fault q t → (events : List Event) × IsBroken Advances p s fault q t events
+broken_by : (p : Polling) (s : Gateway) (fault : LinkFault) (q : Polling) (t : Gateway) → StopsScan (TakesEvent most_deferred) IsPlanned s.site s.maps p s fault q t → (events : List Event) × IsBroken (TakesEvent most_deferred) p s fault q t events
 broken_by p s fault q t (inl stop) = ((stop.taken).events, inl (stop, refl))
 broken_by p s fault q t (inr stop) = ((stop.taken).events ++ event.Scan ∷ [], inr (stop, refl))
 
 -- a whole scan whose line was to be printed
 pub printed_by : (k : ℕ) (p : Polling) (s : Gateway) (q : Polling) (t : Gateway) (report : Report) (old new : Option (List ℕ)) (lines : List ℕ) (status : ℕ)
-    → Scans Advances IsPlanned steps_of s.site s.maps p s q t report → lines ≡ scan_line k report → IsTold old new (record { lines = lines; status = 0 }) status
+    → Scans (TakesEvent most_deferred) IsPlanned steps_of s.site s.maps p s q t report → lines ≡ scan_line k report → IsTold old new (record { lines = lines; status = 0 }) status
     → status ≡ 0 → IsPrinted k p s q t old new
 printed_by k p s q t report old new lines status scan e told well = (report, (scan.taken).events ++ event.Scan ∷ [], (scan, refl), subst (Appends old new) e (told_well old new lines status told well))
 
 pub unprinted_by : (k : ℕ) (p : Polling) (s : Gateway) (q : Polling) (t : Gateway) (report : Report) (old new : Option (List ℕ)) (lines : List ℕ) (status : ℕ)
-    → Scans Advances IsPlanned steps_of s.site s.maps p s q t report → lines ≡ scan_line k report → IsTold old new (record { lines = lines; status = 0 }) status
+    → Scans (TakesEvent most_deferred) IsPlanned steps_of s.site s.maps p s q t report → lines ≡ scan_line k report → IsTold old new (record { lines = lines; status = 0 }) status
     → status ≢ 0 → IsLast k p s q t old new status
 unprinted_by k p s q t report old new lines status scan e told bad =
     let cut = told_badly old new lines status told bad in
@@ -159,7 +161,7 @@ unprinted_by k p s q t report old new lines status scan e told bad =
 
 -- a whole scan for whose line there was no memory
 pub unsaid_by : (k : ℕ) (p : Polling) (s : Gateway) (q : Polling) (t : Gateway) (report : Report) (old new : Option (List ℕ)) (status : ℕ)
-    → Scans Advances IsPlanned steps_of s.site s.maps p s q t report → IsTold old new (refused_with no_memory_line) status → IsLast k p s q t old new status
+    → Scans (TakesEvent most_deferred) IsPlanned steps_of s.site s.maps p s q t report → IsTold old new (refused_with no_memory_line) status → IsLast k p s q t old new status
 unsaid_by k p s q t report old new status scan told = inl (report, (scan.taken).events ++ event.Scan ∷ [], (scan, refl), inr told)
 
 pub refused_never_well : {W : Type 0} (old new : Option (List ℕ)) (lines : List ℕ) (status : ℕ) → IsTold old new (refused_with lines) status → status ≡ 0 → W
@@ -171,8 +173,12 @@ unlinked_never_well fault old new status (inl (inl h)) e = absurd (let three = h
 unlinked_never_well fault old new status (inl (inr h)) e = absurd (let one = h.1 in omega (arith, one, e))
 unlinked_never_well fault old new status (inr h) e = refused_never_well old new _ status h e
 
+pub unprinted_never_well : {W : Type 0} (k : ℕ) (report : Report) (old new : Option (List ℕ)) (status : ℕ) → IsUnprinted k report old new status → status ≡ 0 → W
+unprinted_never_well k report old new status (inl h) e = absurd (let one = h.1 in omega (arith, one, e))
+unprinted_never_well k report old new status (inr h) e = refused_never_well old new _ status h e
+
 pub unlinked_by : (k : ℕ) (p : Polling) (s : Gateway) (fault : LinkFault) (q : Polling) (t : Gateway) (old new : Option (List ℕ)) (status : ℕ)
-    → StopsScan Advances IsPlanned s.site s.maps p s fault q t → IsUnlinked fault old new status → IsLast k p s q t old new status
+    → StopsScan (TakesEvent most_deferred) IsPlanned s.site s.maps p s fault q t → IsUnlinked fault old new status → IsLast k p s q t old new status
 unlinked_by k p s fault q t old new status stops told = let b = broken_by p s fault q t stops in inr (fault, b.0, b.1, told)
 
 -- ---- the site run
@@ -183,13 +189,13 @@ record Follows (g s : Gateway) (events : List Event) (t : Gateway) : Type 0 wher
   pub runs : RunsFrom g s.standing events answers t.standing
   pub same : IsSame g t
 
-runs_to : (g s : Gateway) → IsSame g s → (es : List Event) (t : Gateway) → RunsTo Advances s es t → Follows g s es t
+runs_to : (g s : Gateway) → IsSame g s → (es : List Event) (t : Gateway) → RunsTo (TakesEvent most_deferred) s es t → Follows g s es t
 runs_to g s same [] t run = record { answers = []; runs = (refl, ap (λ (x : Gateway). x.standing) (sym run)); same = subst (IsSame g) run same }
 runs_to g s same (e ∷ es) t run =
-    let k = runs_to g run.1 (same_then g s run.1 same run.2.1) es t run.3 in
+    let k = runs_to g run.1 (same_then g s run.1 same run.2.0.1) es t run.3 in
     record {
       answers = run.0 ∷ k.answers;
-      runs = (run.0, k.answers, (run.1).standing, steps_same g s e run.0 (run.1).standing same run.2.0, refl, k.runs);
+      runs = (run.0, k.answers, (run.1).standing, steps_same g s e run.0 (run.1).standing same run.2.0.0, refl, k.runs);
       same = k.same;
     }
 
@@ -208,44 +214,44 @@ follows_then g s t u es fs first second = record {
 }
 
 -- what came of the blocks, and then the scan
-follows_scan : (g s : Gateway) → IsSame g s → (es : List Event) (t u : Gateway) (a : Answer) → RunsTo Advances s es t → Advances t event.Scan a u → Follows g s (es ++ event.Scan ∷ []) u
+follows_scan : (g s : Gateway) → IsSame g s → (es : List Event) (t u : Gateway) (a : Answer) → RunsTo (TakesEvent most_deferred) s es t → (TakesEvent most_deferred) t event.Scan a u → Follows g s (es ++ event.Scan ∷ []) u
 follows_scan g s same es t u a run last =
     let first = runs_to g s same es t run in
     follows_then g s t u es (event.Scan ∷ []) first (record {
       answers = a ∷ [];
-      runs = (a, [], u.standing, steps_same g t event.Scan a u.standing first.same last.0, refl, (refl, refl));
-      same = same_then g t u first.same last.1;
+      runs = (a, [], u.standing, steps_same g t event.Scan a u.standing first.same last.0.0, refl, (refl, refl));
+      same = same_then g t u first.same last.0.1;
     })
 
 follows_as : (g s t : Gateway) (es fs : List Event) → es ≡ fs → Follows g s fs t → Follows g s es t
 follows_as g s t es fs e h = subst (λ (xs : List Event). Follows g s xs t) (sym e) h
 
-follows_whole : (g s : Gateway) → IsSame g s → (p q : Polling) (t : Gateway) (report : Report) (own : List Event) → IsWhole Advances p s q t report own → Follows g s own t
+follows_whole : (g s : Gateway) → IsSame g s → (p q : Polling) (t : Gateway) (report : Report) (own : List Event) → IsWhole (TakesEvent most_deferred) p s q t report own → Follows g s own t
 follows_whole g s same p q t report own (scan, e) = follows_as g s t own _ e (follows_scan g s same (scan.taken).events scan.before t scan.answer (scan.taken).runs scan.scan)
 
-follows_broken : (g s : Gateway) → IsSame g s → (p q : Polling) (t : Gateway) (fault : LinkFault) (own : List Event) → IsBroken Advances p s fault q t own → Follows g s own t
+follows_broken : (g s : Gateway) → IsSame g s → (p q : Polling) (t : Gateway) (fault : LinkFault) (own : List Event) → IsBroken (TakesEvent most_deferred) p s fault q t own → Follows g s own t
 follows_broken g s same p q t fault own (inl (stop, e)) = follows_as g s t own _ e (runs_to g s same (stop.taken).events t (stop.taken).runs)
 follows_broken g s same p q t fault own (inr (stop, e)) = follows_as g s t own _ e (follows_scan g s same (stop.taken).events stop.before t stop.answer (stop.taken).runs stop.scan)
 
 follows_still : (g s t : Gateway) → IsSame g s → t ≡ s → (events : List Event) → events ≡ [] → Follows g s events t
 follows_still g s t same e events none = follows_as g s t events [] none (subst (λ (x : Gateway). Follows g s [] x) (sym e) (record { answers = []; runs = (refl, refl); same = same }))
 
-follows_scans : (g s : Gateway) → IsSame g s → (p : Polling) (reports : List Report) (events : List Event) (q : Polling) (t : Gateway) → AreScans Advances p s reports events q t → Follows g s events t
+follows_scans : (g s : Gateway) → IsSame g s → (p : Polling) (reports : List Report) (events : List Event) (q : Polling) (t : Gateway) → AreScans (TakesEvent most_deferred) p s reports events q t → Follows g s events t
 follows_scans g s same p [] events q t (none, here, there) = follows_still g s t same there events none
 follows_scans g s same p (r ∷ rs) events q t (middle, between, own, more, split, one, rest) =
     let first = follows_whole g s same p middle between r own one in
     follows_as g s t events (own ++ more) split (follows_then g s between t own more first (follows_scans g between first.same middle rs more q t rest))
 
 follows_end : (g s : Gateway) → IsSame g s → (n : ℕ) (reports : List Report) (events : List Event) (p q : Polling) (t : Gateway) (old new : Option (List ℕ)) (status : ℕ)
-    → End Advances n reports events p s q t old new status → Follows g s events t
-follows_end g s same n reports events p q t old new status (inl (none, h)) = follows_still g s t same h.core events none
-follows_end g s same n reports events p q t old new status (inr (inl (none, h))) = follows_still g s t same h.core events none
+    → End (TakesEvent most_deferred) n reports events p s q t old new status → Follows g s events t
+follows_end g s same n reports events p q t old new status (inl (none, h)) = follows_still g s t same (ap (λ (m : Moment). m.core) h.still) events none
+follows_end g s same n reports events p q t old new status (inr (inl (none, h))) = follows_still g s t same (ap (λ (m : Moment). m.core) h.still) events none
 follows_end g s same n reports events p q t old new status (inr (inr h)) = follows_broken g s same p q t h.fault events h.broken
 
 pub same_self : (g : Gateway) → IsSame g g
 same_self g = record { site = refl; maps = refl; accepted = refl }
 
-pub follows_all : (n : ℕ) (p : Polling) (s : Gateway) (events : List Event) (q : Polling) (t : Gateway) (old new : Option (List ℕ)) (status : ℕ) → DoesScans Advances n p s events q t old new status
+pub follows_all : (n : ℕ) (p : Polling) (s : Gateway) (events : List Event) (q : Polling) (t : Gateway) (old new : Option (List ℕ)) (status : ℕ) → DoesScans (TakesEvent most_deferred) n p s events q t old new status
     → ((answers : List Answer) × RunsFrom s s.standing events answers t.standing) × IsSame s t
 follows_all n p s events q t old new status h =
     let first = follows_scans s s (same_self s) p h.reports h.before h.middle h.between h.whole in

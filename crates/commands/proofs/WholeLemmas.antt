@@ -7,9 +7,9 @@ use Rattle.il_reader.proofs.Bytes.{reading_is_exact}
 use Rattle.il_assemble.specs.Correct.{DoesWhatItMeans}
 use Rattle.verifier.specs.Links.{links_from}
 use Rattle.verifier.specs.Verdict.{judged}
-use Rattle.gateway.specs.event_core.Control.{Advances}
 use Rattle.register_map.specs.Layout.{Layout}
 use Rattle.gateway.specs.event_core.Core.{Gateway, IsSame, gateway_of}
+use Rattle.gateway.specs.event_core.Driving.{TakesEvent}
 use Rattle.gateway.specs.poller.Polling.{Polling}
 use Rattle.il_assemble.specs.Meaning.{Program}
 use Rattle.site_model.specs.declared.site.Site.{Site}
@@ -17,8 +17,8 @@ use Rattle.verifier.specs.Verified.{Acceptance}
 use Rattle.gateway.specs.declared.event_core.event.Event.{Event}
 use Rattle.commands.specs.Headline.{AreTextsOf, DoesRun, IsAccepted, RunsProgram}
 use Rattle.commands.specs.Opening.{OpensCore, StartsCore}
-use Rattle.commands.specs.Printed.{Course}
 use Rattle.commands.specs.Scans.{DoesScans, LeavesOff}
+use Rattle.commands.specs.Series.{Course}
 use Rattle.commands.specs.Accepted.{Accepts, most_deferred}
 use Rattle.commands.proofs.RunLemmas.{run_from_opening}
 use Rattle.commands.proofs.ScanLemmas.{follows_all}
@@ -52,10 +52,10 @@ pub record HasRun (site program : List ℕ) (texts : List (List ℕ)) (n : ℕ) 
   pub run : RunsProgram program n (course_of p q old new status) core
 
 has_run_opened : (site program : List ℕ) (texts : List (List ℕ)) (n : ℕ) (p middle q : Polling) (old new : Option (List ℕ)) (first core : Gateway) (status : ℕ) (s : Site) (tree : Program) (a : Acceptance)
-    → Accepts site program texts s tree a → OpensCore s a p middle (Ok first) → (events : List Event) → DoesScans Advances n middle first events q core old new status → HasRun site program texts n p q old new core status
+    → Accepts site program texts s tree a → OpensCore s a p middle (Ok first) → (events : List Event) → DoesScans (TakesEvent most_deferred) n middle first events q core old new status → HasRun site program texts n p q old new core status
 has_run_opened site program texts n p middle q old new first core status s tree a accepts (maps, works, found, linked, is) events does =
     let start = gateway_of s maps (opened a) in
-    let from_start = subst (λ (x : Gateway). DoesScans Advances n middle x events q core old new status) is does in
+    let from_start = subst (λ (x : Gateway). DoesScans (TakesEvent most_deferred) n middle x events q core old new status) is does in
     let same : IsSame start core = (follows_all n middle start events q core old new status from_start).1 in
     let of = texts_of site program texts s tree a accepts in
     let on = (accepts.accepted).accepted in
@@ -64,7 +64,7 @@ has_run_opened site program texts n p middle q old new first core status s tree 
     let verdict = subst (λ (i : Image). judged i s.tags most_deferred ≡ Ok a.budget) (sym on.kept) on.judged in
     record {
       accepted = over_core s a maps core (λ x b ms. IsAccepted site program texts x b) same (record { program = tree; texts_of = of; safe = on.safe });
-      run = over_core s a maps core (λ x b ms. DoesRun x b ms program n (course_of p q old new status) core) same
+      run = over_core s a maps core (λ x b ms. DoesRun (gateway_of x ms (opened b)) program n (course_of p q old new status) core) same
           (run_from_opening s tree a right of.linked proper verdict linked maps program n middle events core (course_of p q old new status) of.of_program found from_start);
     }
 

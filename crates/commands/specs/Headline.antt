@@ -2,15 +2,16 @@
 -- operand of the wrong type, an overflow, a zero divisor, a missing point or a jump out of its code; each scan ends within the
 -- printed number of instructions, computes what Instruction List means, and writes only writable points, with values in their
 -- stated ranges.
--- Accepted: `IsAccepted`. Safe, within the number: `IsSafe`. Means: `IsMeant`. Writes: field `writes` of `DoesScan`. Told: field `told` of `DoesRun`.
+-- Accepted: `IsAccepted`. Safe, within the number: `IsSafe`. Means: `IsMeant`. Writes: `Writes`. Told: `Tells`.
 -- IEC 61131-3 edition 2, 3.2 (instruction list; one scan after another); MODBUS Messaging on TCP/IP Implementation Guide, section 4.2.
-use Rattle.std.specs.Prelude.{◌≡◌, ◌⊎◌, ℕ, ◌≤◌, ℤ, List, [], ◌∷◌, length, map, Option, Ok}
+use Rattle.std.specs.Prelude.{◌≡◌, ◌≢◌, ℕ, ◌≤◌, ℤ, List, length, map, count_by, Option, Result, Ok}
 use Rattle.point_types.specs.declared.reading.Reading.{Reading}
 use Rattle.modbus_frame.specs.declared.link.LinkFault.{LinkFault}
-use Rattle.register_map.specs.Layout.{Layout}
 use Rattle.site_model.specs.Readings.{AreReadings, AreSettings}
 use Rattle.site_model.specs.declared.site.Site.{Site}
-use Rattle.scan_code.specs.Machine.{State, Ended, opening, run}
+use Rattle.point_writer.specs.declared.write.Write.{Write}
+use Rattle.point_writer.specs.declared.write.NoWrite.{NoWrite}
+use Rattle.scan_code.specs.Machine.{Ending, State, Ended, Unfinished, opening, run}
 use Rattle.scan_vm.specs.Machine as vm
 use Rattle.il_assemble.specs.Code.{image_of}
 use Rattle.il_assemble.specs.Correct.{AreVariables}
@@ -18,15 +19,18 @@ use Rattle.il_assemble.specs.Meaning.{Program, Done, meaning}
 use Rattle.verifier.specs.Links.{links_from}
 use Rattle.verifier.specs.Safe.{NeverGoesWrong}
 use Rattle.verifier.specs.Verified.{Acceptance}
-use Rattle.gateway.specs.event_core.Control.{Advances, IsPlanned}
-use Rattle.gateway.specs.event_core.Core.{Gateway, IsSame, gateway_of, numbers_of}
-use Rattle.gateway.specs.event_core.SiteRun.{Standing, none_of, reading_at, scanned, stored_at}
-use Rattle.gateway.specs.poller.Cycle.{StopsTaking, StopsWriting, TakesBlocks, WritesFirst}
+use Rattle.gateway.specs.event_core.Control.{IsDue, Notes, after_scan}
+use Rattle.gateway.specs.event_core.Core.{Gateway, gateway_of, numbers_of}
+use Rattle.gateway.specs.event_core.SiteRun.{none_of, reading_at, stored_at}
+use Rattle.gateway.specs.poller.Cycle.{ArePlans, TakesBlocks, WritesPoints, is_refused}
 use Rattle.gateway.specs.poller.Finding.{FindsAll}
-use Rattle.gateway.specs.poller.Polling.{Polling}
-use Rattle.gateway.specs.declared.poller.cycle.Report.{Report}
-use Rattle.commands.specs.Printed.{Course, EndsTold}
+use Rattle.gateway.specs.poller.LinkRun.{Exchange}
+use Rattle.gateway.specs.poller.Polling.{Polling, Talks}
+use Rattle.commands.specs.Accepted.{most_deferred}
+use Rattle.commands.specs.Printed.{AreAllDone, EndsEarly}
+use Rattle.commands.specs.Series.{AreInOrder, Course, Moment, Scan, Series}
 use Rattle.commands.specs.Sources.{IsSiteOf, IsTextOf}
+use Rattle.commands.specs.Stopped.{StopsScan}
 
 -- the texts are a site's and a program's, whose code it is, and each of its tags is the site's of that name
 pub record AreTextsOf (site_text program_text : List ℕ) (texts : List (List ℕ)) (site : Site) (p : Program) (a : Acceptance) : Type 0 where
@@ -49,61 +53,67 @@ inputs_of a readings = map (reading_at readings) (numbers_of a)
 abbrev pub stored_of : Site → Acceptance → State → List (Option ℤ)
 stored_of site a end = stored_at (numbers_of a) end.outputs (none_of site.tags)
 
--- no trap, at most the budget's instructions; the variables lie in their declared ranges, and what was stored in the site's
-pub record IsSafe (site : Site) (a : Acceptance) (readings : List Reading) (held : List ℤ) (steps : ℕ) (end : State) : Type 0 where
-  pub ended : run a.image (inputs_of a readings) 0 a.budget (opening a.image held) ≡ Ended steps end
-  pub bounded : steps ≤ a.budget
-  pub variables : AreVariables a.image.vars end.variables
-  pub outputs : AreSettings site.tags (stored_of site a end)
+-- the machine after at most so many instructions of the scan
+abbrev pub run_of : Acceptance → Scan → ℕ → Ending
+run_of a scan n = run a.image (inputs_of a scan.readings) 0 n (opening a.image ((scan.taken).core).standing.variables)
+
+-- no trap, at most the budget's instructions, never more values deferred than fit; all numbers in their declared ranges
+pub record IsSafe (site : Site) (a : Acceptance) (scan : Scan) : Type 0 where
+  pub ended : run_of a scan a.budget ≡ Ended (scan.report).steps scan.end
+  pub bounded : (scan.report).steps ≤ a.budget
+  pub shallow : (n : ℕ) (s : State) → run_of a scan n ≡ Unfinished s → length s.deferred ≤ most_deferred
+  pub variables : AreVariables a.image.vars (scan.end).variables
+  pub outputs : AreSettings site.tags (stored_of site a scan.end)
 
 -- on a reading of each tag by what is known and set, the variables and outputs are those that the program means
-pub record IsMeant (site : Site) (a : Acceptance) (p : Program) (before : Standing) (readings : List Reading) (end : State) : Type 0 where
-  pub each : length readings ≡ length site.tags
-  pub read : AreReadings site.tags site.wants before.blocks before.sets readings
-  pub computed : meaning p (inputs_of a readings) before.variables ≡ Done end.variables end.outputs
+pub record IsMeant (site : Site) (a : Acceptance) (p : Program) (scan : Scan) : Type 0 where
+  pub each : length scan.readings ≡ length site.tags
+  pub read : AreReadings site.tags site.wants ((scan.taken).core).standing.blocks ((scan.taken).core).standing.sets scan.readings
+  pub computed : meaning p (inputs_of a scan.readings) ((scan.taken).core).standing.variables ≡ Done (scan.end).variables (scan.end).outputs
 
--- one scan over the link: the core takes what comes of the wanted blocks, and the program runs once; then this is written
-pub record DoesScan (site : Site) (a : Acceptance) (p : Program) (Sends : Polling → Gateway → Type 0) (o : Polling) (s t : Gateway) (lost steps : ℕ) : Type 0 where
-  pub asked : Polling
-  pub before : Gateway
-  pub taken : TakesBlocks Advances site s.maps site.wants o s asked before lost
-  pub readings : List Reading
-  pub end : State
-  pub safe : IsSafe site a readings before.standing.variables steps end
-  pub means : IsMeant site a p before.standing readings end
-  pub leaves : t.standing ≡ scanned site (numbers_of a) before.standing readings steps end
-  pub same : IsSame before t
-  pub writes : Sends asked t
+-- for the site's first n outputs, in order, its tag's set point goes out where it has one, and nothing else does
+pub record Writes (site : Site) (n : ℕ) (scan : Scan) : Type 0 where
+  pub plans : List (Result Write NoWrite)
+  pub each : length plans ≡ n
+  pub set_points : ArePlans IsDue (scan.behind).core 0 plans
+  pub calls : List Exchange
+  pub in_order : WritesPoints site.devices plans calls
+  pub went : Talks (scan.taken).link calls (scan.behind).link
+  pub sent : (scan.report).writes ≡ length calls
+  pub refused : (scan.report).refused ≡ count_by is_refused calls
 
--- all that is planned for the outputs goes out: set points for what was stored; and the report tells of just this scan
-abbrev pub IsWholeScan : Site → Acceptance → Program → Polling → Gateway → Polling → Gateway → Report → Type 0
-IsWholeScan site a p o s q t report =
-    DoesScan site a p (λ asked core. WritesFirst IsPlanned site (length site.outs) core asked q report.writes report.refused) o s t report.lost report.steps
+-- what comes of the wanted blocks is taken, the program runs once and the core is left at that, and then its first n outputs go out
+pub record DoesScan (site : Site) (a : Acceptance) (p : Program) (n : ℕ) (scan : Scan) : Type 0 where
+  pub takes : TakesBlocks Notes site ((scan.before).core).maps site.wants (scan.before).link (scan.before).core (scan.taken).link (scan.taken).core (scan.report).lost
+  pub safe : IsSafe site a scan
+  pub means : IsMeant site a p scan
+  pub leaves : (scan.behind).core ≡ after_scan (scan.taken).core scan.readings (scan.report).steps scan.end
+  pub writes : Writes site n scan
 
--- scans, one after another
-abbrev pub AreWholeScans : Site → Acceptance → Program → Polling → Gateway → List Report → Polling → Gateway → Type 0
-AreWholeScans site a p o s [] q t = (q ≡ o) × (t ≡ s)
-AreWholeScans site a p o s (report ∷ reports) q t =
-    (middle : Polling) × (between : Gateway) × IsWholeScan site a p o s middle between report × AreWholeScans site a p middle between reports q t
+-- with status 0 all scans were done, each with its line; else the run ended early: a line was lost, or the link failed
+pub record Tells (Fails : Moment → LinkFault → Moment → Type 0) (series : Series) : Type 0 where
+  pub well : series.status ≡ 0 → AreAllDone series
+  pub badly : series.status ≢ 0 → EndsEarly Fails series
 
--- the link failed at a read; or at a write behind a scan
-abbrev pub IsFailedScan : Site → Acceptance → Program → Polling → Gateway → LinkFault → Polling → Gateway → Type 0
-IsFailedScan site a p o s fault q t =
-    StopsTaking Advances site s.maps o s fault q t
-    ⊎ ((lost : ℕ) × (steps : ℕ) × DoesScan site a p (λ asked core. StopsWriting IsPlanned site core asked fault q) o s t lost steps)
-
--- from the opening of the site and the program on, over the maps that were found, at most n scans are done, one after another
-pub record DoesRun (site : Site) (a : Acceptance) (maps : List (Option Layout)) (program_text : List ℕ) (n : ℕ) (course : Course) (core : Gateway) : Type 0 where
+-- from this start on, with the maps that were found, at most n scans are done, one after another
+pub record DoesRun (start : Gateway) (program_text : List ℕ) (n : ℕ) (course : Course) (core : Gateway) : Type 0 where
   pub program : Program
   pub of_program : IsTextOf program_text program
   pub found_by : Polling
-  pub found : FindsAll site.devices course.link_before maps found_by
-  pub reports : List Report
-  pub behind : Polling
-  pub last : Gateway
-  pub scans : AreWholeScans site a program found_by (gateway_of site maps (vm.opened a)) reports behind last
-  pub told : EndsTold (IsFailedScan site a program) n reports behind last core course
+  pub found : FindsAll (start.site).devices course.link_before start.maps found_by
+  pub scans : List Scan
+  pub last : Moment
+  pub done : AreInOrder (DoesScan start.site (start.machine).accepted program (length (start.site).outs)) (record { link = found_by; core = start }) scans last
+  pub told : Tells (StopsScan (DoesScan start.site (start.machine).accepted program) start.site) (record {
+    most = n;
+    reports = map (λ (scan : Scan). scan.report) scans;
+    last = last;
+    left = record { link = course.link_behind; core = core };
+    out_before = course.out_before;
+    out_behind = course.out_behind;
+    status = course.status;
+  })
 
 -- of the core's own site, program and maps
 abbrev pub RunsProgram : List ℕ → ℕ → Course → Gateway → Type 0
-RunsProgram program_text n course core = DoesRun core.site core.machine.accepted core.maps program_text n course core
+RunsProgram program_text n course core = DoesRun (gateway_of core.site core.maps (vm.opened core.machine.accepted)) program_text n course core

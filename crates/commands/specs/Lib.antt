@@ -13,7 +13,9 @@ pub mod Printed
 pub mod Probe
 pub mod Report
 pub mod Scans
+pub mod Series
 pub mod Simulate
 pub mod Sources
+pub mod Stopped
 pub mod Told
 pub mod Worked

@@ -5,11 +5,13 @@ use Rattle.site_model.specs.declared.site.Site.{Site}
 use Rattle.il_assemble.specs.Meaning.{Program, Done, meaning}
 use Rattle.verifier.specs.Verified.{Acceptance}
 use Rattle.gateway.specs.event_core.Core.{Gateway, IsSame, numbers_of}
+use Rattle.gateway.specs.event_core.Driving.{Drives}
 use Rattle.gateway.specs.event_core.SiteRun.{IsScan, Standing, Steps, reading_at}
 use Rattle.gateway.specs.declared.event_core.event.Answer.{Answer}
 use Rattle.gateway.specs.declared.event_core.event.Answer.TheVariants as answer
 use Rattle.gateway.specs.declared.event_core.event.Event.{Event}
 use Rattle.gateway.specs.declared.event_core.event.Event.TheVariants as event
+use Rattle.commands.specs.Accepted.{most_deferred}
 
 -- On what is known and set the scan ends without a trap and within the budget, and leaves the variables and the outputs
 -- that the program means on this scan's readings.
@@ -24,9 +26,9 @@ StepsAsMeant p site a s (event.Block want words) r t = Steps site a.image (numbe
 StepsAsMeant p site a s (event.Lost want) r t = Steps site a.image (numbers_of a) a.budget s (event.Lost want) r t
 StepsAsMeant p site a s (event.Client pdu) r t = Steps site a.image (numbers_of a) a.budget s (event.Client pdu) r t
 
--- one event at a core: the site run's step, a scan as the program means it, and nothing else changes
+-- one event at a core: the site run's step, a scan as the program means it, what it does to the machine, and nothing else changes
 abbrev pub AdvancesAsMeant : Program → Gateway → Event → Answer → Gateway → Type 0
-AdvancesAsMeant p old e r new = StepsAsMeant p old.site old.machine.accepted old.standing e r new.standing × IsSame old new
+AdvancesAsMeant p old e r new = StepsAsMeant p old.site old.machine.accepted old.standing e r new.standing × IsSame old new × Drives most_deferred old e new
 
 -- events, one after another, with their answers in order
 abbrev pub RunsAsMeant : Program → Site → Acceptance → Standing → List Event → List Answer → Standing → Type 0

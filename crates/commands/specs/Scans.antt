@@ -9,8 +9,9 @@ use Rattle.il_assemble.specs.Meaning.{Program}
 use Rattle.scan_code.specs.Table.{start_of}
 use Rattle.scan_vm.specs.Machine.{opened}
 use Rattle.verifier.specs.Verified.{Acceptance, IsVerified}
-use Rattle.gateway.specs.event_core.Control.{Advances, IsPlanned, steps_of}
+use Rattle.gateway.specs.event_core.Control.{IsPlanned, steps_of}
 use Rattle.gateway.specs.event_core.Core.{Gateway, IsSame, gateway_of}
+use Rattle.gateway.specs.event_core.Driving.{TakesEvent}
 use Rattle.gateway.specs.poller.Cycle.{Scans, StopsBehind, StopsTaking}
 use Rattle.gateway.specs.poller.Finding.{FindsAll}
 use Rattle.gateway.specs.poller.Polling.{Polling}
@@ -24,6 +25,7 @@ use Rattle.commands.specs.Headline.{IsAccepted, RunsProgram}
 use Rattle.commands.specs.Meant.{AdvancesAsMeant, RunsAsMeant}
 use Rattle.commands.specs.Printed.{AreAllDone, IsLineLost, IsUnlinked, IsUnprinted}
 use Rattle.commands.specs.Report.{scan_line, scan_lines}
+use Rattle.commands.specs.Series.{Series}
 
 -- ---- scans, one after another
 
@@ -58,10 +60,22 @@ pub record IsLinkLost (Steps : Gateway → Event → Answer → Gateway → Type
   pub printed : Appends old written (scan_lines 1 reports)
   pub told : IsUnlinked fault written new status
 
+-- the series of scans with these reports, of which at most n were to be done
+abbrev pub series_of : ℕ → List Report → Polling → Gateway → Polling → Gateway → Option (List ℕ) → Option (List ℕ) → ℕ → Series
+series_of n reports p s q t old new status = record {
+  most = n;
+  reports = reports;
+  last = record { link = p; core = s };
+  left = record { link = q; core = t };
+  out_before = old;
+  out_behind = new;
+  status = status;
+}
+
 abbrev pub End : (Gateway → Event → Answer → Gateway → Type 0) → ℕ → List Report → List Event → Polling → Gateway → Polling → Gateway → Option (List ℕ) → Option (List ℕ) → ℕ → Type 0
 End Steps n reports events p s q t old new status =
-    ((events ≡ []) × AreAllDone n reports p s q t old new status)
-    ⊎ ((events ≡ []) × IsLineLost n reports p s q t old new status)
+    ((events ≡ []) × AreAllDone (series_of n reports p s q t old new status))
+    ⊎ ((events ≡ []) × IsLineLost (series_of n reports p s q t old new status))
     ⊎ IsLinkLost Steps n reports events p s q t old new status
 
 -- At most n scans, with all their events, what is printed of them, and the status.
@@ -76,19 +90,19 @@ pub record DoesScans (Steps : Gateway → Event → Answer → Gateway → Type 
   pub end : End Steps n reports behind middle between q t old new status
 
 abbrev pub LeavesOff : ℕ → Polling → Gateway → Polling → Gateway → Option (List ℕ) → Option (List ℕ) → ℕ → Type 0
-LeavesOff n p s q t old new status = (events : List Event) × DoesScans Advances n p s events q t old new status
+LeavesOff n p s q t old new status = (events : List Event) × DoesScans (TakesEvent most_deferred) n p s events q t old new status
 
 -- ---- one scan
 
 -- Its line is printed.
 abbrev pub IsPrinted : ℕ → Polling → Gateway → Polling → Gateway → Option (List ℕ) → Option (List ℕ) → Type 0
-IsPrinted k p s q t old new = (report : Report) × (events : List Event) × IsWhole Advances p s q t report events × Appends old new (scan_line k report)
+IsPrinted k p s q t old new = (report : Report) × (events : List Event) × IsWhole (TakesEvent most_deferred) p s q t report events × Appends old new (scan_line k report)
 
 -- Its line isn't printed, or the link failed: no scan comes behind it.
 abbrev pub IsLast : ℕ → Polling → Gateway → Polling → Gateway → Option (List ℕ) → Option (List ℕ) → ℕ → Type 0
 IsLast k p s q t old new status =
-    ((report : Report) × (events : List Event) × IsWhole Advances p s q t report events × IsUnprinted k report old new status)
-    ⊎ ((fault : LinkFault) × (events : List Event) × IsBroken Advances p s fault q t events × IsUnlinked fault old new status)
+    ((report : Report) × (events : List Event) × IsWhole (TakesEvent most_deferred) p s q t report events × IsUnprinted k report old new status)
+    ⊎ ((fault : LinkFault) × (events : List Event) × IsBroken (TakesEvent most_deferred) p s fault q t events × IsUnlinked fault old new status)
 
 -- ---- the whole
 

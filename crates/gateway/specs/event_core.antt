@@ -2,6 +2,6 @@
 pub mod SiteRun
 pub mod Restoring
 pub mod Core
-pub mod Driving
 pub mod Control
+pub mod Driving
 pub mod Fault

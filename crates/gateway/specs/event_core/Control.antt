@@ -1,22 +1,40 @@
 -- What a scan over a link makes of a core, and what it answers to the frames of clients.
 -- IEC 61131-3 edition 2, 3.2 (one scan after another); Modbus Application Protocol V1.1b3, section 7.
-use Rattle.std.specs.Prelude.{◌≡◌, ℕ, Bool, true, List, Result}
+use Rattle.std.specs.Prelude.{◌≡◌, ◌≤ℤ◌, ℕ, ℤ, Bool, true, List, slice_get, Some, None, Result, Ok, Err}
+use Rattle.point_types.specs.declared.reading.Reading.{Reading}
 use Rattle.modbus_frame.specs.declared.frame.Frame.{Frame}
 use Rattle.modbus_frame.specs.Frame.{frame_bytes}
 use Rattle.modbus_frame.specs.Served.{reply_to, unknown_unit_pdu}
-use Rattle.site_model.specs.Readings.{AreSettings}
+use Rattle.scan_code.specs.Machine.{State}
+use Rattle.site_model.specs.declared.tag.SiteTag.{SiteTag}
+use Rattle.site_model.specs.Readings.{AreSettings, known_at}
 use Rattle.point_writer.specs.declared.write.Write.{Write}
 use Rattle.point_writer.specs.declared.write.NoWrite.{NoWrite}
-use Rattle.point_writer.specs.SetPoint.{IsPlanFor, WritesASetPoint}
+use Rattle.point_writer.specs.SetPoint.{IsPlanFor, IsSetPoint, WritesASetPoint}
 use Rattle.gateway.specs.declared.event_core.event.Event.{Event}
 use Rattle.gateway.specs.declared.event_core.event.Event.TheVariants as event
 use Rattle.gateway.specs.declared.event_core.event.Answer.{Answer}
 use Rattle.gateway.specs.declared.event_core.event.Answer.TheVariants as answer
-use Rattle.gateway.specs.event_core.Core.{Gateway, IsSame, StepsOn}
+use Rattle.gateway.specs.event_core.Core.{Gateway, IsSame, StepsOn, numbers_of}
+use Rattle.gateway.specs.event_core.SiteRun.{after_block, scanned, told}
 
 -- one event of the site run, and nothing else changes
 abbrev pub Advances : Gateway → Event → Answer → Gateway → Type 0
 Advances old e a new = StepsOn old e a new × IsSame old new
+
+-- A block that came or was lost: what is known of it is that from now on, and nothing else changes.
+abbrev pub Notes : Gateway → Event → Answer → Gateway → Type 0
+Notes old (event.Block want words) a new = new ≡ record old { standing = after_block old.site want (told want.model words) old.standing }
+Notes old (event.Lost want) a new = new ≡ record old { standing = after_block old.site want None old.standing }
+Notes old event.Scan a new = ⊥
+Notes old (event.Client pdu) a new = ⊥
+
+-- behind a scan that ended so: the machine has the new variables and outputs, and nothing else changes
+abbrev pub after_scan : Gateway → List Reading → (steps : ℕ) → State → Gateway
+after_scan old readings steps end = record old {
+  machine = record { accepted = old.machine.accepted; variables = end.variables; outputs = end.outputs };
+  standing = scanned old.site (numbers_of old.machine.accepted) old.standing readings steps end;
+}
 
 -- What is to be written for the i-th output after the last scan, or why nothing is: a set point of its tag for the number
 -- that the program stored, and each stored number lies in the range of its tag.
@@ -24,6 +42,24 @@ pub record IsPlanned (g : Gateway) (i : ℕ) (r : Result Write NoWrite) : Type 0
   pub plan : IsPlanFor g.site.tags g.site.outs g.site.wants g.maps (g.standing.last).blocks (g.standing.last).outputs i r
   pub set_point : WritesASetPoint g.site.tags g.site.outs g.site.wants g.maps (g.standing.last).blocks (g.standing.last).outputs i r
   pub ranged : AreSettings g.site.tags (g.standing.last).outputs
+
+-- What is written for the i-th output sets the site's tag of that output, by the blocks that were known at the scan, to the
+-- number that the program stored, which lies in the tag's range.
+pub record SetsItsTag (g : Gateway) (i : ℕ) (w : Write) : Type 0 where
+  pub number : ℕ
+  pub output : slice_get g.site.outs i ≡ Some number
+  pub tag : SiteTag
+  pub named : slice_get g.site.tags number ≡ Some tag
+  pub value : ℤ
+  pub stored : known_at (g.standing.last).outputs number ≡ Some value
+  pub sets : IsSetPoint g.maps g.site.wants (g.standing.last).blocks tag value w
+  pub low : tag.low ≤ℤ value
+  pub high : value ≤ℤ tag.high
+
+-- What is due for the i-th output: its tag's set point; or nothing, for this cause.
+abbrev pub IsDue : Gateway → ℕ → Result Write NoWrite → Type 0
+IsDue g i (Ok w) = SetsItsTag g i w
+IsDue g i (Err cause) = IsPlanFor g.site.tags g.site.outs g.site.wants g.maps (g.standing.last).blocks (g.standing.last).outputs i (Err cause)
 
 abbrev pub steps_of : Gateway → ℕ
 steps_of g = (g.standing.last).steps

@@ -1,9 +1,11 @@
--- What one event does to the machine that runs the program.
+-- What one event does to a core, the machine that runs the program included.
 -- IEC 61131-3 edition 2, 3.2 (one scan after another).
 use Rattle.std.specs.Prelude.{◌≡◌, ℕ, map}
 use Rattle.scan_vm.specs.Machine.{Scans}
+use Rattle.gateway.specs.event_core.Control.{Advances}
 use Rattle.gateway.specs.event_core.Core.{Gateway, numbers_of}
 use Rattle.gateway.specs.event_core.SiteRun.{reading_at}
+use Rattle.gateway.specs.declared.event_core.event.Answer.{Answer}
 use Rattle.gateway.specs.declared.event_core.event.Event.{Event}
 use Rattle.gateway.specs.declared.event_core.event.Event.TheVariants as event
 
@@ -18,3 +20,7 @@ Drives depth old event.Scan new = ScansOnce depth old new
 Drives depth old (event.Block want words) new = new.machine ≡ old.machine
 Drives depth old (event.Lost want) new = new.machine ≡ old.machine
 Drives depth old (event.Client pdu) new = new.machine ≡ old.machine
+
+-- one event of the site run, what it does to the machine, and nothing else changes
+abbrev pub TakesEvent : ℕ → Gateway → Event → Answer → Gateway → Type 0
+TakesEvent depth old e a new = Advances old e a new × Drives depth old e new

@@ -1,8 +1,9 @@
 //! One scan of a core over a link.
 ghost use Rattle.std.specs.Prelude.{◌≡◌, None, Err, IfSome, IfOk, IfErr};
 ghost use Rattle.modbus_frame.specs.Link.{CountsCalls};
-ghost use Rattle.gateway.specs.event_core.Control.{Advances, IsPlanned, steps_of};
+ghost use Rattle.gateway.specs.event_core.Control.{IsPlanned, steps_of};
 ghost use Rattle.gateway.specs.event_core.Core.{IsSame};
+ghost use Rattle.gateway.specs.event_core.Driving.{TakesEvent};
 ghost use Rattle.gateway.specs.poller.Cycle.{Scans, StopsScan};
 
 use crate::event_core::{Answer, Core, Event};
@@ -14,13 +15,14 @@ use register_map::Map;
 use site_model::Site;
 
 impl<const DEPTH: usize> ScanCore for Core<DEPTH> {
-    ghost use Rattle.gateway.specs.event_core.Control.{Advances, IsPlanned, steps_of};
+    ghost use Rattle.gateway.specs.event_core.Control.{IsPlanned, steps_of};
+    ghost use Rattle.gateway.specs.event_core.Driving.{TakesEvent};
 
     ghost site_of = { λ core. core.site };
 
     ghost maps_of = { λ core. core.maps };
 
-    ghost step_of = { Advances };
+    ghost step_of = { TakesEvent DEPTH };
 
     ghost plan_of = { IsPlanned };
 
@@ -57,10 +59,11 @@ pub fn run_scan<const DEPTH: usize, L: Link>(
     core: &mut Core<DEPTH>,
     poller: &mut Poller<L>,
 ) -> Result<Report, LinkFault>
-    // The requests are the reads of the wanted blocks, then the writes; the core took their events and the scan.
-    ensures scanned { poller.old.fault ≡ None → IfOk result (λ report. Scans Advances IsPlanned steps_of core.old.site core.old.maps
+    // The requests are the reads of the wanted blocks, then the writes; the core took their events and the scan, by which
+    // the machine ran once.
+    ensures scanned { poller.old.fault ≡ None → IfOk result (λ report. Scans (TakesEvent DEPTH) IsPlanned steps_of core.old.site core.old.maps
         poller.old core.old poller.new core.new report) }
-    ensures stopped { poller.old.fault ≡ None → IfErr result (λ fault. StopsScan Advances IsPlanned core.old.site core.old.maps
+    ensures stopped { poller.old.fault ≡ None → IfErr result (λ fault. StopsScan (TakesEvent DEPTH) IsPlanned core.old.site core.old.maps
         poller.old core.old fault poller.new core.new) }
     ensures calls { poller.old.fault ≡ None → CountsCalls poller.old.calls poller.new.calls result }
 

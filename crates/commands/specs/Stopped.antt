@@ -1,0 +1,29 @@
+-- How the link fails at a scan.
+-- Modbus Application Protocol V1.1b3, sections 6.3, 6.6 and 6.12 (the requests of a scan).
+use Rattle.std.specs.Prelude.{◌≡◌, ◌⊎◌, ℕ, ◌<◌, length, Result}
+use Rattle.modbus_frame.specs.declared.link.LinkFault.{LinkFault}
+use Rattle.site_model.specs.declared.site.Site.{Site}
+use Rattle.point_writer.specs.declared.write.Write.{Write}
+use Rattle.point_writer.specs.declared.write.NoWrite.{NoWrite}
+use Rattle.gateway.specs.event_core.Control.{IsDue, Notes}
+use Rattle.gateway.specs.poller.Cycle.{StopsAt, StopsTaking, write_of}
+use Rattle.commands.specs.Series.{Moment, Scan}
+
+-- `Does` says what a scan does up to the writes for its first n outputs.
+module _ (Does : ℕ → Scan → Type 0) where
+  -- The scan was done, and the link failed at the write for an output; those before it went out.
+  pub record StopsWriting (site : Site) (first : Moment) (fault : LinkFault) (last : Moment) : Type 0 where
+    pub n : ℕ
+    pub within : n < length site.outs
+    pub scan : Scan
+    pub before : scan.before ≡ first
+    pub does : Does n scan
+    pub plan : Result Write NoWrite
+    pub due : IsDue (scan.behind).core n plan
+    pub stops : StopsAt (write_of site.devices plan) (scan.behind).link fault last.link
+    pub core : last.core ≡ (scan.behind).core
+
+  -- at a read, or at a write
+  abbrev pub StopsScan : Site → Moment → LinkFault → Moment → Type 0
+  StopsScan site first fault last =
+      StopsTaking Notes site (first.core).maps first.link first.core fault last.link last.core ⊎ StopsWriting site first fault last
