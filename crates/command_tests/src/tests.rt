@@ -6,6 +6,7 @@ mod explained_inputs;
 mod explained_limits;
 mod explained_mistakes;
 mod explained_verdicts;
+mod explained_words;
 mod files;
 mod gateways;
 mod links;

@@ -1,4 +1,5 @@
 //! Why a program is refused, by what is known where it is.
+use crate::budget::budget_detail;
 use crate::code_lines::{declared_line, instruction_line};
 use crate::refusing::instruction_text;
 use crate::words::{access_words, type_word};
@@ -33,10 +34,7 @@ pub fn detail_of(
             text: instruction_text(alloc, image, site, number, refusal.kind)?,
         }),
         RefusedAt::Tag(number) => tag_detail(alloc, program, image, site, number, refusal.kind),
-        RefusedAt::Program => Ok(Detail {
-            line: 0,
-            text: String::new(alloc),
-        }),
+        RefusedAt::Program => budget_detail(alloc, program, image, site, refusal.kind),
     }
 }
 
@@ -96,7 +94,7 @@ fn access_text(alloc: Global, tag: &Tag, other: &SiteTag) -> Result<String, Allo
 
 fn unknown_text(alloc: Global, tag: &Tag) -> Result<String, AllocError> {
     let (used, kind) = (use_word(tag), type_word(tag.kind));
-    format!(in alloc; "the program {used} it as {kind}, the site has no tag of this name")
+    format!(in alloc; "the program {used} it as {kind}")
 }
 
 /// What the program does with a tag.

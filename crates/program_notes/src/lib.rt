@@ -1,7 +1,8 @@
 //! What is known before each instruction of a program, in words: behind a refusal ([`detail_of`]), and line by line
-//! ([`table_of`]); which line and name an instruction has; and where an external is used the other way.
+//! ([`table_of`]); which line and name an instruction has; where names are used; and which conversion may mend two types.
 #![tactic(auto)]
 
+mod budget;
 mod code_lines;
 mod detail;
 mod items;
@@ -17,7 +18,8 @@ mod words;
 
 pub use code_lines::{address_of, declared_line, instruction_line, name_in, number_at, tag_name};
 pub use detail::{Detail, detail_of};
+pub use refusing::mismatch_of;
 pub use rows::{Row, rows_of};
 pub use table::{Beside, table_of};
-pub use uses::other_use_text;
+pub use uses::{Use, other_use_text, uses_in};
 pub use words::type_word;

@@ -30,8 +30,21 @@ pub(crate) fn push_longest(
     push_steps(alloc, line, rows, &steps)
 }
 
+/// How many instructions a longest path has.
+pub(crate) fn longest_length(
+    alloc: Global,
+    listing: &[(usize, Op)],
+    reached: &[bool],
+) -> Result<usize, AllocError>
+    requires few { length listing.now < 65536 }
+    requires each { length reached.now ≡ length listing.now }
+{
+    let lengths = path_lengths(alloc, listing, reached)?;
+    Ok(length_of(&lengths, longest_start(listing, &lengths)))
+}
+
 /// Which instructions a path reaches; of those that were judged.
-fn reached_flags(alloc: Global, rows: &[Row]) -> Result<Vec<bool>, AllocError> {
+pub(crate) fn reached_flags(alloc: Global, rows: &[Row]) -> Result<Vec<bool>, AllocError> {
     let mut reached = Vec::new(alloc);
     for row in rows {
         match &row.known {

@@ -2,7 +2,7 @@
 ghost use Rattle.std.specs.Prelude.{◌<◌, length};
 
 use crate::stacking::{clash_text, stack_text};
-use crate::typing::type_text;
+use crate::typing::{mismatch, type_text};
 use crate::words::{span_words, type_word};
 use facts::abstract_value::AbstractValue;
 use facts::context::Context;
@@ -55,7 +55,9 @@ fn text_in(
     }
     let (_, op) = context.instruction(number);
     match known(alloc, context, number) {
-        Ok(Arrived::AbstractValue(fact)) => fact_text(alloc, image, context, &fact, op, kind),
+        Ok(Arrived::AbstractValue(fact)) => {
+            fact_text(alloc, image, context, &fact, number, op, kind)
+        }
         Ok(Arrived::Clash) => clash_text(alloc),
         Ok(Arrived::Nothing) => Ok(String::new(alloc)),
         Err(other) => nothing_told(alloc, other),
@@ -68,9 +70,11 @@ fn fact_text(
     image: &Image,
     context: &Context,
     fact: &Fact,
+    number: usize,
     op: Op,
     kind: RefusalKind,
 ) -> Result<String, AllocError> {
+    let before = context.instructions().get(..number).unwrap_or(&[]);
     match kind {
         RefusalKind::Overflow => overflow_text(alloc, fact, op),
         RefusalKind::ZeroDivisor => divisor_text(alloc, fact),
@@ -79,12 +83,46 @@ fn fact_text(
             "an input without a default, and nothing before says that it is present",
         ),
         RefusalKind::StoreRange => store_text(alloc, image, context, fact, op),
-        RefusalKind::WrongType => type_text(alloc, image, fact, op),
-        RefusalKind::NoResult => {
-            String::from_str(alloc, "no way here leaves a result of one type")
-        }
+        RefusalKind::WrongType => type_text(alloc, image, before, fact, op),
+        RefusalKind::NoResult => String::from_str(alloc, missing_words(before)),
         RefusalKind::Stack => stack_text(alloc, fact, op),
         _ => Ok(String::new(alloc)),
+    }
+}
+
+/// Why there is no result, by the instructions before.
+fn missing_words(before: &[(usize, Op)]) -> &'static str {
+    for (_, op) in before {
+        match op {
+            Op::LoadVariable(_)
+            | Op::LoadInput(_)
+            | Op::LoadPresence(_)
+            | Op::LoadBool(_)
+            | Op::LoadNumber(_, _) => {
+                return "a way to here loads nothing, or brings a result of another type";
+            }
+            _ => {}
+        }
+    }
+    "nothing was loaded before"
+}
+
+/// The types that don't agree at an instruction that is refused for them: those of its two sides, or of what is stored
+/// and of what takes it; None where there are none, or where they aren't known.
+pub fn mismatch_of(
+    alloc: Global,
+    image: &Image,
+    site: &Site,
+    number: usize,
+) -> Option<(IlType, IlType)> {
+    let context = framed(alloc, image, site, MOST_DEFERRED).ok()?;
+    if number >= context.size() {
+        return None;
+    }
+    let (_, op) = context.instruction(number);
+    match known(alloc, &context, number) {
+        Ok(Arrived::AbstractValue(fact)) => mismatch(image, &fact, op),
+        _ => None,
     }
 }
 

@@ -6,12 +6,13 @@ use std::alloc::{AllocError, Global};
 /// What stands behind the name of an external whose presence is meant.
 const PRESENCE: &[u8] = b"_ok";
 
-/// A load or a store of a name.
+/// A load or a store of a name, and its line.
 #[derive(Clone, Copy)]
-struct Use {
-    line: u32,
-    name: Name,
-    stored: bool,
+pub struct Use {
+    pub line: u32,
+    pub name: Name,
+    /// Whether it is stored.
+    pub stored: bool,
 }
 
 /// Where an external that is used on this line is used the other way first, in words; empty where none is.
@@ -69,7 +70,7 @@ fn means(name: &Name, external: &Name) -> bool {
 }
 
 /// All loads and stores of names, in the order of the text.
-fn uses_in(alloc: Global, program: &Program) -> Result<Vec<Use>, AllocError> {
+pub fn uses_in(alloc: Global, program: &Program) -> Result<Vec<Use>, AllocError> {
     let mut uses = Vec::new(alloc);
     for statement in program.statements.as_slice() {
         if let Some(action) = &statement.action {

@@ -1,10 +1,13 @@
 //! Why a command refuses, and the note that tells it on standard error.
 use crate::link_texts::{link_help, link_meaning};
 use crate::marks::{
-    ends_line, mark_of_trapped, mark_of_unassembled, mark_of_unread, mark_of_unverified,
+    ends_line, mark_of_bytes, mark_of_trapped, mark_of_unassembled, mark_of_unread,
+    mark_of_unverified,
 };
-use crate::mistakes::mistake_on;
-use crate::nearest::nearest_name;
+use crate::met::line_of;
+use crate::told::Told;
+use crate::unknown::{label_place, unknown_label, unknown_name};
+use crate::unread::told_of;
 use il_assemble::{AsmFault, AsmFaultKind};
 use il_reader::{FaultPlace, Program, ReadFault, fault_at};
 use inverter_sim::PlantFault;
@@ -14,7 +17,7 @@ use program_notes::other_use_text;
 use scan_vm::TrapKind;
 use site_model::SiteFault;
 use source_notes::{Mark, Note};
-use std::alloc::Global;
+use std::alloc::{AllocError, Global};
 use verifier::RefusalKind;
 
 /// The file that a note is on.
@@ -80,8 +83,37 @@ impl Cause {
         let mut cause = Cause::of_line(alloc, fault.line, Mark::Line, texts);
         if let Some(place) = fault_at(alloc, text) {
             cause.mark_unread(text, place);
+            if let Ok(Some(told)) = told_of(alloc, text, place) {
+                cause.mark_span(alloc, text, told.span);
+                cause.take(told);
+            }
         }
         cause
+    }
+
+    /// Marks these bytes of the program's text, and takes back what was known of others.
+    fn mark_span(&mut self, alloc: Global, text: &str, span: Option<(usize, usize)>) {
+        if let Some((at, behind)) = span {
+            self.line = line_of(text, at);
+            self.mark = mark_of_bytes(text.as_bytes(), at, behind);
+            self.detail = String::new(alloc);
+        }
+    }
+
+    /// Takes what is told in place of the words of the kind.
+    fn take(&mut self, told: Told) {
+        let Told {
+            hint,
+            span: _,
+            name,
+            detail,
+        } = told;
+        self.meaning = hint.meaning;
+        self.help = hint.help;
+        self.name = name;
+        if !detail.is_empty() {
+            self.detail = detail;
+        }
     }
 
     /// Marks what is at fault in a text that can't be read. There is no more than the line where no byte is, or where
@@ -110,10 +142,10 @@ impl Cause {
             help: kind.help(),
         };
         let mut cause = Cause::of_line(alloc, fault.line, mark_of_unassembled(kind), texts);
-        if let AsmFaultKind::LoadAndStore = kind {
-            if let Ok(text) = other_use_text(alloc, program, fault.line) {
-                cause.detail = text;
-            }
+        if let Ok(Some(told)) = told_of_fault(alloc, program, fault) {
+            cause.take(told);
+        } else if let Ok(text) = known_of_fault(alloc, program, fault) {
+            cause.detail = text;
         }
         cause
     }
@@ -188,42 +220,8 @@ impl Cause {
         Cause::of_file(alloc, NotedFile::Link, texts)
     }
 
-    /// The note, on the text of the file at the path. A mistake that people make in a program has words of its own there,
-    /// and an unknown name the one that may be meant.
+    /// The note, on the text of the file at the path.
     pub fn note<'a>(&'a self, path: &'a str, text: &'a str) -> Note<'a> {
-        let mut note = self.plain_note(path, text);
-        if self.file != NotedFile::Program {
-            return note;
-        }
-        if let Some(found) = mistake_on(text, self.line, self.kind) {
-            note.line = found.line;
-            note.mark = found.mark;
-            note.meaning = found.hint.meaning;
-            note.help = found.hint.help;
-            note.detail = "";
-        }
-        if self.kind == "UnknownName" {
-            if let Some(name) = self.meant_name(text) {
-                note.name = name;
-                note.help =
-                    "did you mean {}? Else declare it: in VAR for a variable of the program, in VAR_EXTERNAL for a tag of the site";
-            }
-        }
-        note
-    }
-
-    /// The declared name that is nearest to the one on the line.
-    fn meant_name<'a>(&self, text: &'a str) -> Option<&'a str> {
-        let line = text.lines().nth(self.line.checked_sub(1)? as usize)?;
-        let code = match line.split_once("(*") {
-            Some((code, _)) => code,
-            None => line,
-        };
-        nearest_name(text, code.split_whitespace().last()?)
-    }
-
-    /// The note in the words of its kind.
-    fn plain_note<'a>(&'a self, path: &'a str, text: &'a str) -> Note<'a> {
         Note {
             path,
             text,
@@ -235,6 +233,30 @@ impl Cause {
             name: self.name.as_str(),
             detail: self.detail.as_str(),
         }
+    }
+}
+
+/// What is told of a name or a label that isn't there; none for other faults.
+fn told_of_fault(
+    alloc: Global,
+    program: &Program,
+    fault: AsmFault,
+) -> Result<Option<Told>, AllocError> {
+    match fault.kind {
+        AsmFaultKind::UnknownName => unknown_name(alloc, program, fault.line),
+        AsmFaultKind::UnknownLabel => unknown_label(alloc, program, fault.line),
+        _ => Ok(None),
+    }
+}
+
+/// What is known where a program has no code; empty where nothing is.
+fn known_of_fault(alloc: Global, program: &Program, fault: AsmFault) -> Result<String, AllocError> {
+    match fault.kind {
+        AsmFaultKind::LoadAndStore => other_use_text(alloc, program, fault.line),
+        AsmFaultKind::BackwardJump | AsmFaultKind::ForwardLoop => {
+            label_place(alloc, program, fault.line)
+        }
+        _ => Ok(String::new(alloc)),
     }
 }
 

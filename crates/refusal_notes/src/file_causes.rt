@@ -12,7 +12,7 @@ use std::alloc::Global;
 pub fn cause_of_site(alloc: Global, text: &str, models: &[ModelDef], fault: SiteFault) -> Cause {
     let mut cause = Cause::no_site(alloc, fault);
     if let Err(placed) = Site::read_placed(alloc, text, models) {
-        put_place(alloc, &mut cause, placed.place);
+        put_place(alloc, &mut cause, text, placed.place);
     }
     put_brackets(text, &mut cause);
     cause
@@ -23,7 +23,7 @@ pub fn cause_of_site(alloc: Global, text: &str, models: &[ModelDef], fault: Site
 pub fn cause_of_plant(alloc: Global, text: &str, models: &[ModelDef], fault: PlantFault) -> Cause {
     let mut cause = Cause::no_plant(alloc, fault);
     if let Err(placed) = Plant::read_placed(alloc, text, models) {
-        put_place(alloc, &mut cause, placed.place);
+        put_place(alloc, &mut cause, text, placed.place);
     }
     put_brackets(text, &mut cause);
     cause
@@ -35,15 +35,16 @@ pub fn cause_of_definition(alloc: Global, defs: &[String], fault: DefFault) -> C
     for (number, text) in defs.iter().enumerate() {
         if let Err(placed) = read_placed(alloc, text.as_bytes()) {
             let mut cause = Cause::undefined(alloc, number, fault);
-            put_place(alloc, &mut cause, placed.place);
+            put_place(alloc, &mut cause, text.as_str(), placed.place);
             return cause;
         }
     }
     Cause::undefined(alloc, 0, fault)
 }
 
-/// Adds a place: the line and the column, or else the entry and what is wrong there.
-fn put_place(alloc: Global, cause: &mut Cause, place: Option<FilePlace>) {
+/// Adds a place in a text: the line and the column, or else the entry and what is wrong there. A place behind the last
+/// line is the end of that one.
+fn put_place(alloc: Global, cause: &mut Cause, text: &str, place: Option<FilePlace>) {
     let Some(place) = place else {
         return;
     };
@@ -52,8 +53,13 @@ fn put_place(alloc: Global, cause: &mut Cause, place: Option<FilePlace>) {
     }
     match place {
         FilePlace::Text { line, column } => {
-            cause.line = u32::try_from(line).unwrap_or(0);
-            cause.mark = Mark::Column(column);
+            let last = text.lines().count();
+            cause.line = u32::try_from(line.min(last)).unwrap_or(0);
+            cause.mark = if line > last {
+                Mark::Behind
+            } else {
+                Mark::Column(column)
+            };
             cause.detail = String::new(alloc);
         }
         FilePlace::Entry { key, advice, .. } => put_advice(cause, key, advice),

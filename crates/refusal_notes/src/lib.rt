@@ -3,17 +3,27 @@
 #![tactic(auto)]
 
 mod cause;
+mod declaring;
 mod definition_keys;
 mod file_causes;
 mod file_fault;
+mod instructing;
+mod kinds;
 mod link_texts;
 mod marks;
+mod met;
 mod mistakes;
 mod nearest;
 mod notes;
+mod pieces;
+mod reserved;
 mod table_keys;
+mod told;
+mod unknown;
+mod unread;
 mod unread_keys;
 mod verdict_cause;
+mod wording;
 
 pub use cause::{Cause, NotedFile};
 pub use file_causes::{cause_of_definition, cause_of_plant, cause_of_site};

@@ -10,8 +10,13 @@ pub(crate) fn mark_of_unread(text: &[u8], place: FaultPlace) -> Mark {
     if ends_line(text, place) {
         return Mark::Behind;
     }
-    let count = place.behind.saturating_sub(place.at);
-    Mark::Bytes(place.at.saturating_sub(line_start(text, place.at)), count)
+    mark_of_bytes(text, place.at, place.behind)
+}
+
+/// For these bytes of a text, on the line of the first one.
+pub(crate) fn mark_of_bytes(text: &[u8], at: usize, behind: usize) -> Mark {
+    let count = behind.saturating_sub(at);
+    Mark::Bytes(at.saturating_sub(line_start(text, at)), count)
 }
 
 /// Whether the end of a line is at fault.
@@ -36,9 +41,8 @@ fn line_start(text: &[u8], at: usize) -> usize {
 /// For a line without code.
 pub(crate) fn mark_of_unassembled(kind: AsmFaultKind) -> Mark {
     match kind {
-        AsmFaultKind::UnknownName
-        | AsmFaultKind::UnknownLabel
-        | AsmFaultKind::BackwardJump
+        AsmFaultKind::UnknownName | AsmFaultKind::UnknownLabel => Mark::Name,
+        AsmFaultKind::BackwardJump
         | AsmFaultKind::LoadAndStore
         | AsmFaultKind::LiteralType
         | AsmFaultKind::ForwardLoop => Mark::Operand,
@@ -57,11 +61,8 @@ pub(crate) fn mark_of_unverified(kind: RefusalKind) -> Mark {
         RefusalKind::Stack | RefusalKind::NoResult | RefusalKind::Code | RefusalKind::Jump => {
             Mark::Operator
         }
-        RefusalKind::TagUnknown
-        | RefusalKind::TagType
-        | RefusalKind::TagAccess
-        | RefusalKind::OverBudget
-        | RefusalKind::OutOfMemory => Mark::Line,
+        RefusalKind::TagUnknown | RefusalKind::TagType | RefusalKind::TagAccess => Mark::Name,
+        RefusalKind::OverBudget | RefusalKind::OutOfMemory => Mark::Line,
     }
 }
 

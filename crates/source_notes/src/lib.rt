@@ -2,6 +2,7 @@
 //! meant, and what to do; and what all notes share: texts without control characters, and the name that may be meant.
 #![tactic(auto)]
 
+mod code;
 mod escaping;
 mod marking;
 mod nearest;
@@ -9,7 +10,8 @@ mod note;
 #[cfg(test)]
 mod tests;
 
+pub use code::Code;
 pub use escaping::{escaped, plain_letter, push_letter};
 pub use marking::Mark;
-pub use nearest::{Near, nearer, nearest_of};
+pub use nearest::{Near, nearer, nearest_of, rank};
 pub use note::Note;

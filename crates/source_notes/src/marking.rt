@@ -15,11 +15,18 @@ pub enum Mark {
     Bytes(usize, usize),
     /// What is missing behind all that stands on the line.
     Behind,
+    /// The name that the note speaks of; the operand, where it doesn't stand on the line.
+    Name,
 }
 
-/// The bytes of a line that are meant: the first one's place, and the place behind the last one.
-pub(crate) fn marked(line: &str, mark: Mark) -> (usize, usize) {
-    let code = before_comment(line);
+/// The bytes of a line that are meant, where this is its code and the note speaks of this name: the first one's place,
+/// and the place behind the last one.
+pub(crate) fn marked(line: &str, code: &str, mark: Mark, name: &str) -> (usize, usize) {
+    let code = if code.trim().is_empty() {
+        line.trim_end()
+    } else {
+        code.trim_end()
+    };
     let body = behind_count(behind_label(code));
     let operand = operand_of(body);
     let end = code.len();
@@ -27,9 +34,13 @@ pub(crate) fn marked(line: &str, mark: Mark) -> (usize, usize) {
         Mark::Line => whole(code),
         Mark::Column(number) => letter_at(line, number),
         Mark::Bytes(place, count) => (place, place.saturating_add(count)),
-        Mark::Behind => one_behind(line),
-        Mark::Operand if !operand.is_empty() => (end.saturating_sub(operand.len()), end),
-        Mark::Operand | Mark::Operator => (
+        Mark::Behind => (end, end.saturating_add(1)),
+        Mark::Name if place_of_word(code, name).is_some() => word_in(code, name),
+        Mark::Name | Mark::Operand if !operand.is_empty() => (
+            end.saturating_sub(operand.len()),
+            end,
+        ),
+        Mark::Name | Mark::Operand | Mark::Operator => (
             end.saturating_sub(body.len()),
             end.saturating_sub(behind_word(body).len()),
         ),
@@ -42,14 +53,39 @@ fn whole(code: &str) -> (usize, usize) {
     (end.saturating_sub(code.trim_start().len()), end)
 }
 
-/// The place behind all that stands on a line, but for a comment at its end.
-fn one_behind(line: &str) -> (usize, usize) {
-    let all = line.trim_end();
-    let code = match all.rsplit_once("(*") {
-        Some((code, comment)) if comment.ends_with("*)") => code.trim_end(),
-        _ => all,
-    };
-    (code.len(), code.len().saturating_add(1))
+/// Where a word stands on a line; at its beginning, where it doesn't.
+fn word_in(code: &str, word: &str) -> (usize, usize) {
+    let place = place_of_word(code, word).unwrap_or(0);
+    (place, place.saturating_add(word.len()))
+}
+
+/// Where a word stands on a line, in capital or small letters.
+fn place_of_word(code: &str, word: &str) -> Option<usize> {
+    let mut begins = 0;
+    for (place, letter) in code.char_indices() {
+        if !is_of_name(letter) {
+            if is_same(code, begins, place, word) {
+                return Some(begins);
+            }
+            begins = place.saturating_add(letter.len_utf8());
+        }
+    }
+    if is_same(code, begins, code.len(), word) {
+        Some(begins)
+    } else {
+        None
+    }
+}
+
+fn is_same(code: &str, begins: usize, ends: usize, word: &str) -> bool {
+    match code.get(begins..ends) {
+        Some(part) => !word.is_empty() && part.eq_ignore_ascii_case(word),
+        None => false,
+    }
+}
+
+fn is_of_name(letter: char) -> bool {
+    letter == '_' || letter.is_ascii_alphanumeric()
 }
 
 /// The letter of a number; all that stands on the line, where it has none.
@@ -60,14 +96,6 @@ fn letter_at(line: &str, number: usize) -> (usize, usize) {
         }
     }
     whole(line.trim_end())
-}
-
-/// What stands on a line before its comment.
-fn before_comment(line: &str) -> &str {
-    match line.split_once("(*") {
-        Some((code, _)) => code.trim_end(),
-        None => line.trim_end(),
-    }
 }
 
 /// What stands behind a label and its colon.

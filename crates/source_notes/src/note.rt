@@ -1,4 +1,5 @@
 //! A note on a line of a text.
+use crate::code::Code;
 use crate::escaping::{escaped, plain_letter, push_escaped};
 use crate::marking::{Mark, marked};
 use std::alloc::{AllocError, Global};
@@ -54,7 +55,9 @@ impl Note<'_> {
         lines.push_str(number.as_str())?;
         push_shown(lines, line)?;
         lines.push_str("\n      | ")?;
-        let (start, end) = marked(line, self.mark);
+        let code = Code::of(alloc, self.text)?;
+        let code = line_of(code.text.as_str(), self.line).unwrap_or("");
+        let (start, end) = marked(line, code, self.mark, self.name);
         push_carets(lines, line, start, end)?;
         if self.detail.is_empty() {
             lines.push_str("\n")?;

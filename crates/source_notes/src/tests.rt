@@ -4,10 +4,10 @@ use std::process::Abort;
 
 /// The text that the notes are on.
 const TEXT: &str =
-    "PROGRAM p\n  LD inv1_w  (* power *)\nhold: {LOOP 3} JMPC hold\n\tADD( x\r\n  NOT\nEND_PROGRAM\n";
+    "PROGRAM p\n  LD inv1_w  (* power *)\nhold: {LOOP 3} JMPC hold\n\tADD( x\r\n  NOT\n(* a\nb *) (* c *) LD 1\n";
 
 /// A line, what is meant on it, and how the line and its carets are shown.
-static SHOWN: [(u32, Mark, &str); 13] = [
+static SHOWN: [(u32, Mark, &str); 16] = [
     (
         2,
         Mark::Operand,
@@ -48,7 +48,18 @@ static SHOWN: [(u32, Mark, &str); 13] = [
     ),
     (5, Mark::Behind, "    5 |   NOT\n      |      ^\n"),
     (5, Mark::Bytes(2, 2), "    5 |   NOT\n      |   ^^\n"),
-    (7, Mark::Operand, ""),
+    (
+        2,
+        Mark::Name,
+        "    2 |   LD inv1_w  (* power *)\n      |      ^^^^^^\n",
+    ),
+    (6, Mark::Line, "    6 | (* a\n      | ^^^^\n"),
+    (
+        7,
+        Mark::Operator,
+        "    7 | b *) (* c *) LD 1\n      |              ^^\n",
+    ),
+    (8, Mark::Operand, ""),
 ];
 
 #[test]

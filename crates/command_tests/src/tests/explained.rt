@@ -16,57 +16,57 @@ const OF_READING: &[Explained] = &[
     (
         "PROGRAM p\nLD 1",
         "refused: read Header line 2\n",
-        "p.il:2: Header: the frame of the program is broken\n    2 | LD 1\n      |    ^\n  help: begin with PROGRAM and a name, end with END_PROGRAM, and write nothing behind it\n",
+        "p.il:2: Header: END_PROGRAM is missing\n    2 | LD 1\n      |    ^\n  help: write END_PROGRAM on a line behind the last instruction\n",
     ),
     (
         "PROGRAM p\nVAR_EXTERNAL\n  inv1_w, inv2_w : DINT;\n  target, lim1 : INT;\n  ena1 : BOOL;\nEND_VAR\nVAR\n  a, z : INT;\n  b : BOOL;\n  d : DINT;\n  x : INT (0..10);\n  k : SINT := 200;\nEND_VAR\nEND_PROGRAM\n",
         "refused: read Declaration line 12\n",
-        "p.il:12: Declaration: no declaration of a variable or an external\n   12 |   k : SINT := 200;\n      |               ^^^\n  help: write name : TYPE; with (low..high) or := start inside the type; look for a missing semicolon in the line before\n",
+        "p.il:12: Declaration: no start value that the variable can hold\n   12 |   k : SINT := 200;\n      |               ^^^ SINT holds -128..127\n  help: write a literal of the type within the range, as := 5, or := TRUE for a BOOL\n",
     ),
     (
         "PROGRAM p\nVAR_EXTERNAL\n  inv1_w, inv2_w : DINT;\n  target, lim1 : INT;\n  ena1 : BOOL;\nEND_VAR\nVAR\n  a, z : INT;\n  b : BOOL;\n  d : DINT;\n  x : INT (0..10);\nEND_VAR\n  FOO a\nEND_PROGRAM\n",
         "refused: read Operator line 13\n",
-        "p.il:13: Operator: no operator stands where one must\n   13 |   FOO a\n      |   ^^^\n  help: begin the line with one operator, as LD or ADD; a label has a colon, and {LOOP n} stands before a jump\n",
+        "p.il:13: Operator: FOO is no operator\n   13 |   FOO a\n      |   ^^^\n  help: begin the line with one operator, as LD or ADD; a label has a colon, and {LOOP n} stands before a jump\n",
     ),
     (
         "PROGRAM p\nVAR_EXTERNAL\n  inv1_w, inv2_w : DINT;\n  target, lim1 : INT;\n  ena1 : BOOL;\nEND_VAR\nVAR\n  a, z : INT;\n  b : BOOL;\n  d : DINT;\n  x : INT (0..10);\nEND_VAR\n  LD\nEND_PROGRAM\n",
         "refused: read Operand line 13\n",
-        "p.il:13: Operand: an operand is missing, or one is too many\n   13 |   LD\n      |     ^ the line ends here\n  help: give one operand; LIMIT and SEL take two with a comma, NOT, ABS and conversions none\n",
+        "p.il:13: Operand: LD wants an operand\n   13 |   LD\n      |     ^ the line ends here\n  help: write a name, a number, TRUE or FALSE behind it\n",
     ),
     (
         "PROGRAM p\nVAR_EXTERNAL\n  inv1_w, inv2_w : DINT;\n  target, lim1 : INT;\n  ena1 : BOOL;\nEND_VAR\nVAR\n  a, z : INT;\n  b : BOOL;\n  d : DINT;\n  x : INT (0..10);\nEND_VAR\n  JMP\nEND_PROGRAM\n",
         "refused: read Label line 13\n",
-        "p.il:13: Label: a jump without the name of a label\n   13 |   JMP\n      |      ^ the line ends here\n  help: name a label that stands before a line, as JMP done\n",
+        "p.il:13: Label: JMP wants the name of a label\n   13 |   JMP\n      |      ^ the line ends here\n  help: name a label that stands before a line, as JMP done\n",
     ),
     (
         "PROGRAM p\nVAR_EXTERNAL\n  inv1_w, inv2_w : DINT;\n  target, lim1 : INT;\n  ena1 : BOOL;\nEND_VAR\nVAR\n  a, z : INT;\n  b : BOOL;\n  d : DINT;\n  x : INT (0..10);\nEND_VAR\n  LD a\n  )\nEND_PROGRAM\n",
         "refused: read Parenthesis line 14\n",
-        "p.il:14: Parenthesis: a parenthesis that closes or opens nothing, or what may not stand inside\n   14 |   )\n      |   ^\n  help: give each op( a ) on a line of its own, and store, jump and return behind it\n",
+        "p.il:14: Parenthesis: this closes nothing: no parenthesis is open\n   14 |   )\n      |   ^\n  help: write the operator that opens it, as ADD(, on a line before; a lone operand needs none\n",
     ),
     (
         "PROGRAM p\nVAR_EXTERNAL\n  inv1_w, inv2_w : DINT;\n  target, lim1 : INT;\n  ena1 : BOOL;\nEND_VAR\nVAR\n  a, z : INT;\n  b : BOOL;\n  d : DINT;\n  x : INT (0..10);\nEND_VAR\n  LD 9999999999999999999\nEND_PROGRAM\n",
         "refused: read Literal line 13\n",
-        "p.il:13: Literal: no number, or one that is too large\n   13 |   LD 9999999999999999999\n      |      ^^^^^^^^^^^^^^^^^^^\n  help: write a decimal within the type, or digits of the base behind 16#, 8# or 2#\n",
+        "p.il:13: Literal: the number is too large\n   13 |   LD 9999999999999999999\n      |      ^^^^^^^^^^^^^^^^^^^ LINT holds -9223372036854775808..9223372036854775807\n  help: write a number within the type\n",
     ),
     (
         "PROGRAM p\nVAR_EXTERNAL\n  inv1_w, inv2_w : DINT;\n  target, lim1 : INT;\n  ena1 : BOOL;\nEND_VAR\nVAR\n  a, z : INT;\n  b : BOOL;\n  d : DINT;\n  x : INT (0..10);\n  a : INT;\nEND_VAR\nEND_PROGRAM\n",
         "refused: read Duplicate line 12\n",
-        "p.il:12: Duplicate: a name that stands already\n   12 |   a : INT;\n      |   ^\n  help: rename one of the two; case makes no difference\n",
+        "p.il:12: Duplicate: the name a stands already\n   12 |   a : INT;\n      |   ^ the first one is in line 8\n  help: rename one of the two; case makes no difference\n",
     ),
     (
         "PROGRAM p\nVAR\n  a : INT;\nEND_VAR\n  LD a\n  SEL a,   (* and *)\nEND_PROGRAM\n",
         "refused: read Operand line 6\n",
-        "p.il:6: Operand: an operand is missing, or one is too many\n    6 |   SEL a,   (* and *)\n      |         ^ the line ends here\n  help: give one operand; LIMIT and SEL take two with a comma, NOT, ABS and conversions none\n",
+        "p.il:6: Operand: SEL wants two operands with a comma between them\n    6 |   SEL a,   (* and *)\n      |         ^ the line ends here\n  help: write LIMIT input, most, where the result is the least; or SEL if_false, if_true, where the result chooses\n",
     ),
     (
         "PROGRAM p\n  LD 1\r\n  ADD( 5\r\n",
         "refused: read Parenthesis line 3\n",
-        "p.il:3: Parenthesis: a parenthesis that closes or opens nothing, or what may not stand inside\n    3 |   ADD( 5\n      |         ^ the text ends here\n  help: give each op( a ) on a line of its own, and store, jump and return behind it\n",
+        "p.il:3: Parenthesis: a parenthesis stays open\n    3 |   ADD( 5\n      |         ^ ADD( of line 3 is open\n  help: close it by ) on a line of its own\n",
     ),
     (
         "PROGRAM p\nVAR\n  a : INT;\nEND_VAR\n  again LD a\nEND_PROGRAM\n",
         "refused: read Operator line 5\n",
-        "p.il:5: Operator: no operator stands where one must\n    5 |   again LD a\n      |   ^^^^^\n  help: begin the line with one operator, as LD or ADD; a label has a colon, and {LOOP n} stands before a jump\n",
+        "p.il:5: Operator: no operator stands where one must\n    5 |   again LD a\n      |   ^^^^^\n  help: write a colon behind again where it is a label; else begin the line with an operator, as LD\n",
     ),
 ];
 
@@ -74,17 +74,17 @@ const OF_ASSEMBLING: &[Explained] = &[
     (
         "PROGRAM p\nVAR_EXTERNAL\n  inv1_w, inv2_w : DINT;\n  target, lim1 : INT;\n  ena1 : BOOL;\nEND_VAR\nVAR\n  a, z : INT;\n  b : BOOL;\n  d : DINT;\n  x : INT (0..10);\nEND_VAR\n  LD q\nEND_PROGRAM\n",
         "refused: assemble UnknownName line 13\n",
-        "p.il:13: UnknownName: a name that isn't declared, or a store to a presence\n   13 |   LD q\n      |      ^\n  help: declare it: in VAR for a variable of the program, in VAR_EXTERNAL for a tag of the site\n",
+        "p.il:13: UnknownName: q isn't declared\n   13 |   LD q\n      |      ^\n  help: declare it: in VAR for a variable of the program, in VAR_EXTERNAL for a tag of the site\n",
     ),
     (
         "PROGRAM p\nVAR_EXTERNAL\n  inv1_w, inv2_w : DINT;\n  target, lim1 : INT;\n  ena1 : BOOL;\nEND_VAR\nVAR\n  a, z : INT;\n  b : BOOL;\n  d : DINT;\n  x : INT (0..10);\nEND_VAR\n  top: JMP q (* away *)\nEND_PROGRAM\n",
         "refused: assemble UnknownLabel line 13\n",
-        "p.il:13: UnknownLabel: a jump to a label that isn't there\n   13 |   top: JMP q (* away *)\n      |            ^\n  help: write the label before a line, with a colon\n",
+        "p.il:13: UnknownLabel: no line has the label q\n   13 |   top: JMP q (* away *)\n      |            ^\n  help: write the label before a line, with a colon\n",
     ),
     (
         "PROGRAM p\nVAR_EXTERNAL\n  inv1_w, inv2_w : DINT;\n  target, lim1 : INT;\n  ena1 : BOOL;\nEND_VAR\nVAR\n  a, z : INT;\n  b : BOOL;\n  d : DINT;\n  x : INT (0..10);\nEND_VAR\n  e:\n  LD a\n  JMP e\nEND_PROGRAM\n",
         "refused: assemble BackwardJump line 15\n",
-        "p.il:15: BackwardJump: a jump to an earlier label, or to its own line\n   15 |   JMP e\n      |       ^\n  help: count the jumps that go back: {LOOP 10} before JMP\n",
+        "p.il:15: BackwardJump: a jump to an earlier label, or to its own line\n   15 |   JMP e\n      |       ^ the label stands in line 13\n  help: count the jumps that go back: {LOOP 10} before JMP\n",
     ),
     (
         "PROGRAM p\nVAR_EXTERNAL\n  inv1_w, inv2_w : DINT;\n  target, lim1 : INT;\n  ena1 : BOOL;\nEND_VAR\nVAR\n  a, z : INT;\n  b : BOOL;\n  d : DINT;\n  x : INT (0..10);\nEND_VAR\n  LD target\n  ST target\nEND_PROGRAM\n",
@@ -109,7 +109,7 @@ const OF_ASSEMBLING: &[Explained] = &[
     (
         "PROGRAM p\nVAR_EXTERNAL\n  inv1_w, inv2_w : DINT;\n  target, lim1 : INT;\n  ena1 : BOOL;\nEND_VAR\nVAR\n  a, z : INT;\n  b : BOOL;\n  d : DINT;\n  x : INT (0..10);\nEND_VAR\n  {LOOP 2} JMP e\n  e:\nEND_PROGRAM\n",
         "refused: assemble ForwardLoop line 13\n",
-        "p.il:13: ForwardLoop: a counted jump to a later label\n   13 |   {LOOP 2} JMP e\n      |                ^\n  help: leave {LOOP n} away: jumps forward aren't counted\n",
+        "p.il:13: ForwardLoop: a counted jump to a later label\n   13 |   {LOOP 2} JMP e\n      |                ^ the label stands in line 14\n  help: leave {LOOP n} away: jumps forward aren't counted\n",
     ),
 ];
 

@@ -15,22 +15,22 @@ const MISTAKES: &[Explained] = &[
     (
         "PROGRAM p\nVAR\n  a : INT;\nEND_VAR\nLD 1.5\nEND_PROGRAM\n",
         "refused: read Word line 5\n",
-        "p.il:5: Word: all numbers are whole, without a point\n    5 | LD 1.5\n      |     ^\n  help: count in tenths or hundredths: the tag's exponent in the site file says what its numbers count\n",
+        "p.il:5: Word: all numbers are whole, without a point\n    5 | LD 1.5\n      |     ^^\n  help: count in tenths or hundredths: the tag's exponent in the site file says what its numbers count\n",
     ),
     (
         "PROGRAM p\nVAR\n  a, b : real;\nEND_VAR\nLD a\nEND_PROGRAM\n",
         "refused: read Declaration line 3\n",
-        "p.il:3: Declaration: this type isn't there\n    3 |   a, b : real;\n      |          ^^^^\n  help: use BOOL, or SINT, INT, DINT, LINT, USINT, UINT, UDINT; count in tenths or hundredths, by the tag's exponent, where parts of a unit matter\n",
+        "p.il:3: Declaration: there are no numbers with a point\n    3 |   a, b : real;\n      |          ^^^^\n  help: use a type of whole numbers, as INT or DINT, and count in tenths or hundredths, by the tag's exponent\n",
     ),
     (
         "PROGRAM p\nVAR\n  a : INT\n\nEND_VAR\nLD a\nEND_PROGRAM\n",
         "refused: read Declaration line 5\n",
-        "p.il:3: Declaration: the declaration isn't ended\n    3 |   a : INT\n      |   ^^^^^^^\n  help: write a semicolon behind it\n",
+        "p.il:3: Declaration: the declaration isn't ended\n    3 |   a : INT\n      |          ^ a semicolon is missing\n  help: write a semicolon behind it\n",
     ),
     (
         "PROGRAM p\nVAR\n  a : INT;\nEND_VAR\nLD a;\nEND_PROGRAM\n",
         "refused: read Operand line 5\n",
-        "p.il:5: Operand: an instruction ends with its line, without a semicolon\n    5 | LD a;\n      |     ^\n  help: leave the semicolon out; it stands behind declarations alone\n",
+        "p.il:5: Operand: no semicolon stands here\n    5 | LD a;\n      |     ^\n  help: leave the semicolon out; it stands behind declarations alone\n",
     ),
     (
         "PROGRAM p\nVAR\n  a : INT;\nEND_VAR\nLD a // x\nEND_PROGRAM\n",
@@ -45,7 +45,7 @@ const MISTAKES: &[Explained] = &[
     (
         " \n",
         "refused: read Header line 1\n",
-        "p.il:1: Header: the text is empty\n    1 |  \n      | \n  help: write PROGRAM and a name, declarations, instructions and END_PROGRAM; look whether this is the file that is meant\n",
+        "p.il:1: Header: the text is empty\n    1 |  \n      | ^ the text ends here\n  help: write PROGRAM and a name, declarations, instructions and END_PROGRAM; look whether this is the file that is meant\n",
     ),
     (
         "\u{feff}PROGRAM p\nEND_PROGRAM\n",
@@ -55,7 +55,7 @@ const MISTAKES: &[Explained] = &[
     (
         "PROGRAM p\nVAR\n  total, t2 : INT;\nEND_VAR\nLD totl\nEND_PROGRAM\n",
         "refused: assemble UnknownName line 5\n",
-        "p.il:5: UnknownName: a name that isn't declared, or a store to a presence\n    5 | LD totl\n      |    ^^^^\n  help: did you mean total? Else declare it: in VAR for a variable of the program, in VAR_EXTERNAL for a tag of the site\n",
+        "p.il:5: UnknownName: totl isn't declared\n    5 | LD totl\n      |    ^^^^ did you mean total?\n  help: declare it: in VAR for a variable of the program, in VAR_EXTERNAL for a tag of the site\n",
     ),
     (
         "FUNCTION_BLOCK p\nEND_PROGRAM\n",
@@ -65,7 +65,7 @@ const MISTAKES: &[Explained] = &[
     (
         "PROGRAM p\nVAR\n  a : INT;\nEND_VAR\na := 5\nEND_PROGRAM\n",
         "refused: read Operator line 5\n",
-        "p.il:5: Operator: this is Structured Text\n    5 | a := 5\n      |   ^^\n  help: write one operator on a line: a condition is a label and JMPC or JMPCN, an assignment LD and ST\n",
+        "p.il:5: Operator: this is Structured Text\n    5 | a := 5\n      | ^\n  help: write one operator on a line: a condition is a label and JMPC or JMPCN, an assignment LD and ST\n",
     ),
     (
         "PROGRAM p\nVAR\n  a : INT;\nEND_VAR\nIF a > 5 THEN\nEND_PROGRAM\n",

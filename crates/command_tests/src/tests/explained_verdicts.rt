@@ -12,27 +12,27 @@ const OF_VERDICTS: &[Explained] = &[
     (
         "PROGRAM p\nVAR_EXTERNAL\n  nope : INT;\nEND_VAR\n  LD nope\nEND_PROGRAM\n",
         "refused: verify TagUnknown at 0\n",
-        "p.il:3: TagUnknown: the site has no tag nope\n    3 |   nope : INT;\n      |   ^^^^^^^^^^^\n  help: add a [[tag]] of that name to the site file, or correct the name; an external that isn't used asks for no tag\n",
+        "p.il:3: TagUnknown: the site has no tag nope\n    3 |   nope : INT;\n      |   ^^^^\n  help: add a [[tag]] of that name to the site file, or correct the name; an external that isn't used asks for no tag\n",
     ),
     (
         "PROGRAM p\nVAR_EXTERNAL\n  inv1_w, target : DINT;\nEND_VAR\n  LD target\nEND_PROGRAM\n",
         "refused: verify TagType at 0\n",
-        "p.il:3: TagType: the site's tag target has another type\n    3 |   inv1_w, target : DINT;\n      |   ^^^^^^^^^^^^^^^^^^^^^^\n  help: declare target with the type of its tag\n",
+        "p.il:3: TagType: the site's tag target has another type\n    3 |   inv1_w, target : DINT;\n      |           ^^^^^^\n  help: declare target with the type of its tag\n",
     ),
     (
         "PROGRAM p\nVAR_EXTERNAL\n  target : INT;\nEND_VAR\n  LD 5\n  ST target\nEND_PROGRAM\n",
         "refused: verify TagAccess at 0\n",
-        "p.il:3: TagAccess: the site's tag target may not be loaded, or not be stored\n    3 |   target : INT;\n      |   ^^^^^^^^^^^^^\n  help: load tags of access in and set, store those of out and site; keep what you store in a variable too, where you need it again\n",
+        "p.il:3: TagAccess: the site's tag target may not be loaded, or not be stored\n    3 |   target : INT;\n      |   ^^^^^^\n  help: load tags of access in and set, store those of out and site; keep what you store in a variable too, where you need it again\n",
     ),
     (
         "PROGRAM p\nVAR_EXTERNAL\n  inv1_w, inv2_w : DINT;\n  target, lim1 : INT;\n  ena1 : BOOL;\nEND_VAR\nVAR\n  a, z : INT;\n  b : BOOL;\n  d : DINT;\n  x : INT (0..10);\nEND_VAR\n  LD a\n  ADD d\nEND_PROGRAM\n",
         "refused: verify Type at 3\n",
-        "p.il:14: Type: operands of two types, or not of the type that is wanted\n   14 |   ADD d\n      |       ^\n  help: convert one of them, as by INT_TO_DINT, or write the type of a literal, as INT#8\n",
+        "p.il:14: Type: operands of two types, or not of the type that is wanted\n   14 |   ADD d\n      |       ^\n  help: convert by INT_TO_DINT, or write the type of a literal, as INT#8\n",
     ),
     (
         "PROGRAM p\nVAR_EXTERNAL\n  inv1_w, inv2_w : DINT;\n  target, lim1 : INT;\n  ena1 : BOOL;\nEND_VAR\nVAR\n  a, z : INT;\n  b : BOOL;\n  d : DINT;\n  x : INT (0..10);\nEND_VAR\n  LD a\n  AND b\nEND_PROGRAM\n",
         "refused: verify Type at 3\n",
-        "p.il:14: Type: operands of two types, or not of the type that is wanted\n   14 |   AND b\n      |       ^\n  help: convert one of them, as by INT_TO_DINT, or write the type of a literal, as INT#8\n",
+        "p.il:14: Type: operands of two types, or not of the type that is wanted\n   14 |   AND b\n      |       ^\n  help: make a BOOL of a number by a comparison, as NE 0, and choose a number by a BOOL with SEL, as SEL 0, 1\n",
     ),
     (
         "PROGRAM p\nVAR_EXTERNAL\n  inv1_w, inv2_w : DINT;\n  target, lim1 : INT;\n  ena1 : BOOL;\nEND_VAR\nVAR\n  a, z : INT;\n  b : BOOL;\n  d : DINT;\n  x : INT (0..10);\nEND_VAR\n  LD a (* the sum *)\n  ADD 1\nEND_PROGRAM\n",
@@ -42,7 +42,7 @@ const OF_VERDICTS: &[Explained] = &[
     (
         "PROGRAM p\nVAR_EXTERNAL\n  inv1_w, inv2_w : DINT;\n  target, lim1 : INT;\n  ena1 : BOOL;\nEND_VAR\nVAR\n  a, z : INT;\n  b : BOOL;\n  d : DINT;\n  x : INT (0..10);\nEND_VAR\n  LD 100\n  DIV a\nEND_PROGRAM\n",
         "refused: verify ZeroDivisor at 3\n",
-        "p.il:14: ZeroDivisor: the divisor may be 0\n   14 |   DIV a\n      |       ^\n  help: test it before (LE 0 / JMPC elsewhere), or give it a range without 0, as by MAX 1\n",
+        "p.il:14: ZeroDivisor: the divisor may be 0\n   14 |   DIV a\n      |       ^\n  help: test it before (EQ 0 / JMPC elsewhere; LE 0 where its range begins below 0), or give it a range without 0, as by MAX 1\n",
     ),
     (
         "PROGRAM p\nVAR_EXTERNAL\n  inv1_w, inv2_w : DINT;\n  target, lim1 : INT;\n  ena1 : BOOL;\nEND_VAR\nVAR\n  a, z : INT;\n  b : BOOL;\n  d : DINT;\n  x : INT (0..10);\nEND_VAR\n  LD inv1_w\nEND_PROGRAM\n",
@@ -95,8 +95,62 @@ pub(crate) fn assert_verdict(
     assert_note(rt, cause, "p.il", program, note);
 }
 
+/// A program, what is printed, and what is explained, with what is known at the instruction.
+const OF_DETAILS: &[Explained] = &[
+    (
+        "PROGRAM p\nVAR_EXTERNAL\n  inv1_w : DINT;\nEND_VAR\nVAR\n  a, y : INT;\n  b : BOOL;\n  d : DINT;\nEND_VAR\n  LD b\nADD a\nEND_PROGRAM\n",
+        "refused: verify Type at 3\n",
+        "p.il:11: Type: operands of two types, or not of the type that is wanted\n   11 | ADD a\n      |     ^ b is BOOL, a is INT\n  help: make a BOOL of a number by a comparison, as NE 0, and choose a number by a BOOL with SEL, as SEL 0, 1\n",
+    ),
+    (
+        "PROGRAM p\nVAR_EXTERNAL\n  inv1_w : DINT;\nEND_VAR\nVAR\n  a, y : INT;\n  b : BOOL;\n  d : DINT;\nEND_VAR\n  LD d\nST a\nEND_PROGRAM\n",
+        "refused: verify Type at 1\n",
+        "p.il:11: Type: operands of two types, or not of the type that is wanted\n   11 | ST a\n      |    ^ the result is DINT, a is INT\n  help: convert by DINT_TO_INT, or write the type of a literal, as INT#8\n",
+    ),
+    (
+        "PROGRAM p\nVAR_EXTERNAL\n  inv1_w : DINT;\nEND_VAR\nVAR\n  a, y : INT;\n  b : BOOL;\n  d : DINT;\nEND_VAR\n  LD b\nADD b\nEND_PROGRAM\n",
+        "refused: verify Type at 3\n",
+        "p.il:11: Type: operands of two types, or not of the type that is wanted\n   11 | ADD b\n      |     ^ both are BOOL, whole numbers are wanted\n  help: make a BOOL of a number by a comparison, as NE 0, and choose a number by a BOOL with SEL, as SEL 0, 1\n",
+    ),
+    (
+        "PROGRAM p\nVAR_EXTERNAL\n  inv1_w : DINT;\nEND_VAR\nVAR\n  a, y : INT;\n  b : BOOL;\n  d : DINT;\nEND_VAR\n  LD d\nADD a\nEND_PROGRAM\n",
+        "refused: verify Type at 3\n",
+        "p.il:11: Type: operands of two types, or not of the type that is wanted\n   11 | ADD a\n      |     ^ d is DINT, a is INT\n  help: convert by INT_TO_DINT, or write the type of a literal, as INT#8\n",
+    ),
+    (
+        "PROGRAM p\nVAR_EXTERNAL\n  inv1_w : DINT;\nEND_VAR\nVAR\n  a, y : INT;\n  b : BOOL;\n  d : DINT;\nEND_VAR\n  ST a\nEND_PROGRAM\n",
+        "refused: verify NoResult at 0\n",
+        "p.il:10: NoResult: there is no result to store, test or combine\n   10 |   ST a\n      |   ^^ nothing was loaded before\n  help: load first; behind a label each way to it has to bring a result of one type\n",
+    ),
+    (
+        "PROGRAM p\nVAR_EXTERNAL\n  inv1_w : DINT;\nEND_VAR\nVAR\n  a, y : INT;\n  b : BOOL;\n  d : DINT;\nEND_VAR\n  LD b\nJMPC e\nLD a\ne: ST y\nEND_PROGRAM\n",
+        "refused: verify NoResult at 3\n",
+        "p.il:13: NoResult: there is no result to store, test or combine\n   13 | e: ST y\n      |    ^^ a way to here loads nothing, or brings a result of another type\n  help: load first; behind a label each way to it has to bring a result of one type\n",
+    ),
+    (
+        "PROGRAM p\nVAR_EXTERNAL\n  inv1_w : DINT;\nEND_VAR\nVAR\n  a, y : INT;\n  b : BOOL;\n  d : DINT;\nEND_VAR\n  LD a\nJMPC e\ne:\nEND_PROGRAM\n",
+        "refused: verify Type at 1\n",
+        "p.il:11: Type: operands of two types, or not of the type that is wanted\n   11 | JMPC e\n      |      ^ the result is INT, a BOOL is wanted\n  help: convert one of them, as by INT_TO_DINT, or write the type of a literal, as INT#8\n",
+    ),
+    (
+        "PROGRAM p\nVAR_EXTERNAL\n  inv1w : DINT;\nEND_VAR\n  LD inv1w\nEND_PROGRAM\n",
+        "refused: verify TagUnknown at 0\n",
+        "p.il:3: TagUnknown: the site has no tag inv1w\n    3 |   inv1w : DINT;\n      |   ^^^^^ the program loads it as DINT; did you mean inv1_w?\n  help: add a [[tag]] of that name to the site file, or correct the name; an external that isn't used asks for no tag\n",
+    ),
+];
+
 #[test]
-fn a_budget_that_is_too_great_is_explained_for_the_whole_program(rt: HostRuntime) {
+fn what_is_known_where_a_program_is_refused_is_told(rt: HostRuntime) {
+    for (program, lines, note) in OF_DETAILS.iter() {
+        let mut out = Vec::new(rt.alloc());
+        let (_, cause) = judge(rt.alloc(), SITE, program, &[], &mut out);
+        assert_same(&rt, &printed(&rt, out).as_str(), lines);
+        assert_note(&rt, cause, "p.il", program, note);
+    }
+}
+
+#[test]
+fn a_budget_that_is_too_great_is_explained_on_a_loop(rt: HostRuntime) {
     let mut program = String::from_str(rt.alloc(), "PROGRAM p\n").expect(&rt, "memory");
     for number in 0..63u32 {
         let line = format!(in rt.alloc(); "l{number}: {{LOOP 255}} JMP l{number}\n");
@@ -105,7 +159,7 @@ fn a_budget_that_is_too_great_is_explained_for_the_whole_program(rt: HostRuntime
     }
     program.push_str("END_PROGRAM\n").expect(&rt, "memory");
     let note =
-        "p.il: OverBudget: a scan may take more than 1,000,000 instructions\n  help: lower the counts of the jumps with {LOOP n}, which together multiply the longest way\n";
+        "p.il:2: OverBudget: a scan may take more than 1,000,000 instructions\n    2 | l0: {LOOP 255} JMP l0\n      | ^^^^^^^^^^^^^^^^^^^^^\n  help: lower the counts of the jumps with {LOOP n}, which together multiply the longest way\n";
     assert_verdict(
         &rt,
         program.as_str(),

@@ -66,7 +66,7 @@ static REFUSED: &[(&str, u32, &str)] = &[
     (
         "VAR_EXTERNAL\n  moon : BOOL;\nEND_VAR\n  LD TRUE\n  ST moon\n",
         3,
-        "the program stores it as BOOL, the site has no tag of this name",
+        "the program stores it as BOOL",
     ),
 ];
 

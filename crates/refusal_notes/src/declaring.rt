@@ -1,0 +1,160 @@
+//! What is told of a declaration that isn't one, by what may stand at its place.
+use crate::kinds::{kind_of, no_end, no_start, no_type};
+use crate::met::{Met, line_of};
+use crate::mistakes::mistake_met;
+use crate::pieces::{Piece, has};
+use crate::reserved::{is_operator, reserved};
+use crate::told::{Hint, Told};
+use point_types::IlType;
+use std::alloc::{AllocError, Global};
+
+const NO_NAME: Hint = Hint {
+    meaning: "a declaration begins with a name",
+    help: "write name : TYPE; and END_VAR behind the last declaration",
+};
+
+const NO_OTHER_NAME: Hint = Hint {
+    meaning: "a name must stand behind the comma",
+    help: "write name, name : TYPE; without a comma behind the last name",
+};
+
+const NO_COLON: Hint = Hint {
+    meaning: "a colon must stand between the names and their type",
+    help: "write name : TYPE; and a comma between two names",
+};
+
+const NO_END_VAR: Hint = Hint {
+    meaning: "the block of declarations isn't ended",
+    help: "write END_VAR in front of the first instruction",
+};
+
+const NO_QUALIFIER: Hint = Hint {
+    meaning: "VAR has no such word behind it",
+    help: "leave it out: variables keep their values from scan to scan, and begin anew with each start; what clients set is kept with serve --state",
+};
+
+const ONE_WORD: Hint = Hint {
+    meaning: "VAR_EXTERNAL is one word",
+    help: "write VAR_EXTERNAL, with an underscore",
+};
+
+const UNENDED: Hint = Hint {
+    meaning: "the declaration isn't ended",
+    help: "write a semicolon behind it",
+};
+
+const NO_RANGE_HERE: Hint = Hint {
+    meaning: "an external has a type alone",
+    help: "take it away: the site file gives a tag its range and its default",
+};
+
+const NO_RANGE_OF_BOOL: Hint = Hint {
+    meaning: "a BOOL has no range",
+    help: "take the range away",
+};
+
+const NO_DOTS: Hint = Hint {
+    meaning: "two dots must stand between the ends of a range",
+    help: "write (low..high)",
+};
+
+const NO_CLOSE: Hint = Hint {
+    meaning: "a parenthesis must close the range",
+    help: "write (low..high)",
+};
+
+const UNEXPECTED: Hint = Hint {
+    meaning: "behind a type stand a range, a start value, or a semicolon",
+    help: "write name : TYPE (low..high) := start; where the range and the start may be left out",
+};
+
+/// What is told of a declaration that isn't one.
+pub(crate) fn no_declaration(alloc: Global, met: &Met<'_, '_>) -> Result<Told, AllocError> {
+    if let Some(hint) = mistake_met(met) {
+        return Ok(Told::new(alloc, hint));
+    }
+    let declaration = met.declaration(alloc)?;
+    let declaration = declaration.as_slice();
+    let Some(last) = declaration.last() else {
+        return no_name(alloc, met, NO_NAME);
+    };
+    match last.text {
+        "," => no_name(alloc, met, NO_OTHER_NAME),
+        ":" => no_type(alloc, met),
+        "(" | ".." => no_end(alloc, declaration),
+        ":=" => no_start(alloc, met, declaration),
+        _ if has(declaration, ":") => behind_type(alloc, met, declaration, *last),
+        _ => Ok(no_colon(alloc, declaration)),
+    }
+}
+
+/// What is told where a name must stand.
+fn no_name(alloc: Global, met: &Met<'_, '_>, hint: Hint) -> Result<Told, AllocError> {
+    let word = met.text();
+    let declares = met.next() == ":" || met.next() == ",";
+    match reserved(word) {
+        Some(reserved) if declares => Told::named(alloc, word, reserved),
+        Some(_) if is_operator(word) || met.is("END_PROGRAM") => Ok(Told::new(alloc, NO_END_VAR)),
+        _ => Ok(Told::new(alloc, hint)),
+    }
+}
+
+/// What is told where a colon must stand behind the names.
+fn no_colon(alloc: Global, declaration: &[Piece<'_>]) -> Told {
+    let Some(first) = declaration.first() else {
+        return Told::new(alloc, NO_COLON);
+    };
+    if first.is("EXTERNAL") {
+        return Told::on(alloc, *first, ONE_WORD);
+    }
+    for word in ["RETAIN", "NON_RETAIN", "CONSTANT", "PERSISTENT"] {
+        if first.is(word) {
+            return Told::on(alloc, *first, NO_QUALIFIER);
+        }
+    }
+    Told::new(alloc, NO_COLON)
+}
+
+/// What is told behind a type.
+fn behind_type(
+    alloc: Global,
+    met: &Met<'_, '_>,
+    declaration: &[Piece<'_>],
+    last: Piece<'_>,
+) -> Result<Told, AllocError> {
+    let in_range = has(declaration, "(") && !has(declaration, ")");
+    let hint = if in_range && has(declaration, "..") {
+        NO_CLOSE
+    } else if in_range {
+        NO_DOTS
+    } else if is_unended(met, last) || has(declaration, ":=") {
+        return unended(alloc, last);
+    } else if is_external(met) {
+        NO_RANGE_HERE
+    } else if met.is("(") && kind_of(declaration) == Some(IlType::Bool) {
+        NO_RANGE_OF_BOOL
+    } else {
+        UNEXPECTED
+    };
+    Ok(Told::new(alloc, hint))
+}
+
+/// Whether what is met begins a line or a declaration of its own.
+fn is_unended(met: &Met<'_, '_>, last: Piece<'_>) -> bool {
+    let begins_line = line_of(met.code, last.at) < line_of(met.code, met.at);
+    begins_line || met.next() == ":" || met.next() == ","
+}
+
+/// A semicolon is missing behind a piece.
+fn unended(alloc: Global, last: Piece<'_>) -> Result<Told, AllocError> {
+    let mut told = Told::new(alloc, UNENDED).knowing("a semicolon is missing")?;
+    told.span = Some((last.behind(), last.behind().saturating_add(1)));
+    Ok(told)
+}
+
+fn is_external(met: &Met<'_, '_>) -> bool {
+    match met.block() {
+        Some(block) => block.is("VAR_EXTERNAL"),
+        None => false,
+    }
+}

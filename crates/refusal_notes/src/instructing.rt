@@ -1,0 +1,237 @@
+//! What is told of an instruction that isn't one, by its operator and by what is met.
+use crate::met::{Met, line_of};
+use crate::mistakes::{STRUCTURED, mistake_met};
+use crate::pieces::Piece;
+use crate::reserved::{is_conversion, is_operator, operator_meant, reserved};
+use crate::told::{Hint, Told};
+use std::alloc::{AllocError, Global};
+
+const NO_CONVERSION: Hint = Hint {
+    meaning: "there is no conversion {}",
+    help: "conversions lead from one type of whole numbers to another, as INT_TO_DINT; a number for a BOOL is chosen by SEL, as LD b / SEL 0, 1",
+};
+
+const NO_LABEL_COLON: Hint = Hint {
+    meaning: "no operator stands where one must",
+    help: "write a colon behind {} where it is a label; else begin the line with an operator, as LD",
+};
+
+const NO_OPERATOR: Hint = Hint {
+    meaning: "{} is no operator",
+    help: "begin the line with one operator, as LD or ADD; a label has a colon, and {LOOP n} stands before a jump",
+};
+
+const NO_OPERAND: Hint = Hint {
+    meaning: "{} wants an operand",
+    help: "write a name, a number, TRUE or FALSE behind it",
+};
+
+const NO_NAME_TO_STORE: Hint = Hint {
+    meaning: "{} wants the name of what it stores to",
+    help: "write the name of a variable, or of a tag that programs store",
+};
+
+const NO_SECOND: Hint = Hint {
+    meaning: "{} wants two operands with a comma between them",
+    help: "write LIMIT input, most, where the result is the least; or SEL if_false, if_true, where the result chooses",
+};
+
+const ONE_TOO_MANY: Hint = Hint {
+    meaning: "{} takes one operand",
+    help: "write each operator on a line of its own, with one operand",
+};
+
+const TWO_ARE_THE_MOST: Hint = Hint {
+    meaning: "{} takes two operands",
+    help: "take the others away; write each operator on a line of its own",
+};
+
+const NONE_TAKEN: Hint = Hint {
+    meaning: "{} takes no operand",
+    help: "leave it out: {} works on the result",
+};
+
+const NO_PARENTHESIS: Hint = Hint {
+    meaning: "{} takes no parenthesis",
+    help: "leave it out, or compute the operand before and keep it in a variable",
+};
+
+const OWN_LINE: Hint = Hint {
+    meaning: "the closing parenthesis stands on a line of its own",
+    help: "write ADD( a, then the lines of what is inside, then ) alone; for one operand leave both away",
+};
+
+const NOTHING_INSIDE: Hint = Hint {
+    meaning: "nothing stands inside the parentheses",
+    help: "write an operand behind the opening one, or a line with LD below it",
+};
+
+const NO_LABEL: Hint = Hint {
+    meaning: "{} wants the name of a label",
+    help: "name a label that stands before a line, as JMP done",
+};
+
+const NOT_INSIDE: Hint = Hint {
+    meaning: "{} may not stand inside parentheses",
+    help: "close them before, by ) on a line of its own; store, jump and return behind it",
+};
+
+const STAYS_OPEN: Hint = Hint {
+    meaning: "a parenthesis stays open",
+    help: "close it by ) on a line of its own",
+};
+
+const NONE_OPEN: Hint = Hint {
+    meaning: "this closes nothing: no parenthesis is open",
+    help: "write the operator that opens it, as ADD(, on a line before; a lone operand needs none",
+};
+
+/// What is told where an operator must stand.
+pub(crate) fn no_operator(alloc: Global, met: &Met<'_, '_>) -> Result<Told, AllocError> {
+    let word = met.text();
+    if let Some(hint) = mistake_met(met) {
+        return Told::named(alloc, word, hint);
+    }
+    if met.next() == ":=" {
+        return Ok(Told::new(alloc, STRUCTURED));
+    }
+    if is_conversion_word(word) {
+        return conversion_meant(alloc, word);
+    }
+    if is_operator(met.next()) {
+        return Told::named(alloc, word, NO_LABEL_COLON);
+    }
+    let question = operator_meant(alloc, word)?;
+    Told::named(alloc, word, NO_OPERATOR)?.knowing(question.as_str())
+}
+
+/// Whether a word looks like a conversion, as `INT_TO_REAL`.
+fn is_conversion_word(word: &str) -> bool {
+    word.contains("_TO") || word.contains("_to")
+}
+
+fn conversion_meant(alloc: Global, word: &str) -> Result<Told, AllocError> {
+    let question = operator_meant(alloc, word)?;
+    Told::named(alloc, word, NO_CONVERSION)?.knowing(question.as_str())
+}
+
+/// What is told where an operand is missing, or one is too many.
+pub(crate) fn no_operand(alloc: Global, met: &Met<'_, '_>) -> Result<Told, AllocError> {
+    if let Some(hint) = mistake_met(met) {
+        return Ok(Told::new(alloc, hint));
+    }
+    let instruction = instruction_of(met.line());
+    let Some((operator, operands)) = instruction.split_first() else {
+        return Ok(Told::new(alloc, NOTHING_INSIDE));
+    };
+    if met.is(":") && operands.is_empty() {
+        if let Some(hint) = reserved(operator.text) {
+            return Ok(on_named(alloc, *operator, hint)?);
+        }
+    }
+    if let (Some(hint), true) = (reserved(met.text()), wants_operand(operator.text, operands)) {
+        return Told::named(alloc, met.text(), hint);
+    }
+    Told::named(
+        alloc,
+        operator.text,
+        hint_on_operands(met, operator.text, operands),
+    )
+}
+
+fn on_named(alloc: Global, piece: Piece<'_>, hint: Hint) -> Result<Told, AllocError> {
+    let mut told = Told::named(alloc, piece.text, hint)?;
+    told.span = Some((piece.at, piece.behind()));
+    Ok(told)
+}
+
+/// What stands on a line behind its label and a count.
+fn instruction_of<'p, 'a>(line: &'p [Piece<'a>]) -> &'p [Piece<'a>] {
+    let mut rest = line;
+    if let [_, second, behind @ ..] = rest {
+        if second.text == ":" {
+            rest = behind;
+        }
+    }
+    match rest {
+        [brace, _, _, _, behind @ ..] if brace.text == "{" => behind,
+        _ => rest,
+    }
+}
+
+/// Whether an operator with these operands wants one more.
+fn wants_operand(operator: &str, operands: &[Piece<'_>]) -> bool {
+    match operands {
+        [] => !takes_none(operator),
+        [.., last] => last.text == "," || last.text == "(",
+    }
+}
+
+fn takes_none(operator: &str) -> bool {
+    for word in ["NOT", "ABS", "RET", "RETC", "RETCN"] {
+        if operator.eq_ignore_ascii_case(word) {
+            return true;
+        }
+    }
+    is_conversion(operator)
+}
+
+/// The hint on an operator with too few operands, or one too many.
+fn hint_on_operands(met: &Met<'_, '_>, operator: &str, operands: &[Piece<'_>]) -> Hint {
+    let takes_two = is_any(operator, &["LIMIT", "SEL"]);
+    if takes_none(operator) {
+        NONE_TAKEN
+    } else if met.is("(") && operands.is_empty() {
+        NO_PARENTHESIS
+    } else if met.is(")") {
+        OWN_LINE
+    } else if takes_two && operands.len() < 3 {
+        NO_SECOND
+    } else if takes_two {
+        TWO_ARE_THE_MOST
+    } else if !operands.is_empty() {
+        ONE_TOO_MANY
+    } else if is_any(operator, &["ST", "STN", "S", "R"]) {
+        NO_NAME_TO_STORE
+    } else {
+        NO_OPERAND
+    }
+}
+
+fn is_any(operator: &str, words: &[&str]) -> bool {
+    for word in words {
+        if operator.eq_ignore_ascii_case(word) {
+            return true;
+        }
+    }
+    false
+}
+
+/// What is told where the name of a label must stand.
+pub(crate) fn no_label(alloc: Global, met: &Met<'_, '_>) -> Result<Told, AllocError> {
+    if let Some(hint) = mistake_met(met) {
+        return Ok(Told::new(alloc, hint));
+    }
+    if let Some(hint) = reserved(met.text()) {
+        return Told::named(alloc, met.text(), hint);
+    }
+    match met.line().last() {
+        Some(jump) => Told::named(alloc, jump.text, NO_LABEL),
+        None => Ok(Told::new(alloc, NO_LABEL)),
+    }
+}
+
+/// What is told of a parenthesis, or of what may not stand inside one.
+pub(crate) fn no_parenthesis(alloc: Global, met: &Met<'_, '_>) -> Result<Told, AllocError> {
+    let Some(opening) = met.opening(alloc)? else {
+        return Ok(Told::new(alloc, NONE_OPEN));
+    };
+    let hint = if met.ends() || met.is("END_PROGRAM") {
+        STAYS_OPEN
+    } else {
+        NOT_INSIDE
+    };
+    let (word, line) = (opening.text, line_of(met.code, opening.at));
+    let text = format!(in alloc; "{word}( of line {line} is open")?;
+    Told::named(alloc, met.text(), hint)?.knowing(text.as_str())
+}

@@ -1,0 +1,166 @@
+//! Words in place of a type, and literals that a type can't hold.
+use crate::met::Met;
+use crate::pieces::{Piece, behind_first};
+use crate::reserved::{type_meant, type_named};
+use crate::told::{Hint, Told};
+use point_types::IlType;
+use program_notes::type_word;
+use std::alloc::{AllocError, Global};
+
+/// Words that stand for types elsewhere, and what is told of them.
+static OTHER_TYPES: [(&[&str], Hint); 8] = [
+    (
+        &["REAL", "LREAL"],
+        Hint {
+            meaning: "there are no numbers with a point",
+            help: "use a type of whole numbers, as INT or DINT, and count in tenths or hundredths, by the tag's exponent",
+        },
+    ),
+    (
+        &["TIME", "DATE", "TIME_OF_DAY", "TOD", "DATE_AND_TIME", "DT"],
+        Hint {
+            meaning: "there are no times",
+            help: "count scans, or read a clock of the site, in a type of whole numbers, as UDINT",
+        },
+    ),
+    (
+        &["BYTE", "WORD", "DWORD", "LWORD", "ULINT"],
+        Hint {
+            meaning: "there is no type {}",
+            help: "use a type of whole numbers that holds the values: SINT, INT, DINT, LINT, USINT, UINT or UDINT",
+        },
+    ),
+    (
+        &["INTEGER", "LONG", "SHORT"],
+        Hint {
+            meaning: "there is no type {}",
+            help: "write INT, or another type of whole numbers: SINT, DINT, LINT, USINT, UINT or UDINT",
+        },
+    ),
+    (
+        &["BOOLEAN", "BIT"],
+        Hint {
+            meaning: "there is no type {}",
+            help: "write BOOL",
+        },
+    ),
+    (
+        &["STRING", "WSTRING", "CHAR"],
+        Hint {
+            meaning: "there are no texts",
+            help: "use BOOL, or a type of whole numbers",
+        },
+    ),
+    (
+        &["ARRAY", "STRUCT", "POINTER"],
+        Hint {
+            meaning: "there is no type {}",
+            help: "declare a variable of its own for each part",
+        },
+    ),
+    (
+        &[
+            "TON", "TOF", "TP", "CTU", "CTD", "CTUD", "R_TRIG", "F_TRIG", "SR", "RS",
+        ],
+        Hint {
+            meaning: "there are no function blocks",
+            help: "write what the block does as instructions; a count or a state is kept in a variable",
+        },
+    ),
+];
+
+const NO_TYPE: Hint = Hint {
+    meaning: "a type must stand behind the colon",
+    help: "use BOOL, SINT, INT, DINT, LINT, USINT, UINT or UDINT",
+};
+
+/// What is told of a word that stands where a type must.
+pub(crate) fn no_type(alloc: Global, met: &Met<'_, '_>) -> Result<Told, AllocError> {
+    let word = met.text();
+    for (words, hint) in OTHER_TYPES.iter() {
+        if is_listed(words, word) {
+            return Told::named(alloc, word, *hint);
+        }
+    }
+    let question = type_meant(alloc, word)?;
+    Told::new(alloc, NO_TYPE).knowing(question.as_str())
+}
+
+fn is_listed(words: &[&str], word: &str) -> bool {
+    for other in words {
+        if other.eq_ignore_ascii_case(word) {
+            return true;
+        }
+    }
+    false
+}
+
+const WRONG_END: Hint = Hint {
+    meaning: "no end of a range that its type can hold",
+    help: "write (low..high) with two numbers of the type, the lower one first",
+};
+
+const WRONG_START: Hint = Hint {
+    meaning: "no start value that the variable can hold",
+    help: "write a literal of the type within the range, as := 5, or := TRUE for a BOOL",
+};
+
+/// What is told of what stands where a start value must.
+pub(crate) fn no_start(
+    alloc: Global,
+    met: &Met<'_, '_>,
+    declaration: &[Piece<'_>],
+) -> Result<Told, AllocError> {
+    let range = range_of(met.code, declaration);
+    let told = Told::new(alloc, WRONG_START);
+    if range.is_empty() {
+        let holds = kind_holds(alloc, declaration)?;
+        return told.knowing(holds.as_str());
+    }
+    let text = format!(in alloc; "the range is {range}")?;
+    told.knowing(text.as_str())
+}
+
+/// What is told of what stands where the end of a range must.
+pub(crate) fn no_end(alloc: Global, declaration: &[Piece<'_>]) -> Result<Told, AllocError> {
+    let holds = kind_holds(alloc, declaration)?;
+    Told::new(alloc, WRONG_END).knowing(holds.as_str())
+}
+
+/// The range of a declaration, as it is written; empty where it has none.
+fn range_of<'a>(code: &'a str, declaration: &[Piece<'_>]) -> &'a str {
+    let mut from = 0;
+    for piece in declaration {
+        if piece.text == "(" {
+            from = piece.behind();
+        } else if piece.text == ")" {
+            return code.get(from..piece.at).unwrap_or("").trim();
+        }
+    }
+    ""
+}
+
+/// What the type of a declaration holds; empty where it has none yet.
+fn kind_holds(alloc: Global, declaration: &[Piece<'_>]) -> Result<String, AllocError> {
+    match kind_of(declaration) {
+        Some(kind) => holds(alloc, kind),
+        None => Ok(String::new(alloc)),
+    }
+}
+
+/// The type of a declaration.
+pub(crate) fn kind_of(declaration: &[Piece<'_>]) -> Option<IlType> {
+    type_named(behind_first(declaration, ":")?.text)
+}
+
+/// What a type holds, as `SINT holds -128..127`.
+pub(crate) fn holds(alloc: Global, kind: IlType) -> Result<String, AllocError> {
+    if kind == IlType::Bool {
+        return String::from_str(alloc, "BOOL holds TRUE and FALSE");
+    }
+    let (low, high) = (kind.low(), kind.high());
+    let ends = format!(in alloc; " holds {low}..{high}")?;
+    let mut text = String::from_str(alloc, type_word(kind))?;
+    text.push_str(ends.as_str())?;
+    Ok(text)
+}

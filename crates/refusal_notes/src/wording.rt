@@ -1,0 +1,251 @@
+//! What is told of characters that are no word, of numbers, of names that stand already, and of a program's frame.
+use crate::kinds::holds;
+use crate::met::{Met, line_of};
+use crate::mistakes::mistake_met;
+use crate::pieces::{Piece, has};
+use crate::reserved::{is_operator, reserved, type_named};
+use crate::told::{Hint, Told};
+use point_types::IlType;
+use std::alloc::{AllocError, Global};
+
+const NO_POINT: Hint = Hint {
+    meaning: "all numbers are whole, without a point",
+    help: "count in tenths or hundredths: the tag's exponent in the site file says what its numbers count",
+};
+
+const NO_PARTS: Hint = Hint {
+    meaning: "there are no function blocks, and names have no parts behind a point",
+    help: "keep what a block would hold in variables of the program",
+};
+
+const ASSIGNED: Hint = Hint {
+    meaning: "a start value stands behind :=",
+    help: "write := in place of =",
+};
+
+const COMPARED: Hint = Hint {
+    meaning: "a comparison is an operator on a line of its own",
+    help: "write EQ with what the result is compared with",
+};
+
+const NO_TIME: Hint = Hint {
+    meaning: "there are no times",
+    help: "count scans, or read a clock of the site, in a type of whole numbers, as UDINT",
+};
+
+const NO_SUCH_TYPE: Hint = Hint {
+    meaning: "no type of whole numbers stands before the #",
+    help: "write the type and a whole number, as INT#5; a BOOL is TRUE or FALSE",
+};
+
+const TOO_LONG: Hint = Hint {
+    meaning: "a name has at most 32 characters",
+    help: "shorten it",
+};
+
+const UNDERSCORES: Hint = Hint {
+    meaning: "underscores stand single, and none at the end",
+    help: "write one underscore between letters or digits",
+};
+
+const SIGN: Hint = Hint {
+    meaning: "a sign stands right before the digits of a number",
+    help: "write -5 without a blank; for the opposite of a value write LD 0 / SUB and its name",
+};
+
+const COUNT: Hint = Hint {
+    meaning: "only {LOOP n} stands in braces",
+    help: "write {LOOP 10} before JMP, with a number from 1 to 255",
+};
+
+const UNCLOSED: Hint = Hint {
+    meaning: "the comment isn't closed",
+    help: "write *) at its end",
+};
+
+const TURNS: Hint = Hint {
+    meaning: "a counted jump has 1 to 255 turns",
+    help: "write a number from 1 to 255; count further in a variable",
+};
+
+const TOO_LARGE: Hint = Hint {
+    meaning: "the number is too large",
+    help: "write a number within the type",
+};
+
+const NO_DIGITS: Hint = Hint {
+    meaning: "what begins with a digit is a number, and this is none",
+    help: "write all its digits, as 1000, or digits of the base behind 16#, 8# or 2#; a name begins with a letter",
+};
+
+const NAMED_TWICE: Hint = Hint {
+    meaning: "the name {} stands already",
+    help: "rename one of the two; case makes no difference",
+};
+
+const PRESENCE: Hint = Hint {
+    meaning: "{} and the presence of an external are at odds",
+    help: "rename one of the two: name_OK tells whether the external name has a value",
+};
+
+const NOT_BEGUN: Hint = Hint {
+    meaning: "the text doesn't begin with PROGRAM",
+    help: "write PROGRAM and a name in front of it; only comments stand before",
+};
+
+const UNNAMED: Hint = Hint {
+    meaning: "the program has no name",
+    help: "write a name behind PROGRAM",
+};
+
+const NOT_ENDED: Hint = Hint {
+    meaning: "END_PROGRAM is missing",
+    help: "write END_PROGRAM on a line behind the last instruction",
+};
+
+const NOT_OVER: Hint = Hint {
+    meaning: "something stands behind END_PROGRAM",
+    help: "take it away: a text has one program, and only comments behind it",
+};
+
+/// What is told of a comment that isn't closed.
+pub(crate) fn unclosed(alloc: Global, open: usize) -> Told {
+    let mut told = Told::new(alloc, UNCLOSED);
+    told.span = Some((open, open.saturating_add(2)));
+    told
+}
+
+/// What is told of characters that are no word; none where no more is known than that.
+pub(crate) fn no_word(alloc: Global, met: &Met<'_, '_>) -> Option<Told> {
+    if let Some(hint) = hint_on_mark(met) {
+        return Some(Told::new(alloc, hint));
+    }
+    let piece = met.piece()?;
+    let hint = mistake_met(met).or(hint_on_word(piece.text))?;
+    Some(Told::on(alloc, piece, hint))
+}
+
+/// The hint on a mark that can't stand there.
+fn hint_on_mark(met: &Met<'_, '_>) -> Option<Hint> {
+    if met.is("=") {
+        return Some(if met.block().is_some() {
+            ASSIGNED
+        } else {
+            COMPARED
+        });
+    }
+    if met.is(".") {
+        let last = met.last()?;
+        return Some(if last.is_number() { NO_POINT } else { NO_PARTS });
+    }
+    if met.is("-") || met.is("+") {
+        return Some(SIGN);
+    }
+    if has(met.line(), "{") || met.is("{") || met.is("}") {
+        return Some(COUNT);
+    }
+    None
+}
+
+/// The hint on a word that is none.
+fn hint_on_word(word: &str) -> Option<Hint> {
+    if let Some((front, _)) = word.split_once("#") {
+        let is_time = front.eq_ignore_ascii_case("T") || front.eq_ignore_ascii_case("TIME");
+        return Some(if is_time { NO_TIME } else { NO_SUCH_TYPE });
+    }
+    if word.len() > 32 {
+        Some(TOO_LONG)
+    } else if word.contains("__") || word.ends_with("_") {
+        Some(UNDERSCORES)
+    } else {
+        None
+    }
+}
+
+/// What is told of a number that is none, or too large.
+pub(crate) fn no_number(alloc: Global, met: &Met<'_, '_>) -> Result<Option<Told>, AllocError> {
+    let Some(piece) = met.piece() else {
+        return Ok(None);
+    };
+    if has(met.line(), "{") {
+        return Ok(Some(Told::on(alloc, piece, TURNS)));
+    }
+    let Some(kind) = kind_of_number(piece.text, met.next()) else {
+        return Ok(Some(Told::on(alloc, piece, NO_DIGITS)));
+    };
+    let holds = holds(alloc, kind)?;
+    Ok(Some(Told::on(alloc, piece, TOO_LARGE).knowing(holds.as_str())?))
+}
+
+/// The type of a number that is too large: the one before it, else the widest; none where it isn't a number.
+fn kind_of_number(text: &str, next: &str) -> Option<IlType> {
+    match text.split_once("#") {
+        None if are_digits(text) => Some(IlType::Lint),
+        None => None,
+        Some((front, digits)) if are_digits(digits) || next == "-" => type_named(front),
+        Some(_) => None,
+    }
+}
+
+/// Whether these are digits, with single underscores between them.
+fn are_digits(text: &str) -> bool {
+    for letter in text.chars() {
+        if letter != '_' && !letter.is_ascii_digit() {
+            return false;
+        }
+    }
+    !text.is_empty() && !text.ends_with("_") && !text.contains("__")
+}
+
+/// What is told of a name that stands already.
+pub(crate) fn no_second(alloc: Global, met: &Met<'_, '_>) -> Result<Told, AllocError> {
+    let Some(first) = first_of(met) else {
+        return Told::named(alloc, met.text(), PRESENCE);
+    };
+    let line = line_of(met.code, first.at);
+    let text = format!(in alloc; "the first one is in line {line}")?;
+    Told::named(alloc, met.text(), NAMED_TWICE)?.knowing(text.as_str())
+}
+
+/// Where the name that is met stands before: as a label in the body, else in a declaration.
+fn first_of<'a>(met: &Met<'_, 'a>) -> Option<Piece<'a>> {
+    let from = if met.block().is_some() {
+        met.before
+    } else {
+        met.body()
+    };
+    let mut last: Option<Piece<'a>> = None;
+    for piece in from {
+        if let Some(name) = last {
+            if (piece.text == ":" || piece.text == ",") && name.is(met.text()) {
+                return Some(name);
+            }
+        }
+        last = Some(*piece);
+    }
+    None
+}
+
+/// What is told of a program's frame.
+pub(crate) fn no_frame(alloc: Global, met: &Met<'_, '_>) -> Result<Told, AllocError> {
+    if let Some(hint) = mistake_met(met) {
+        return Ok(Told::new(alloc, hint));
+    }
+    if has(met.before, "END_PROGRAM") {
+        return Ok(Told::new(alloc, NOT_OVER));
+    }
+    match met.last() {
+        None => Ok(Told::new(alloc, NOT_BEGUN)),
+        Some(last) if last.is("PROGRAM") => unnamed(alloc, met),
+        Some(_) => Ok(Told::new(alloc, NOT_ENDED)),
+    }
+}
+
+fn unnamed(alloc: Global, met: &Met<'_, '_>) -> Result<Told, AllocError> {
+    match reserved(met.text()) {
+        Some(hint) if is_operator(met.text()) && met.next() == "\n" => {
+            Told::named(alloc, met.text(), hint)
+        }
+        _ => Ok(Told::new(alloc, UNNAMED)),
+    }
+}

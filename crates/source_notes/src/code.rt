@@ -1,0 +1,83 @@
+//! A program's text without its comments.
+use std::alloc::{AllocError, Global};
+
+/// A program's text in which blanks stand in place of the comments, so that each byte keeps its place.
+#[derive(Drop)]
+pub struct Code {
+    pub text: String,
+    /// Where the comment opens that isn't closed.
+    pub open: Option<usize>,
+}
+
+/// Where a letter stands.
+#[derive(Clone, Copy, PartialEq, Eq)]
+enum Place {
+    Outside,
+    /// An opening parenthesis, which may begin a comment.
+    Bracket,
+    Inside,
+    /// Inside, behind a star.
+    Star,
+    /// The end of a comment.
+    End,
+}
+
+impl Code {
+    /// The code of a text.
+    pub fn of(alloc: Global, text: &str) -> Result<Code, AllocError> {
+        let mut code = String::new(alloc);
+        let mut open = 0;
+        let mut place = Place::Outside;
+        for letter in text.chars() {
+            let next = next_place(place, letter);
+            if place == Place::Bracket && next == Place::Inside {
+                let _ = code.pop();
+                open = code.len();
+                code.push(' ')?;
+            }
+            push_letter(&mut code, next, letter)?;
+            place = next;
+        }
+        let open = match place {
+            Place::Inside | Place::Star => Some(open),
+            Place::Outside | Place::Bracket | Place::End => None,
+        };
+        Ok(Code { text: code, open })
+    }
+}
+
+fn next_place(place: Place, letter: char) -> Place {
+    match place {
+        Place::Bracket if letter == '*' => Place::Inside,
+        Place::Outside | Place::Bracket | Place::End => {
+            if letter == '(' {
+                Place::Bracket
+            } else {
+                Place::Outside
+            }
+        }
+        Place::Star if letter == ')' => Place::End,
+        Place::Inside | Place::Star => {
+            if letter == '*' {
+                Place::Star
+            } else {
+                Place::Inside
+            }
+        }
+    }
+}
+
+/// Appends a letter of the code, or a blank for each byte of a comment's.
+fn push_letter(code: &mut String, place: Place, letter: char) -> Result<(), AllocError> {
+    let is_code = match place {
+        Place::Outside | Place::Bracket => true,
+        Place::Inside | Place::Star | Place::End => letter == '\n' || letter == '\r',
+    };
+    if is_code {
+        return code.push(letter);
+    }
+    for _ in 0..letter.len_utf8() {
+        code.push(' ')?;
+    }
+    Ok(())
+}
