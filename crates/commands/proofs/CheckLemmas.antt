@@ -42,7 +42,7 @@ site_status : (r : Result Layout SiteFault) (program : List ℕ) (told : Told) �
 site_status (Ok layout) program told (tags, same, h) = program_status tags (reading program) told h
 site_status (Err fault) program told h = ap (λ (t : Told). t.status) h
 
-refused_status : (site program : List ℕ) (texts : List (List ℕ)) (told : Told) → Refuses site program texts told → told.status ≡ 1
+pub refused_status : (site program : List ℕ) (texts : List (List ℕ)) (told : Told) → Refuses site program texts told → told.status ≡ 1
 refused_status site program texts told (inl (models, defined, h)) = site_status (site_in models site) program told h
 refused_status site program texts told (inr (fault, broken, is)) = ap (λ (t : Told). t.status) is
 

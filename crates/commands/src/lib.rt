@@ -1,7 +1,7 @@
 //! The commands of the gateway's program, each on texts and links that the caller hands in: a [`trial`] scan of a
 //! program by itself, [`check`], which judges a program for a site, [`explain`], which prints it with what is known before
 //! each instruction, [`plant_of`], which gives the plant that `simulate` serves, the [`scans`] of a program on a site, and
-//! [`probe`], which prints the points of a device.
+//! [`probe`], which prints the points of a device by [`models_told`].
 #![tactic(auto)]
 
 mod accepted;
@@ -11,6 +11,7 @@ mod given;
 mod input;
 mod input_cause;
 pub mod laws;
+mod model_texts;
 mod number;
 mod obeyed;
 mod obeyed_over;
@@ -39,6 +40,7 @@ pub use plant::{plant_of, plant_told};
 pub use scan_watch::{ScanWatch, Unwatched};
 pub use site_scans::{DEPTH, scans, scans_noting};
 // a device
+pub use model_texts::models_told;
 pub use unit_points::probe;
 // each of these as a command, with a clause for all of them
 pub use obeyed::{Obeyed, TextCommand, obey};

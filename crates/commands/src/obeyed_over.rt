@@ -1,21 +1,16 @@
 //! What the program is asked for over a link to devices, done by one call.
-ghost use Rattle.std.specs.Prelude.{map, string_bytes, IfErr, IfOk};
-ghost use Rattle.commands.specs.Accepted.{TellsUndefined};
-ghost use Rattle.commands.specs.Defined.{AreDefined};
+ghost use Rattle.std.specs.Prelude.{map, string_bytes};
 ghost use Rattle.commands.specs.Obeyed.{ObeysOver, ProbesBy, Runs};
 
 use crate::accepted::DEPTH;
-use crate::definitions::definitions;
-use crate::outcome::{Outcome, tell_no_memory};
-use crate::report::undefined;
+use crate::model_texts::models_told;
 use crate::scan_watch::ScanWatch;
 use crate::site_scans::scans_noting;
 use crate::unit_points::probe;
 use gateway::{Core, Poller};
 use modbus_frame::Link;
-use model_defs::{DefFault, ModelDef};
-use refusal_notes::{Cause, cause_of_definition};
-use std::alloc::{AllocError, Global};
+use refusal_notes::Cause;
+use std::alloc::Global;
 use std::io::Write;
 
 /// What the program is asked for over a link, with the texts of the files that are named.
@@ -107,25 +102,8 @@ fn probe_by<L: Link, W: Write>(
 ) -> (u8, Option<Cause>)
     ensures { ProbesBy unit (map string_bytes defs.now) poller.old poller.new (W.contents out.old) (W.contents out.new) result.0 }
 {
-    match models_of(alloc, defs) {
-        Ok(Ok(models)) => (probe(alloc, poller, unit, models.as_slice(), out), None),
-        Ok(Err(outcome)) => (outcome.tell(out), outcome.cause),
-        Err(AllocError) => (tell_no_memory(out), None),
-    }
-}
-
-/// The shipped definitions and those of the texts, or what is told of the first text that is none.
-fn models_of(alloc: Global, defs: &[String]) -> Result<Result<Vec<ModelDef>, Outcome>, AllocError>
-    ensures defined { IfOk result (λ given. IfOk given (λ models. AreDefined (map string_bytes defs.now) models.items)) }
-    ensures told { IfOk result (λ given. IfErr given (TellsUndefined (map string_bytes defs.now))) }
-{
-    match definitions(alloc, defs) {
-        Ok(models) => Ok(Ok(models)),
-        Err(DefFault::OutOfMemory) => Err(AllocError),
-        Err(fault) => {
-            let line = undefined(alloc, fault.word())?;
-            let cause = cause_of_definition(alloc, defs, fault);
-            Ok(Err(Outcome::caused(line, cause)))
-        }
+    match models_told(alloc, defs, out) {
+        Ok(models) => (probe(alloc, poller, unit, models.as_slice(), out), None),
+        Err(refused) => (refused.status, refused.cause),
     }
 }

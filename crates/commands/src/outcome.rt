@@ -1,12 +1,12 @@
 //! Lines to print with their status, and how they are written.
-ghost use Rattle.std.specs.Prelude.{◌≡◌, ◌≢◌, string_bytes, IfOk, OnOk};
+ghost use Rattle.std.specs.Prelude.{◌≡◌, ◌≢◌, ◌⊎◌, string_bytes, IfOk, OnOk};
 ghost use Rattle.il_assemble.specs.Word as assembling;
 ghost use Rattle.il_assemble.specs.declared.fault.AsmFaultKind.TheVariants as asm_fault;
 ghost use Rattle.il_reader.specs.Fault as reading;
 ghost use Rattle.il_reader.specs.declared.fault.ReadFaultKind.TheVariants as read_fault;
 ghost use Rattle.modbus_frame.specs.Fault.{link_fault_word};
 ghost use Rattle.commands.specs.Printed.{IsUnlinked};
-ghost use Rattle.commands.specs.Report.{accepted_lines, link_line, no_memory_line, unassembled_line, unread_line};
+ghost use Rattle.commands.specs.Report.{accepted_lines, link_line, no_memory_line, unassembled_line, unread_line, unusable_line};
 ghost use Rattle.commands.specs.Told.{IsTold, refused_with};
 
 use crate::report::{accepted, link_failed, unassembled, unread, unusable};
@@ -149,7 +149,10 @@ pub fn tell_no_memory<W: Write>(out: &mut W) -> u8
 }
 
 /// Writes that the file at a path can't be used, and gives the status.
-pub fn tell_unusable<W: Write>(alloc: Global, path: &str, out: &mut W) -> u8 {
+pub fn tell_unusable<W: Write>(alloc: Global, path: &str, out: &mut W) -> u8
+    ensures { IsTold (W.contents out.old) (W.contents out.new) (refused_with (unusable_line path.now)) result
+        ⊎ IsTold (W.contents out.old) (W.contents out.new) (refused_with no_memory_line) result }
+{
     match unusable(alloc, path) {
         Ok(line) => write_lines(out, line.as_bytes(), 1),
         Err(_) => tell_no_memory(out),
