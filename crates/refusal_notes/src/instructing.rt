@@ -2,7 +2,7 @@
 use crate::met::{Met, line_of};
 use crate::mistakes::{STRUCTURED, mistake_met};
 use crate::pieces::Piece;
-use crate::reserved::{is_conversion, is_operator, operator_meant, reserved};
+use crate::reserved::{is_conversion, is_one_of, is_operator, operator_meant, reserved};
 use crate::told::{Hint, Told};
 use std::alloc::{AllocError, Global};
 
@@ -126,7 +126,7 @@ pub(crate) fn no_operand(alloc: Global, met: &Met<'_, '_>) -> Result<Told, Alloc
     };
     if met.is(":") && operands.is_empty() {
         if let Some(hint) = reserved(operator.text) {
-            return Ok(on_named(alloc, *operator, hint)?);
+            return on_named(alloc, *operator, hint);
         }
     }
     if let (Some(hint), true) = (reserved(met.text()), wants_operand(operator.text, operands)) {
@@ -168,17 +168,12 @@ fn wants_operand(operator: &str, operands: &[Piece<'_>]) -> bool {
 }
 
 fn takes_none(operator: &str) -> bool {
-    for word in ["NOT", "ABS", "RET", "RETC", "RETCN"] {
-        if operator.eq_ignore_ascii_case(word) {
-            return true;
-        }
-    }
-    is_conversion(operator)
+    is_one_of(&["NOT", "ABS", "RET", "RETC", "RETCN"], operator) || is_conversion(operator)
 }
 
 /// The hint on an operator with too few operands, or one too many.
 fn hint_on_operands(met: &Met<'_, '_>, operator: &str, operands: &[Piece<'_>]) -> Hint {
-    let takes_two = is_any(operator, &["LIMIT", "SEL"]);
+    let takes_two = is_one_of(&["LIMIT", "SEL"], operator);
     if takes_none(operator) {
         NONE_TAKEN
     } else if met.is("(") && operands.is_empty() {
@@ -191,20 +186,11 @@ fn hint_on_operands(met: &Met<'_, '_>, operator: &str, operands: &[Piece<'_>]) -
         TWO_ARE_THE_MOST
     } else if !operands.is_empty() {
         ONE_TOO_MANY
-    } else if is_any(operator, &["ST", "STN", "S", "R"]) {
+    } else if is_one_of(&["ST", "STN", "S", "R"], operator) {
         NO_NAME_TO_STORE
     } else {
         NO_OPERAND
     }
-}
-
-fn is_any(operator: &str, words: &[&str]) -> bool {
-    for word in words {
-        if operator.eq_ignore_ascii_case(word) {
-            return true;
-        }
-    }
-    false
 }
 
 /// What is told where the name of a label must stand.

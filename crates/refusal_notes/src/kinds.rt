@@ -1,7 +1,7 @@
 //! Words in place of a type, and literals that a type can't hold.
 use crate::met::Met;
 use crate::pieces::{Piece, behind_first};
-use crate::reserved::{type_meant, type_named};
+use crate::reserved::{is_one_of, type_meant, type_named};
 use crate::told::{Hint, Told};
 use point_types::IlType;
 use program_notes::type_word;
@@ -78,21 +78,12 @@ const NO_TYPE: Hint = Hint {
 pub(crate) fn no_type(alloc: Global, met: &Met<'_, '_>) -> Result<Told, AllocError> {
     let word = met.text();
     for (words, hint) in OTHER_TYPES.iter() {
-        if is_listed(words, word) {
+        if is_one_of(words, word) {
             return Told::named(alloc, word, *hint);
         }
     }
     let question = type_meant(alloc, word)?;
     Told::new(alloc, NO_TYPE).knowing(question.as_str())
-}
-
-fn is_listed(words: &[&str], word: &str) -> bool {
-    for other in words {
-        if other.eq_ignore_ascii_case(word) {
-            return true;
-        }
-    }
-    false
 }
 
 const WRONG_END: Hint = Hint {

@@ -152,7 +152,8 @@ fn offer_conversions(
     Ok(())
 }
 
-fn is_one_of(words: &[&str], word: &str) -> bool {
+/// Whether a word is one of these, in capital or small letters.
+pub(crate) fn is_one_of(words: &[&str], word: &str) -> bool {
     for other in words {
         if other.eq_ignore_ascii_case(word) {
             return true;

@@ -414,11 +414,6 @@ const INSTRUCTIONS: &[Explained] = &[
         "refused: read Header line 1\n",
         "p.il:1: Header: a text has one program and nothing else\n    1 | TYPE t : INT; END_TYPE\n      | ^^^^\n  help: write PROGRAM and a name in front of the declarations, and END_PROGRAM behind the instructions\n",
     ),
-    (
-        "PROGRAM p\nLD 1\nEND_PROGRAM\nLD 2\n",
-        "refused: read Header line 4\n",
-        "p.il:4: Header: something stands behind END_PROGRAM\n    4 | LD 2\n      | ^^\n  help: take it away: a text has one program, and only comments behind it\n",
-    ),
 ];
 
 #[test]
