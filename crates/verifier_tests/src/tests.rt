@@ -1,7 +1,7 @@
 //! What the tests of the verdict share.
 mod changes;
 mod flows;
-mod full_fact;
+mod full;
 mod images;
 mod listings;
 mod memory;

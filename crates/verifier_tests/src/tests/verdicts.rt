@@ -1,6 +1,6 @@
 //! Verdicts on whole images, against a site of two inverters.
 
-use crate::tests::full_fact::FullFact;
+use crate::tests::full::{first_difference, full_pass};
 use crate::tests::rows::{judge_results, judge_tags_and_code, judge_ways};
 use crate::tests::{assert_same, assert_true, name};
 use point_types::{IlType, Items, Var};
@@ -10,9 +10,7 @@ use std::alloc::Global;
 use std::process::Abort;
 use verifier::budget::most_steps;
 use verifier::context::Context;
-use verifier::fact_domain::FactDomain;
 use verifier::listing::listing;
-use verifier::pass::pass;
 use verifier::refusal::{Refusal, RefusalKind};
 use verifier::tag_link::{links, ranges};
 use verifier::verified::Verified;
@@ -89,14 +87,20 @@ fn frame_of(
     })
 }
 
-/// The budget by facts of this kind, or why the program is refused.
-fn budget<F: FactDomain>(
+/// The budget by full facts, or why the program is refused and where; what is known before each instruction is what the
+/// verifier knows there.
+fn judged_in(
     rt: &impl Abort,
     alloc: Global,
     context: &Context,
-) -> Result<usize, Refusal> {
+) -> Result<usize, (RefusalKind, usize)> {
+    assert_same(rt, &first_difference(rt, alloc, context), &None);
     assert!(rt; context.size() < 65_536);
-    let reached = pass::<F>(alloc, context)?;
+    let passed = full_pass(alloc, context).expect(rt, "memory");
+    if let Some((at, kind)) = passed.refusal {
+        return Err((kind, at));
+    }
+    let reached = passed.reached(alloc).expect(rt, "memory");
     assert!(rt; reached.len() == context.size());
     let steps = most_steps(alloc, context.instructions(), reached.as_slice());
     Ok(steps.expect(rt, "memory"))
@@ -109,15 +113,7 @@ fn judged(
     site: &Site,
 ) -> Result<usize, (RefusalKind, usize)> {
     match frame_of(rt, alloc, image, site) {
-        Ok(context) => numbered(budget::<FullFact>(rt, alloc, &context)),
-        Err(refusal) => numbered(Err(refusal)),
-    }
-}
-
-/// The same with the number that is printed of what is refused.
-fn numbered(judged: Result<usize, Refusal>) -> Result<usize, (RefusalKind, usize)> {
-    match judged {
-        Ok(budget) => Ok(budget),
+        Ok(context) => judged_in(rt, alloc, &context),
         Err(refusal) => Err((refusal.kind, refusal.at.number())),
     }
 }
