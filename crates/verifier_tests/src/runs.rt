@@ -1,5 +1,6 @@
 //! Programs as tables, and their images.
 
+mod counted;
 mod machines;
 mod memory;
 mod programs;

@@ -23,7 +23,7 @@ use verifier::verify::verify;
 use worked_texts::programs::{Program, QUOTIENT};
 use worked_texts::sites::{SITE, site_of};
 
-fn site(rt: &impl Abort, alloc: Global) -> Site {
+pub(crate) fn site(rt: &impl Abort, alloc: Global) -> Site {
     site_of(alloc, SITE).expect(rt, "a site")
 }
 
@@ -33,7 +33,7 @@ fn machine_of(rt: &impl Abort, alloc: Global, image: Image, site: &Site) -> Mach
 }
 
 /// The machine of a program that is accepted, with these start values.
-fn accepted(
+pub(crate) fn accepted(
     rt: &impl Abort,
     alloc: Global,
     site: &Site,
