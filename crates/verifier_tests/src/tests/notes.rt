@@ -4,7 +4,7 @@ use crate::tests::verdicts::site;
 use facts::Refusal;
 use il_assemble::assemble;
 use il_reader::{Program, read};
-use program_notes::{detail_of, table_of};
+use program_notes::{Beside, detail_of, table_of};
 use scan_code::Image;
 use site_model::Site;
 use std::alloc::Global;
@@ -218,7 +218,15 @@ fn assert_table(
     let program = program(rt, alloc, body);
     let text = format!(in alloc; "PROGRAM p\n{body}END_PROGRAM\n").expect(rt, "memory");
     let image = assemble(alloc, &program).ok().expect(rt, "an image");
-    let table = table_of(alloc, text.as_str(), &program, &image, site, refused);
+    let table = table_of(
+        alloc,
+        text.as_str(),
+        &program,
+        &image,
+        site,
+        refused,
+        Beside::Known,
+    );
     let table = table.expect(rt, "memory");
     assert_same(rt, &table.as_str(), &wanted);
 }
