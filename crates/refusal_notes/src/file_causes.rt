@@ -51,19 +51,22 @@ fn put_place(alloc: Global, cause: &mut Cause, text: &str, place: Option<FilePla
     if let Ok(shown) = place.shown(alloc) {
         cause.detail = shown;
     }
-    match place {
-        FilePlace::Text { line, column } => {
-            let last = text.lines().count();
-            cause.line = u32::try_from(line.min(last)).unwrap_or(0);
-            cause.mark = if line > last {
-                Mark::Behind
-            } else {
-                Mark::Column(column)
-            };
-            cause.detail = String::new(alloc);
-        }
-        FilePlace::Entry { key, advice, .. } => put_advice(cause, key, advice),
+    match &place {
+        FilePlace::Text { line, column } => put_position(alloc, cause, text, *line, *column),
+        FilePlace::Entry { key, advice, .. } => put_advice(cause, *key, advice),
     }
+}
+
+/// Puts the line and the column at which a text goes wrong.
+fn put_position(alloc: Global, cause: &mut Cause, text: &str, line: usize, column: usize) {
+    let last = text.lines().count();
+    cause.line = u32::try_from(line.min(last)).unwrap_or(0);
+    cause.mark = if line > last {
+        Mark::Behind
+    } else {
+        Mark::Column(column)
+    };
+    cause.detail = String::new(alloc);
 }
 
 /// The sections that are lists, each as it stands by mistake, in one pair of brackets, and as each entry begins.
@@ -106,7 +109,7 @@ fn has_line(text: &str, wanted: &str) -> bool {
 }
 
 /// Puts what is known of an entry in place of the words of the fault.
-fn put_advice(cause: &mut Cause, key: &'static str, advice: Advice) {
+fn put_advice(cause: &mut Cause, key: &'static str, advice: &Advice) {
     if let Some(meaning) = advice.meaning {
         cause.meaning = meaning;
     }
@@ -114,8 +117,9 @@ fn put_advice(cause: &mut Cause, key: &'static str, advice: Advice) {
         cause.help = help;
         let _ = cause.name.push_str(key);
     }
-    if let Some(meant) = advice.meant {
+    if let Some(meant) = &advice.meant {
         cause.help = "did you mean {}?";
-        cause.name = meant;
+        cause.name.clear();
+        let _ = cause.name.push_str(meant.as_str());
     }
 }
