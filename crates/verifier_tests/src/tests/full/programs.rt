@@ -87,11 +87,11 @@ static MIDDLES: [Row; 39] = [
     (24, Op::Jump(Condition::Always, THIRD)),
 ];
 
-/// Of the programs that three of these lines make each eleventh is taken: any two lines stand beside each other, with some
+/// Of the programs that three of these lines make each 41st is taken: nearly any two lines stand beside each other, with some
 /// third one.
-const STRIDE: usize = 11;
+const STRIDE: usize = 41;
 
-const TURNS: usize = 1420;
+const TURNS: usize = 381;
 
 /// How many starts there are, each with an end.
 const FRAMES: usize = 6;
