@@ -4,7 +4,7 @@ ghost use Rattle.std.specs.Prelude.{◌<◌, length};
 use commands::{DEPTH, ScanWatch};
 use gateway::Core;
 use point_writer::NoWrite;
-use refusal_notes::escaped;
+use refusal_notes::{escaped, unwritten_help};
 use site_model::{SiteTag, raw_range};
 use std::alloc::{AllocError, Global};
 
@@ -119,7 +119,7 @@ fn cause_line(
     if let (NoWrite::OutOfType, Some(factor)) = (cause, factor) {
         push_raw(alloc, &mut met, tag, stored, factor)?;
     }
-    let help = help(cause);
+    let help = unwritten_help(cause);
     let mut line = format!(in alloc; "scan {scan}: {name} isn't written: {word} ({met})\n")?;
     line.push_str("  help: ")?;
     line.push_str(help)?;
@@ -173,22 +173,4 @@ fn shifted(number: i64, power: i16) -> Option<i128> {
         raw /= 10;
     }
     Some(raw)
-}
-
-fn help(cause: NoWrite) -> &'static str {
-    match cause {
-        NoWrite::NotSet => "store a number in each scan",
-        NoWrite::NoBlock => {
-            "the device's block didn't come, or its map lacks the model or the point: look with probe whether it answers, and which models it has"
-        }
-        NoWrite::BadScale => {
-            "a factor is a number in -10..10: look at it with probe, and set it in the device"
-        }
-        NoWrite::Inexact => {
-            "no raw number is that value by the factor: store what the factor holds (the tag's exponent, low and high), or set another factor in the device"
-        }
-        NoWrite::OutOfType => {
-            "the raw number doesn't fit the point's words by the factor: store what the factor holds (the tag's exponent, low and high), or set another factor in the device"
-        }
-    }
 }

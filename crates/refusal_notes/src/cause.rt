@@ -1,5 +1,5 @@
 //! Why a command refuses, and the note that tells it on standard error.
-use crate::link_texts::{link_help, link_meaning};
+use crate::kind_texts::{link_help, link_meaning};
 use crate::marks::{
     ends_line, mark_of_bytes, mark_of_trapped, mark_of_unassembled, mark_of_unread,
     mark_of_unverified,

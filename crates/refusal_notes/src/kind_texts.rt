@@ -1,7 +1,8 @@
-//! What is told of a link that failed.
+//! What is told of kinds whose own crates have no words for people: a link that failed, an output that isn't written.
 use modbus_frame::{FrameFault, LinkFault};
+use point_writer::NoWrite;
 
-/// What is wrong, in short.
+/// What is wrong with a link, in short.
 pub(crate) fn link_meaning(fault: LinkFault) -> &'static str {
     match fault {
         LinkFault::Read => "there is no connection, or reading from it failed",
@@ -31,5 +32,24 @@ pub(crate) fn link_help(fault: LinkFault) -> &'static str {
         LinkFault::End => "start the other side again, and look why it closed",
         LinkFault::Turns => "the other side sends pieces without end: it isn't usable",
         LinkFault::OutOfMemory => "give the program more memory, and run the command again",
+    }
+}
+
+/// What to do about an output that isn't written.
+pub fn unwritten_help(cause: NoWrite) -> &'static str {
+    match cause {
+        NoWrite::NotSet => "store a number in each scan",
+        NoWrite::NoBlock => {
+            "the device's block didn't come, or its map lacks the model or the point: look with probe whether it answers, and which models it has"
+        }
+        NoWrite::BadScale => {
+            "a factor is a number in -10..10: look at it with probe, and set it in the device"
+        }
+        NoWrite::Inexact => {
+            "no raw number is that value by the factor: store what the factor holds (the tag's exponent, low and high), or set another factor in the device"
+        }
+        NoWrite::OutOfType => {
+            "the raw number doesn't fit the point's words by the factor: store what the factor holds (the tag's exponent, low and high), or set another factor in the device"
+        }
     }
 }
