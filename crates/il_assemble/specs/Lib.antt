@@ -16,3 +16,4 @@ pub mod LineTable
 pub mod LineForms
 pub mod Instructions
 pub mod Faulty
+pub mod Misfit

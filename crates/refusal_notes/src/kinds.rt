@@ -3,6 +3,8 @@ use crate::met::Met;
 use crate::pieces::{Piece, behind_first};
 use crate::reserved::{is_one_of, type_meant, type_named};
 use crate::told::{Hint, Told};
+use il_assemble::first_misfit;
+use il_reader::Program;
 use point_types::IlType;
 use program_notes::type_word;
 use std::alloc::{AllocError, Global};
@@ -116,6 +118,31 @@ pub(crate) fn no_start(
 pub(crate) fn no_end(alloc: Global, declaration: &[Piece<'_>]) -> Result<Told, AllocError> {
     let holds = kind_holds(alloc, declaration)?;
     Told::new(alloc, WRONG_END).knowing(holds.as_str())
+}
+
+const NO_TRUTH: Hint = Hint {
+    meaning: "a number where a BOOL is wanted",
+    help: "write TRUE or FALSE; where a number is meant, what it meets or is stored to must be a number too",
+};
+
+const PAST_TYPE: Hint = Hint {
+    meaning: "a number outside the type that it takes here",
+    help: "write a number within the type, or before it the type that is meant, as LINT#5, and convert what it meets",
+};
+
+/// What is told of a number that isn't of the type that it takes; none where the program has no such number.
+pub(crate) fn misfit(alloc: Global, program: &Program) -> Result<Option<Told>, AllocError> {
+    let Some(literal) = first_misfit(alloc, program)? else {
+        return Ok(None);
+    };
+    let hint = match literal.kind {
+        IlType::Bool => NO_TRUTH,
+        _ => PAST_TYPE,
+    };
+    let holds = holds(alloc, literal.kind)?;
+    let (number, holds) = (literal.number, holds.as_str());
+    let text = format!(in alloc; "{number} doesn't fit, {holds}")?;
+    Ok(Some(Told::new(alloc, hint).knowing(text.as_str())?))
 }
 
 /// The range of a declaration, as it is written; empty where it has none.

@@ -104,7 +104,37 @@ const OF_ASSEMBLING: &[Explained] = &[
     (
         "PROGRAM p\nVAR_EXTERNAL\n  inv1_w, inv2_w : DINT;\n  target, lim1 : INT;\n  ena1 : BOOL;\nEND_VAR\nVAR\n  a, z : INT;\n  b : BOOL;\n  d : DINT;\n  x : INT (0..10);\nEND_VAR\n  LD b\n  AND 1\nEND_PROGRAM\n",
         "refused: assemble LiteralType line 14\n",
-        "p.il:14: LiteralType: a literal that isn't of the type that it takes here\n   14 |   AND 1\n      |       ^\n  help: write TRUE or FALSE for a BOOL, and the type before a number that has another, as INT#5\n",
+        "p.il:14: LiteralType: a number where a BOOL is wanted\n   14 |   AND 1\n      |       ^ 1 doesn't fit, BOOL holds TRUE and FALSE\n  help: write TRUE or FALSE; where a number is meant, what it meets or is stored to must be a number too\n",
+    ),
+    (
+        "PROGRAM p\nVAR\n  a : INT;\n  b : BOOL;\n  d : DINT;\nEND_VAR\n  LD a\n  ADD 70000\nEND_PROGRAM\n",
+        "refused: assemble LiteralType line 8\n",
+        "p.il:8: LiteralType: a number outside the type that it takes here\n    8 |   ADD 70000\n      |       ^^^^^ 70000 doesn't fit, INT holds -32768..32767\n  help: write a number within the type, or before it the type that is meant, as LINT#5, and convert what it meets\n",
+    ),
+    (
+        "PROGRAM p\nVAR\n  a : INT;\n  b : BOOL;\n  d : DINT;\nEND_VAR\n  LD a\n  ADD( 5\n  MUL 40000\n  )\nEND_PROGRAM\n",
+        "refused: assemble LiteralType line 9\n",
+        "p.il:9: LiteralType: a number outside the type that it takes here\n    9 |   MUL 40000\n      |       ^^^^^ 40000 doesn't fit, INT holds -32768..32767\n  help: write a number within the type, or before it the type that is meant, as LINT#5, and convert what it meets\n",
+    ),
+    (
+        "PROGRAM p\nVAR\n  a : INT;\n  b : BOOL;\n  d : DINT;\nEND_VAR\n  LD b\n  SEL a, -32769\nEND_PROGRAM\n",
+        "refused: assemble LiteralType line 8\n",
+        "p.il:8: LiteralType: a number outside the type that it takes here\n    8 |   SEL a, -32769\n      |       ^^^^^^^^^ -32769 doesn't fit, INT holds -32768..32767\n  help: write a number within the type, or before it the type that is meant, as LINT#5, and convert what it meets\n",
+    ),
+    (
+        "PROGRAM p\nVAR\n  a : INT;\n  b : BOOL;\n  d : DINT;\nEND_VAR\n  LD USINT#1\n  LIMIT 5, 16#100\nEND_PROGRAM\n",
+        "refused: assemble LiteralType line 8\n",
+        "p.il:8: LiteralType: a number outside the type that it takes here\n    8 |   LIMIT 5, 16#100\n      |         ^^^^^^^^^ 256 doesn't fit, USINT holds 0..255\n  help: write a number within the type, or before it the type that is meant, as LINT#5, and convert what it meets\n",
+    ),
+    (
+        "PROGRAM p\nVAR\n  a : INT;\n  b : BOOL;\n  d : DINT;\nEND_VAR\n  LD 3000000000\n  ST d\nEND_PROGRAM\n",
+        "refused: assemble LiteralType line 7\n",
+        "p.il:7: LiteralType: a number outside the type that it takes here\n    7 |   LD 3000000000\n      |      ^^^^^^^^^^ 3000000000 doesn't fit, DINT holds -2147483648..2147483647\n  help: write a number within the type, or before it the type that is meant, as LINT#5, and convert what it meets\n",
+    ),
+    (
+        "PROGRAM p\nVAR\n  a : INT;\n  b : BOOL;\n  d : DINT;\nEND_VAR\n  LD 5\n  ST b\nEND_PROGRAM\n",
+        "refused: assemble LiteralType line 7\n",
+        "p.il:7: LiteralType: a number where a BOOL is wanted\n    7 |   LD 5\n      |      ^ 5 doesn't fit, BOOL holds TRUE and FALSE\n  help: write TRUE or FALSE; where a number is meant, what it meets or is stored to must be a number too\n",
     ),
     (
         "PROGRAM p\nVAR_EXTERNAL\n  inv1_w, inv2_w : DINT;\n  target, lim1 : INT;\n  ena1 : BOOL;\nEND_VAR\nVAR\n  a, z : INT;\n  b : BOOL;\n  d : DINT;\n  x : INT (0..10);\nEND_VAR\n  {LOOP 2} JMP e\n  e:\nEND_PROGRAM\n",
