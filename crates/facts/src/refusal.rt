@@ -105,7 +105,7 @@ impl RefusalKind {
                 "bound the operands by a subrange, by low and high of the tag, or by MIN and MAX before; or convert to a wider type first"
             }
             RefusalKind::ZeroDivisor => {
-                "test it before (LE 0 / JMPC elsewhere), or give it a range without 0, as by MAX 1"
+                "test it before (EQ 0 / JMPC elsewhere; LE 0 where its range begins below 0), or give it a range without 0, as by MAX 1"
             }
             RefusalKind::MayBeMissing => {
                 "test it first (LD {}_OK / JMPCN elsewhere), or give the tag a default in the site file"

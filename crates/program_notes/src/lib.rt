@@ -1,5 +1,6 @@
 //! What is known before each instruction of a program, in words: behind a refusal ([`detail_of`]), and line by line
-//! ([`table_of`]); which line and name an instruction has; where names are used; and which conversion may mend two types.
+//! ([`table_of`]); which line and name an instruction has; where names are used; and what mends types that don't
+//! agree ([`mend_of`]).
 #![tactic(auto)]
 
 mod budget;
@@ -8,6 +9,7 @@ mod detail;
 mod items;
 mod line_index;
 mod longest;
+mod mending;
 mod refusing;
 mod rows;
 mod stacking;
@@ -18,7 +20,8 @@ mod words;
 
 pub use code_lines::{address_of, declared_line, instruction_line, name_in, number_at, tag_name};
 pub use detail::{Detail, detail_of};
-pub use refusing::mismatch_of;
+pub use mending::Mend;
+pub use refusing::mend_of;
 pub use rows::{Row, rows_of};
 pub use table::{Beside, table_of};
 pub use uses::{Use, other_use_text, uses_in};

@@ -1,8 +1,9 @@
 //! Why an instruction is refused, by what is known before it.
 ghost use Rattle.std.specs.Prelude.{◌<◌, length};
 
+use crate::mending::{Mend, mended_by};
 use crate::stacking::{clash_text, stack_text};
-use crate::typing::{mismatch, type_text};
+use crate::typing::type_text;
 use crate::words::{span_words, type_word};
 use facts::abstract_value::AbstractValue;
 use facts::context::Context;
@@ -107,21 +108,15 @@ fn missing_words(before: &[(usize, Op)]) -> &'static str {
     "nothing was loaded before"
 }
 
-/// The types that don't agree at an instruction that is refused for them: those of its two sides, or of what is stored
-/// and of what takes it; None where there are none, or where they aren't known.
-pub fn mismatch_of(
-    alloc: Global,
-    image: &Image,
-    site: &Site,
-    number: usize,
-) -> Option<(IlType, IlType)> {
+/// What mends the types at an instruction that is refused for them; None where they aren't known.
+pub fn mend_of(alloc: Global, image: &Image, site: &Site, number: usize) -> Option<Mend> {
     let context = framed(alloc, image, site, MOST_DEFERRED).ok()?;
     if number >= context.size() {
         return None;
     }
     let (_, op) = context.instruction(number);
     match known(alloc, &context, number) {
-        Ok(Arrived::AbstractValue(fact)) => mismatch(image, &fact, op),
+        Ok(Arrived::AbstractValue(fact)) => mended_by(image, &fact, op),
         _ => None,
     }
 }

@@ -29,34 +29,13 @@ pub(crate) fn type_text(
         Op::Apply(_) => applied(alloc, image, before, fact),
         Op::Select => selected(alloc, fact.deferred.as_slice(), result),
         Op::Convert(from, _) => wanted(alloc, result.kind, type_word(from)),
-        Op::Absolute => wanted(alloc, result.kind, "whole number"),
+        Op::Absolute => wanted(alloc, result.kind, "a whole number"),
         _ => wanted(alloc, result.kind, "BOOL"),
     }
 }
 
-/// The types that don't agree: those of both operands, the narrower one first, or of the result and of what takes it.
-pub(crate) fn mismatch(image: &Image, fact: &Fact, op: Op) -> Option<(IlType, IlType)> {
-    match (op, operands(fact)) {
-        (Op::Apply(_), (Some(result), Some(deferred))) => {
-            Some(narrower_first(deferred.kind, result.kind))
-        }
-        (Op::StoreVariable(_) | Op::StoreOutput(_), (Some(result), _)) => {
-            Some((result.kind, taker_kind(image, op)?))
-        }
-        _ => None,
-    }
-}
-
-fn narrower_first(one: IlType, other: IlType) -> (IlType, IlType) {
-    if one.low() <= other.low() && other.high() <= one.high() {
-        (other, one)
-    } else {
-        (one, other)
-    }
-}
-
 /// The type of what an instruction stores to.
-fn taker_kind(image: &Image, op: Op) -> Option<IlType> {
+pub(crate) fn taker_kind(image: &Image, op: Op) -> Option<IlType> {
     match op {
         Op::StoreVariable(v) | Op::SetVariable(v) | Op::ResetVariable(v) => {
             let var = image.vars.as_slice().get(usize::from(v))?;
@@ -93,7 +72,7 @@ fn typed(alloc: Global, subject: &str, kind: IlType) -> Result<String, AllocErro
 
 fn wanted(alloc: Global, value: IlType, wanted: &str) -> Result<String, AllocError> {
     let ours = type_word(value);
-    format!(in alloc; "the result is {ours}, a {wanted} is wanted")
+    format!(in alloc; "the result is {ours}, {wanted} is wanted")
 }
 
 /// The types of the operands, each with its name where it has one.

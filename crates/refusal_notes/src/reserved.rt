@@ -98,7 +98,7 @@ fn is_whole_word(word: &str) -> bool {
 }
 
 /// Whether a type has whole numbers.
-pub(crate) fn is_whole(kind: IlType) -> bool {
+fn is_whole(kind: IlType) -> bool {
     kind != IlType::Bool
 }
 

@@ -1,10 +1,9 @@
 //! What is noted of a program that the verdict refuses.
 use crate::cause::Cause;
 use crate::nearest::Nearest;
-use crate::reserved::is_whole;
 use il_reader::Program;
 use point_types::Name;
-use program_notes::{address_of, detail_of, mismatch_of, name_in, tag_name, type_word};
+use program_notes::{Mend, address_of, detail_of, mend_of, name_in, tag_name, type_word};
 use scan_code::{Image, decode};
 use site_model::Site;
 use std::alloc::{AllocError, Global};
@@ -36,22 +35,29 @@ pub fn cause_of_refusal(alloc: Global, program: &Program, site: &Site, refused: 
         RefusalKind::WrongType => {
             let _ = put_mend(alloc, &mut cause, site, refused);
         }
-        RefusalKind::ZeroDivisor => cause.help = TESTED,
         _ => {}
     }
     cause
 }
 
-/// The help on a divisor.
-const TESTED: &str =
-    "test it before (EQ 0 / JMPC elsewhere; LE 0 where its range begins below 0), or give it a range without 0, as by MAX 1";
-
 /// The help on two types of which one is converted.
 const CONVERTED: &str = "convert by {}, or write the type of a literal, as INT#8";
 
-/// The help on types that no conversion mends.
-const CHOSEN: &str =
-    "make a BOOL of a number by a comparison, as NE 0, and choose a number by a BOOL with SEL, as SEL 0, 1";
+/// The help on a BOOL that is wanted of a number.
+const COMPARED: &str = "make a BOOL of the number by a comparison, as NE 0";
+
+/// The help on a number that is wanted of a BOOL.
+const CHOSEN: &str = "make a number of the BOOL by SEL, as SEL 0, 1";
+
+/// The help where either may be meant.
+const COMPARED_OR_CHOSEN: &str =
+    "make a BOOL of a number by a comparison, as NE 0, or choose a number by a BOOL with SEL, as SEL 0, 1";
+
+/// The help on a conversion of what has its type.
+const LEFT_AWAY: &str = "leave the conversion away: what it converts has that type";
+
+/// The help on S and R of a number.
+const STORED: &str = "store by ST: S and R set a BOOL";
 
 /// Appends the tag of the site that may be meant.
 fn push_tag_meant(alloc: Global, cause: &mut Cause, site: &Site) -> Result<(), AllocError> {
@@ -77,16 +83,21 @@ fn put_mend(
     let RefusedAt::Instruction(number) = refused.at else {
         return Ok(());
     };
-    let Some((from, to)) = mismatch_of(alloc, &refused.image, site, number) else {
+    let Some(mend) = mend_of(alloc, &refused.image, site, number) else {
         return Ok(());
     };
-    if from == to || !is_whole(from) || !is_whole(to) {
-        cause.help = CHOSEN;
-        return Ok(());
+    if let Mend::Convert(from, to) = mend {
+        let (from, to) = (type_word(from), type_word(to));
+        cause.name = format!(in alloc; "{from}_TO_{to}")?;
     }
-    let (from, to) = (type_word(from), type_word(to));
-    cause.name = format!(in alloc; "{from}_TO_{to}")?;
-    cause.help = CONVERTED;
+    cause.help = match mend {
+        Mend::Convert(_, _) => CONVERTED,
+        Mend::LeaveAway => LEFT_AWAY,
+        Mend::Compare => COMPARED,
+        Mend::Choose => CHOSEN,
+        Mend::CompareOrChoose => COMPARED_OR_CHOSEN,
+        Mend::Store => STORED,
+    };
     Ok(())
 }
 

@@ -32,7 +32,7 @@ const OF_VERDICTS: &[Explained] = &[
     (
         "PROGRAM p\nVAR_EXTERNAL\n  inv1_w, inv2_w : DINT;\n  target, lim1 : INT;\n  ena1 : BOOL;\nEND_VAR\nVAR\n  a, z : INT;\n  b : BOOL;\n  d : DINT;\n  x : INT (0..10);\nEND_VAR\n  LD a\n  AND b\nEND_PROGRAM\n",
         "refused: verify Type at 3\n",
-        "p.il:14: Type: operands of two types, or not of the type that is wanted\n   14 |   AND b\n      |       ^\n  help: make a BOOL of a number by a comparison, as NE 0, and choose a number by a BOOL with SEL, as SEL 0, 1\n",
+        "p.il:14: Type: operands of two types, or not of the type that is wanted\n   14 |   AND b\n      |       ^\n  help: make a BOOL of the number by a comparison, as NE 0\n",
     ),
     (
         "PROGRAM p\nVAR_EXTERNAL\n  inv1_w, inv2_w : DINT;\n  target, lim1 : INT;\n  ena1 : BOOL;\nEND_VAR\nVAR\n  a, z : INT;\n  b : BOOL;\n  d : DINT;\n  x : INT (0..10);\nEND_VAR\n  LD a (* the sum *)\n  ADD 1\nEND_PROGRAM\n",
@@ -100,7 +100,7 @@ const OF_DETAILS: &[Explained] = &[
     (
         "PROGRAM p\nVAR_EXTERNAL\n  inv1_w : DINT;\nEND_VAR\nVAR\n  a, y : INT;\n  b : BOOL;\n  d : DINT;\nEND_VAR\n  LD b\nADD a\nEND_PROGRAM\n",
         "refused: verify Type at 3\n",
-        "p.il:11: Type: operands of two types, or not of the type that is wanted\n   11 | ADD a\n      |     ^ b is BOOL, a is INT\n  help: make a BOOL of a number by a comparison, as NE 0, and choose a number by a BOOL with SEL, as SEL 0, 1\n",
+        "p.il:11: Type: operands of two types, or not of the type that is wanted\n   11 | ADD a\n      |     ^ b is BOOL, a is INT\n  help: make a number of the BOOL by SEL, as SEL 0, 1\n",
     ),
     (
         "PROGRAM p\nVAR_EXTERNAL\n  inv1_w : DINT;\nEND_VAR\nVAR\n  a, y : INT;\n  b : BOOL;\n  d : DINT;\nEND_VAR\n  LD d\nST a\nEND_PROGRAM\n",
@@ -110,7 +110,7 @@ const OF_DETAILS: &[Explained] = &[
     (
         "PROGRAM p\nVAR_EXTERNAL\n  inv1_w : DINT;\nEND_VAR\nVAR\n  a, y : INT;\n  b : BOOL;\n  d : DINT;\nEND_VAR\n  LD b\nADD b\nEND_PROGRAM\n",
         "refused: verify Type at 3\n",
-        "p.il:11: Type: operands of two types, or not of the type that is wanted\n   11 | ADD b\n      |     ^ both are BOOL, whole numbers are wanted\n  help: make a BOOL of a number by a comparison, as NE 0, and choose a number by a BOOL with SEL, as SEL 0, 1\n",
+        "p.il:11: Type: operands of two types, or not of the type that is wanted\n   11 | ADD b\n      |     ^ both are BOOL, whole numbers are wanted\n  help: make a number of the BOOL by SEL, as SEL 0, 1\n",
     ),
     (
         "PROGRAM p\nVAR_EXTERNAL\n  inv1_w : DINT;\nEND_VAR\nVAR\n  a, y : INT;\n  b : BOOL;\n  d : DINT;\nEND_VAR\n  LD d\nADD a\nEND_PROGRAM\n",
@@ -130,7 +130,57 @@ const OF_DETAILS: &[Explained] = &[
     (
         "PROGRAM p\nVAR_EXTERNAL\n  inv1_w : DINT;\nEND_VAR\nVAR\n  a, y : INT;\n  b : BOOL;\n  d : DINT;\nEND_VAR\n  LD a\nJMPC e\ne:\nEND_PROGRAM\n",
         "refused: verify Type at 1\n",
-        "p.il:11: Type: operands of two types, or not of the type that is wanted\n   11 | JMPC e\n      |      ^ the result is INT, a BOOL is wanted\n  help: convert one of them, as by INT_TO_DINT, or write the type of a literal, as INT#8\n",
+        "p.il:11: Type: operands of two types, or not of the type that is wanted\n   11 | JMPC e\n      |      ^ the result is INT, BOOL is wanted\n  help: make a BOOL of the number by a comparison, as NE 0\n",
+    ),
+    (
+        "PROGRAM p\nVAR_EXTERNAL\n  inv1_w : DINT;\nEND_VAR\nVAR\n  a, y : INT;\n  b : BOOL;\n  d : DINT;\nEND_VAR\n  LD a\nSEL 1, 2\nEND_PROGRAM\n",
+        "refused: verify Type at 5\n",
+        "p.il:11: Type: operands of two types, or not of the type that is wanted\n   11 | SEL 1, 2\n      |     ^^^^ a BOOL chooses, the result is INT\n  help: make a BOOL of the number by a comparison, as NE 0\n",
+    ),
+    (
+        "PROGRAM p\nVAR_EXTERNAL\n  inv1_w : DINT;\nEND_VAR\nVAR\n  a, y : INT;\n  b : BOOL;\n  d : DINT;\nEND_VAR\n  LD b\nSEL a, d\nEND_PROGRAM\n",
+        "refused: verify Type at 5\n",
+        "p.il:11: Type: operands of two types, or not of the type that is wanted\n   11 | SEL a, d\n      |     ^^^^ one value is INT, the other DINT\n  help: convert by INT_TO_DINT, or write the type of a literal, as INT#8\n",
+    ),
+    (
+        "PROGRAM p\nVAR_EXTERNAL\n  inv1_w : DINT;\nEND_VAR\nVAR\n  a, y : INT;\n  b : BOOL;\n  d : DINT;\nEND_VAR\n  LD b\nSEL a, b\nEND_PROGRAM\n",
+        "refused: verify Type at 5\n",
+        "p.il:11: Type: operands of two types, or not of the type that is wanted\n   11 | SEL a, b\n      |     ^^^^ one value is INT, the other BOOL\n  help: make a BOOL of a number by a comparison, as NE 0, or choose a number by a BOOL with SEL, as SEL 0, 1\n",
+    ),
+    (
+        "PROGRAM p\nVAR_EXTERNAL\n  inv1_w : DINT;\nEND_VAR\nVAR\n  a, y : INT;\n  b : BOOL;\n  d : DINT;\nEND_VAR\n  LD a\nDINT_TO_LINT\nEND_PROGRAM\n",
+        "refused: verify Type at 1\n",
+        "p.il:11: Type: operands of two types, or not of the type that is wanted\n   11 | DINT_TO_LINT\n      | ^^^^^^^^^^^^ the result is INT, DINT is wanted\n  help: convert by INT_TO_LINT, or write the type of a literal, as INT#8\n",
+    ),
+    (
+        "PROGRAM p\nVAR_EXTERNAL\n  inv1_w : DINT;\nEND_VAR\nVAR\n  a, y : INT;\n  b : BOOL;\n  d : DINT;\nEND_VAR\n  LD d\nINT_TO_DINT\nEND_PROGRAM\n",
+        "refused: verify Type at 1\n",
+        "p.il:11: Type: operands of two types, or not of the type that is wanted\n   11 | INT_TO_DINT\n      | ^^^^^^^^^^^ the result is DINT, INT is wanted\n  help: leave the conversion away: what it converts has that type\n",
+    ),
+    (
+        "PROGRAM p\nVAR_EXTERNAL\n  inv1_w : DINT;\nEND_VAR\nVAR\n  a, y : INT;\n  b : BOOL;\n  d : DINT;\nEND_VAR\n  LD b\nINT_TO_DINT\nEND_PROGRAM\n",
+        "refused: verify Type at 1\n",
+        "p.il:11: Type: operands of two types, or not of the type that is wanted\n   11 | INT_TO_DINT\n      | ^^^^^^^^^^^ the result is BOOL, INT is wanted\n  help: make a number of the BOOL by SEL, as SEL 0, 1\n",
+    ),
+    (
+        "PROGRAM p\nVAR_EXTERNAL\n  inv1_w : DINT;\nEND_VAR\nVAR\n  a, y : INT;\n  b : BOOL;\n  d : DINT;\nEND_VAR\n  LD b\nABS\nEND_PROGRAM\n",
+        "refused: verify Type at 1\n",
+        "p.il:11: Type: operands of two types, or not of the type that is wanted\n   11 | ABS\n      | ^^^ the result is BOOL, a whole number is wanted\n  help: make a number of the BOOL by SEL, as SEL 0, 1\n",
+    ),
+    (
+        "PROGRAM p\nVAR_EXTERNAL\n  inv1_w : DINT;\nEND_VAR\nVAR\n  a, y : INT;\n  b : BOOL;\n  d : DINT;\nEND_VAR\n  LD b\nS a\nEND_PROGRAM\n",
+        "refused: verify Type at 1\n",
+        "p.il:11: Type: operands of two types, or not of the type that is wanted\n   11 | S a\n      |   ^ the result is BOOL, a is INT\n  help: store by ST: S and R set a BOOL\n",
+    ),
+    (
+        "PROGRAM p\nVAR_EXTERNAL\n  inv1_w : DINT;\nEND_VAR\nVAR\n  a, y : INT;\n  b : BOOL;\n  d : DINT;\nEND_VAR\n  LD a\nR b\nEND_PROGRAM\n",
+        "refused: verify Type at 1\n",
+        "p.il:11: Type: operands of two types, or not of the type that is wanted\n   11 | R b\n      |   ^ the result is INT, b is BOOL\n  help: make a BOOL of the number by a comparison, as NE 0\n",
+    ),
+    (
+        "PROGRAM p\nVAR_EXTERNAL\n  inv1_w : DINT;\nEND_VAR\nVAR\n  a, y : INT;\n  b : BOOL;\n  d : DINT;\nEND_VAR\n  LD a\nEQ b\nEND_PROGRAM\n",
+        "refused: verify Type at 3\n",
+        "p.il:11: Type: operands of two types, or not of the type that is wanted\n   11 | EQ b\n      |    ^ a is INT, b is BOOL\n  help: make a BOOL of a number by a comparison, as NE 0, or choose a number by a BOOL with SEL, as SEL 0, 1\n",
     ),
     (
         "PROGRAM p\nVAR_EXTERNAL\n  inv1w : DINT;\nEND_VAR\n  LD inv1w\nEND_PROGRAM\n",
