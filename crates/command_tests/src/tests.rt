@@ -1,6 +1,7 @@
 //! What the tests of the commands share: texts, words and what was printed.
 mod check;
 mod explained;
+mod explained_ends;
 mod explained_files;
 mod explained_inputs;
 mod explained_limits;
