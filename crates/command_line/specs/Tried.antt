@@ -1,4 +1,4 @@
--- What the program without words prints of the bytes that its standard input gives.
+-- What the run without arguments prints of the bytes that its standard input gives.
 -- No standard says what is printed; lines and statuses are this project's.
 use Rattle.std.specs.Prelude.{◌⊎◌, ℕ, List, Option, codes}
 use Rattle.commands.specs.Outcome.{IsTrial}

@@ -1,4 +1,4 @@
--- Input lines of the program without words: which reading each tag has.
+-- Input lines of the run without arguments: which reading each tag has.
 -- IEC 61131-3 edition 2, 2.2.1 numeric literals, for the numbers.
 use Rattle.std.specs.Prelude.{ℕ, suc, ◌+◌, ◌-◌, Bool, true, false, not, ◌&&◌, ℤ, pos, ◌+ℤ◌, ◌-ℤ◌, ◌*ℤ◌, List, [], ◌∷◌, map, take, drop, if◌then◌else◌, Option, Some, None, Result, Ok, Err, nat_eq, bytes_eq, codes, option_map, slice_get, slice_set}
 use Rattle.std.specs.Char.{to_ascii_lowercase}

@@ -1,4 +1,4 @@
--- Standard input of the program without words: a program text, and input lines behind it.
+-- Standard input of the run without arguments: a program text, and input lines behind it.
 -- IEC 61131-3 edition 2, annex B (what a program's text is); how it comes in is this project's.
 use Rattle.std.specs.Prelude.{ℕ, ◌+◌, Bool, ◌||◌, List, [], ◌∷◌, ◌++◌, map, if◌then◌else◌, nat_eq, bytes_eq, codes, ◌-◌, take, length}
 use Rattle.std.specs.List.{ends_with, list_all}

@@ -1,4 +1,4 @@
--- What the program without words prints: the outcome of one scan of a program, or why there is none.
+-- What the run without arguments prints: the outcome of one scan of a program, or why there is none.
 -- IEC 61131-3 (edition 2), 3.2 for what the scan means.
 use Rattle.std.specs.Prelude.{◌≡◌, ◌⊎◌, ℕ, ℤ, List, ◌++◌, map, Option, Result, Ok, Err}
 use Rattle.point_types.specs.declared.reading.Reading.{Reading}
