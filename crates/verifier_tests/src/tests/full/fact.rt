@@ -195,27 +195,16 @@ impl FullFact {
 }
 
 fn declared_ranges(alloc: Global, variables: &[Var]) -> Result<Vec<Span>, AllocError> {
-    let mut spans = Vec::new(alloc);
-    for variable in variables {
-        spans.push(declared_range(variable))?;
-    }
-    Ok(spans)
-}
-
-fn declared_range(variable: &Var) -> Span {
-    Span::between(variable.low, variable.high)
+    variables
+        .iter()
+        .map(|it| Span::between(it.low, it.high))
+        .collect(alloc)
 }
 
 fn site_ranges(alloc: Global, tags: &[TagRange]) -> Result<Vec<Span>, AllocError> {
-    let mut spans = Vec::new(alloc);
-    for tag in tags {
-        spans.push(site_range(tag))?;
-    }
-    Ok(spans)
-}
-
-fn site_range(tag: &TagRange) -> Span {
-    Span::between(tag.low, tag.high)
+    tags.iter()
+        .map(|it| Span::between(it.low, it.high))
+        .collect(alloc)
 }
 
 /// The least spans over both.

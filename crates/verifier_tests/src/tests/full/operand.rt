@@ -68,14 +68,14 @@ fn arithmetic(
     d: &FullValue,
     r: &FullValue,
 ) -> Result<FullValue, Stop> {
-    if d.kind != r.kind || d.kind == IlType::Bool {
+    if !are_numbers_alike(d, r) {
         return Err(Stop::Refused(RefusalKind::WrongType));
     }
     let span = fitting(d.kind, d.span.operated_ends(operator, r.span))?;
     Ok(FullValue::plain(alloc, context, d.kind, span)?)
 }
 
-/// DIV and MOD: no divisor may be 0.
+/// DIV and MOD: no divisor may be 0, where the types are right.
 fn division(
     alloc: Global,
     context: &Context,
@@ -83,13 +83,15 @@ fn division(
     d: &FullValue,
     r: &FullValue,
 ) -> Result<FullValue, Stop> {
-    if d.kind != r.kind || d.kind == IlType::Bool {
-        return Err(Stop::Refused(RefusalKind::WrongType));
-    }
-    if r.span.has_member(0) {
+    if are_numbers_alike(d, r) && r.span.has_member(0) {
         return Err(Stop::Refused(RefusalKind::ZeroDivisor));
     }
     arithmetic(alloc, context, operator, d, r)
+}
+
+/// Whether both are whole numbers of one type.
+fn are_numbers_alike(d: &FullValue, r: &FullValue) -> bool {
+    d.kind == r.kind && d.kind != IlType::Bool
 }
 
 /// The span of these ends, which lie in a type's range; without any it is empty.
