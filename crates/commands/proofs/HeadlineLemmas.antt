@@ -25,6 +25,7 @@ use Rattle.verifier.specs.declared.tag_link.TagLink.{TagLink}
 use Rattle.verifier.specs.Judging.{linked_frame}
 use Rattle.verifier.specs.Links.{allowed, found, is_stored, link_of, links_from, number_of, refused_at, there}
 use Rattle.verifier.specs.Listing.{listing_of}
+use Rattle.verifier.specs.Safe.{NeverGoesWrong}
 use Rattle.verifier.specs.Verdict.{budgeted, judged, refusal_of}
 use Rattle.verifier.specs.Verified.{Acceptance, HasAlike, HasLinks, IsAlike, IsVerified}
 use Rattle.verifier.proofs.Images.{by_both, ok_is}
@@ -41,10 +42,11 @@ use Rattle.gateway.specs.declared.event_core.event.Event.{Event}
 use Rattle.gateway.specs.declared.event_core.event.Event.TheVariants as event
 use Rattle.gateway.proofs.Parts.{same_then}
 use Rattle.commands.specs.Accepted.{Accepts, most_deferred}
-use Rattle.commands.specs.Headline.{DoesRun, DoesScan, IsAccepted, Tells}
+use Rattle.commands.specs.Headline.{DoesRun, DoesScan, Tells}
 use Rattle.commands.specs.Printed.{EndsEarly, LineLost, LinkDown}
 use Rattle.commands.specs.Scans.{AreScans, DoesScans, End, IsBroken, IsWhole, PartsAreTheRun, RunsScans, series_of}
 use Rattle.commands.specs.Series.{AreInOrder, Moment, Scan}
+use Rattle.commands.specs.Sources.{AreTextsOf, HasTexts}
 use Rattle.commands.specs.Stopped.{StopsScan}
 use Rattle.commands.proofs.MeaningLemmas.{all_meant}
 use Rattle.commands.proofs.RunLemmas.{scans_from_opening}
@@ -270,9 +272,8 @@ right_of p well = record {
   each_end = λ readings variables reads ranges. each_end_is_the_meaning p readings variables well reads ranges;
 }
 
-accepts_again : (site program : List ℕ) (texts : List (List ℕ)) (s : Site) (a : Acceptance) → IsVerified most_deferred a → (h : IsAccepted site program texts s a) → Accepts site program texts s h.program a
-accepts_again site program texts s a verified h =
-    let of = h.texts_of in
+accepts_again : (site program : List ℕ) (texts : List (List ℕ)) (s : Site) (a : Acceptance) (p : Program) → IsVerified most_deferred a → AreTextsOf site program texts s p a → NeverGoesWrong a → Accepts site program texts s p a
+accepts_again site program texts s a p verified of safe =
     record {
       models = (of.of_site).models;
       defined = (of.of_site).defined;
@@ -281,20 +282,19 @@ accepts_again site program texts s a verified h =
       read = (reading_is_exact program (of.of_program).tree).1 ((of.of_program).spelled, (of.of_program).short);
       accepted = record {
         resolved = (of.of_program).resolved;
-        right = right_of h.program (what_elaborates_is_well (of.of_program).tree h.program (of.of_program).resolved);
+        right = right_of p (what_elaborates_is_well (of.of_program).tree p (of.of_program).resolved);
         accepted = record {
           kept = of.coded;
           linked = subst (λ (i : Image). links_from s.tags 0 i.tags ≡ Ok a.links) of.coded of.linked;
           judged = subst (λ (i : Image). judged i s.tags most_deferred ≡ Ok a.budget) of.coded (judged_here most_deferred a s.tags verified of.linked);
-          safe = h.safe;
+          safe = safe;
         };
       };
     }
 
 run_again : (site program : List ℕ) (texts : List (List ℕ)) (n : ℕ) (p q : Polling) (old new : Option (List ℕ)) (s : Site) (a : Acceptance) (maps : List (Option Layout)) (core : Gateway) (status : ℕ)
-    → IsVerified most_deferred a → IsAccepted site program texts s a → DoesRun (gateway_of s maps (opened a)) program n (record { link_before = p; link_behind = q; out_before = old; out_behind = new; status = status }) core → RunsScans site program texts n p q old new core status
-run_again site program texts n p q old new s a maps core status verified h r =
-    let of = h.texts_of in
+    → IsVerified most_deferred a → HasTexts site program texts s a → NeverGoesWrong a → DoesRun (gateway_of s maps (opened a)) program n (record { link_before = p; link_behind = q; out_before = old; out_behind = new; status = status }) core → RunsScans site program texts n p q old new core status
+run_again site program texts n p q old new s a maps core status verified (tree, of) safe r =
     let start = gateway_of s maps (opened a) in
     let all = scans_again s a r.program (record { link = r.found_by; core = start }) r.scans r.last (record { on_site = refl; on_program = refl; held = refl }) r.done in
     let reports = reports_of s a r.program r.scans in
@@ -311,25 +311,25 @@ run_again site program texts n p q old new s a maps core status verified h r =
       end = end.1;
     } in
     let run = follows_all n r.found_by start events q core old new status does in
-    let right = subst (DoesWhatItMeans h.program) (sym of.coded) (right_of h.program (what_elaborates_is_well (of.of_program).tree h.program (of.of_program).resolved)) in
-    let proper = subst IsProper (sym of.coded) (images_are_proper (of.of_program).tree h.program (of.of_program).resolved) in
+    let right = subst (DoesWhatItMeans tree) (sym of.coded) (right_of tree (what_elaborates_is_well (of.of_program).tree tree (of.of_program).resolved)) in
+    let proper = subst IsProper (sym of.coded) (images_are_proper (of.of_program).tree tree (of.of_program).resolved) in
     let verdict = judged_here most_deferred a s.tags verified of.linked in
     let matched = links_match s.tags 0 a.image.tags a.links of.linked in
     record {
       site = s;
-      program = h.program;
+      program = tree;
       accepted = a;
-      accepts = accepts_again site program texts s a verified h;
+      accepts = accepts_again site program texts s a tree verified of safe;
       maps = maps;
       between = r.found_by;
       found = r.found;
       events = events;
-      scans = scans_from_opening s h.program a right of.linked proper verdict matched maps n r.found_by events q core old new status does;
+      scans = scans_from_opening s tree a right of.linked proper verdict matched maps n r.found_by events q core old new status does;
       answers = run.0.0;
-      runs = all_meant s h.program a right of.linked proper verdict matched events run.0.0 core.standing run.0.1;
+      runs = all_meant s tree a right of.linked proper verdict matched events run.0.0 core.standing run.0.1;
       same = run.1;
     }
 
 pub parts_are_the_run : PartsAreTheRun
-parts_are_the_run site program texts n p q old new core status verified accepted run =
-    run_again site program texts n p q old new core.site core.machine.accepted core.maps core status verified accepted run
+parts_are_the_run site program texts n p q old new core status verified texts_of accepted run =
+    run_again site program texts n p q old new core.site core.machine.accepted core.maps core status verified texts_of accepted.safe run

@@ -3,6 +3,7 @@ pub mod CheckLemmas
 pub mod CoreLemmas
 pub mod ExplainLemmas
 mod FoundLemmas
+mod ForLemmas
 pub mod GivenLemmas
 pub mod HeadlineLemmas
 pub mod LineLemmas

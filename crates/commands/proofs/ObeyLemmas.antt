@@ -18,6 +18,7 @@ use Rattle.commands.specs.Obeyed.{Checks, IsSound, ProbesBy, ProbesOver, Runs}
 use Rattle.commands.specs.Opening.{IsRefused}
 use Rattle.commands.specs.Printed.{IsUnlinked}
 use Rattle.commands.specs.Probe.{IsProbe}
+use Rattle.commands.specs.Sources.{HasTexts}
 use Rattle.commands.proofs.CheckLemmas.{prints_where}
 
 -- a program that is accepted is sound
@@ -36,12 +37,13 @@ checks_by site program texts old new told status is same = subst (Checks site pr
 })
 
 pub runs_by : (site program : List ℕ) (texts : List (List ℕ)) (n : ℕ) (p q : Polling) (old new : Option (List ℕ)) (core : Option Gateway) (status : ℕ)
+    → IfSome core (λ core. HasTexts site program texts core.site core.machine.accepted)
     → IfSome core (λ core. IsAccepted site program texts core.site core.machine.accepted)
     → IfSome core (λ core. RunsProgram program n (record { link_before = p; link_behind = q; out_before = old; out_behind = new; status = status }) core)
     → IfNone core (IsRefused site program texts p q old new status)
     → Runs site program texts n p q old new core status
-runs_by site program texts n p q old new (Some core) status accepted run refused = (accepted, run)
-runs_by site program texts n p q old new None status accepted run refused = refused
+runs_by site program texts n p q old new (Some core) status of accepted run refused = (of, accepted, run)
+runs_by site program texts n p q old new None status of accepted run refused = refused
 
 pub probes_by : (unit : ℕ) (texts : List (List ℕ)) (models : List ModelDef) (p q : Polling) (old new : Option (List ℕ)) (status : ℕ) → AreDefined texts models
     → (p.fault ≡ None → IsProbe unit models p old q new status) → IfSome p.fault (λ fault. IsUnlinked fault old new status × (q ≡ p))

@@ -25,9 +25,9 @@ use Rattle.gateway.specs.declared.event_core.event.Answer.{Answer}
 use Rattle.gateway.specs.declared.event_core.event.Event.{Event}
 use Rattle.gateway.specs.declared.event_core.event.Event.TheVariants as event
 use Rattle.commands.specs.Accepted.{most_deferred}
+use Rattle.commands.specs.Described.{Spells}
 use Rattle.commands.specs.Headline.{DoesRun, DoesScan, Tells}
 use Rattle.commands.specs.Printed.{LineLost, LinkDown}
-use Rattle.commands.specs.Sources.{IsTextOf}
 use Rattle.commands.specs.Meant.{AdvancesAsMeant, StepsAsMeant}
 use Rattle.commands.specs.Scans.{AreScans, DoesScans, End, IsBroken, IsWhole, series_of}
 use Rattle.commands.specs.Series.{AreInOrder, Course, Moment, Scan}
@@ -330,14 +330,14 @@ module _ (site : Site) (p : Program) (a : Acceptance) (right : DoesWhatItMeans p
   }
 
   pub run_from_opening : (maps : List (Option Layout)) (text : List ℕ) (n : ℕ) (o : Polling) (events : List Event) (t : Gateway) (c : Course)
-      → IsTextOf text p → FindsAll site.devices c.link_before maps o → DoesScans (TakesEvent most_deferred) n o (gateway_of site maps (vm.opened a)) events c.link_behind t c.out_before c.out_behind c.status
+      → Spells text p → FindsAll site.devices c.link_before maps o → DoesScans (TakesEvent most_deferred) n o (gateway_of site maps (vm.opened a)) events c.link_behind t c.out_before c.out_behind c.status
       → DoesRun (gateway_of site maps (vm.opened a)) text n c t
-  run_from_opening maps text n o events t c of found h =
+  run_from_opening maps text n o events t c spelled found h =
       let start : IsOn (gateway_of site maps (vm.opened a)) = record { on_site = refl; on_program = refl; kept = opening_kept site p a right linked proper verdict matched } in
       let all = whole_scans o (gateway_of site maps (vm.opened a)) h.reports h.before h.middle h.between start refl h.whole in
       record {
         program = p;
-        of_program = of;
+        spelled = spelled;
         found_by = o;
         found = found;
         scans = all.scans;

@@ -15,11 +15,13 @@ use Rattle.il_assemble.specs.Meaning.{Program}
 use Rattle.site_model.specs.declared.site.Site.{Site}
 use Rattle.verifier.specs.Verified.{Acceptance}
 use Rattle.gateway.specs.declared.event_core.event.Event.{Event}
-use Rattle.commands.specs.Headline.{AreTextsOf, DoesRun, IsAccepted, RunsProgram}
+use Rattle.commands.specs.Headline.{DoesRun, IsAccepted, RunsProgram}
 use Rattle.commands.specs.Opening.{OpensCore, StartsCore}
 use Rattle.commands.specs.Scans.{DoesScans, LeavesOff}
 use Rattle.commands.specs.Series.{Course}
+use Rattle.commands.specs.Sources.{AreTextsOf, HasTexts}
 use Rattle.commands.specs.Accepted.{Accepts, most_deferred}
+use Rattle.commands.proofs.ForLemmas.{for_its_texts, spells}
 use Rattle.commands.proofs.RunLemmas.{run_from_opening}
 use Rattle.commands.proofs.ScanLemmas.{follows_all}
 
@@ -47,8 +49,9 @@ abbrev course_of : Polling → Polling → Option (List ℕ) → Option (List �
 course_of p q old new status = record { link_before = p; link_behind = q; out_before = old; out_behind = new; status = status }
 
 -- a core that was opened for a program, and what it did
-pub record HasRun (site program : List ℕ) (texts : List (List ℕ)) (n : ℕ) (p q : Polling) (old new : Option (List ℕ)) (core : Gateway) (status : ℕ) : Type 0 where
-  pub accepted : IsAccepted site program texts core.site core.machine.accepted
+pub record HasRun (site program : List ℕ) (defs : List (List ℕ)) (n : ℕ) (p q : Polling) (old new : Option (List ℕ)) (core : Gateway) (status : ℕ) : Type 0 where
+  pub texts : HasTexts site program defs core.site core.machine.accepted
+  pub accepted : IsAccepted site program defs core.site core.machine.accepted
   pub run : RunsProgram program n (course_of p q old new status) core
 
 has_run_opened : (site program : List ℕ) (texts : List (List ℕ)) (n : ℕ) (p middle q : Polling) (old new : Option (List ℕ)) (first core : Gateway) (status : ℕ) (s : Site) (tree : Program) (a : Acceptance)
@@ -63,9 +66,10 @@ has_run_opened site program texts n p middle q old new first core status s tree 
     let proper = subst IsProper (sym on.kept) (images_are_proper accepts.tree tree (accepts.accepted).resolved) in
     let verdict = subst (λ (i : Image). judged i s.tags most_deferred ≡ Ok a.budget) (sym on.kept) on.judged in
     record {
-      accepted = over_core s a maps core (λ x b ms. IsAccepted site program texts x b) same (record { program = tree; texts_of = of; safe = on.safe });
+      texts = over_core s a maps core (λ x b ms. HasTexts site program texts x b) same (tree, of);
+      accepted = over_core s a maps core (λ x b ms. IsAccepted site program texts x b) same (record { program = tree; is_for = for_its_texts site program texts s tree a of; safe = on.safe });
       run = over_core s a maps core (λ x b ms. DoesRun (gateway_of x ms (opened b)) program n (course_of p q old new status) core) same
-          (run_from_opening s tree a right of.linked proper verdict linked maps program n middle events core (course_of p q old new status) of.of_program found from_start);
+          (run_from_opening s tree a right of.linked proper verdict linked maps program n middle events core (course_of p q old new status) (spells program tree of.of_program) found from_start);
     }
 
 pub has_run : (site program : List ℕ) (texts : List (List ℕ)) (n : ℕ) (p middle q : Polling) (old new : Option (List ℕ)) (first core : Gateway) (status : ℕ)

@@ -6,7 +6,7 @@ use Rattle.il_assemble.specs.Meaning.{Program}
 use Rattle.site_model.specs.declared.site.Site.{Site}
 use Rattle.verifier.specs.Verified.{Acceptance}
 use Rattle.commands.specs.Accepted.{Accepts, Refuses}
-use Rattle.commands.specs.Headline.{AreTextsOf}
+use Rattle.commands.specs.Sources.{AreTextsOf}
 use Rattle.commands.specs.Told.{IsTold, Told, refused_with}
 use Rattle.commands.specs.Report.{accepted_lines, no_memory_line}
 

@@ -4,7 +4,7 @@
 -- stated ranges.
 -- Accepted: `IsAccepted`. Safe, within the number: `IsSafe`. Means: `IsMeant`. Writes: `Writes`. Told: `Tells`.
 -- IEC 61131-3 edition 2, 3.2 (instruction list; one scan after another); MODBUS Messaging on TCP/IP Implementation Guide, section 4.2.
-use Rattle.std.specs.Prelude.{◌≡◌, ◌≢◌, ℕ, ◌≤◌, ℤ, List, length, map, count_by, Option, Result, Ok}
+use Rattle.std.specs.Prelude.{◌≡◌, ◌≢◌, ℕ, ◌≤◌, ℤ, List, length, map, count_by, Option, Result}
 use Rattle.point_types.specs.declared.reading.Reading.{Reading}
 use Rattle.modbus_frame.specs.declared.link.LinkFault.{LinkFault}
 use Rattle.site_model.specs.Readings.{AreReadings, AreSettings}
@@ -13,10 +13,8 @@ use Rattle.point_writer.specs.declared.write.Write.{Write}
 use Rattle.point_writer.specs.declared.write.NoWrite.{NoWrite}
 use Rattle.scan_code.specs.Machine.{Ending, State, Ended, Unfinished, opening, run}
 use Rattle.scan_vm.specs.Machine as vm
-use Rattle.il_assemble.specs.Code.{image_of}
 use Rattle.il_assemble.specs.Correct.{AreVariables}
 use Rattle.il_assemble.specs.Meaning.{Program, Done, meaning}
-use Rattle.verifier.specs.Links.{links_from}
 use Rattle.verifier.specs.Safe.{NeverGoesWrong}
 use Rattle.verifier.specs.Verified.{Acceptance}
 use Rattle.gateway.specs.event_core.Control.{IsDue, Notes, after_scan}
@@ -27,22 +25,24 @@ use Rattle.gateway.specs.poller.Finding.{FindsAll}
 use Rattle.gateway.specs.poller.LinkRun.{Exchange}
 use Rattle.gateway.specs.poller.Polling.{Polling, Talks}
 use Rattle.commands.specs.Accepted.{most_deferred}
+use Rattle.commands.specs.Described.{AreTagsOf, Describes, Spells}
 use Rattle.commands.specs.Printed.{AreAllDone, EndsEarly}
 use Rattle.commands.specs.Series.{AreInOrder, Course, Moment, Scan, Series}
-use Rattle.commands.specs.Sources.{IsSiteOf, IsTextOf}
 use Rattle.commands.specs.Stopped.{StopsScan}
 
--- the texts are a site's and a program's, whose code it is, and each of its tags is the site's of that name
-pub record AreTextsOf (site_text program_text : List ℕ) (texts : List (List ℕ)) (site : Site) (p : Program) (a : Acceptance) : Type 0 where
-  pub of_site : IsSiteOf site_text texts site
-  pub of_program : IsTextOf program_text p
-  pub coded : a.image ≡ image_of p
-  pub linked : links_from site.tags 0 a.image.tags ≡ Ok a.links
+-- the site is the one that its text describes, the program the one that its text spells; the image has the program's variables
+-- and tags, each of which is the site's tag of its name (that its code is the program's too stands in the clause `texts`)
+pub record IsFor (site_text program_text : List ℕ) (texts : List (List ℕ)) (site : Site) (p : Program) (a : Acceptance) : Type 0 where
+  pub described : Describes site_text texts site
+  pub spelled : Spells program_text p
+  pub variables : a.image.vars ≡ p.variables
+  pub tags : a.image.tags ≡ p.tags
+  pub linked : AreTagsOf site.tags p.tags a.links
 
 -- no scan of this program on this site goes wrong, whatever the readings
 pub record IsAccepted (site_text program_text : List ℕ) (texts : List (List ℕ)) (site : Site) (a : Acceptance) : Type 0 where
   pub program : Program
-  pub texts_of : AreTextsOf site_text program_text texts site program a
+  pub is_for : IsFor site_text program_text texts site program a
   pub safe : NeverGoesWrong a
 
 -- what is read for the program's tags, of the readings of the site's
@@ -98,7 +98,7 @@ pub record Tells (Fails : Moment → LinkFault → Moment → Type 0) (series : 
 -- from this start on, with the maps that were found, at most n scans are done, one after another
 pub record DoesRun (start : Gateway) (program_text : List ℕ) (n : ℕ) (course : Course) (core : Gateway) : Type 0 where
   pub program : Program
-  pub of_program : IsTextOf program_text program
+  pub spelled : Spells program_text program
   pub found_by : Polling
   pub found : FindsAll (start.site).devices course.link_before start.maps found_by
   pub scans : List Scan

@@ -1,6 +1,7 @@
 pub mod Accepted
 pub mod Check
 pub mod Defined
+pub mod Described
 pub mod Explained
 pub mod Given
 pub mod Headline

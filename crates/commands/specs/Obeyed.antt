@@ -25,6 +25,7 @@ use Rattle.commands.specs.Outcome.{IsTrial}
 use Rattle.commands.specs.Printed.{IsUnlinked}
 use Rattle.commands.specs.Probe.{IsProbe}
 use Rattle.commands.specs.Report.{no_memory_line}
+use Rattle.commands.specs.Sources.{HasTexts}
 use Rattle.commands.specs.Told.{IsTold, Told, refused_with}
 
 -- ---- texts alone
@@ -51,7 +52,8 @@ Obeys (Explain site program defs listing) old new status = IsExplained site.now 
 -- at most n scans of the program of these texts, which is accepted for the site; or what is told where there is no core
 abbrev pub Runs : List ℕ → List ℕ → List (List ℕ) → ℕ → Polling → Polling → Option (List ℕ) → Option (List ℕ) → Option Gateway → ℕ → Type 0
 Runs site program texts n p q old new (Some core) status =
-    IsAccepted site program texts core.site core.machine.accepted × RunsProgram program n (record { link_before = p; link_behind = q; out_before = old; out_behind = new; status = status }) core
+    HasTexts site program texts core.site core.machine.accepted × IsAccepted site program texts core.site core.machine.accepted
+    × RunsProgram program n (record { link_before = p; link_behind = q; out_before = old; out_behind = new; status = status }) core
 Runs site program texts n p q old new None status = IsRefused site program texts p q old new status
 
 -- a link that works is probed; of one that failed the fault is told, and nothing is asked

@@ -26,6 +26,7 @@ use Rattle.commands.specs.Meant.{AdvancesAsMeant, RunsAsMeant}
 use Rattle.commands.specs.Printed.{AreAllDone, IsLineLost, IsUnlinked, IsUnprinted}
 use Rattle.commands.specs.Report.{scan_line, scan_lines}
 use Rattle.commands.specs.Series.{Series}
+use Rattle.commands.specs.Sources.{HasTexts}
 
 -- ---- scans, one after another
 
@@ -124,10 +125,11 @@ pub record RunsScans (site_text program_text : List ℕ) (texts : List (List ℕ
   pub runs : RunsAsMeant program site accepted (run.opened site (map start_of accepted.image.vars)) events answers core.standing
   pub same : IsSame (gateway_of site maps (opened accepted)) core
 
--- The parts of the headline say all of this, of a core's program (that it was verified is said of each one).
+-- The parts of the headline say all of this, with the clause `texts`, of a core's program (that it was verified is said of each one).
 abbrev pub PartsAreTheRun : Type 0
 PartsAreTheRun =
     (site program : List ℕ) (texts : List (List ℕ)) (n : ℕ) (p q : Polling) (old new : Option (List ℕ)) (core : Gateway) (status : ℕ)
-    → IsVerified most_deferred core.machine.accepted → IsAccepted site program texts core.site core.machine.accepted
+    → IsVerified most_deferred core.machine.accepted → HasTexts site program texts core.site core.machine.accepted
+    → IsAccepted site program texts core.site core.machine.accepted
     → RunsProgram program n (record { link_before = p; link_behind = q; out_before = old; out_behind = new; status = status }) core
     → RunsScans site program texts n p q old new core status

@@ -10,6 +10,7 @@ ghost use Rattle.commands.specs.Opening.{IsRefused, IsSearched, LeavesPoller, Ma
 ghost use Rattle.commands.specs.Printed.{unlinked_with};
 ghost use Rattle.commands.specs.Report.{bad_core_line, link_line};
 ghost use Rattle.commands.specs.Scans.{IsLast, IsPrinted, LeavesOff};
+ghost use Rattle.commands.specs.Sources.{HasTexts};
 ghost use Rattle.commands.specs.Told.{refused_with};
 
 pub use crate::accepted::DEPTH;
@@ -42,6 +43,7 @@ pub fn scans<L: Link, W: Write>(
     out: &mut W,
 ) -> (Option<Core<DEPTH>>, u8)
     ensures accepted { IfSome result.0 (λ core. IsAccepted site.now program.now (map string_bytes defs.now) core.site core.machine.accepted) }
+    ensures texts { IfSome result.0 (λ core. HasTexts site.now program.now (map string_bytes defs.now) core.site core.machine.accepted) }
     ensures run { IfSome result.0 (λ core. RunsProgram program.now n (record { link_before = poller.old; link_behind = poller.new; out_before = W.contents out.old; out_behind = W.contents out.new; status = result.1 }) core) }
     ensures refused { IfNone result.0 (IsRefused site.now program.now (map string_bytes defs.now) poller.old poller.new (W.contents out.old) (W.contents out.new) result.1) }
 {
@@ -66,6 +68,7 @@ pub fn scans_noting<L: Link, V: ScanWatch, W: Write>(
     out: &mut W,
 ) -> (Option<Core<DEPTH>>, u8)
     ensures accepted { IfSome result.0 (λ core. IsAccepted site.now program.now (map string_bytes defs.now) core.site core.machine.accepted) }
+    ensures texts { IfSome result.0 (λ core. HasTexts site.now program.now (map string_bytes defs.now) core.site core.machine.accepted) }
     ensures run { IfSome result.0 (λ core. RunsProgram program.now n (record { link_before = poller.old; link_behind = poller.new; out_before = W.contents out.old; out_behind = W.contents out.new; status = result.1 }) core) }
     ensures refused { IfNone result.0 (IsRefused site.now program.now (map string_bytes defs.now) poller.old poller.new (W.contents out.old) (W.contents out.new) result.1) }
 {

@@ -10,3 +10,4 @@ pub mod Serving
 pub mod Lengths
 pub mod File
 pub mod Views
+pub mod Told

@@ -9,6 +9,7 @@ mod fault;
 mod fault_place;
 mod file;
 mod gateway;
+pub mod laws;
 mod lengths;
 mod lookups;
 pub mod readings;
