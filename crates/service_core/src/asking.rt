@@ -22,7 +22,7 @@ pub(crate) struct Wish {
 }
 
 /// What devices are asked for.
-#[derive(Clone, Copy, Debug, PartialEq, Eq)]
+#[derive(Clone, Copy)]
 enum Purpose {
     /// The round that is under way.
     Round,

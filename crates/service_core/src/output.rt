@@ -11,7 +11,7 @@ pub enum OutputState {
 }
 
 /// What was told of an output last, and whether its write is waited for in this round.
-#[derive(Clone, Copy, Debug, PartialEq, Eq)]
+#[derive(Clone, Copy)]
 pub(crate) struct Output {
     told: Option<OutputState>,
     pub(crate) is_awaited: bool,

@@ -18,7 +18,7 @@ use site_model::SiteDevice;
 use std::alloc::{AllocError, Global};
 
 /// How far a round is.
-#[derive(Clone, Copy, Debug, PartialEq, Eq)]
+#[derive(Clone, Copy)]
 pub(crate) enum Phase {
     /// Wanted blocks are asked for.
     Reading,

@@ -11,7 +11,7 @@ use modbus_frame::Request;
 use service::{Fate, Inquiry};
 
 /// What a request is made for.
-#[derive(Clone, Copy, Debug, PartialEq, Eq)]
+#[derive(Clone, Copy, PartialEq, Eq)]
 pub(crate) enum Aim {
     /// A map.
     Map,
@@ -24,7 +24,7 @@ pub(crate) enum Aim {
 }
 
 /// The request that is under way.
-#[derive(Clone, Copy, Debug, PartialEq, Eq)]
+#[derive(Clone, Copy)]
 pub(crate) struct Asked {
     pub(crate) device: usize,
     pub(crate) aim: Aim,
