@@ -9,4 +9,5 @@ pub mod Tagging
 pub mod Serving
 pub mod Lengths
 pub mod File
+pub mod Parts
 pub mod Views
