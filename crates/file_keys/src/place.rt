@@ -3,10 +3,13 @@ use crate::finding::{EntryName, Finding};
 use crate::wording::{entry_shown, help_of, meaning_of, rule_shown, stands_shown};
 use std::alloc::{AllocError, Global};
 
-/// A fault of a file, and where it was found; no place where memory for it was refused.
+/// A fault of a file, and where it was found.
 #[derive(Debug, Drop)]
-pub struct Placed<F: Copy> {
+pub struct Placed<F: Copy, P: Copy> {
     pub fault: F,
+    /// The part of the file that breaks the rule; where memory was refused, the one that was read then.
+    pub part: P,
+    /// That part in words, with what breaks the rule there; none where memory for it was refused.
     pub place: Option<FilePlace>,
 }
 

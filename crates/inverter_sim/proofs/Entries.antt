@@ -1,11 +1,9 @@
 -- Entries of lists that are read one after another.
-use Rattle.std.proofs.Common.{◌≡◌, ℕ, zero, suc, ◌+◌, ◌-◌, ◌<◌, ◌≤◌, Bool, true, false, ◌||◌, List, [], ◌∷◌, ◌++◌, map, length, get_or, take, drop, Option, None, Some, option_map, Result, Ok, Err, refl, sym, ap, ◌∙◌, subst, append_assoc, drop-cons, add-one, ℤ, unsigned_abs, arith}
-use Rattle.std.specs.Prelude.{option_and_then}
-use Rattle.toml.specs.Data.{Data, Items, no_items, item, as_integer}
+use Rattle.std.proofs.Common.{◌≡◌, ℕ, ◌+◌, ◌<◌, Bool, true, false, List, [], ◌∷◌, ◌++◌, length, get_or, drop, Option, None, Some, option_map, Ok, Err, refl, sym, ap, append_assoc, drop-cons, add-one, ℤ}
+use Rattle.toml.specs.Data.{Data, item, as_integer}
 use Rattle.toml.specs.View.{view, items_view}
 use Rattle.toml.specs.declared.value.Value.{Value}
 use Rattle.model_defs.specs.declared.model.ModelDef.{ModelDef}
-use Rattle.point_types.specs.Value.{◌>>=◌}
 use Rattle.inverter_sim.specs.declared.fault.PlantFault.{PlantFault}
 use Rattle.inverter_sim.specs.declared.misbehaviour.Fault.{Fault}
 use Rattle.inverter_sim.specs.State.{DeviceState}

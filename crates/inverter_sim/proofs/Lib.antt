@@ -1,4 +1,5 @@
 pub mod Upcoming
+pub mod Refused
 pub mod Powers
 pub mod Lists
 pub mod Answering

@@ -1,6 +1,6 @@
 -- The watts of the ticks to come, as a place in the list of all of them.
 use Rattle.std.proofs.Common.{◌≡◌, ℕ, zero, suc, ◌+◌, ◌<◌, ◌≤◌, List, [], ◌∷◌, length, drop, refl, ap, sym, ◌∙◌, arith, add-one}
-use Rattle.inverter_sim.specs.Tick.{later, available}
+use Rattle.inverter_sim.specs.Tick.{later}
 
 later_next : (xs : List ℕ) (n : ℕ) → suc n < length xs → later (drop n xs) ≡ drop (suc n) xs
 later_next [] n h = absurd (omega arith)

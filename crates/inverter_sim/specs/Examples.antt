@@ -1,7 +1,7 @@
 -- Worked values of a tick, of writes, of replies that are wrong and of plant files.
 -- SunSpec inverter models 101 to 103 and 123; MODBUS Messaging on TCP/IP Implementation Guide, section 3.1.
-use Rattle.std.specs.Prelude.{◌≡◌, ℕ, ◌^◌, true, false, List, [], ◌∷◌, take, pos, negsuc, None, Some, Ok, Err, refl, codes}
-use Rattle.toml.specs.Data.{Data, no_items, item, no_members, member, integer, string, array, table}
+use Rattle.std.specs.Prelude.{◌≡◌, true, false, [], ◌∷◌, take, pos, negsuc, None, Some, Ok, Err, refl, codes}
+use Rattle.toml.specs.Data.{no_items, item, no_members, member, integer, string, array, table}
 use Rattle.inverter_sim.specs.declared.fault.PlantFault.TheVariants as fault
 use Rattle.inverter_sim.specs.declared.misbehaviour.Misbehaviour.TheVariants as wrong
 use Rattle.inverter_sim.specs.Tick.{one, power_of, percent_of, scaled_watts, later}

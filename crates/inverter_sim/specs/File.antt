@@ -1,6 +1,6 @@
 -- Which plant a TOML file stands for, and which rule a file breaks first.
 -- TOML 1.0; SunSpec Device Information Model Specification, device modbus maps.
-use Rattle.std.specs.Prelude.{◌≡◌, ◌⊎◌, ℕ, ◌+◌, ◌==◌, ◌^◌, ◌*◌, nat_le, nat_lt, Bool, true, false, not, ◌&&◌, ◌||◌, List, [], ◌∷◌, ◌++◌, map, reverse, find, sum_by, ℤ, pos, neg_ℤ, ◌+ℤ◌, ◌-ℤ◌, int_le, unsigned_abs, Option, None, Some, option_map, option_and_then, Result, Ok, Err, if◌then◌else◌, codes}
+use Rattle.std.specs.Prelude.{◌≡◌, ◌⊎◌, ℕ, ◌+◌, ◌==◌, ◌^◌, nat_le, nat_lt, Bool, true, false, not, ◌&&◌, ◌||◌, List, [], ◌∷◌, ◌++◌, map, reverse, find, sum_by, ℤ, pos, neg_ℤ, ◌+ℤ◌, ◌-ℤ◌, int_le, unsigned_abs, Option, None, Some, option_map, option_and_then, Result, Ok, Err, if◌then◌else◌, codes}
 use Rattle.std.specs.Int.{int_rem_euclid}
 use Rattle.std.specs.List.{list_any, list_all}
 use Rattle.std.specs.Ordering.{int_eq}
@@ -21,7 +21,7 @@ use Rattle.inverter_sim.specs.declared.misbehaviour.Fault.{Fault}
 use Rattle.inverter_sim.specs.declared.misbehaviour.Misbehaviour.{Misbehaviour}
 use Rattle.inverter_sim.specs.declared.misbehaviour.Misbehaviour.TheVariants as wrong
 use Rattle.inverter_sim.specs.State.{DeviceState, PlantState}
-use Rattle.inverter_sim.specs.Image.{Placed, image_of, places_of, placed, point_named, tick_points, split, stored}
+use Rattle.inverter_sim.specs.Image.{image_of, places_of, placed, point_named, tick_points, split, stored}
 
 -- ---- keys
 

@@ -4,6 +4,7 @@ pub mod Tick
 pub mod Serve
 pub mod Image
 pub mod File
+pub mod Parts
 pub mod Reading
 pub mod Link
 pub mod Examples

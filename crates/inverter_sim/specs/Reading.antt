@@ -1,6 +1,6 @@
 -- inner: what the reader's own values stand for.
 -- No standard says what a plant file is; it is this project's, written in TOML 1.0.
-use Rattle.std.specs.Prelude.{ℕ, List, map, option_map}
+use Rattle.std.specs.Prelude.{List, map}
 use denote.Ref.{Bor}
 use Rattle.model_defs.specs.declared.model.ModelDef.{ModelDef}
 use Rattle.inverter_sim.specs.File as told

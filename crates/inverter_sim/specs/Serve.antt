@@ -1,6 +1,6 @@
 -- What a plant answers to a request, and what the request changes (Modbus Application Protocol V1.1b3, sections 6.3, 6.6,
 -- 6.12 and 7; MODBUS Messaging on TCP/IP Implementation Guide, section 4.4.2).
-use Rattle.std.specs.Prelude.{◌≡◌, ℕ, ◌+◌, ◌-◌, ◌==◌, nat_le, Bool, true, ◌&&◌, List, [], ◌∷◌, ◌++◌, length, take, drop, Result, Ok, Err, if◌then◌else◌}
+use Rattle.std.specs.Prelude.{ℕ, ◌+◌, ◌-◌, ◌==◌, nat_le, Bool, true, ◌&&◌, List, [], ◌∷◌, ◌++◌, length, take, drop, Result, Ok, Err, if◌then◌else◌}
 use Rattle.modbus_frame.specs.declared.message.Request.{Request}
 use Rattle.modbus_frame.specs.declared.message.Request.TheVariants.{Read, WriteOne, WriteMany}
 use Rattle.modbus_frame.specs.declared.message.Response.{Response}

@@ -1,6 +1,6 @@
 -- What a tick does to a device: the watts that it produces, and its state.
 -- SunSpec inverter models 101 to 103 (W, W_SF, St) and 123, immediate controls (Conn, WMaxLim_Ena, WMaxLimPct).
-use Rattle.std.specs.Prelude.{◌≡◌, ℕ, ◌*◌, ◌/◌, ◌^◌, ◌==◌, nat_le, nat_lt, min, Bool, false, List, [], ◌∷◌, map, slice_get, slice_set, ℤ, pos, ◌+ℤ◌, unsigned_abs, Option, None, Some, option_map, option_and_then, if◌then◌else◌}
+use Rattle.std.specs.Prelude.{ℕ, ◌*◌, ◌/◌, ◌^◌, ◌==◌, nat_le, nat_lt, min, Bool, false, List, [], ◌∷◌, map, slice_get, slice_set, ℤ, pos, ◌+ℤ◌, unsigned_abs, Option, None, Some, option_map, option_and_then, if◌then◌else◌}
 use Rattle.std.specs.Option.{option_map_or}
 use Rattle.point_types.specs.Point.{value_of}
 use Rattle.point_types.specs.Reading.{factor_of}

@@ -5,17 +5,18 @@ mod device;
 mod fault;
 mod fault_place;
 mod misbehaviour;
+mod part;
 mod place;
 mod plant;
 mod points;
 mod reader;
 mod serving;
-mod spot;
 mod tick;
 
 // a plant of inverters, and what one of its devices does wrong
 pub use fault::PlantFault;
 pub use misbehaviour::{Fault, Misbehaviour};
+pub use part::PlantPart;
 pub use plant::Plant;
 // a plant on a link
 pub use serving::serve_link;

@@ -2,6 +2,8 @@
 ghost use Rattle.std.specs.Prelude.{◌≡◌, ◌≢◌, map, Ok, Err, IfOk, IfErr, OnOk, MatchResult};
 ghost use Rattle.toml.specs.View.{view};
 ghost use Rattle.inverter_sim.specs.File.{plant_of, StandsFor, Breaks};
+ghost use Rattle.inverter_sim.specs.Parts.{IsAtFault, IsTreeFault};
+ghost use Rattle.inverter_sim.specs.declared.part.PlantPart.TheVariants as parts;
 ghost use Rattle.inverter_sim.specs.declared.fault.PlantFault.{PlantFault as FaultOfPlant};
 ghost use Rattle.inverter_sim.specs.declared.fault.PlantFault.TheVariants as fault;
 ghost use Rattle.inverter_sim.specs.Tick.{ticked, all_ticked};
@@ -11,8 +13,8 @@ use crate::device::Device;
 use crate::fault::PlantFault;
 use crate::fault_place::place_of;
 use crate::misbehaviour::Fault;
-use crate::reader::{devices_of, faults_of, has_too_many};
-use crate::spot::Spot;
+use crate::part::PlantPart;
+use crate::reader::{devices_of, faults_of, too_long};
 use file_keys::Placed;
 use modbus_frame::{Exception, Pdu, exception_pdu};
 use model_defs::ModelDef;
@@ -58,26 +60,29 @@ impl Plant {
         ensures unbroken { OnOk result ((e : FaultOfPlant) → ¬ Breaks defs.now toml.now e) }
         ensures refused { IfErr result (λ e. e ≢ fault.OutOfMemory → Breaks defs.now toml.now e) }
     {
-        let mut spot = Spot::File;
-        read_to(alloc, toml, defs, &mut spot)
+        let mut part = PlantPart::File;
+        read_to(alloc, toml, defs, &mut part)
     }
 
-    /// The same; the fault, which is that of [`Plant::read`], has the place in the text where it was found.
+    /// The same; the fault, which is that of [`Plant::read`], has the part of the file that breaks the rule, and its place
+    /// in the text.
     pub fn read_placed(
         alloc: Global,
         toml: &str,
         defs: &[ModelDef],
-    ) -> Result<Plant, Placed<PlantFault>>
+    ) -> Result<Plant, Placed<PlantFault, PlantPart>>
         ensures ok { IfOk result (StandsFor defs.now toml.now) }
         ensures unbroken { OnOk result ((e : FaultOfPlant) → ¬ Breaks defs.now toml.now e) }
         ensures refused { IfErr result (λ p. p.fault ≢ fault.OutOfMemory → Breaks defs.now toml.now p.fault) }
+        ensures placed { IfErr result (λ p. p.fault ≢ fault.OutOfMemory → IsAtFault defs.now toml.now p.part p.fault) }
     {
-        let mut spot = Spot::File;
-        match read_to(alloc, toml, defs, &mut spot) {
+        let mut part = PlantPart::File;
+        match read_to(alloc, toml, defs, &mut part) {
             Ok(plant) => Ok(plant),
             Err(fault) => Err(Placed {
                 fault,
-                place: place_of(alloc, toml, defs, spot, fault),
+                part,
+                place: place_of(alloc, toml, defs, part, fault),
             }),
         }
     }
@@ -102,19 +107,21 @@ impl Plant {
     }
 }
 
-/// Reads a plant file, and notes the entry that it has come to.
+/// Reads a plant file, and notes the part that it has come to.
 fn read_to(
     alloc: Global,
     toml: &str,
     defs: &[ModelDef],
-    spot: &mut Spot,
+    part: &mut PlantPart,
 ) -> Result<Plant, PlantFault>
+    requires { part.old ≡ parts.File }
     ensures ok { IfOk result (StandsFor defs.now toml.now) }
     ensures unbroken { OnOk result ((e : FaultOfPlant) → ¬ Breaks defs.now toml.now e) }
     ensures refused { IfErr result (λ e. e ≢ fault.OutOfMemory → Breaks defs.now toml.now e) }
+    ensures placed { IfErr result (λ e. e ≢ fault.OutOfMemory → IsAtFault defs.now toml.now part.new e) }
 {
     match table_from_str(alloc, toml) {
-        Ok(table) => read_tree(alloc, &Value::Table(table), defs, spot),
+        Ok(table) => read_tree(alloc, &Value::Table(table), defs, part),
         Err(e) => if e.is_memory() {
             Err(PlantFault::OutOfMemory)
         } else {
@@ -127,16 +134,18 @@ fn read_tree(
     alloc: Global,
     tree: &Value,
     defs: &[ModelDef],
-    spot: &mut Spot,
+    part: &mut PlantPart,
 ) -> Result<Plant, PlantFault>
-    ensures { MatchResult result (λ p. plant_of defs.now (view tree.now) ≡ Ok p)
+    ensures read { MatchResult result (λ p. plant_of defs.now (view tree.now) ≡ Ok p)
         (λ e. e ≢ fault.OutOfMemory → plant_of defs.now (view tree.now) ≡ Err e) }
+    ensures placed { IfErr result (λ e. e ≢ fault.OutOfMemory → IsTreeFault defs.now (view tree.now) part.new e) }
 {
-    if has_too_many(tree) {
+    if let Some(found) = too_long(tree) {
+        *part = found;
         return Err(PlantFault::TooMany);
     }
-    let devices = devices_of(alloc, tree, defs, spot)?;
-    let faults = faults_of(alloc, tree, spot)?;
+    let devices = devices_of(alloc, tree, defs, part)?;
+    let faults = faults_of(alloc, tree, part)?;
     Ok(Plant {
         devices,
         faults,

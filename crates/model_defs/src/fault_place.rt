@@ -1,5 +1,6 @@
 //! Where a text breaks a rule of model definitions. Nothing is proved of what is told here but that it ends and is safe.
 use crate::fault::DefFault;
+use crate::part::DefPart;
 use crate::point_object::{kind_named, whole_number};
 use file_keys::{EntryName, FilePlace, Finding, Kind, Rule, Stands, entry_named};
 use serde_json::{Error, Value};
@@ -26,18 +27,18 @@ const TYPES: &[&str] = &[
     "string",
 ];
 
-/// The place of a fault, where `point` is the number of the point that the reader had come to.
+/// The place of a fault of that part of the definition.
 pub(crate) fn place_of(
     alloc: Global,
     text: &[u8],
-    point: Option<usize>,
+    part: DefPart,
     fault: DefFault,
 ) -> Option<FilePlace> {
     if fault == DefFault::OutOfMemory {
         return None;
     }
     match Value::from_slice(alloc, text) {
-        Ok(tree) => place_in(alloc, &tree, point, fault),
+        Ok(tree) => place_in(alloc, &tree, part, fault),
         Err(error) => in_text(&error),
     }
 }
@@ -50,26 +51,34 @@ fn in_text(error: &Error) -> Option<FilePlace> {
     Some(FilePlace::Text { line, column })
 }
 
-fn place_in(
-    alloc: Global,
-    tree: &Value,
-    point: Option<usize>,
-    fault: DefFault,
-) -> Option<FilePlace> {
-    let (entry, finding) = found(tree, point, fault);
+fn place_in(alloc: Global, tree: &Value, part: DefPart, fault: DefFault) -> Option<FilePlace> {
+    let entry = name_of(tree, part)?;
+    let finding = found_at(tree, part, fault)?;
     FilePlace::at_entry(alloc, entry, finding).ok()
 }
 
-fn found(tree: &Value, point: Option<usize>, fault: DefFault) -> (EntryName<'_>, Finding<'_>) {
-    if let Some(whole) = of_whole(fault) {
-        return (EntryName::Alone("the model"), whole);
-    }
-    match object_of(tree, point) {
-        Some((number, object)) => {
-            let name = entry_named("point", text_at(object, "name"), number);
-            (name, in_point(tree, number, object, fault))
+/// How a part of the definition is named.
+fn name_of(tree: &Value, part: DefPart) -> Option<EntryName<'_>> {
+    match part {
+        DefPart::Model => Some(EntryName::Alone("the model")),
+        DefPart::Point(number) => {
+            let object = points_in(tree)?.get(number)?;
+            Some(entry_named("point", text_at(object, "name"), number))
         }
-        None => (EntryName::Alone("the model"), in_model(tree, fault)),
+    }
+}
+
+/// What breaks the rule in a part of the definition.
+fn found_at(tree: &Value, part: DefPart, fault: DefFault) -> Option<Finding<'_>> {
+    match part {
+        DefPart::Model => Some(match of_whole(fault) {
+            Some(whole) => whole,
+            None => in_model(tree, fault),
+        }),
+        DefPart::Point(number) => {
+            let object = points_in(tree)?.get(number)?;
+            Some(in_point(tree, number, object, fault))
+        }
     }
 }
 
@@ -87,12 +96,6 @@ fn of_whole(fault: DefFault) -> Option<Finding<'static>> {
         DefFault::Repeating => Some(Finding::of("group.groups", "is no empty list")),
         _ => None,
     }
-}
-
-/// The object of a point, and its number.
-fn object_of(tree: &Value, point: Option<usize>) -> Option<(usize, &Value)> {
-    let number = point?;
-    Some((number, points_in(tree)?.get(number)?))
 }
 
 fn in_model(tree: &Value, fault: DefFault) -> Finding<'_> {

@@ -7,6 +7,7 @@ mod fault_place;
 pub mod laws;
 mod model;
 mod models;
+mod part;
 mod placing;
 mod point;
 mod point_object;
@@ -15,6 +16,7 @@ mod reader;
 // a definition, read or shipped
 pub use fault::DefFault;
 pub use models::{shipped, shipped_models};
+pub use part::DefPart;
 pub use reader::{read, read_placed};
 // what it says
 pub use model::ModelDef;

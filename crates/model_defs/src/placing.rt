@@ -10,16 +10,17 @@ ghost use Rattle.point_types.specs.declared.kind.Kind.TheVariants as kinds;
 use crate::description::{Descriptions, Factor};
 use crate::fault::DefFault;
 use crate::model::ModelDef;
+use crate::part::DefPart;
 use crate::point::{Point, PointName, Points, Sf};
 use point_types::Kind;
 use std::alloc::Global;
 
-/// Lays the points out as a model of that id, where they break no rule together; notes the point that it has come to.
+/// Lays the points out as a model of that id, where they break no rule together; notes the part that it has come to.
 pub(crate) fn lay_out(
     alloc: Global,
     id: u16,
     points: &Descriptions<'_>,
-    point: &mut Option<usize>,
+    part: &mut DefPart,
 ) -> Result<ModelDef, DefFault>
     requires { (1 ≤ id) × (id ≤ 65534) }
     ensures id { IfOk result (λ model. model.id ≡ id) }
@@ -29,13 +30,14 @@ pub(crate) fn lay_out(
     ensures refused { IfErr result (λ e. e ≢ fault.OutOfMemory
         → broken_whole (descriptions_view points.now.entries) ≡ Some e) }
 {
+    *part = DefPart::Model;
     if !is_headed(points, 0, "ID") || !is_headed(points, 1, "L") {
         return Err(DefFault::BadHeader);
     }
     let Some(registers) = total(points) else {
         return Err(DefFault::TooLong);
     };
-    let placed = place(alloc, points, point)?;
+    let placed = place(alloc, points, part)?;
     Ok(ModelDef {
         id,
         length: registers - 2,
@@ -104,11 +106,7 @@ fn place_factor(points: &Descriptions<'_>, factor: Factor<'_>) -> Option<Sf>
 }
 
 /// Lays the points out, the first one at the model's ID, and notes the number of the one that it has come to.
-fn place(
-    alloc: Global,
-    points: &Descriptions<'_>,
-    point: &mut Option<usize>,
-) -> Result<Points, DefFault>
+fn place(alloc: Global, points: &Descriptions<'_>, part: &mut DefPart) -> Result<Points, DefFault>
     requires { all_registers (descriptions_view points.now.entries) ≤ 125 }
     ensures told { IfOk result (ArePoints (descriptions_view points.now.entries)) }
     ensures in_order { IfOk result IsInOrder }
@@ -122,7 +120,7 @@ fn place(
     let mut placed = Vec::new(alloc);
     let mut offset: u16 = 0;
     for (name, description) in points.iter() {
-        *point = Some(placed.len());
+        *part = DefPart::Point(placed.len());
         let Some(sf) = place_factor(points, description.factor) else {
             return Err(DefFault::BadScalePoint);
         };

@@ -11,6 +11,7 @@ use crate::description::Descriptions;
 use crate::fault::DefFault;
 use crate::fault_place::place_of;
 use crate::model::ModelDef;
+use crate::part::DefPart;
 use crate::placing::lay_out;
 use crate::point_object::{read_point, whole_number};
 use file_keys::Placed;
@@ -28,34 +29,36 @@ pub fn read(alloc: Global, text: &[u8]) -> Result<ModelDef, DefFault>
     ensures unbroken { OnOk result ((e : DefFault) → ¬ Breaks text.now e) }
     ensures refused { IfErr result (λ e. e ≢ fault.OutOfMemory → Breaks text.now e) }
 {
-    let mut point = None;
-    read_to(alloc, text, &mut point)
+    let mut part = DefPart::Model;
+    read_to(alloc, text, &mut part)
 }
 
-/// The same; the fault, which is that of [`read`], has the place in the text where it was found.
-pub fn read_placed(alloc: Global, text: &[u8]) -> Result<ModelDef, Placed<DefFault>>
+/// The same; the fault, which is that of [`read`], has the part of the definition that breaks the rule, and its place in
+/// the text.
+pub fn read_placed(alloc: Global, text: &[u8]) -> Result<ModelDef, Placed<DefFault, DefPart>>
     ensures ok { IfOk result (IsRead text.now) }
     ensures unbroken { OnOk result ((e : DefFault) → ¬ Breaks text.now e) }
     ensures refused { IfErr result (λ p. p.fault ≢ fault.OutOfMemory → Breaks text.now p.fault) }
 {
-    let mut point = None;
-    match read_to(alloc, text, &mut point) {
+    let mut part = DefPart::Model;
+    match read_to(alloc, text, &mut part) {
         Ok(model) => Ok(model),
         Err(fault) => Err(Placed {
             fault,
-            place: place_of(alloc, text, point, fault),
+            part,
+            place: place_of(alloc, text, part, fault),
         }),
     }
 }
 
-/// Reads a definition, and notes the number of the point that it has come to.
-fn read_to(alloc: Global, text: &[u8], point: &mut Option<usize>) -> Result<ModelDef, DefFault>
+/// Reads a definition, and notes the part that it has come to.
+fn read_to(alloc: Global, text: &[u8], part: &mut DefPart) -> Result<ModelDef, DefFault>
     ensures ok { IfOk result (IsRead text.now) }
     ensures unbroken { OnOk result ((e : DefFault) → ¬ Breaks text.now e) }
     ensures refused { IfErr result (λ e. e ≢ fault.OutOfMemory → Breaks text.now e) }
 {
     match Value::from_slice(alloc, text) {
-        Ok(tree) => read_tree(alloc, &tree, point),
+        Ok(tree) => read_tree(alloc, &tree, part),
         Err(e) => if e.is_memory() {
             Err(DefFault::OutOfMemory)
         } else {
@@ -65,7 +68,7 @@ fn read_to(alloc: Global, text: &[u8], point: &mut Option<usize>) -> Result<Mode
 }
 
 /// The same of a tree.
-fn read_tree(alloc: Global, tree: &Value, point: &mut Option<usize>) -> Result<ModelDef, DefFault>
+fn read_tree(alloc: Global, tree: &Value, part: &mut DefPart) -> Result<ModelDef, DefFault>
     ensures stands { IfOk result (StandsFor (view tree.now)) }
     ensures unbroken { OnOk result (first_broken (view tree.now) ≡ None) }
     ensures refused { IfErr result (λ e. e ≢ fault.OutOfMemory
@@ -80,8 +83,8 @@ fn read_tree(alloc: Global, tree: &Value, point: &mut Option<usize>) -> Result<M
     if has_groups(outline.group) {
         return Err(DefFault::Repeating);
     }
-    let points = read_points(alloc, outline.points, point)?;
-    lay_out(alloc, id, &points, point)
+    let points = read_points(alloc, outline.points, part)?;
+    lay_out(alloc, id, &points, part)
 }
 
 /// The keys of a model, each of its JSON kind.
@@ -130,7 +133,7 @@ fn has_groups(group: &Value) -> bool
 fn read_points<'a>(
     alloc: Global,
     trees: &'a Vec<Value>,
-    point: &mut Option<usize>,
+    part: &mut DefPart,
 ) -> Result<Descriptions<'a>, DefFault>
     ensures told { IfOk result
         (λ points. descriptions_view points.entries ≡ descriptions_of (items_view trees.now.items)) }
@@ -140,7 +143,7 @@ fn read_points<'a>(
 {
     let mut points = IndexMap::new(alloc);
     for tree in trees {
-        *point = Some(points.len());
+        *part = DefPart::Point(points.len());
         let (name, description) = read_point(tree)?;
         if points.insert(name, description)?.is_some() {
             return Err(DefFault::DuplicateName);

@@ -6,3 +6,4 @@ pub mod ToldKeys
 mod ToldModels
 pub mod ToldSite
 mod ToldTags
+pub mod Refused

@@ -2,7 +2,7 @@
 -- SunSpec Device Information Model Specification, device modbus maps.
 use Rattle.std.specs.Prelude.{ℕ, ℤ, pos, nat_eq, Bool, ◌||◌, List, [], ◌∷◌, ◌++◌, Option, None, Some, option_map, option_and_then, if◌then◌else◌, Result, Ok, Err, codes}
 use Rattle.std.specs.List.{list_any}
-use Rattle.std.specs.Option.{ok_or, option_map_or}
+use Rattle.std.specs.Option.{ok_or}
 use Rattle.std.specs.Str.{bytes_eq}
 use Rattle.toml.specs.Data.{Data, Items, no_items, item}
 use Rattle.point_types.specs.Value.{◌>>=◌, int_eq}

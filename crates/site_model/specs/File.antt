@@ -1,8 +1,8 @@
 -- Which site a site file stands for, over given model definitions.
 -- SunSpec Device Information Model Specification, device modbus maps; site files are this project's.
-use Rattle.std.specs.Prelude.{ℕ, nat_lt, Bool, false, ◌||◌, List, [], suc, zero, Option, None, Some, option_map, option_and_then, if◌then◌else◌, Result, Ok, Err, codes}
+use Rattle.std.specs.Prelude.{ℕ, Bool, false, ◌||◌, List, [], option_map, if◌then◌else◌, Result, Ok, Err, codes}
 use Rattle.std.specs.Option.{ok_or, option_map_or}
-use Rattle.toml.specs.Data.{Data, table, Items, no_items, item, get, as_array}
+use Rattle.toml.specs.Data.{Data, table, Items, get}
 use Rattle.toml.specs.Parse.{parse_document}
 use Rattle.point_types.specs.Value.{◌>>=◌}
 use Rattle.model_defs.specs.declared.model.ModelDef.{ModelDef}
@@ -29,11 +29,16 @@ pub record Layout : Type 0 where
 
 -- ---- lists that are too long
 
--- more than 16 models of the gateway, 64 devices, 1,024 tags or 256 served points
+-- more than 16 models of the gateway
+abbrev pub has_many_models : Data → Bool
+has_many_models doc = option_map_or (has_over 16 (codes "models")) (get (codes "gateway") doc) false
+
+-- more than 64 devices, 1,024 tags or 256 served points
+abbrev pub has_long_section : Data → Bool
+has_long_section doc = has_over 64 (codes "device") doc || (has_over 1024 (codes "tag") doc || has_over 256 (codes "served") doc)
+
 abbrev pub has_too_many : Data → Bool
-has_too_many doc =
-    option_map_or (has_over 16 (codes "models")) (get (codes "gateway") doc) false ||
-    (has_over 64 (codes "device") doc || (has_over 1024 (codes "tag") doc || has_over 256 (codes "served") doc))
+has_too_many doc = has_many_models doc || has_long_section doc
 
 -- ---- the site
 
@@ -52,12 +57,23 @@ layout_over defs g devices tags served = record {
 abbrev pub section_in : List ℕ → Data → Result Items SiteFault
 section_in key doc = ok_or (section_at key doc) fault.MissingKey
 
+abbrev pub devices_in : Data → Result (List SiteDevice) SiteFault
+devices_in doc = section_in (codes "device") doc >>= devices_behind []
+
+-- the tags over a gateway and devices
+abbrev pub tags_in : List ModelDef → Gateway → List SiteDevice → Data → Result (List Tag) SiteFault
+tags_in defs g devices doc = section_in (codes "tag") doc >>= tags_behind devices g.models defs []
+
+-- what is served over a gateway and tags
+abbrev pub served_in : Gateway → List Tag → Data → Result (List Served) SiteFault
+served_in g tags doc = section_in (codes "served") doc >>= served_behind g.models tags []
+
 abbrev pub layout_of : List ModelDef → Data → Result Layout SiteFault
 layout_of defs doc =
     gateway_of defs doc >>= λ g.
-    section_in (codes "device") doc >>= devices_behind [] >>= λ devices.
-    section_in (codes "tag") doc >>= tags_behind devices g.models defs [] >>= λ tags.
-    section_in (codes "served") doc >>= served_behind g.models tags [] >>= λ served.
+    devices_in doc >>= λ devices.
+    tags_in defs g devices doc >>= λ tags.
+    served_in g tags doc >>= λ served.
     Ok (layout_over defs g devices tags served)
 
 -- the site of a tree, or the first rule that it breaks: lists that are too long, the gateway, devices, tags, served points

@@ -1,6 +1,6 @@
 -- Which gateway the section `gateway` of a site file stands for, over given model definitions.
 -- SunSpec Device Information Model Specification, the map of a device: the mark, model 1 first, an end model.
-use Rattle.std.specs.Prelude.{ℕ, ◌+◌, ℤ, pos, nat_le, nat_eq, Bool, true, false, not, ◌&&◌, List, [], ◌∷◌, ◌++◌, find, sum_by, Option, None, Some, option_map, option_and_then, if◌then◌else◌, Result, codes}
+use Rattle.std.specs.Prelude.{ℕ, ◌+◌, ℤ, pos, nat_le, nat_eq, Bool, true, false, not, ◌&&◌, List, [], ◌∷◌, ◌++◌, sum_by, Option, None, Some, option_map, option_and_then, if◌then◌else◌, Result, codes}
 use Rattle.std.specs.List.{list_any}
 use Rattle.std.specs.Option.{ok_or, option_map_or}
 use Rattle.toml.specs.Data.{Data, Items, no_items, item, get, as_integer}

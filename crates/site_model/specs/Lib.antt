@@ -9,5 +9,6 @@ pub mod Tagging
 pub mod Serving
 pub mod Lengths
 pub mod File
+pub mod Parts
 pub mod Views
 pub mod Told

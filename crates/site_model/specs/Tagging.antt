@@ -1,6 +1,6 @@
 -- Which tags the entries of the section `tag` of a site file stand for.
 -- SunSpec Device Information Model Specification, points; IEC 61131-3 edition 2, 2.1.2 identifiers, 2.3.1 elementary data types.
-use Rattle.std.specs.Prelude.{◌+◌, ℕ, ◌-◌, ℤ, pos, neg_ℤ, nat_eq, nat_lt, Bool, true, false, not, ◌&&◌, ◌||◌, is_some, List, [], ◌∷◌, ◌++◌, length, drop, find, position, slice_get, Option, None, Some, option_map, option_and_then, if◌then◌else◌, Result, Ok, Err, codes}
+use Rattle.std.specs.Prelude.{ℕ, ◌-◌, ℤ, pos, neg_ℤ, nat_eq, nat_lt, Bool, true, false, not, ◌&&◌, ◌||◌, is_some, List, [], ◌∷◌, ◌++◌, length, drop, find, position, slice_get, Option, None, Some, option_map, option_and_then, if◌then◌else◌, Result, Ok, Err, codes}
 use Rattle.std.specs.List.{list_any, position}
 use Rattle.std.specs.Option.{ok_or, option_map_or}
 use Rattle.std.specs.Str.{bytes_eq}

@@ -1,6 +1,6 @@
 -- What the reader's own values stand for: the keys of an entry, the gateway, a tag, and the whole site.
 -- No standard says what a site file is; it is this project's, written in TOML 1.0.
-use Rattle.std.specs.Prelude.{ℕ, List, Option, option_map, map}
+use Rattle.std.specs.Prelude.{option_map, map}
 use Rattle.toml.specs.View.{items_view}
 use Rattle.site_model.specs.Gateway as told
 use Rattle.site_model.specs.Devices as devices

@@ -3,13 +3,14 @@ ghost use Rattle.std.specs.Prelude.{◌≡◌, ◌≢◌, [], ◌++◌, ◌∷�
 ghost use Rattle.std.specs.List.{list_any};
 ghost use Rattle.toml.specs.View.{view, items_view};
 ghost use Rattle.site_model.specs.Devices.{device_keys, device_of, device_within, devices_behind, has_name_or_unit, optional_base, write_of};
+ghost use Rattle.site_model.specs.Parts.{IsDeviceRefused};
 ghost use Rattle.site_model.specs.Views.{device_keys_view};
 ghost use Rattle.site_model.specs.declared.fault.SiteFault.{SiteFault};
 ghost use Rattle.site_model.specs.declared.fault.SiteFault.TheVariants as fault;
 
 use crate::device::{SiteDevice, WriteFunction};
 use crate::fault::SiteFault;
-use crate::spot::Spot;
+use crate::part::SitePart;
 use crate::text::Text;
 use file_keys::{base_of, byte_of, number_at, optional_number_at, text_at};
 use point_types::Items;
@@ -29,14 +30,15 @@ struct DeviceKeys<'a> {
 pub(crate) fn read_devices(
     alloc: Global,
     entries: &[Value],
-    spot: &mut Spot,
+    part: &mut SitePart,
 ) -> Result<Items<SiteDevice>, SiteFault>
     ensures told { IfOk result (λ devices. devices_behind [] (items_view entries.now) ≡ Ok devices) }
     ensures refused { IfErr result (λ e. e ≢ fault.OutOfMemory → devices_behind [] (items_view entries.now) ≡ Err e) }
+    ensures placed { IfErr result (λ e. e ≢ fault.OutOfMemory → IsDeviceRefused (items_view entries.now) part.new e) }
 {
     let mut devices = Items::new(alloc);
     for entry in entries {
-        *spot = Spot::Device(devices.len());
+        *part = SitePart::Device(devices.len());
         let device = read_device(alloc, devices.as_slice(), entry)?;
         devices.push(device)?;
     }

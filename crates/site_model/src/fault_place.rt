@@ -7,7 +7,7 @@ mod tags;
 
 use crate::fault::SiteFault;
 use crate::file::{MOST_DEVICES, MOST_MODELS, MOST_SERVED, MOST_TAGS};
-use crate::spot::Spot;
+use crate::part::SitePart;
 use file_keys::{
     EntryName, FilePlace, Finding, first_long, first_unlisted, named_entry, section_at,
 };
@@ -18,19 +18,19 @@ use std::alloc::Global;
 use tags::tag_finding;
 use toml::Value;
 
-/// The place of a fault, where the reader had come to that spot.
+/// The place of a fault of that part of the file.
 pub(crate) fn place_of(
     alloc: Global,
     toml: &str,
     defs: &[ModelDef],
-    spot: Spot,
+    part: SitePart,
     fault: SiteFault,
 ) -> Option<FilePlace> {
     if fault == SiteFault::OutOfMemory {
         return None;
     }
     match toml::table_from_str(alloc, toml) {
-        Ok(table) => place_in(alloc, &Value::Table(table), defs, spot, fault),
+        Ok(table) => place_in(alloc, &Value::Table(table), defs, part, fault),
         Err(error) => FilePlace::of_toml(toml, &error),
     }
 }
@@ -39,105 +39,87 @@ fn place_in(
     alloc: Global,
     file: &Value,
     defs: &[ModelDef],
-    spot: Spot,
+    part: SitePart,
     fault: SiteFault,
 ) -> Option<FilePlace> {
-    let (entry, finding) = found(file, defs, spot, fault)?;
+    let entry = name_of(file, part)?;
+    let finding = found_at(file, defs, part, fault)?;
     FilePlace::at_entry(alloc, entry, finding).ok()
 }
 
-/// What is found at the spot, or else a section that is no list.
-fn found<'a>(
-    file: &'a Value,
-    defs: &'a [ModelDef],
-    spot: Spot,
-    fault: SiteFault,
-) -> Option<(EntryName<'a>, Finding<'a>)> {
-    match found_at(file, defs, spot, fault) {
-        Some(found) => Some(found),
-        None => in_file(first_unlisted(file, &["device", "tag", "served"])),
+/// How a part of the file is named. A gateway that is missing is missed in the file.
+fn name_of<'a>(file: &'a Value, part: SitePart) -> Option<EntryName<'a>> {
+    match part {
+        SitePart::File => Some(EntryName::Alone("the file")),
+        SitePart::Gateway => Some(match file.get("gateway") {
+            Some(_) => EntryName::Alone("[gateway]"),
+            None => EntryName::Alone("the file"),
+        }),
+        SitePart::Device(number) => named_in(section_at(file, "device")?, "[[device]]", number),
+        SitePart::Tag(number) => named_in(section_at(file, "tag")?, "[[tag]]", number),
+        SitePart::Served(number) => Some(EntryName::Numbered(
+            "[[served]]",
+            number.saturating_add(1),
+        )),
     }
 }
 
-fn in_file<'a>(finding: Option<Finding<'a>>) -> Option<(EntryName<'a>, Finding<'a>)> {
-    Some((EntryName::Alone("the file"), finding?))
+fn named_in<'a>(
+    entries: &'a [Value],
+    section: &'static str,
+    number: usize,
+) -> Option<EntryName<'a>> {
+    Some(named_entry(section, entries.get(number)?, number))
 }
 
+/// What breaks the rule in a part of the file.
 fn found_at<'a>(
     file: &'a Value,
     defs: &'a [ModelDef],
-    spot: Spot,
+    part: SitePart,
     fault: SiteFault,
-) -> Option<(EntryName<'a>, Finding<'a>)> {
-    match spot {
-        Spot::File => too_long(file),
-        Spot::Gateway => in_gateway(file, defs, fault),
-        Spot::Device(number) => in_device(section_at(file, "device")?, number, fault),
-        Spot::Tag(number) => in_tag(file, defs, number, fault),
-        Spot::Served(number) => in_served(file, defs, number, fault),
+) -> Option<Finding<'a>> {
+    match part {
+        SitePart::File => in_file(file, fault),
+        SitePart::Gateway => in_gateway(file, defs, fault),
+        SitePart::Device(number) => in_device(section_at(file, "device")?, number, fault),
+        SitePart::Tag(number) => {
+            let entry = section_at(file, "tag")?.get(number)?;
+            tag_finding(file, defs, number, entry, fault)
+        }
+        SitePart::Served(number) => {
+            let entry = section_at(file, "served")?.get(number)?;
+            served_finding(file, defs, number, entry, fault)
+        }
     }
 }
 
-/// The list that is too long.
-fn too_long(file: &Value) -> Option<(EntryName<'_>, Finding<'_>)> {
-    if let Some(gateway) = file.get("gateway") {
-        if let Some(finding) = first_long(gateway, &[("models", MOST_MODELS)]) {
-            return Some((EntryName::Alone("[gateway]"), finding));
-        }
-    }
+/// The section that is too long, or no list.
+fn in_file(file: &Value, fault: SiteFault) -> Option<Finding<'_>> {
     let most = [
         ("device", MOST_DEVICES),
         ("tag", MOST_TAGS),
         ("served", MOST_SERVED),
     ];
-    in_file(first_long(file, &most))
+    match fault {
+        SiteFault::TooMany => first_long(file, &most),
+        _ => first_unlisted(file, &["device", "tag", "served"]),
+    }
 }
 
-fn in_gateway<'a>(
-    file: &'a Value,
-    defs: &[ModelDef],
-    fault: SiteFault,
-) -> Option<(EntryName<'a>, Finding<'a>)> {
+fn in_gateway<'a>(file: &'a Value, defs: &[ModelDef], fault: SiteFault) -> Option<Finding<'a>> {
     let Some(gateway) = file.get("gateway") else {
-        return in_file(Some(Finding::missing("[gateway]").helped(
+        return Some(Finding::missing("[gateway]").helped(
             "write [gateway] with its unit and its models, once",
-        )));
+        ));
     };
-    let finding = gateway_finding(gateway, defs, fault)?;
-    Some((EntryName::Alone("[gateway]"), finding))
+    match fault {
+        SiteFault::TooMany => first_long(gateway, &[("models", MOST_MODELS)]),
+        fault => gateway_finding(gateway, defs, fault),
+    }
 }
 
-fn in_device<'a>(
-    entries: &'a [Value],
-    number: usize,
-    fault: SiteFault,
-) -> Option<(EntryName<'a>, Finding<'a>)> {
+fn in_device<'a>(entries: &'a [Value], number: usize, fault: SiteFault) -> Option<Finding<'a>> {
     let entry = entries.get(number)?;
-    let finding = device_finding(entries.get(..number)?, entry, fault)?;
-    Some((named_entry("[[device]]", entry, number), finding))
-}
-
-fn in_tag<'a>(
-    file: &'a Value,
-    defs: &'a [ModelDef],
-    number: usize,
-    fault: SiteFault,
-) -> Option<(EntryName<'a>, Finding<'a>)> {
-    let entry = section_at(file, "tag")?.get(number)?;
-    let finding = tag_finding(file, defs, number, entry, fault)?;
-    Some((named_entry("[[tag]]", entry, number), finding))
-}
-
-fn in_served<'a>(
-    file: &'a Value,
-    defs: &'a [ModelDef],
-    number: usize,
-    fault: SiteFault,
-) -> Option<(EntryName<'a>, Finding<'a>)> {
-    let entry = section_at(file, "served")?.get(number)?;
-    let finding = served_finding(file, defs, number, entry, fault)?;
-    Some((
-        EntryName::Numbered("[[served]]", number.saturating_add(1)),
-        finding,
-    ))
+    device_finding(entries.get(..number)?, entry, fault)
 }

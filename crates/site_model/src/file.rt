@@ -1,13 +1,12 @@
 //! From the text of a site file to the site.
-ghost use Rattle.std.specs.Prelude.{◌≡◌, ◌≢◌, ◌||◌, [], map, codes, false, Ok, Err, IfOk, IfErr, MatchResult};
-ghost use Rattle.std.specs.Option.{option_map_or};
-ghost use Rattle.toml.specs.Data.{get};
+ghost use Rattle.std.specs.Prelude.{◌≡◌, ◌≢◌, [], map, Ok, Err, IfOk, IfErr, MatchResult};
 ghost use Rattle.toml.specs.View.{view, items_view};
-ghost use Rattle.site_model.specs.File.{has_too_many, layout_of, layout_over, section_in, site_in, site_of};
-ghost use Rattle.file_keys.specs.Keys.{has_over};
+ghost use Rattle.site_model.specs.File.{has_long_section, has_many_models, layout_of, layout_over, section_in, site_in, site_of};
+ghost use Rattle.site_model.specs.Parts.{IsAtFault, IsTagRefused, IsTreeFault, IsUnread};
 ghost use Rattle.site_model.specs.Tagging.{tags_behind};
 ghost use Rattle.site_model.specs.Views.{gateway_view, site_view, tag_view};
 ghost use Rattle.site_model.specs.declared.fault.SiteFault.TheVariants as fault;
+ghost use Rattle.site_model.specs.declared.part.SitePart.TheVariants as parts;
 
 use crate::device::SiteDevice;
 use crate::device_numbers::device_numbers;
@@ -16,10 +15,10 @@ use crate::fault::SiteFault;
 use crate::fault_place::place_of;
 use crate::gateway::{Gateway, read_gateway};
 use crate::lengths::lengths_of;
+use crate::part::SitePart;
 use crate::served::Served;
 use crate::serving::read_served;
 use crate::site::Site;
-use crate::spot::Spot;
 use crate::tag::SiteTag;
 use crate::tags::{Scope, read_tags};
 use crate::wants::{outs_of, wants_of};
@@ -45,37 +44,47 @@ impl Site {
         ensures told { IfOk result (λ site. site_in defs.now toml.now ≡ Ok (site_view site)) }
         ensures refused { IfErr result (λ e. e ≢ fault.OutOfMemory → site_in defs.now toml.now ≡ Err e) }
     {
-        let mut spot = Spot::File;
-        read_to(alloc, toml, defs, &mut spot)
+        let mut part = SitePart::File;
+        read_to(alloc, toml, defs, &mut part)
     }
 
-    /// The same; the fault, which is that of [`Site::read`], has the place in the text where it was found.
+    /// The same; the fault, which is that of [`Site::read`], has the part of the file that breaks the rule, and its place
+    /// in the text.
     pub fn read_placed(
         alloc: Global,
         toml: &str,
         defs: &[ModelDef],
-    ) -> Result<Site, Placed<SiteFault>>
+    ) -> Result<Site, Placed<SiteFault, SitePart>>
         ensures told { IfOk result (λ site. site_in defs.now toml.now ≡ Ok (site_view site)) }
         ensures refused { IfErr result (λ p. p.fault ≢ fault.OutOfMemory → site_in defs.now toml.now ≡ Err p.fault) }
+        ensures placed { IfErr result (λ p. p.fault ≢ fault.OutOfMemory → IsAtFault defs.now toml.now p.part p.fault) }
     {
-        let mut spot = Spot::File;
-        match read_to(alloc, toml, defs, &mut spot) {
+        let mut part = SitePart::File;
+        match read_to(alloc, toml, defs, &mut part) {
             Ok(site) => Ok(site),
             Err(fault) => Err(Placed {
                 fault,
-                place: place_of(alloc, toml, defs, spot, fault),
+                part,
+                place: place_of(alloc, toml, defs, part, fault),
             }),
         }
     }
 }
 
-/// Reads a site file, and notes the entry that it has come to.
-fn read_to(alloc: Global, toml: &str, defs: &[ModelDef], spot: &mut Spot) -> Result<Site, SiteFault>
+/// Reads a site file, and notes the part that it has come to.
+fn read_to(
+    alloc: Global,
+    toml: &str,
+    defs: &[ModelDef],
+    part: &mut SitePart,
+) -> Result<Site, SiteFault>
+    requires { part.old ≡ parts.File }
     ensures told { IfOk result (λ site. site_in defs.now toml.now ≡ Ok (site_view site)) }
     ensures refused { IfErr result (λ e. e ≢ fault.OutOfMemory → site_in defs.now toml.now ≡ Err e) }
+    ensures placed { IfErr result (λ e. e ≢ fault.OutOfMemory → IsAtFault defs.now toml.now part.new e) }
 {
     match toml::table_from_str(alloc, toml) {
-        Ok(table) => read_tree(alloc, defs, &Value::Table(table), spot),
+        Ok(table) => read_tree(alloc, defs, &Value::Table(table), part),
         Err(e) if e.is_memory() => Err(SiteFault::OutOfMemory),
         Err(_) => Err(SiteFault::NotToml),
     }
@@ -86,15 +95,21 @@ fn read_tree(
     alloc: Global,
     defs: &[ModelDef],
     file: &Value,
-    spot: &mut Spot,
+    part: &mut SitePart,
 ) -> Result<Site, SiteFault>
     ensures told { IfOk result (λ site. site_of defs.now (view file.now) ≡ Ok (site_view site)) }
     ensures refused { IfErr result (λ e. e ≢ fault.OutOfMemory → site_of defs.now (view file.now) ≡ Err e) }
+    ensures placed { IfErr result (λ e. e ≢ fault.OutOfMemory → IsTreeFault defs.now (view file.now) part.new e) }
 {
-    if has_too_many(file) {
+    if has_many_models(file) {
+        *part = SitePart::Gateway;
         return Err(SiteFault::TooMany);
     }
-    read_sections(alloc, defs, file, spot)
+    if has_long_section(file) {
+        *part = SitePart::File;
+        return Err(SiteFault::TooMany);
+    }
+    read_sections(alloc, defs, file, part)
 }
 
 /// Reads the sections in order.
@@ -102,40 +117,38 @@ fn read_sections(
     alloc: Global,
     defs: &[ModelDef],
     file: &Value,
-    spot: &mut Spot,
+    part: &mut SitePart,
 ) -> Result<Site, SiteFault>
     ensures told { IfOk result (λ site. layout_of defs.now (view file.now) ≡ Ok (site_view site)) }
     ensures refused { IfErr result (λ e. e ≢ fault.OutOfMemory → layout_of defs.now (view file.now) ≡ Err e) }
+    ensures placed { IfErr result (λ e. e ≢ fault.OutOfMemory → IsUnread defs.now (view file.now) part.new e) }
 {
-    *spot = Spot::Gateway;
+    *part = SitePart::Gateway;
     let gateway = read_gateway(alloc, defs, file)?;
-    let devices = read_devices(alloc, section_in(file, "device")?, spot)?;
+    let entries = section_in(file, "device", part)?;
+    let devices = read_devices(alloc, entries, part)?;
     let own = gateway.models.as_slice();
-    let tags = tags_over(
-        alloc,
-        devices.as_slice(),
-        own,
-        defs,
-        section_in(file, "tag")?,
-        spot,
-    )?;
-    let entries = section_in(file, "served")?;
+    let entries = section_in(file, "tag", part)?;
+    let tags = tags_over(alloc, devices.as_slice(), own, defs, entries, part)?;
+    let entries = section_in(file, "served", part)?;
     let served = read_served(
         alloc,
         gateway.models.as_slice(),
         tags.as_slice(),
         entries,
-        spot,
+        part,
     )?;
     Ok(with_lookups(alloc, defs, gateway, devices, tags, served)?)
 }
 
-/// The entries of a section, none where it is missing.
-fn section_in<'a>(file: &'a Value, key: &str) -> Result<&'a [Value], SiteFault>
-    ensures { MatchResult result
+/// The entries of a section, none where it is missing; one that is no list is a fault of the file.
+fn section_in<'a>(file: &'a Value, key: &str, part: &mut SitePart) -> Result<&'a [Value], SiteFault>
+    ensures entries { MatchResult result
         (λ entries. section_in key.now (view file.now) ≡ Ok (items_view entries.now))
         (λ e. section_in key.now (view file.now) ≡ Err e) }
+    ensures part { part.new ≡ parts.File }
 {
+    *part = SitePart::File;
     match section_at(file, key) {
         Some(entries) => Ok(entries),
         None => Err(SiteFault::MissingKey),
@@ -149,12 +162,14 @@ fn tags_over<'x>(
     own: &'x [ModelDef],
     defs: &'x [ModelDef],
     entries: &[Value],
-    spot: &mut Spot,
+    part: &mut SitePart,
 ) -> Result<Items<SiteTag>, SiteFault>
     ensures told { IfOk result
         (λ tags. tags_behind devices.now own.now defs.now [] (items_view entries.now) ≡ Ok (map tag_view tags)) }
     ensures refused { IfErr result (λ e. e ≢ fault.OutOfMemory
         → tags_behind devices.now own.now defs.now [] (items_view entries.now) ≡ Err e) }
+    ensures placed { IfErr result (λ e. e ≢ fault.OutOfMemory
+        → IsTagRefused devices.now own.now defs.now (items_view entries.now) part.new e) }
 {
     let numbers = device_numbers(alloc, devices)?;
     let scope = Scope {
@@ -163,7 +178,7 @@ fn tags_over<'x>(
         own,
         defs,
     };
-    read_tags(alloc, scope, entries, spot)
+    read_tags(alloc, scope, entries, part)
 }
 
 /// The site of these parts, with what it looks up for its callers.
@@ -194,18 +209,18 @@ fn with_lookups(
     })
 }
 
-/// Whether a list is too long, wherever it stands.
-fn has_too_many(file: &Value) -> bool
-    ensures { result ≡ has_too_many (view file.now) }
+/// Whether a section is too long.
+fn has_long_section(file: &Value) -> bool
+    ensures { result ≡ has_long_section (view file.now) }
 {
-    has_too_many_models(file)
-        || has_over(MOST_DEVICES, "device", file)
+    has_over(MOST_DEVICES, "device", file)
         || has_over(MOST_TAGS, "tag", file)
         || has_over(MOST_SERVED, "served", file)
 }
 
-fn has_too_many_models(file: &Value) -> bool
-    ensures { result ≡ option_map_or (has_over 16 (codes "models")) (get (codes "gateway") (view file.now)) false }
+/// Whether the gateway has too many models.
+fn has_many_models(file: &Value) -> bool
+    ensures { result ≡ has_many_models (view file.now) }
 {
     match file.get("gateway") {
         Some(gateway) => has_over(MOST_MODELS, "models", gateway),

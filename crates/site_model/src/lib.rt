@@ -12,12 +12,12 @@ mod gateway;
 pub mod laws;
 mod lengths;
 mod lookups;
+mod part;
 pub mod readings;
 pub mod registers;
 mod served;
 mod serving;
 mod site;
-mod spot;
 mod sums;
 mod tag;
 mod tag_keys;
@@ -30,6 +30,7 @@ pub mod wants;
 
 // a site, read from its file
 pub use fault::SiteFault;
+pub use part::SitePart;
 pub use site::Site;
 // its devices
 pub use device::{SiteDevice, WriteFunction};

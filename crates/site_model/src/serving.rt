@@ -3,6 +3,7 @@ ghost use Rattle.std.specs.Prelude.{◌≡◌, ◌≢◌, [], map, find, slice_g
 ghost use Rattle.std.specs.List.{list_any};
 ghost use Rattle.std.specs.Option.{option_map_or};
 ghost use Rattle.toml.specs.View.{view, items_view};
+ghost use Rattle.site_model.specs.Parts.{IsServedRefused};
 ghost use Rattle.site_model.specs.Serving.{can_be_encoded, exponent_of_part, fits, given_of, has_one, has_room, is_entry_of, is_input_named, is_part, is_string, is_tag_of, is_used, part_number, parts_behind, raw_range, served_at, served_behind, served_keys, served_of, source_for, source_of, sum_of};
 ghost use Rattle.site_model.specs.Tagging.{point_number};
 ghost use Rattle.site_model.specs.Views.{given_view, served_keys_view, tag_view};
@@ -11,8 +12,8 @@ ghost use Rattle.site_model.specs.declared.fault.SiteFault.TheVariants as fault;
 
 use crate::fault::SiteFault;
 use crate::gateway::model_of;
+use crate::part::SitePart;
 use crate::served::{Served, Source};
-use crate::spot::Spot;
 use crate::sums::sum_of;
 use crate::tag::SiteTag;
 use crate::tag_rules::{is_numeric, is_own, is_sunssf, offset_at};
@@ -45,15 +46,17 @@ pub(crate) fn read_served(
     own: &[ModelDef],
     tags: &[SiteTag],
     entries: &[Value],
-    spot: &mut Spot,
+    part: &mut SitePart,
 ) -> Result<Items<Served>, SiteFault>
     ensures told { IfOk result (λ served. served_behind own.now (map tag_view tags.now) [] (items_view entries.now) ≡ Ok served) }
     ensures refused { IfErr result (λ e. e ≢ fault.OutOfMemory
         → served_behind own.now (map tag_view tags.now) [] (items_view entries.now) ≡ Err e) }
+    ensures placed { IfErr result (λ e. e ≢ fault.OutOfMemory
+        → IsServedRefused own.now (map tag_view tags.now) (items_view entries.now) part.new e) }
 {
     let mut served = Items::new(alloc);
     for entry in entries {
-        *spot = Spot::Served(served.len());
+        *part = SitePart::Served(served.len());
         let point = read_entry(alloc, own, tags, served.as_slice(), entry)?;
         served.push(point)?;
     }

@@ -3,6 +3,7 @@ ghost use Rattle.std.specs.Prelude.{◌≡◌, ◌≢◌, [], map, option_map, n
 ghost use Rattle.std.specs.List.{list_any};
 ghost use Rattle.toml.specs.View.{view, items_view};
 ghost use Rattle.name_places.specs.Places.{IsPlaced};
+ghost use Rattle.site_model.specs.Parts.{IsTagRefused};
 ghost use Rattle.site_model.specs.Tag.{start_of};
 ghost use Rattle.site_model.specs.Tagging.{clashes, device_for, device_named, device_number, is_device_named, is_on_heading, is_same_device, is_same_point, is_same_side, model_for, point_for, tag_of, tag_placed, tags_behind};
 ghost use Rattle.site_model.specs.Views.{tag_keys_view, tag_view};
@@ -13,7 +14,7 @@ use crate::access::Access;
 use crate::device::SiteDevice;
 use crate::fault::SiteFault;
 use crate::gateway::{definition_of, model_of};
-use crate::spot::Spot;
+use crate::part::SitePart;
 use crate::tag::SiteTag;
 use crate::tag_keys::{TagKeys, access_of, keys_of, type_of};
 use crate::tag_rules::{is_own, is_polled, may_be_written, tag_typed, unit_of};
@@ -38,16 +39,18 @@ pub(crate) fn read_tags(
     alloc: Global,
     scope: Scope<'_, '_>,
     entries: &[Value],
-    spot: &mut Spot,
+    part: &mut SitePart,
 ) -> Result<Items<SiteTag>, SiteFault>
     ensures told { IfOk result
         (λ tags. tags_behind scope.entry.devices.now scope.entry.own.now scope.entry.defs.now [] (items_view entries.now) ≡ Ok (map tag_view tags)) }
     ensures refused { IfErr result (λ e. e ≢ fault.OutOfMemory
         → tags_behind scope.entry.devices.now scope.entry.own.now scope.entry.defs.now [] (items_view entries.now) ≡ Err e) }
+    ensures placed { IfErr result (λ e. e ≢ fault.OutOfMemory
+        → IsTagRefused scope.entry.devices.now scope.entry.own.now scope.entry.defs.now (items_view entries.now) part.new e) }
 {
     let mut tags = Items::new(alloc);
     for entry in entries {
-        *spot = Spot::Tag(tags.len());
+        *part = SitePart::Tag(tags.len());
         let tag = read_tag(scope, tags.as_slice(), entry)?;
         tags.push(tag)?;
     }

@@ -1,9 +1,10 @@
 //! The `[[device]]` entries of a plant file.
-ghost use Rattle.std.specs.Prelude.{◌≡◌, ◌≢◌, ◌≤◌, ◌<◌, ◌↔◌, [], ◌∷◌, Some, None, Ok, Err, pos, true, false, option_map, map, length, unsigned_abs, IsTrue, IfOk, MatchOption, MatchResult};
+ghost use Rattle.std.specs.Prelude.{◌≡◌, ◌≢◌, ◌≤◌, ◌<◌, ◌↔◌, [], ◌∷◌, Some, None, Ok, Err, pos, true, false, option_map, map, length, unsigned_abs, IsTrue, IfErr, IfOk, MatchOption, MatchResult, codes};
 ghost use Rattle.std.specs.List.{list_any};
 ghost use Rattle.std.specs.Ordering.{int_eq};
 ghost use Rattle.toml.specs.View.{view, items_view};
 ghost use Rattle.inverter_sim.specs.File.{map_length, device_keys, definition_of, definitions_of, begins_with_one, are_watts, has_room, is_in_range, has_repeat, is_duplicate, blank_device, device_of, devices_from, devices_of};
+ghost use Rattle.inverter_sim.specs.Parts.{IsDeviceRefused, IsInDevice, IsInSection};
 ghost use Rattle.inverter_sim.specs.Reading.{models_view, device_keys_view};
 ghost use Rattle.inverter_sim.specs.declared.fault.PlantFault.TheVariants as fault;
 
@@ -13,7 +14,7 @@ use super::layout::{has_room, tick_points};
 use super::values::give_values;
 use crate::device::Device;
 use crate::fault::PlantFault;
-use crate::spot::Spot;
+use crate::part::PlantPart;
 use file_keys::{number_at, number_or, section_at};
 use model_defs::ModelDef;
 use std::alloc::Global;
@@ -22,35 +23,38 @@ use toml::Value;
 /// The base of a device whose entry has none.
 const USUAL_BASE: i64 = 40000;
 
-/// The devices of a plant file; the one that the reader has come to is noted.
+/// The devices of a plant file; the part that the reader has come to is noted.
 pub(crate) fn devices_of(
     alloc: Global,
     tree: &Value,
     defs: &[ModelDef],
-    spot: &mut Spot,
+    part: &mut PlantPart,
 ) -> Result<Vec<Device>, PlantFault>
-    ensures { MatchResult result (λ v. devices_of defs.now (view tree.now) ≡ Ok v.items)
+    ensures read { MatchResult result (λ v. devices_of defs.now (view tree.now) ≡ Ok v.items)
         (λ e. e ≢ fault.OutOfMemory → devices_of defs.now (view tree.now) ≡ Err e) }
+    ensures placed { IfErr result (λ e. e ≢ fault.OutOfMemory
+        → IsInSection (codes "device") (IsDeviceRefused defs.now) (view tree.now) part.new e) }
 {
+    *part = PlantPart::File;
     let Some(entries) = section_at(tree, "device") else {
         return Err(PlantFault::MissingKey);
     };
-    devices_in(alloc, entries, defs, spot)
+    devices_in(alloc, entries, defs, part)
 }
 
 fn devices_in(
     alloc: Global,
     entries: &[Value],
     defs: &[ModelDef],
-    spot: &mut Spot,
+    part: &mut PlantPart,
 ) -> Result<Vec<Device>, PlantFault>
-    ensures { MatchResult result (λ v. devices_from defs.now [] (items_view entries.now) ≡ Ok v.items)
+    ensures read { MatchResult result (λ v. devices_from defs.now [] (items_view entries.now) ≡ Ok v.items)
         (λ e. e ≢ fault.OutOfMemory → devices_from defs.now [] (items_view entries.now) ≡ Err e) }
+    ensures placed { IfErr result (λ e. e ≢ fault.OutOfMemory → IsDeviceRefused defs.now (items_view entries.now) part.new e) }
 {
     let mut devices = Vec::new(alloc);
     for entry in entries {
-        *spot = Spot::Device(devices.len());
-        let device = device_of(alloc, entry, defs, &devices, spot)?;
+        let device = device_of(alloc, entry, defs, &devices, part)?;
         devices.push(device)?;
     }
     Ok(devices)
@@ -206,11 +210,14 @@ fn device_of(
     entry: &Value,
     defs: &[ModelDef],
     seen: &[Device],
-    spot: &mut Spot,
+    part: &mut PlantPart,
 ) -> Result<Device, PlantFault>
-    ensures { MatchResult result (λ d. device_of defs.now seen.now (view entry.now) ≡ Ok d)
+    ensures read { MatchResult result (λ d. device_of defs.now seen.now (view entry.now) ≡ Ok d)
         (λ e. e ≢ fault.OutOfMemory → device_of defs.now seen.now (view entry.now) ≡ Err e) }
+    ensures placed { IfErr result (λ e. e ≢ fault.OutOfMemory
+        → IsInDevice defs.now seen.now (length seen.now) (view entry.now) part.new e) }
 {
+    *part = PlantPart::Device(seen.len());
     let keys = device_keys(alloc, entry)?;
     let models = definitions_of(alloc, defs, &keys.models)?;
     let ranges = ranges_of(alloc, &keys, &models)?;
@@ -219,7 +226,7 @@ fn device_of(
     }
     let places = places_of(alloc, &models)?;
     let mut registers = image_of(alloc, &models)?;
-    give_values(alloc, &models, &mut registers, entry, spot)?;
+    give_values(alloc, &models, &mut registers, entry, seen.len(), part)?;
     let points = tick_points(&models);
     Ok(Device {
         unit: ranges.unit,

@@ -1,14 +1,17 @@
 //! The `[[fault]]` entries of a plant file.
-ghost use Rattle.std.specs.Prelude.{◌≡◌, ◌≢◌, ◌≤◌, [], Some, None, Ok, Err, pos, option_map, option_copied, MatchResult};
+ghost use Rattle.std.specs.Prelude.{◌≡◌, ◌≢◌, ◌≤◌, [], Some, None, Ok, Err, pos, option_map, option_copied, IfErr, MatchResult, codes};
 ghost use Rattle.toml.specs.View.{view, items_view};
 ghost use Rattle.inverter_sim.specs.File.{own_key, own_number, fault_keys, misbehaviour_of, request_of, not_seen, fault_of, faults_from, faults_in, faults_of};
+ghost use Rattle.file_keys.specs.Refusals.{IsRefusedIn};
+ghost use Rattle.inverter_sim.specs.Parts.{IsFaultRefused, IsInSection};
 ghost use Rattle.inverter_sim.specs.Reading.{fault_keys_view};
+ghost use Rattle.inverter_sim.specs.declared.part.PlantPart.TheVariants as parts;
 ghost use Rattle.inverter_sim.specs.declared.fault.PlantFault.TheVariants as fault;
 
 use super::keys::within;
 use crate::fault::PlantFault;
 use crate::misbehaviour::{Fault, Misbehaviour};
-use crate::spot::Spot;
+use crate::part::PlantPart;
 use file_keys::{is_more, number_at, section_at, text_at};
 use std::alloc::Global;
 use toml::Value;
@@ -23,39 +26,53 @@ struct FaultKeys<'a> {
     number: i64,
 }
 
-/// The faults of a plant file; the one that the reader has come to is noted.
+/// The faults of a plant file; the part that the reader has come to is noted.
 pub(crate) fn faults_of(
     alloc: Global,
     tree: &Value,
-    spot: &mut Spot,
+    part: &mut PlantPart,
 ) -> Result<Vec<Fault>, PlantFault>
-    ensures { MatchResult result (λ v. faults_of (view tree.now) ≡ Ok v.items)
+    ensures read { MatchResult result (λ v. faults_of (view tree.now) ≡ Ok v.items)
         (λ e. e ≢ fault.OutOfMemory → faults_of (view tree.now) ≡ Err e) }
+    ensures placed { IfErr result (λ e. e ≢ fault.OutOfMemory
+        → IsInSection (codes "fault") IsFaultRefused (view tree.now) part.new e) }
 {
+    *part = PlantPart::File;
     let Some(entries) = section_at(tree, "fault") else {
         return Err(PlantFault::MissingKey);
     };
-    *spot = Spot::Faults;
-    faults_in(alloc, entries, spot)
+    faults_in(alloc, entries, part)
 }
 
-fn faults_in(alloc: Global, entries: &[Value], spot: &mut Spot) -> Result<Vec<Fault>, PlantFault>
-    ensures { MatchResult result (λ v. faults_in (items_view entries.now) ≡ Ok v.items)
+fn faults_in(
+    alloc: Global,
+    entries: &[Value],
+    part: &mut PlantPart,
+) -> Result<Vec<Fault>, PlantFault>
+    requires { part.old ≡ parts.File }
+    ensures read { MatchResult result (λ v. faults_in (items_view entries.now) ≡ Ok v.items)
         (λ e. e ≢ fault.OutOfMemory → faults_in (items_view entries.now) ≡ Err e) }
+    ensures placed { IfErr result (λ e. e ≢ fault.OutOfMemory → IsFaultRefused (items_view entries.now) part.new e) }
 {
     if is_more(entries, MOST_FAULTS) {
         return Err(PlantFault::TooMany);
     }
-    read_faults(alloc, entries, spot)
+    read_faults(alloc, entries, part)
 }
 
-fn read_faults(alloc: Global, entries: &[Value], spot: &mut Spot) -> Result<Vec<Fault>, PlantFault>
-    ensures { MatchResult result (λ v. faults_from [] (items_view entries.now) ≡ Ok v.items)
+fn read_faults(
+    alloc: Global,
+    entries: &[Value],
+    part: &mut PlantPart,
+) -> Result<Vec<Fault>, PlantFault>
+    ensures read { MatchResult result (λ v. faults_from [] (items_view entries.now) ≡ Ok v.items)
         (λ e. e ≢ fault.OutOfMemory → faults_from [] (items_view entries.now) ≡ Err e) }
+    ensures placed { IfErr result (λ e. e ≢ fault.OutOfMemory
+        → IsRefusedIn parts.Fault (faults_from []) fault_of (items_view entries.now) part.new e) }
 {
     let mut faults = Vec::new(alloc);
     for entry in entries {
-        *spot = Spot::Fault(faults.len());
+        *part = PlantPart::Fault(faults.len());
         let fault = fault_of(&faults, entry)?;
         faults.push(fault)?;
     }

@@ -2,9 +2,11 @@
 ghost use Rattle.std.specs.Prelude.{◌≡◌, ◌≢◌, ◌≤ℤ◌, pos, true, false, Some, None, MatchOption, MatchResult};
 ghost use Rattle.toml.specs.View.{view, items_view};
 ghost use Rattle.inverter_sim.specs.File.{is_in, integers_in, integers_at, any_of, device_has_too_many, has_too_many};
+ghost use Rattle.inverter_sim.specs.Parts.{IsFirst, IsTooLong};
 ghost use Rattle.inverter_sim.specs.declared.fault.PlantFault.TheVariants as fault;
 
 use crate::fault::PlantFault;
+use crate::part::PlantPart;
 use file_keys::{has_over, list_at};
 use std::alloc::Global;
 use toml::Value;
@@ -61,26 +63,30 @@ fn device_has_too_many(tree: &Value) -> bool
     has_over(MOST_MODELS, "models", tree) || has_over(MOST_WATTS, "available", tree)
 }
 
-fn any_has_too_many(trees: &Vec<Value>) -> bool
-    ensures { result ≡ any_of device_has_too_many (items_view trees.now.items) }
+/// The number of the first device that has too many models or watts.
+fn first_too_long(trees: &Vec<Value>) -> Option<usize>
+    ensures { MatchOption result (any_of device_has_too_many (items_view trees.now.items) ≡ false)
+        (λ n. IsFirst device_has_too_many n (items_view trees.now.items)) }
 {
+    let mut number = 0usize;
     for tree in trees {
         if device_has_too_many(tree) {
-            return true;
+            return Some(number);
         }
+        number += 1;
     }
-    false
+    None
 }
 
-/// Whether the file has more devices, models of a device or watts of a device than a plant has.
-pub(crate) fn has_too_many(tree: &Value) -> bool
-    ensures { result ≡ has_too_many (view tree.now) }
+/// The part that has more devices, models of a device or watts of a device than a plant has.
+pub(crate) fn too_long(tree: &Value) -> Option<PlantPart>
+    ensures { MatchOption result (has_too_many (view tree.now) ≡ false) (IsTooLong (view tree.now)) }
 {
     if has_over(MOST_DEVICES, "device", tree) {
-        return true;
+        return Some(PlantPart::File);
     }
     match list_at(tree, "device") {
-        Some(devices) => any_has_too_many(devices),
-        None => false,
+        Some(devices) => first_too_long(devices).map(PlantPart::Device),
+        None => None,
     }
 }

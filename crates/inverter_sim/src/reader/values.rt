@@ -1,18 +1,19 @@
 //! The `[[device.value]]` entries of a plant file.
-ghost use Rattle.std.specs.Prelude.{◌≡◌, ◌≢◌, ◌≤◌, ◌<◌, ◌^◌, ◌+◌, ◌==◌, ◌⊎◌, ◌<ℤ◌, ◌≤ℤ◌, ℕ, pos, neg_ℤ, ◌%◌, ⊤, [], Some, None, Ok, Err, option_map, length, OnOk, MatchResult, MatchOption};
+ghost use Rattle.std.specs.Prelude.{◌≡◌, ◌≢◌, ◌≤◌, ◌<◌, ◌^◌, ◌+◌, ◌==◌, ◌⊎◌, ◌<ℤ◌, ◌≤ℤ◌, ℕ, pos, neg_ℤ, ◌%◌, ⊤, [], Some, None, Ok, Err, option_map, length, IfErr, OnOk, MatchResult, MatchOption};
 ghost use Rattle.std.specs.Int.{int_rem_euclid};
 ghost use Rattle.std.specs.List.{list_any};
 ghost use Rattle.toml.specs.View.{view, items_view};
 ghost use Rattle.point_types.specs.Point.{size_of};
 ghost use Rattle.inverter_sim.specs.Image.{split, stored};
 ghost use Rattle.inverter_sim.specs.File.{map_length, value_keys, is_signed, is_spelled, wrapped, spelled, words_of_kind, words_of_point, valued_at, valued_by, valued, valued_all, values_of};
+ghost use Rattle.inverter_sim.specs.Parts.{IsInValues};
 ghost use Rattle.inverter_sim.specs.Reading.{models_view, value_keys_view};
 ghost use Rattle.inverter_sim.specs.declared.fault.PlantFault.TheVariants as fault;
 
 use super::image::store;
 use super::layout::{locate, point_named};
 use crate::fault::PlantFault;
-use crate::spot::Spot;
+use crate::part::PlantPart;
 use file_keys::{number_at, section_at, text_at};
 use model_defs::{ModelDef, Point};
 use point_types::Kind;
@@ -27,18 +28,22 @@ struct ValueKeys<'a> {
     raw: i64,
 }
 
-/// Gives the points of a device the values that its entries name, and notes the one that the reader has come to.
+/// Gives the points of the device of that number the values that its entries name, and notes the one that the reader has
+/// come to.
 pub(super) fn give_values(
     alloc: Global,
     models: &[&ModelDef],
     registers: &mut Vec<u16>,
     tree: &Value,
-    spot: &mut Spot,
+    device: usize,
+    part: &mut PlantPart,
 ) -> Result<(), PlantFault>
     requires { map_length (models_view models.now) ≤ 65536 }
     ensures values { MatchResult result
         (λ _. values_of (models_view models.now) registers.old.items (view tree.now) ≡ Ok registers.new.items)
         (λ e. e ≢ fault.OutOfMemory → values_of (models_view models.now) registers.old.items (view tree.now) ≡ Err e) }
+    ensures placed { IfErr result (λ e. e ≢ fault.OutOfMemory
+        → IsInValues (models_view models.now) registers.old.items device (view tree.now) part.old part.new e) }
     ensures len { length registers.new.items ≡ length registers.old.items }
 {
     let Some(entries) = section_at(tree, "value") else {
@@ -46,7 +51,7 @@ pub(super) fn give_values(
     };
     let mut seen = Vec::new(alloc);
     for entry in entries {
-        *spot = spot.at_value(seen.len());
+        *part = PlantPart::Value(device, seen.len());
         give_value(models, registers, &mut seen, entry)?;
     }
     Ok(())
@@ -64,6 +69,7 @@ fn give_value(
         ≡ Ok (record { registers = registers.new.items; seen = seen.new.items }))
         (λ e. e ≢ fault.OutOfMemory → valued (models_view models.now) (record { registers = registers.old.items; seen = seen.old.items }) (view entry.now) ≡ Err e) }
     ensures len { length registers.new.items ≡ length registers.old.items }
+    ensures more { OnOk result (length seen.new.items ≡ length seen.old.items + 1) }
 {
     let Some(keys) = value_keys(entry) else {
         return Err(PlantFault::MissingKey);

@@ -1,11 +1,14 @@
-use Rattle.std.proofs.Common.{◌≡◌, drop, [], map}
+use Rattle.std.proofs.Common.{◌≡◌, drop, length, [], map, Ok}
 use Rattle.toml.specs.View.{items_view}
+use Rattle.file_keys.specs.Refusals.{before}
 use Rattle.site_model.specs.Tagging.{tags_behind}
 use Rattle.site_model.specs.Views.{tag_view}
 use Rattle.site_model.proofs.tags.read_tags.Given as goal
 
--- what the entries behind give after the tags so far
+-- the tags so far are those of the entries so far, and what the entries behind give after them is what all give
 abbrev pub invariant-loop-entry : goal.invariant-loop-entry
 invariant-loop-entry l =
-    tags_behind l.scope.devices.now l.scope.own.now l.scope.defs.now [] (items_view l.entries)
-    ≡ tags_behind l.scope.devices.now l.scope.own.now l.scope.defs.now (map tag_view l.tags) (items_view (drop l.entry-index l.entries))
+    (tags_behind l.scope.devices.now l.scope.own.now l.scope.defs.now [] (items_view l.entries)
+    ≡ tags_behind l.scope.devices.now l.scope.own.now l.scope.defs.now (map tag_view l.tags) (items_view (drop l.entry-index l.entries)))
+    × (tags_behind l.scope.devices.now l.scope.own.now l.scope.defs.now [] (before l.entry-index (items_view l.entries)) ≡ Ok (map tag_view l.tags))
+    × (length l.tags ≡ l.entry-index)

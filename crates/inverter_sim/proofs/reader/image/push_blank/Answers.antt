@@ -1,4 +1,4 @@
-use Rattle.std.proofs.Common.{◌≡◌, ◌∙◌, ◌++◌, ◌∷◌, [], ◌<◌, ◌-◌, ap, sym, append_assoc, arith}
+use Rattle.std.proofs.Common.{◌∙◌, ◌++◌, ◌∷◌, [], ◌-◌, ap, sym, append_assoc, arith}
 use Rattle.inverter_sim.specs.Image.{first, behind, padded}
 use Rattle.inverter_sim.proofs.Images.{padded_next}
 use Rattle.inverter_sim.proofs.reader.image.push_blank.Goals as goal

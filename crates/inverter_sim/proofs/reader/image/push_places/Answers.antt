@@ -1,5 +1,4 @@
-use Rattle.std.proofs.Common.{◌≡◌, ◌∙◌, ◌++◌, ◌∷◌, [], ◌<◌, ◌+◌, ◌-◌, ap, sym, append_assoc, arith}
-use Rattle.inverter_sim.specs.Image.{places_from}
+use Rattle.std.proofs.Common.{◌≡◌, ◌∙◌, ◌++◌, ◌+◌, ◌-◌, ap, sym, append_assoc, arith}
 use Rattle.inverter_sim.proofs.Images.{places_next}
 use Rattle.inverter_sim.proofs.reader.image.push_places.Goals as goal
 
