@@ -1,7 +1,6 @@
 //! What the tests of the service share.
 mod inquiries;
 mod memory;
-mod rounds;
 mod searches;
 mod sessions;
 
