@@ -22,6 +22,7 @@ use Rattle.commands.specs.Defined.{AreRead, all_texts}
 use Rattle.commands.specs.Described.{AreTagsOf, DefineAll, Describes, IsTagOf, Spells}
 use Rattle.commands.specs.Headline.{IsFor}
 use Rattle.commands.specs.Sources.{AreTextsOf, IsSiteOf, IsTextOf}
+use Rattle.commands.proofs.ModelLemmas.{is_model_of}
 
 -- ---- the texts
 
@@ -32,7 +33,7 @@ defines : (texts : List (List ℕ)) (before models : List ModelDef) → AreRead 
 defines [] before models h = ([], h ∙ sym (append-nil before), tt)
 defines (text ∷ texts) before models (model, (tree, is, unbroken, stands), more) =
     let k = defines texts (before ++ model ∷ []) models more in
-    (model ∷ k.0, k.1 ∙ append_assoc before (model ∷ []) k.0, ((tree, is, stands), k.2))
+    (model ∷ k.0, k.1 ∙ append_assoc before (model ∷ []) k.0, ((tree, is, is_model_of tree model unbroken stands), k.2))
 
 describes : (text : List ℕ) (texts : List (List ℕ)) (site : Site) → IsSiteOf text texts site → Describes text texts site
 describes text texts site of =

@@ -8,6 +8,7 @@ pub mod GivenLemmas
 pub mod HeadlineLemmas
 pub mod LineLemmas
 pub mod MeaningLemmas
+mod ModelLemmas
 pub mod NumberLemmas
 pub mod ObeyLemmas
 pub mod OutcomeLemmas

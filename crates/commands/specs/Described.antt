@@ -1,8 +1,8 @@
 -- The site that a text describes, the program that a text spells, and the site's tags that the program names.
--- That the texts break no rule, so that nothing of them is passed over and each name is known, stands in Sources.
+-- That the texts break no rule, and that each name in the program is known, stands in Sources.
 -- IEC 61131-3 edition 2, annex B and 2.4.3; SunSpec Device Information Model Specification, model definitions.
 use Rattle.std.specs.Prelude.{◌≡◌, ℕ, List, [], ◌∷◌, Some, slice_get}
-use Rattle.model_defs.specs.Definition.{IsTree, StandsFor}
+use Rattle.model_defs.specs.Definition.{IsTree}
 use Rattle.model_defs.specs.declared.model.ModelDef.{ModelDef}
 use Rattle.serde_json.specs.Data.{Data}
 use Rattle.scan_code.specs.declared.image.Tag.{Tag}
@@ -16,6 +16,7 @@ use Rattle.il_reader.specs.Grammar.{IsProgramText}
 use Rattle.verifier.specs.Links.{is_stored}
 use Rattle.verifier.specs.declared.tag_link.TagLink.{TagLink}
 use Rattle.commands.specs.Defined.{all_texts}
+use Rattle.commands.specs.Modelled.{IsModelOf}
 
 -- ---- a program
 
@@ -27,9 +28,9 @@ pub record Spells (text : List ℕ) (p : Program) : Type 0 where
 
 -- ---- a site
 
--- the model has the text's ID and points
+-- a definition's text, which is JSON
 abbrev pub Defines : List ℕ → ModelDef → Type 0
-Defines text model = (tree : Data) × IsTree text tree × StandsFor tree model
+Defines text model = (tree : Data) × IsTree text tree × IsModelOf tree model
 
 abbrev pub DefineAll : List (List ℕ) → List ModelDef → Type 0
 DefineAll [] [] = Unit {0}

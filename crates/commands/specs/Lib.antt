@@ -7,6 +7,7 @@ pub mod Given
 pub mod Headline
 pub mod Input
 pub mod Meant
+pub mod Modelled
 pub mod Obeyed
 pub mod Opening
 pub mod Outcome
