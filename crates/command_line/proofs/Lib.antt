@@ -1,1 +1,4 @@
+mod FaultLemmas
+mod LinkLemmas
+mod PrintingLemmas
 mod SourceLemmas

@@ -1,13 +1,15 @@
 //! The command line.
-ghost use Rattle.std.specs.Prelude.{◌≡◌, codes, map, string_bytes, IfSome};
-ghost use Rattle.commands.specs.Explained.{IsExplained};
-ghost use Rattle.commands.specs.Obeyed.{Checks, Obeys};
-ghost use Rattle.command_line.specs.Tried.{Tries};
+ghost use Rattle.std.specs.Prelude.{IfSome};
+ghost use Rattle.commands.specs.Obeyed.{Obeys};
+ghost use Rattle.commands.specs.Outcome.{IsTrial};
+ghost use Rattle.command_line.specs.Asked.{ObeysFiles};
+ghost use Rattle.command_line.specs.Tried.{TellsHindered, Tries};
 
 use crate::arguments::command;
+use crate::file_command::{FileCommand, probe_address};
 use crate::plant_run::{PlantRun, run_plant};
-use crate::plant_server::{PlantPort, simulate};
-use crate::probe_link::{ProbeAddress, ProbeRun, probe_over};
+use crate::plant_server::simulate;
+use crate::probe_link::probe_over;
 use crate::serve_words::{
     devices_of, keeping_misuse, keeping_of, listen_address, service_limits, serving_of, writers_of,
 };
@@ -72,6 +74,7 @@ fn words(rt: &(impl AllocGlobal + Env)) -> io::Result<Vec<String>> {
     Ok(words)
 }
 
+/// A trial of standard input. That it is read from its beginning, and by nobody else, no contract says.
 fn trial_of_input<W: Write>(
     rt: &(impl Input + Eprint + AllocGlobal),
     quiet: bool,
@@ -80,7 +83,8 @@ fn trial_of_input<W: Write>(
     trial_of(rt, rt.reader(), quiet, out)
 }
 
-/// A trial of the text that a reader gives.
+/// A trial of the text that a reader gives; or it is told why that isn't had. Whether a read failed the reader tells no
+/// contract.
 fn trial_of<S: Read + Drop, W: Write>(
     rt: &(impl Eprint + AllocGlobal),
     reader: S,
@@ -90,20 +94,38 @@ fn trial_of<S: Read + Drop, W: Write>(
     ensures { IfSome (S.remaining reader) (λ bytes. Tries bytes (W.contents out.old) (W.contents out.new) result) }
 {
     match read_text(rt.alloc(), reader) {
-        Ok(text) => {
-            let input = text.as_str();
-            let notes = Notes::on_program(quiet, STANDARD_INPUT, input);
-            let obeyed = commands::obey(rt.alloc(), TextCommand::Trial { input }, out);
-            notes.explain(rt, &obeyed.cause);
-            obeyed.status
-        }
-        Err(SourceFault::Unusable(fault)) => {
+        Ok(text) => trial_on(rt, text.as_str(), quiet, out),
+        Err(fault) => tell_hindered(rt, fault, quiet, out),
+    }
+}
+
+/// A trial of the text of standard input.
+fn trial_on<W: Write>(rt: &(impl Eprint + AllocGlobal), input: &str, quiet: bool, out: &mut W) -> u8
+    ensures { IsTrial input.now (W.contents out.old) (W.contents out.new) result }
+{
+    let notes = Notes::on_program(quiet, STANDARD_INPUT, input);
+    let obeyed = commands::obey(rt.alloc(), TextCommand::Trial { input }, out);
+    notes.explain(rt, &obeyed.cause);
+    obeyed.status
+}
+
+/// Tells why the text of standard input isn't had, and gives the status.
+fn tell_hindered<W: Write>(
+    rt: &(impl Eprint + AllocGlobal),
+    fault: SourceFault,
+    quiet: bool,
+    out: &mut W,
+) -> u8
+    ensures { TellsHindered fault (W.contents out.old) (W.contents out.new) result }
+{
+    match fault {
+        SourceFault::Unusable(fault) => {
             if !quiet {
                 explain_unusable(rt, STANDARD_INPUT, fault);
             }
             write_lines(out, b"refused: file -\n", 1)
         }
-        Err(SourceFault::OutOfMemory) => tell_no_memory(out),
+        SourceFault::OutOfMemory => tell_no_memory(out),
     }
 }
 
@@ -228,53 +250,61 @@ fn obey_on_files<W: Write>(
         def_paths: matches.get_strs("def").unwrap_or(&[]),
         defs: sources.defs.as_slice(),
     };
-    obey_on(rt, alloc, itself, name, matches, &notes, out)
+    match FileCommand::of(name, matches) {
+        Some(command) => obey_on(rt, alloc, itself, command, &notes, out),
+        None if name == "serve" => served(rt, alloc, itself, matches, &notes, out),
+        None => BAD_COMMAND_LINE,
+    }
 }
 
-/// Does what a command asks for on the texts of its files.
+/// Does what a command asks for, on just the texts of its files; `itself` is this program's path.
 fn obey_on<W: Write>(
-    rt: &(impl Input + Print + Eprint + AllocGlobal + Files + Clock + Net + Processes),
+    rt: &(impl Eprint + AllocGlobal + Net + Processes),
     alloc: Global,
     itself: &str,
-    name: &str,
-    matches: &ArgMatches<'_>,
+    command: FileCommand<'_>,
     notes: &Notes<'_>,
     out: &mut W,
 ) -> u8
-    ensures check { name.now ≡ codes "check" → Checks notes.now.site.now notes.now.program.now (map string_bytes notes.now.defs.now) (W.contents out.old) (W.contents out.new) result }
-    ensures explain { name.now ≡ codes "explain" → IsExplained notes.now.site.now notes.now.program.now (map string_bytes notes.now.defs.now) (W.contents out.old) (W.contents out.new) result }
+    ensures { ObeysFiles command.entry notes.now (W.contents out.old) (W.contents out.new) result }
 {
     let (site, program, defs) = (notes.site, notes.program, notes.defs);
-    match name {
-        "check" => told(
-            rt,
-            TextCommand::Check {
+    match command {
+        FileCommand::Check => {
+            let check = TextCommand::Check {
                 site,
                 program,
                 defs,
-            },
-            notes,
-            out,
-        ),
-        "explain" => told(
-            rt,
-            TextCommand::Explain {
-                site,
-                program,
-                defs,
-                listing: matches.get_flag("listing"),
-            },
-            notes,
-            out,
-        ),
-        "simulate" => {
-            notes.warn(rt);
-            simulate(rt, alloc, notes, plant_port(matches), out)
+            };
+            told(rt, check, notes, out)
         }
-        "run" => ran(rt, alloc, itself, matches, notes, out),
-        "serve" => served(rt, alloc, itself, matches, notes, out),
-        "probe" => probed(rt, alloc, matches, notes, out),
-        _ => BAD_COMMAND_LINE,
+        FileCommand::Explain { listing } => {
+            let explain = TextCommand::Explain {
+                site,
+                program,
+                defs,
+                listing,
+            };
+            told(rt, explain, notes, out)
+        }
+        FileCommand::Simulate { at } => {
+            notes.warn(rt);
+            simulate(rt, alloc, notes, at, out)
+        }
+        FileCommand::Run { plant, scans, exe } => {
+            let run = PlantRun {
+                notes: *notes,
+                plant,
+                scans,
+                exe: exe.unwrap_or(itself),
+            };
+            notes.warn(rt);
+            run_plant(rt, alloc, &run, out)
+        }
+        FileCommand::Probe { run } => {
+            notes.warn(rt);
+            probe_over(rt, alloc, run, notes, out)
+        }
     }
 }
 
@@ -293,60 +323,6 @@ fn unread<W: Write>(
         }
     }
     status
-}
-
-/// Where `simulate` serves, and for whom.
-fn plant_port(matches: &ArgMatches<'_>) -> PlantPort {
-    PlantPort {
-        port: matches.get_one("port").unwrap_or(0),
-        connections: matches.get_one("connections"),
-    }
-}
-
-/// Runs `run` on the texts of the files; `itself` is this program's path.
-fn ran<W: Write>(
-    rt: &(impl Eprint + AllocGlobal + Net + Processes),
-    alloc: Global,
-    itself: &str,
-    matches: &ArgMatches<'_>,
-    notes: &Notes<'_>,
-    out: &mut W,
-) -> u8 {
-    let plant = matches.get_str("plant").unwrap_or(STANDARD_INPUT);
-    let exe = matches.get_str("exe").unwrap_or(itself);
-    let run = PlantRun {
-        notes: *notes,
-        plant,
-        scans: matches.get_one("scans").unwrap_or(1),
-        exe,
-    };
-    run.notes.warn(rt);
-    run_plant(rt, alloc, &run, out)
-}
-
-/// Runs `probe` on the port or the address that is named.
-fn probed<W: Write>(
-    rt: &(impl Eprint + AllocGlobal + Net),
-    alloc: Global,
-    matches: &ArgMatches<'_>,
-    notes: &Notes<'_>,
-    out: &mut W,
-) -> u8 {
-    let Some(address) = probe_address(matches) else {
-        return BAD_COMMAND_LINE;
-    };
-    let run = ProbeRun {
-        address,
-        unit: matches.get_one("unit").unwrap_or(1),
-        timeout: matches.get_one("timeout"),
-    };
-    notes.warn(rt);
-    probe_over(rt, alloc, run, notes, out)
-}
-
-/// Where a device is probed; none where the word is no port and no address.
-fn probe_address<'a>(matches: &ArgMatches<'a>) -> Option<ProbeAddress<'a>> {
-    ProbeAddress::of(matches.get_str("PORT").unwrap_or(""))
 }
 
 /// Runs `serve` on the texts of the files, once the file of set values is read.

@@ -5,6 +5,7 @@
 
 mod arguments;
 mod dispatch;
+mod file_command;
 mod help;
 mod link_cause;
 mod plant_run;

@@ -1,4 +1,6 @@
 //! What is noted of a link that failed: which device and model was asked, and what came.
+ghost use Rattle.std.specs.Prelude.{◌≡◌, Some, IfSome};
+
 use crate::watched_link::{Asked, Front, WatchedLink};
 use commands::definitions::definitions;
 use gateway::Poller;
@@ -13,14 +15,16 @@ const READ: u8 = 3;
 /// The function that writes one register (6.6).
 const WRITE_ONE: u8 = 6;
 
-/// The cause of a link's fault, which ended a poller's work over a site. Where memory for a part of it is refused, it
-/// goes without.
+/// The cause of a link's fault, which ended a poller's work over a site; nothing goes over the link for it. Where memory
+/// for a part of it is refused, it goes without.
 pub fn cause_of_link<L: Link>(
     alloc: Global,
     site: &str,
     defs: &[String],
     poller: &mut Poller<WatchedLink<L>>,
-) -> Option<Cause> {
+) -> Option<Cause>
+    ensures { IfSome poller.old.fault (λ _. poller.new ≡ poller.old) }
+{
     let fault = fault_of(poller)?;
     let mut cause = Cause::unlinked(alloc, fault);
     if let Ok(detail) = asked_and_came(alloc, site, defs, poller.link()) {
@@ -30,7 +34,9 @@ pub fn cause_of_link<L: Link>(
 }
 
 /// The fault that ended a poller's work: it answers each request behind it by that fault, and sends nothing.
-fn fault_of<L: Link>(poller: &mut Poller<WatchedLink<L>>) -> Option<LinkFault> {
+fn fault_of<L: Link>(poller: &mut Poller<WatchedLink<L>>) -> Option<LinkFault>
+    ensures { IfSome poller.old.fault (λ fault. (result ≡ Some fault) × (poller.new ≡ poller.old)) }
+{
     poller.ask(0, &Request::Read { addr: 0, qty: 1 }).err()
 }
 

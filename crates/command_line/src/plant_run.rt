@@ -1,6 +1,7 @@
 //! A whole run over loopback: a simulated plant in a second process, the gateway's scans of it, and a probe of the gateway.
-ghost use Rattle.std.specs.Prelude.{map, string_bytes};
-ghost use Rattle.command_line.specs.Ran.{RunsFrom, polling_of};
+ghost use Rattle.modbus_frame.specs.Link.{LinkState};
+ghost use Rattle.command_line.specs.Printing.{Fails, Grows};
+ghost use Rattle.command_line.specs.Ran.{EndsBehind, RunsOnce, RunsOver, ScansBy, ScansLink};
 
 use crate::link_cause::cause_of_link;
 use crate::socket::{SocketLink, link_over, loopback};
@@ -43,7 +44,9 @@ pub fn run_plant<R: Net + Processes + Eprint + AllocGlobal, W: Write>(
     alloc: Global,
     run: &PlantRun<'_, '_>,
     out: &mut W,
-) -> u8 {
+) -> u8
+    ensures { RunsOnce run.now.notes run.now.scans (W.contents out.old) (W.contents out.new) result }
+{
     match start_plant(rt, alloc, &run.notes, run.plant, run.exe) {
         Ok(plant) => run_started(rt, alloc, run, plant, out),
         Err(fault) => no_start(rt, alloc, &run.notes, run.exe, &fault, out),
@@ -57,7 +60,9 @@ fn run_started<R: Net + Processes + Eprint + AllocGlobal, W: Write>(
     run: &PlantRun<'_, '_>,
     plant: Child<R::Started>,
     out: &mut W,
-) -> u8 {
+) -> u8
+    ensures { RunsOnce run.now.notes run.now.scans (W.contents out.old) (W.contents out.new) result }
+{
     let mut plant = plant;
     let lines = plant.stdout.take();
     let status = run_told(rt, alloc, run, lines, out);
@@ -73,7 +78,9 @@ fn run_told<R: Net + Processes + Eprint + AllocGlobal, P: Read + Drop, W: Write>
     run: &PlantRun<'_, '_>,
     lines: Option<P>,
     out: &mut W,
-) -> u8 {
+) -> u8
+    ensures { RunsOnce run.now.notes run.now.scans (W.contents out.old) (W.contents out.new) result }
+{
     match lines {
         Some(lines) => run_by(rt, alloc, run, lines, out),
         None => tell_lost(rt, alloc, &run.notes, LinkFault::Read, out),
@@ -87,7 +94,9 @@ fn run_by<R: Net + Processes + Eprint + AllocGlobal, P: Read + Drop, W: Write>(
     run: &PlantRun<'_, '_>,
     lines: P,
     out: &mut W,
-) -> u8 {
+) -> u8
+    ensures { RunsOnce run.now.notes run.now.scans (W.contents out.old) (W.contents out.new) result }
+{
     let mut lines = lines;
     match first_line(alloc, &mut lines) {
         Ok(line) => run_behind(rt, alloc, run, line.as_slice(), out),
@@ -102,7 +111,9 @@ fn run_behind<R: Net + Processes + Eprint + AllocGlobal, W: Write>(
     run: &PlantRun<'_, '_>,
     line: &[u8],
     out: &mut W,
-) -> u8 {
+) -> u8
+    ensures { RunsOnce run.now.notes run.now.scans (W.contents out.old) (W.contents out.new) result }
+{
     match port_in(line) {
         Some(port) => run_at(rt, alloc, run, port, out),
         None => tell_no_port(rt, alloc, run, line, out),
@@ -117,7 +128,9 @@ fn tell_no_port<R: Eprint, W: Write>(
     run: &PlantRun<'_, '_>,
     line: &[u8],
     out: &mut W,
-) -> u8 {
+) -> u8
+    ensures { Fails (W.contents out.old) (W.contents out.new) result }
+{
     if !run.notes.quiet && !line.starts_with(b"refused: ") && !line.starts_with(b"link: ") {
         if let Ok(text) = no_sunsite(alloc, run.exe) {
             let _ = rt.eprint(text.as_str());
@@ -139,7 +152,9 @@ fn run_at<R: Net + Processes + Eprint + AllocGlobal, W: Write>(
     run: &PlantRun<'_, '_>,
     port: u16,
     out: &mut W,
-) -> u8 {
+) -> u8
+    ensures { RunsOnce run.now.notes run.now.scans (W.contents out.old) (W.contents out.new) result }
+{
     match link_to(rt, port) {
         Ok(link) => run_over(rt, alloc, run, link, out),
         Err(fault) => tell_unreached(rt, alloc, &run.notes, &fault, out),
@@ -150,35 +165,41 @@ fn link_to<R: Net>(rt: &R, port: u16) -> io::Result<SocketLink<R::Stream>> {
     link_over(TcpStream::connect(rt, loopback(port))?)
 }
 
-/// Scans the plant over a link, and has the gateway probed.
+/// Scans the plant over a link, closes that, and has the gateway probed.
 fn run_over<R: Net + Processes + Eprint + AllocGlobal, L: Link + Drop, W: Write>(
     rt: &R,
     alloc: Global,
     run: &PlantRun<'_, '_>,
     link: L,
     out: &mut W,
-) -> u8 {
-    let mut ran = scans_over(rt, alloc, run, link, out);
+) -> u8
+    ensures { (b : LinkState) × RunsOver run.now.notes run.now.scans
+        (record { coming = L.coming link; sent = L.sent link; failures = L.failures link; calls = L.calls link })
+        b (W.contents out.old) (W.contents out.new) result }
+{
+    let (mut ran, link) = scans_over(rt, alloc, run, link, out);
+    drop(link);
     run.notes.explain(rt, &ran.cause);
     probed_behind(rt, alloc, run, &mut ran, out)
 }
 
-/// Does the scans over a link, and closes it.
-fn scans_over<R: Eprint, L: Link + Drop, W: Write>(
+/// Does the scans over a link, over which nothing else goes, and gives it back.
+fn scans_over<R: Eprint, L: Link, W: Write>(
     rt: &R,
     alloc: Global,
     run: &PlantRun<'_, '_>,
     link: L,
     out: &mut W,
-) -> ObeyedOver
-    ensures { RunsFrom (polling_of (L.coming link) (L.sent link) (L.failures link) (L.calls link)) run.now.notes.site.now run.now.notes.program.now (map string_bytes run.now.notes.defs.now) run.now.scans
-        (W.contents out.old) (W.contents out.new) result.core result.status }
+) -> (ObeyedOver, L)
+    ensures { ScansLink run.now.notes run.now.scans
+        (record { coming = L.coming link; sent = L.sent link; failures = L.failures link; calls = L.calls link })
+        (record { coming = L.coming result.1; sent = L.sent result.1; failures = L.failures result.1; calls = L.calls result.1 })
+        (W.contents out.old) (W.contents out.new) result.0.core result.0.status }
 {
     let mut poller = Poller::new(WatchedLink::new(alloc, link));
     let mut watch = UnwrittenWatch::new(rt, alloc, run.notes.quiet);
     let ran = scans_by(alloc, run, &mut poller, &mut watch, out);
-    drop(poller.into_link().into_link());
-    ran
+    (ran, poller.into_link().into_link())
 }
 
 /// Does the scans over a poller's link. The cause is that of a refusal, or why the link failed.
@@ -189,8 +210,7 @@ fn scans_by<L: Link, V: ScanWatch, W: Write>(
     watch: &mut V,
     out: &mut W,
 ) -> ObeyedOver
-    ensures { RunsFrom poller.old run.now.notes.site.now run.now.notes.program.now (map string_bytes run.now.notes.defs.now) run.now.scans
-        (W.contents out.old) (W.contents out.new) result.core result.status }
+    ensures { ScansBy run.now.notes run.now.scans poller.old poller.new (W.contents out.old) (W.contents out.new) result.core result.status }
 {
     let (site, program, defs) = (run.notes.site, run.notes.program, run.notes.defs);
     let command = LinkCommand::Run {
@@ -213,7 +233,9 @@ fn probed_behind<R: Net + Processes + Eprint + AllocGlobal, W: Write>(
     run: &PlantRun<'_, '_>,
     ran: &mut ObeyedOver,
     out: &mut W,
-) -> u8 {
+) -> u8
+    ensures { EndsBehind ran.old.status (W.contents out.old) (W.contents out.new) result }
+{
     if ran.status != 0 {
         return ran.status;
     }
@@ -230,7 +252,9 @@ fn probed<R: Net + Processes + Eprint + AllocGlobal, W: Write>(
     run: &PlantRun<'_, '_>,
     core: &mut Core<DEPTH>,
     out: &mut W,
-) -> u8 {
+) -> u8
+    ensures { Grows (W.contents out.old) (W.contents out.new) }
+{
     match TcpListener::bind(rt, loopback(0)) {
         Ok(listener) => probed_on(rt, alloc, run, &listener, core, out),
         Err(fault) => tell_unreached(rt, alloc, &run.notes, &fault, out),
@@ -248,6 +272,7 @@ fn probed_on<R: Processes + Eprint + AllocGlobal, L: OpenListener, W: Write>(
 ) -> u8
 where
     L::Stream: Read + Write + OpenStream,
+    ensures { Grows (W.contents out.old) (W.contents out.new) }
 {
     let Ok(address) = listener.local_addr() else {
         return tell_lost(rt, alloc, &run.notes, LinkFault::Read, out);
@@ -284,7 +309,9 @@ fn tell_probed<R: Eprint + AllocGlobal, W: Write>(
     served: Result<u32, LinkFault>,
     printed: &io::Result<Output>,
     out: &mut W,
-) -> u8 {
+) -> u8
+    ensures { Grows (W.contents out.old) (W.contents out.new) }
+{
     if let Err(fault) = served {
         return tell_lost(rt, alloc, notes, fault, out);
     }
@@ -413,7 +440,9 @@ pub(crate) fn no_start<R: Eprint + AllocGlobal, W: Write>(
     path: &str,
     fault: &io::Error,
     out: &mut W,
-) -> u8 {
+) -> u8
+    ensures { Fails (W.contents out.old) (W.contents out.new) result }
+{
     let why = match fault.kind() {
         ErrorKind::OutOfMemory => return tell_no_memory(out),
         ErrorKind::NotFound => FileFault::NotFound,
@@ -434,7 +463,9 @@ pub(crate) fn tell_unreached<R: Eprint + AllocGlobal, W: Write>(
     notes: &Notes<'_>,
     fault: &io::Error,
     out: &mut W,
-) -> u8 {
+) -> u8
+    ensures { Fails (W.contents out.old) (W.contents out.new) result }
+{
     match fault.kind() {
         ErrorKind::OutOfMemory => tell_no_memory(out),
         _ => tell_lost(rt, alloc, notes, LinkFault::Read, out),
@@ -448,7 +479,9 @@ pub(crate) fn tell_lost<R: Eprint + AllocGlobal, W: Write>(
     notes: &Notes<'_>,
     fault: LinkFault,
     out: &mut W,
-) -> u8 {
+) -> u8
+    ensures { Fails (W.contents out.old) (W.contents out.new) result }
+{
     let status = tell_unlinked(alloc, fault, out);
     notes.explain(rt, &Some(Cause::unlinked(alloc, fault)));
     status

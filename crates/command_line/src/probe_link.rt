@@ -1,22 +1,23 @@
 //! The connection over which a device is probed.
 ghost use Rattle.std.specs.Prelude.{map, string_bytes};
-ghost use Rattle.commands.specs.Obeyed.{ProbesBy};
+ghost use Rattle.command_line.specs.Probed.{ProbesLink, ProbesLinked, ProbesOnce};
 
 use crate::socket::{SocketLink, link_over, loopback};
-use commands::{LinkCommand, Unwatched, obey_over};
+use commands::{models_told, probe, tell_unlinked};
 use gateway::Poller;
-use modbus_frame::{Down, Link};
+use modbus_frame::{Link, LinkFault};
+use model_defs::ModelDef;
 use refusal_notes::Notes;
 use site_service::has_port;
 use std::alloc::{AllocError, Global};
 use std::io;
-use std::io::{ErrorKind, Read, Write};
+use std::io::{ErrorKind, Write};
 use std::net::{Net, OpenStream, SocketAddr, TcpStream, ToSocketAddrs};
 use std::time::Duration;
 
 /// Where a device is probed.
 #[derive(Clone, Copy)]
-pub(crate) enum ProbeAddress<'a> {
+pub enum ProbeAddress<'a> {
     /// On this loopback port.
     Port(u16),
     /// At this `HOST:PORT`.
@@ -25,7 +26,7 @@ pub(crate) enum ProbeAddress<'a> {
 
 /// What is probed, and how long is waited.
 #[derive(Clone, Copy)]
-pub(crate) struct ProbeRun<'a> {
+pub struct ProbeRun<'a> {
     pub address: ProbeAddress<'a>,
     pub unit: u8,
     /// The longest wait for a connection, and for bytes, in milliseconds; none without an end.
@@ -51,114 +52,66 @@ impl<'a> ProbeAddress<'a> {
     }
 }
 
-/// A link that connects when something is written to it first. Where no connection comes, what is written goes nowhere and
-/// reads fail.
-#[derive(Drop)]
-struct DialedLink<'r, 'a, R: Net> {
-    rt: &'r R,
-    run: ProbeRun<'a>,
-    dialed: Dialed<R::Stream>,
-}
-
-/// Whether there is a connection.
-#[derive(Drop)]
-enum Dialed<S: Read + Write + Drop> {
-    Not,
-    Open(SocketLink<S>),
-    Failed(NoConnection),
-}
-
-impl<R: Net> DialedLink<'_, '_, R> {
-    fn dial(&mut self) {
-        self.dialed = match connected(self.rt, self.run) {
-            Ok(link) => Dialed::Open(link),
-            Err(cause) => Dialed::Failed(cause),
-        };
-    }
-
-    /// Why there is no connection, where one was wanted.
-    fn cause(&self) -> Option<NoConnection> {
-        match self.dialed {
-            Dialed::Failed(cause) => Some(cause),
-            _ => None,
-        }
-    }
-}
-
-impl<R: Net> Link for DialedLink<'_, '_, R> {
-    ghost use Rattle.std.specs.Prelude.{None};
-    ghost use Rattle.modbus_frame.specs.Link.{untold};
-
-    ghost calls = { λ _. None };
-
-    ghost failures = { λ _. untold };
-
-    ghost coming = { λ _. None };
-
-    ghost sent = { λ _. None };
-
-    fn read(&mut self, into: &mut [u8]) -> Result<usize, Down> {
-        match &mut self.dialed {
-            Dialed::Open(link) => link.read(into),
-            Dialed::Not | Dialed::Failed(_) => Err(Down),
-        }
-    }
-
-    fn write(&mut self, from: &[u8]) -> Result<usize, Down> {
-        if let Dialed::Not = self.dialed {
-            self.dial();
-        }
-        match &mut self.dialed {
-            Dialed::Open(link) => link.write(from),
-            Dialed::Not | Dialed::Failed(_) => Ok(from.len()),
-        }
-    }
-}
-
-/// Prints the points of a device by the shipped definitions and those of the notes, and gives the status. It is told on
-/// standard error which definition is none, and why no connection comes to a `HOST:PORT`.
+/// Prints the points of a device by the shipped definitions and those of the notes, and gives the status. Where a text is
+/// no definition nobody connects. It is told on standard error which definition is none, and why no connection comes to a
+/// `HOST:PORT`.
 pub(crate) fn probe_over<R: Net + Eprint + AllocGlobal, W: Write>(
     rt: &R,
     alloc: Global,
     run: ProbeRun<'_>,
     notes: &Notes<'_>,
     out: &mut W,
-) -> u8 {
-    let mut poller = Poller::new(DialedLink {
-        rt,
-        run,
-        dialed: Dialed::Not,
-    });
-    let status = probe_by(rt, alloc, run.unit, notes, &mut poller, out);
-    let link = poller.into_link();
-    if let (ProbeAddress::Word(word), Some(cause), false) = (
-        run.address,
-        link.cause(),
-        notes.quiet,
-    ) {
-        explain(rt, alloc, word, cause);
+) -> u8
+    ensures { ProbesOnce run.entry.unit (map string_bytes notes.now.defs.now) (W.contents out.old) (W.contents out.new) result }
+{
+    match models_told(alloc, notes.defs, out) {
+        Ok(models) => probe_by(rt, alloc, run, notes.quiet, models.as_slice(), out),
+        Err(refused) => {
+            notes.explain(rt, &refused.cause);
+            refused.status
+        }
     }
-    status
 }
 
-/// Prints the points of a unit over a poller's link, and on standard error which definition is none. Gives the status.
-fn probe_by<R: Eprint + AllocGlobal, L: Link, W: Write>(
+/// Prints the points of a device by these definitions, or that no connection comes.
+fn probe_by<R: Net + Eprint, W: Write>(
     rt: &R,
     alloc: Global,
-    unit: u8,
-    notes: &Notes<'_>,
-    poller: &mut Poller<L>,
+    run: ProbeRun<'_>,
+    quiet: bool,
+    models: &[ModelDef],
     out: &mut W,
 ) -> u8
-    ensures { ProbesBy unit (map string_bytes notes.now.defs.now) poller.old poller.new (W.contents out.old) (W.contents out.new) result }
+    ensures { ProbesLinked run.entry.unit models.now (W.contents out.old) (W.contents out.new) result }
 {
-    let command = LinkCommand::Probe {
-        unit,
-        defs: notes.defs,
-    };
-    let obeyed = obey_over(alloc, command, poller, &mut Unwatched, out);
-    notes.explain(rt, &obeyed.cause);
-    obeyed.status
+    match connected(rt, run) {
+        Ok(link) => probe_link(alloc, link, run.unit, models, out).0,
+        Err(cause) => {
+            let status = tell_unlinked(alloc, LinkFault::Read, out);
+            if let (ProbeAddress::Word(word), false) = (run.address, quiet) {
+                explain(rt, alloc, word, cause);
+            }
+            status
+        }
+    }
+}
+
+/// Prints the points of a unit over a link, over which nothing else goes, and gives it back behind the status.
+fn probe_link<L: Link, W: Write>(
+    alloc: Global,
+    link: L,
+    unit: u8,
+    models: &[ModelDef],
+    out: &mut W,
+) -> (u8, L)
+    ensures { ProbesLink unit models.now
+        (record { coming = L.coming link; sent = L.sent link; failures = L.failures link; calls = L.calls link })
+        (record { coming = L.coming result.1; sent = L.sent result.1; failures = L.failures result.1; calls = L.calls result.1 })
+        (W.contents out.old) (W.contents out.new) result.0 }
+{
+    let mut poller = Poller::new(link);
+    let status = probe(alloc, &mut poller, unit, models, out);
+    (status, poller.into_link())
 }
 
 fn explain<R: Eprint>(rt: &R, alloc: Global, word: &str, cause: NoConnection) {

@@ -1,4 +1,6 @@
 //! The command `serve`: a program on a site, scan by scan, by the clock.
+ghost use Rattle.command_line.specs.Printing.{Fails};
+
 use crate::dispatch::tell_misuse;
 use crate::plant_run::{first_line, no_start, port_in, start_plant, tell_lost, tell_unreached};
 use commands::{
@@ -284,7 +286,9 @@ pub(crate) fn tell_unserved<W: Write>(
     address: SocketAddr,
     kind: ErrorKind,
     out: &mut W,
-) -> u8 {
+) -> u8
+    ensures { Fails (W.contents out.old) (W.contents out.new) result }
+{
     match unserved_line(alloc, address, cause_word(kind)) {
         Ok(line) => write_lines(out, line.as_bytes(), FAILED_LINK),
         Err(AllocError) => tell_no_memory(out),

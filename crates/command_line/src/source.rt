@@ -1,5 +1,6 @@
 //! The text of a file or of standard input.
-ghost use Rattle.std.specs.Prelude.{◌≡◌, ◌≤◌, length, string_bytes, IfOk, IfSome, IsOkUnless};
+ghost use Rattle.std.specs.Prelude.{◌≡◌, ◌≤◌, ℕ, List, length, string_bytes, IfErr, IfOk, IfSome};
+ghost use Rattle.command_line.specs.Tried.{IsHindered};
 
 use crate::standard_input::STANDARD_INPUT;
 use refusal_notes::FileFault;
@@ -18,10 +19,12 @@ pub(crate) enum SourceFault {
     OutOfMemory,
 }
 
-/// The text of a file, read to its end.
+/// The text of a file, read to its end. Where it isn't had, it is too long or no UTF-8, memory was refused, or a read
+/// failed, of which a reader tells contracts nothing.
 pub(crate) fn read_text<R: Read + Drop>(alloc: Global, reader: R) -> Result<String, SourceFault>
     ensures small { IfOk result (λ text. length (string_bytes text) ≤ LARGEST_FILE) }
     ensures whole { IfOk result (λ text. IfSome (R.remaining reader) (λ bytes. string_bytes text ≡ bytes)) }
+    ensures refused { IfErr result (λ fault. IfSome (R.remaining reader) (IsHindered fault)) }
 {
     let mut bytes = Vec::new(alloc);
     match reader.take(LARGEST_FILE + 1).read_to_end(&mut bytes) {
@@ -41,7 +44,9 @@ pub(crate) fn read_text<R: Read + Drop>(alloc: Global, reader: R) -> Result<Stri
 
 impl SourceFault {
     /// Of a file that can't be opened or read.
-    fn of(kind: ErrorKind) -> SourceFault {
+    fn of(kind: ErrorKind) -> SourceFault
+        ensures { (bytes : List ℕ) → IsHindered result bytes }
+    {
         match kind {
             ErrorKind::OutOfMemory => SourceFault::OutOfMemory,
             ErrorKind::NotFound => SourceFault::Unusable(FileFault::NotFound),

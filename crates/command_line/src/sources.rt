@@ -1,4 +1,6 @@
 //! The texts of the files that a command line names.
+ghost use Rattle.command_line.specs.Printing.{Fails};
+
 use crate::source::{SourceFault, read_file, read_kept};
 use clap::ArgMatches;
 use commands::{tell_no_memory, tell_unusable};
@@ -25,7 +27,9 @@ pub(crate) enum Refusal<'a> {
 
 impl Refusal<'_> {
     /// Writes its line, and gives the status.
-    pub fn tell<W: Write>(self, alloc: Global, out: &mut W) -> u8 {
+    pub fn tell<W: Write>(self, alloc: Global, out: &mut W) -> u8
+        ensures { Fails (W.contents out.old) (W.contents out.new) result }
+    {
         match self {
             Refusal::OutOfMemory => tell_no_memory(out),
             Refusal::File(path, _) => tell_file(alloc, path, out),
@@ -35,7 +39,9 @@ impl Refusal<'_> {
 
 /// Writes that the file at a path can't be used, and gives the status. Control characters in the path are escaped, so that
 /// it can't pass for another line.
-fn tell_file<W: Write>(alloc: Global, path: &str, out: &mut W) -> u8 {
+fn tell_file<W: Write>(alloc: Global, path: &str, out: &mut W) -> u8
+    ensures { Fails (W.contents out.old) (W.contents out.new) result }
+{
     match escaped(alloc, path) {
         Ok(path) => tell_unusable(alloc, path.as_str(), out),
         Err(_) => tell_no_memory(out),

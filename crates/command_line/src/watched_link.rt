@@ -98,8 +98,10 @@ impl<L: Link> WatchedLink<L> {
         }
     }
 
-    /// The link that was watched.
-    pub fn into_link(self) -> L {
+    /// The link that was watched, as the last call over it left it.
+    pub fn into_link(self) -> L
+        ensures { result ≡ self.link }
+    {
         self.link
     }
 
