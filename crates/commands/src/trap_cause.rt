@@ -30,6 +30,7 @@ pub(crate) fn cause_of_trap(alloc: Global, program: &Program, trial: &Trial, tra
         }
     }
     if let Some(number) = number {
+        let _ = cause.tell_closing(alloc, program, number);
         let _ = push_place(alloc, &mut cause.detail, trap.at, number);
     }
     cause

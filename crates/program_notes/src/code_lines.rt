@@ -27,6 +27,26 @@ fn line_at(lines: &[u32], number: usize) -> u32
     }
 }
 
+/// The last line inside the parentheses at whose end an instruction acts, though its operator stands before them; None
+/// for an instruction that closes none, or where memory was refused.
+pub fn line_inside(alloc: Global, program: &Program, number: usize) -> Option<u32> {
+    let lines = instruction_lines(alloc, program).ok()?;
+    let opening = *lines.as_slice().get(number)?;
+    let last = latest(lines.as_slice().get(..number)?, opening);
+    if last > opening { Some(last) } else { None }
+}
+
+/// The last of these lines and of another one.
+fn latest(lines: &[u32], line: u32) -> u32 {
+    let mut last = line;
+    for line in lines {
+        if *line > last {
+            last = *line;
+        }
+    }
+    last
+}
+
 /// The line on which a tag of the image is declared; 0 where there is none.
 pub fn declared_line(program: &Program, name: &Name) -> u32 {
     for external in program.externals.as_slice() {

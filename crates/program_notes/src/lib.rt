@@ -18,7 +18,9 @@ mod typing;
 mod uses;
 mod words;
 
-pub use code_lines::{address_of, declared_line, instruction_line, name_in, number_at, tag_name};
+pub use code_lines::{
+    address_of, declared_line, instruction_line, line_inside, name_in, number_at, tag_name,
+};
 pub use detail::{Detail, detail_of};
 pub use mending::Mend;
 pub use refusing::mend_of;

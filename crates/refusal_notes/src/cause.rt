@@ -14,7 +14,7 @@ use il_reader::{FaultPlace, Program, ReadFault, fault_at};
 use inverter_sim::PlantFault;
 use modbus_frame::LinkFault;
 use model_defs::DefFault;
-use program_notes::other_use_text;
+use program_notes::{line_inside, other_use_text};
 use scan_vm::TrapKind;
 use site_model::SiteFault;
 use source_notes::{Mark, Note};
@@ -169,6 +169,25 @@ impl Cause {
             help: kind.help(),
         };
         Cause::of_line(alloc, line, mark_of_trapped(kind), texts)
+    }
+
+    /// Tells of an instruction that acts at the end of its parentheses: the caret stands under its operator, on the line
+    /// that opens them. Nothing of others.
+    pub fn tell_closing(
+        &mut self,
+        alloc: Global,
+        program: &Program,
+        number: usize,
+    ) -> Result<(), AllocError> {
+        let Some(last) = line_inside(alloc, program, number) else {
+            return Ok(());
+        };
+        self.mark = Mark::Operator;
+        if !self.detail.is_empty() {
+            self.detail.push_str("; ")?;
+        }
+        let place = format!(in alloc; "it acts at the ) behind line {last}")?;
+        self.detail.push_str(place.as_str())
     }
 
     /// An input line gives nothing to an input.

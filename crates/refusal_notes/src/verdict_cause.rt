@@ -28,6 +28,9 @@ pub fn cause_of_refusal(alloc: Global, program: &Program, site: &Site, refused: 
     if let Ok(detail) = detail {
         cause.detail = detail.text;
     }
+    if let RefusedAt::Instruction(number) = refused.at {
+        let _ = cause.tell_closing(alloc, program, number);
+    }
     match refused.kind {
         RefusalKind::TagUnknown => {
             let _ = push_tag_meant(alloc, &mut cause, site);

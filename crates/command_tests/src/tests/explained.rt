@@ -206,6 +206,11 @@ const OF_TRIALS: &[Explained] = &[
         "p.il:18: input: the line gives no value to an input\n   18 | inv1_w=6\n      | ^^^^^^^^ line 16 names it already\n  help: write NAME=VALUE without blanks: an external that the program loads, once, and a value of its type or absent\n",
     ),
     (
+        "PROGRAM p\nVAR\n  a : INT;\nEND_VAR\n  LD INT#32767\n  ADD( 1\n  MUL 1\n  )\nEND_PROGRAM\n",
+        "a=0\ntrap Overflow at 6\n",
+        "p.il:6: Overflow: a number left its type\n    6 |   ADD( 1\n      |   ^^^ INT 32767 meets INT 1, INT holds -32768..32767; it acts at the ) behind line 7\n  help: bound the operands, as by MIN and MAX before, or convert to a wider type first\n",
+    ),
+    (
         "PROGRAM p\nVAR\n  a : INT;\nEND_VAR\n  LD TRUE\n  JMPC e\n  LD 1\n  ST a\ne: LD INT#5\n  DIV a\nEND_PROGRAM\n",
         "a=0\ntrap ZeroDivisor at 5\n",
         "p.il:10: ZeroDivisor: a division by 0\n   10 |   DIV a\n      |       ^ INT 5 meets INT 0; after 5 instructions, at instruction 7 of the code\n  help: test the divisor before (LE 0 / JMPC elsewhere), or bound it, as by MAX 1\n",

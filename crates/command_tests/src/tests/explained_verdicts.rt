@@ -183,6 +183,16 @@ const OF_DETAILS: &[Explained] = &[
         "p.il:11: Type: operands of two types, or not of the type that is wanted\n   11 | EQ b\n      |    ^ a is INT, b is BOOL\n  help: make a BOOL of a number by a comparison, as NE 0, or choose a number by a BOOL with SEL, as SEL 0, 1\n",
     ),
     (
+        "PROGRAM p\nVAR_EXTERNAL\n  inv1_w : DINT;\nEND_VAR\nVAR\n  a, y : INT;\n  b : BOOL;\n  d : DINT;\nEND_VAR\n  LD a\nADD( y\nMUL 1\n\n)\nEND_PROGRAM\n",
+        "refused: verify Overflow at 6\n",
+        "p.il:11: Overflow: the result may leave its type\n   11 | ADD( y\n      | ^^^ the result lies in -65536..65534, INT holds -32768..32767; it acts at the ) behind line 12\n  help: bound the operands by a subrange, by low and high of the tag, or by MIN and MAX before; or convert to a wider type first\n",
+    ),
+    (
+        "PROGRAM p\nVAR_EXTERNAL\n  inv1_w : DINT;\nEND_VAR\nVAR\n  a, y : INT;\n  b : BOOL;\n  d : DINT;\nEND_VAR\n  LD b\nANDN( b\nAND(\nLD a\n)\n)\nEND_PROGRAM\n",
+        "refused: verify Type at 5\n",
+        "p.il:12: Type: operands of two types, or not of the type that is wanted\n   12 | AND(\n      | ^^^ b is BOOL, a is INT; it acts at the ) behind line 13\n  help: make a BOOL of the number by a comparison, as NE 0\n",
+    ),
+    (
         "PROGRAM p\nVAR_EXTERNAL\n  inv1w : DINT;\nEND_VAR\n  LD inv1w\nEND_PROGRAM\n",
         "refused: verify TagUnknown at 0\n",
         "p.il:3: TagUnknown: the site has no tag inv1w\n    3 |   inv1w : DINT;\n      |   ^^^^^ the program loads it as DINT; did you mean inv1_w?\n  help: add a [[tag]] of that name to the site file, or correct the name; an external that isn't used asks for no tag\n",
