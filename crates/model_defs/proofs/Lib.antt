@@ -4,3 +4,4 @@ pub mod Whole
 pub mod Trees
 pub mod Lookup
 pub mod Uniqueness
+pub mod Refused

@@ -1,9 +1,13 @@
 -- Points laid out one after another: what is placed, and what remains.
 use Rattle.std.proofs.Common.{◌≡◌, ℕ, suc, zero, ◌+◌, ◌≤◌, ◌≢◌, true, false, ◌&&◌, List, [], ◌∷◌, ◌++◌, length, map, Some, option_map, refl, sym, ap, ◌∙◌, arith, append_assoc, append-nil, Bor}
 use Rattle.std.proofs.lemmas.Option.{slice_get_within}
-use Rattle.std.proofs.lemmas.List.{map-append, take-append-le, take_all}
+use Rattle.std.proofs.lemmas.List.{length-map, map-append, take-append-le, take_all}
 use Rattle.std.proofs.lemmas.List.Sums.{sum_by-append, sum_by-cons}
-use Rattle.std.specs.Prelude.{slice_get}
+use Rattle.std.specs.Prelude.{Bool, slice_get}
+use Rattle.std.specs.List.{list_all}
+use Rattle.point_types.proofs.Truths.{both}
+use Rattle.model_defs.specs.Parts.{IsUnscaled}
+use Rattle.model_defs.specs.declared.part.DefPart.TheVariants as parts
 use Rattle.std.proofs.lemmas.Bool.Decides.{nat_tests}
 use Rattle.point_types.specs.Point.{size_of}
 use Rattle.point_types.specs.declared.kind.Kind.{Kind}
@@ -24,6 +28,7 @@ pub record IsPlaced (ds : List Description) (placed : List Point) (rest : List D
   pub fits : offset + all_registers rest ≡ all_registers ds
   pub among : HasFactorsAmong ds placed
   pub scaled : has_all_factors ds ds ≡ has_all_factors ds rest
+  pub are_scaled : has_all_factors ds (map (description_told ds) placed) ≡ true
 
 pub placed_start : (ds : List Description) → IsPlaced ds [] ds 0
 placed_start ds = record {
@@ -33,6 +38,7 @@ placed_start ds = record {
   fits = omega arith;
   among = λ i j p h e. absurd (cc);
   scaled = refl;
+  are_scaled = refl;
 }
 
 -- the element of a list with one more at its end
@@ -41,6 +47,13 @@ last_or [] x y zero h before last = last refl (cc)
 last_or [] x y (suc i) h before last = absurd (cc)
 last_or (z ∷ xs) x y zero h before last = before h
 last_or (z ∷ xs) x y (suc i) h before last = last_or xs x y i h before (λ e. last (ap suc e))
+
+-- what holds of all holds with one more that it holds of
+all_more : {X : Type 0} (test : X → Bool) (xs : List X) (x : X) → list_all test xs ≡ true → test x ≡ true → list_all test (xs ++ x ∷ []) ≡ true
+all_more test [] x all good = rw good refl
+all_more test (y ∷ ys) x all good =
+    let s = both (test y) (list_all test ys) all in
+    rw s.0 (all_more test ys x s.1 good)
 
 module _ (ds : List Description) (placed : List Point) (d : Description) (rest : List Description) (offset : ℕ) (p : Point)
     (so_far : IsPlaced ds placed (d ∷ rest) offset) (here : p.offset ≡ offset) (is : description_told ds p ≡ d) where
@@ -65,6 +78,11 @@ module _ (ds : List Description) (placed : List Point) (d : Description) (rest :
   among_more : ((j : ℕ) → p.sf ≡ places.At j → option_map (λ x. x.kind) (slice_get ds j) ≡ Some kinds.Sunssf) → HasFactorsAmong ds (placed ++ p ∷ [])
   among_more factor i j q h e = last_or placed p q i h (λ b. so_far.among i j q b e) (λ _ x. factor j (ap (λ y. y.sf) x ∙ e))
 
+  scaled_more : is_factor ds d.factor ≡ true → has_all_factors ds (map (description_told ds) (placed ++ p ∷ [])) ≡ true
+  scaled_more good =
+      rw (map-append (description_told ds) placed (p ∷ []))
+      (all_more (λ x. is_factor ds x.factor) (map (description_told ds) placed) (description_told ds p) so_far.are_scaled (ap (λ x. is_factor ds x.factor) is ∙ good))
+
   -- one point more
   pub placed_more : ((j : ℕ) → p.sf ≡ places.At j → option_map (λ x. x.kind) (slice_get ds j) ≡ Some kinds.Sunssf) → is_factor ds d.factor ≡ true
       → IsPlaced ds (placed ++ p ∷ []) rest (offset + d.size)
@@ -75,6 +93,7 @@ module _ (ds : List Description) (placed : List Point) (d : Description) (rest :
     fits = fits_more;
     among = among_more factor;
     scaled = so_far.scaled ∙ ap (λ b. b && has_all_factors ds rest) good;
+    are_scaled = scaled_more good;
   }
 
 -- a factor that is none
@@ -98,6 +117,21 @@ placed_step ds placed placed' r r' k d offset p so_far step push here name kind 
     let next : IsPlaced ds placed (description_view k.now d ∷ descriptions_view r') offset = rw step at so_far in
     let told : description_told ds p ≡ description_view k.now d = λ i. record { name = name i; kind = kind i; size = size i; factor = factor i; writable = writable i } in
     rw push (placed_more ds placed (description_view k.now d) (descriptions_view r') offset p next here told among good)
+
+-- the next entry's factor is none
+pub unscaled_here : (ds : List Description) (placed : List Point) (r r' : Entries) (k : Bor (List ℕ)) (d : Read.Description) (offset n : ℕ)
+    → IsPlaced ds placed (descriptions_view r) offset → r ≡ (k, d) ∷ r' → n ≡ length placed → is_factor ds (factor_view d.factor) ≡ false → IsUnscaled ds (parts.Point n)
+unscaled_here ds placed r r' k d offset n so_far step same bad =
+    let next : IsPlaced ds placed (description_view k.now d ∷ descriptions_view r') offset = rw step at so_far in
+    record {
+      front = map (description_told ds) placed;
+      point = description_view k.now d;
+      behind = descriptions_view r';
+      stands = next.told;
+      told = ap parts.Point (same ∙ sym (length-map placed (description_told ds)));
+      front_is_scaled = next.are_scaled;
+      is_unscaled = bad;
+    }
 
 -- all entries have been placed
 pub placed_end : (ds : List Description) (placed : List Point) (r : Entries) (offset : ℕ) → IsPlaced ds placed (descriptions_view r) offset → r ≡ [] → ArePoints ds placed

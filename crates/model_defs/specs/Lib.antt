@@ -1,4 +1,5 @@
 pub mod Definition
+pub mod Parts
 pub mod Descriptions
 pub mod Fault
 pub mod Layout

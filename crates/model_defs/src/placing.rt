@@ -3,6 +3,7 @@ ghost use Rattle.std.specs.Prelude.{◌≡◌, ◌≢◌, ◌≤◌, ◌<◌, �
 ghost use Rattle.model_defs.specs.Definition.{is_heading, all_registers, is_factor, has_all_factors, broken_whole, factor_told, ArePoints, HasFactorsAmong};
 ghost use Rattle.model_defs.specs.Layout.{IsInOrder, HasDistinctNames};
 ghost use Rattle.model_defs.specs.Descriptions.{factor_view, descriptions_view};
+ghost use Rattle.model_defs.specs.Parts.{AreRefused, IsUnscaled};
 ghost use Rattle.model_defs.specs.declared.point.Sf.TheVariants as factors;
 ghost use Rattle.model_defs.specs.declared.fault.DefFault.TheVariants as fault;
 ghost use Rattle.point_types.specs.declared.kind.Kind.TheVariants as kinds;
@@ -29,6 +30,8 @@ pub(crate) fn lay_out(
     ensures unbroken { OnOk result (broken_whole (descriptions_view points.now.entries) ≡ None) }
     ensures refused { IfErr result (λ e. e ≢ fault.OutOfMemory
         → broken_whole (descriptions_view points.now.entries) ≡ Some e) }
+    ensures placed { IfErr result (λ e. e ≢ fault.OutOfMemory
+        → AreRefused (descriptions_view points.now.entries) part.new e) }
 {
     *part = DefPart::Model;
     if !is_headed(points, 0, "ID") || !is_headed(points, 1, "L") {
@@ -116,6 +119,8 @@ fn place(alloc: Global, points: &Descriptions<'_>, part: &mut DefPart) -> Result
         (has_all_factors (descriptions_view points.now.entries) (descriptions_view points.now.entries) ≡ true) }
     ensures refused { IfErr result (λ e. e ≢ fault.OutOfMemory → (e ≡ fault.BadScalePoint)
         × (has_all_factors (descriptions_view points.now.entries) (descriptions_view points.now.entries) ≡ false)) }
+    ensures placed { IfErr result (λ e. e ≢ fault.OutOfMemory
+        → IsUnscaled (descriptions_view points.now.entries) part.new) }
 {
     let mut placed = Vec::new(alloc);
     let mut offset: u16 = 0;

@@ -4,6 +4,8 @@ ghost use Rattle.serde_json.specs.Data.{Data};
 ghost use Rattle.serde_json.specs.View.{view, items_view};
 ghost use Rattle.model_defs.specs.Definition.{IsRead, Breaks, StandsFor, first_broken, outline_of, is_model_id, repeats, broken_among, descriptions_of};
 ghost use Rattle.model_defs.specs.Descriptions.{outline_view, descriptions_view};
+ghost use Rattle.model_defs.specs.Parts.{IsAtFault, IsPointRefused, IsTreeFault};
+ghost use Rattle.model_defs.specs.declared.part.DefPart.TheVariants as parts;
 ghost use Rattle.model_defs.specs.declared.fault.DefFault.{DefFault};
 ghost use Rattle.model_defs.specs.declared.fault.DefFault.TheVariants as fault;
 
@@ -39,6 +41,7 @@ pub fn read_placed(alloc: Global, text: &[u8]) -> Result<ModelDef, Placed<DefFau
     ensures ok { IfOk result (IsRead text.now) }
     ensures unbroken { OnOk result ((e : DefFault) → ¬ Breaks text.now e) }
     ensures refused { IfErr result (λ p. p.fault ≢ fault.OutOfMemory → Breaks text.now p.fault) }
+    ensures placed { IfErr result (λ p. p.fault ≢ fault.OutOfMemory → IsAtFault text.now p.part p.fault) }
 {
     let mut part = DefPart::Model;
     match read_to(alloc, text, &mut part) {
@@ -53,9 +56,11 @@ pub fn read_placed(alloc: Global, text: &[u8]) -> Result<ModelDef, Placed<DefFau
 
 /// Reads a definition, and notes the part that it has come to.
 fn read_to(alloc: Global, text: &[u8], part: &mut DefPart) -> Result<ModelDef, DefFault>
+    requires { part.old ≡ parts.Model }
     ensures ok { IfOk result (IsRead text.now) }
     ensures unbroken { OnOk result ((e : DefFault) → ¬ Breaks text.now e) }
     ensures refused { IfErr result (λ e. e ≢ fault.OutOfMemory → Breaks text.now e) }
+    ensures placed { IfErr result (λ e. e ≢ fault.OutOfMemory → IsAtFault text.now part.new e) }
 {
     match Value::from_slice(alloc, text) {
         Ok(tree) => read_tree(alloc, &tree, part),
@@ -69,10 +74,12 @@ fn read_to(alloc: Global, text: &[u8], part: &mut DefPart) -> Result<ModelDef, D
 
 /// The same of a tree.
 fn read_tree(alloc: Global, tree: &Value, part: &mut DefPart) -> Result<ModelDef, DefFault>
+    requires { part.old ≡ parts.Model }
     ensures stands { IfOk result (StandsFor (view tree.now)) }
     ensures unbroken { OnOk result (first_broken (view tree.now) ≡ None) }
     ensures refused { IfErr result (λ e. e ≢ fault.OutOfMemory
         → first_broken (view tree.now) ≡ Some e) }
+    ensures placed { IfErr result (λ e. e ≢ fault.OutOfMemory → IsTreeFault (view tree.now) part.new e) }
 {
     let Some(outline) = outline_of(tree) else {
         return Err(DefFault::MissingKey);
@@ -140,6 +147,8 @@ fn read_points<'a>(
     ensures unbroken { IfOk result (λ _. broken_among [] (items_view trees.now.items) ≡ None) }
     ensures refused { IfErr result
         (λ e. e ≢ fault.OutOfMemory → broken_among [] (items_view trees.now.items) ≡ Some e) }
+    ensures placed { IfErr result
+        (λ e. e ≢ fault.OutOfMemory → IsPointRefused (items_view trees.now.items) part.new e) }
 {
     let mut points = IndexMap::new(alloc);
     for tree in trees {
