@@ -71,7 +71,7 @@ module _ (p q : Polling) (old new : Option (List ℕ)) (told : Told) (status : �
 
 failed_keeps : (site program : List ℕ) (texts : List (List ℕ)) (n : ℕ) (p q : Polling) (old new : Option (List ℕ)) (core : Option Gateway) (status : ℕ)
     → Runs site program texts n p q old new core status → status ≡ 3 → KeepsFault q
-failed_keeps site program texts n p q old new (Some core) status (accepted, run) three =
+failed_keeps site program texts n p q old new (Some core) status (whole, accepted, run) three =
     ended (DoesScan core.site core.machine.accepted run.program) core.site _ run.told three
 failed_keeps site program texts n p q old new None status (told, tells, is) three =
     unstarted p q old new told status is three site program texts tells
