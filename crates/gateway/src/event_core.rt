@@ -1,6 +1,5 @@
 //! The core of a gateway: one state, one step for each event.
-ghost use Rattle.std.specs.Prelude.{◌≡◌, ◌<◌, ◌≤◌, ℕ, length, None, IsSome, IfSome};
-ghost use Rattle.site_model.specs.Readings.{known_at};
+ghost use Rattle.std.specs.Prelude.{◌≡◌, length};
 ghost use Rattle.gateway.specs.event_core.SiteRun.{told, with_block};
 
 mod answering;
@@ -77,12 +76,12 @@ impl<const DEPTH: usize> Model for Core<DEPTH> {
 }
 
 impl<const DEPTH: usize> Core<DEPTH> {
-    ghost use Rattle.std.specs.Prelude.{◌≡◌, ◌<◌, ◌≤◌, length, set, ℕ, None, IsSome, IfOk, IfErr, IfSome, OnOk};
+    ghost use Rattle.std.specs.Prelude.{◌≡◌, ◌<◌, ◌≤◌, length, set, ℕ, None, IfOk, IfErr, IfSome, OnOk};
     ghost use Rattle.verifier.specs.Verified.{HasLinks};
     ghost use Rattle.gateway.specs.declared.event_core.fault.CoreFault.TheVariants.{Foreign, OutOfMemory};
     ghost use Rattle.modbus_frame.specs.Message.{request_of, IsAnswerTo, IsRequest};
     ghost use Rattle.point_writer.specs.SetPoint.{IsFactorFor, IsPlanFor, WritesASetPoint};
-    ghost use Rattle.site_model.specs.Readings.{AreSettings, known_at};
+    ghost use Rattle.site_model.specs.Readings.{AreSettings};
     ghost use Rattle.gateway.specs.event_core.Core.{IsSame, RunsOn, StepsOn, gateway_of, numbers_of};
     ghost use Rattle.gateway.specs.event_core.Driving.{Drives, ScansOnce};
     ghost use Rattle.gateway.specs.event_core.Restoring.{NothingSets, SetsAlone};
@@ -201,21 +200,6 @@ impl<const DEPTH: usize> Core<DEPTH> {
         ensures { result.now ≡ self.now.maps }
     {
         &self.maps
-    }
-
-    /// A device that has no map, looked for from the one of this number on, round to the one before it; None where each
-    /// has one.
-    pub fn unmapped(&self, first: usize) -> Option<usize>
-        ensures device { IfSome result (λ device. device < length self.now.site.devices) }
-        ensures unmapped { IfSome result (λ device. known_at self.now.maps device ≡ None) }
-        ensures all { result ≡ None → (device : ℕ) → device < length self.now.site.devices → IsSome (known_at self.now.maps device) }
-    {
-        let count = self.maps.len();
-        let turn = first.min(count);
-        match unmapped_in(&self.maps, turn, count) {
-            Some(device) => Some(device),
-            None => unmapped_in(&self.maps, 0, turn),
-        }
     }
 
     /// From now on this is the map of a device, or it has none; nothing else changes.
@@ -353,20 +337,6 @@ impl<const DEPTH: usize> Core<DEPTH> {
         );
         answer
     }
-}
-
-/// The first device of these numbers that has no map.
-fn unmapped_in(maps: &[Option<Map>], first: usize, end: usize) -> Option<usize>
-    requires { end ≤ length maps.now }
-    ensures found { IfSome result (λ device. (first ≤ device) × (device < end) × (known_at maps.now device ≡ None)) }
-    ensures all { result ≡ None → (device : ℕ) → first ≤ device → device < end → IsSome (known_at maps.now device) }
-{
-    for device in first..end {
-        if maps[device].is_none() {
-            return Some(device);
-        }
-    }
-    None
 }
 
 /// The words of a block, which begin with its model's ID.
