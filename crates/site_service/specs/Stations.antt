@@ -1,7 +1,8 @@
 -- Over which connections devices are reached: one for each different address, in the order of the devices.
 -- No standard says it; it is this project's.
-use Rattle.std.specs.Prelude.{◌≡◌, ℕ, ◌+◌, List, [], ◌∷◌, ◌++◌, length, Option, Some, None, slice_get, ⊤, if◌then◌else◌}
+use Rattle.std.specs.Prelude.{◌≡◌, ℕ, ◌+◌, List, [], ◌∷◌, ◌++◌, length, map, Option, Some, None, slice_get, ⊤, if◌then◌else◌}
 use Rattle.std.specs.Str.{bytes_eq}
+use Rattle.site_model.specs.declared.device.SiteDevice.{SiteDevice}
 use Rattle.service_core.specs.declared.limits.Station.{Station}
 use Rattle.site_service.specs.declared.addresses.Addresses.{Addresses}
 use Rattle.site_service.specs.declared.device_places.DevicePlace.{DevicePlace}
@@ -40,3 +41,11 @@ AreAt links [] [] = ⊤
 AreAt links [] (station ∷ stations) = ⊥
 AreAt links (place ∷ places) [] = ⊥
 AreAt links (place ∷ places) (station ∷ stations) = IsAt links place station × AreAt links places stations
+
+-- where there is one address, a device is behind it, by the unit that the site file says
+abbrev pub own_station : SiteDevice → Station
+own_station device = record { link = 0; unit = device.unit }
+
+-- all of them are
+abbrev pub all_behind : List ℕ → List SiteDevice → Addresses
+all_behind address devices = record { links = address ∷ []; stations = map own_station devices }

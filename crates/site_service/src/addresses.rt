@@ -1,6 +1,6 @@
 //! Over which connections the devices of a site are reached.
-ghost use Rattle.std.specs.Prelude.{◌≡◌, [], ◌∷◌, ◌++◌, IfOk, OnOk};
-ghost use Rattle.site_service.specs.Stations.{AreAt, addresses_of, number_from, with_station};
+ghost use Rattle.std.specs.Prelude.{◌≡◌, [], ◌∷◌, ◌++◌, IfOk, OnOk, map};
+ghost use Rattle.site_service.specs.Stations.{AreAt, addresses_of, all_behind, number_from, own_station, with_station};
 
 use crate::device_places::DevicePlace;
 use point_types::Items;
@@ -48,19 +48,13 @@ impl Addresses {
         alloc: Global,
         address: &str,
         devices: &[SiteDevice],
-    ) -> Result<Addresses, AllocError> {
-        let mut addresses = Addresses {
-            links: Items::new(alloc),
-            stations: Items::new(alloc),
-        };
-        addresses.links.push(Text::new(alloc, address)?)?;
-        for device in devices {
-            addresses.stations.push(Station {
-                link: 0,
-                unit: device.unit,
-            })?;
-        }
-        Ok(addresses)
+    ) -> Result<Addresses, AllocError>
+        ensures { IfOk result (λ addresses. addresses ≡ all_behind address.now devices.now) }
+    {
+        let mut links = Items::new(alloc);
+        links.push(Text::new(alloc, address)?)?;
+        let stations = own_stations(alloc, devices)?;
+        Ok(Addresses { links, stations })
     }
 
     fn push(&mut self, alloc: Global, place: &DevicePlace) -> Result<(), AllocError>
@@ -82,6 +76,20 @@ impl Addresses {
     {
         self.stations.push(Station { link, unit })
     }
+}
+
+/// Each device behind the first address, by its own unit.
+fn own_stations(alloc: Global, devices: &[SiteDevice]) -> Result<Items<Station>, AllocError>
+    ensures { IfOk result (λ stations. stations ≡ map own_station devices.now) }
+{
+    let mut stations = Vec::with_capacity(alloc, devices.len())?;
+    for device in devices {
+        stations.push(Station {
+            link: 0,
+            unit: device.unit,
+        })?;
+    }
+    Ok(Items::from_vec(stations))
 }
 
 fn number_among(address: &str, links: &[Text]) -> Option<usize>

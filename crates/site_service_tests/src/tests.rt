@@ -3,6 +3,7 @@ mod state;
 
 use point_types::Items;
 use service_core::Station;
+use site_model::{SiteDevice, Text, WriteFunction};
 use site_service::{
     AddressFault, Addresses, DevicePlace, has_port, limits, may_write, read_places,
 };
@@ -75,6 +76,26 @@ fn each_address_has_one_connection(rt: HostRuntime) {
     let found = Addresses::of(rt.alloc(), places.as_slice()).expect(&rt, "memory");
     assert!(&rt; found.links.len() == 2);
     assert!(&rt; found.stations.as_slice() == STATIONS.as_slice());
+}
+
+#[test]
+fn behind_one_address_each_device_has_its_own_unit(rt: HostRuntime) {
+    let devices = [device(&rt, "a", 7), device(&rt, "b", 1)];
+    let found = Addresses::behind(rt.alloc(), "192.0.2.7:502", &devices).expect(&rt, "memory");
+    assert!(&rt; found.links.len() == 1);
+    assert!(&rt;
+        found.stations.as_slice()
+            == [Station { link: 0, unit: 7 }, Station { link: 0, unit: 1 }].as_slice()
+    );
+}
+
+fn device(rt: &(impl AllocGlobal + Abort), name: &str, unit: u8) -> SiteDevice {
+    SiteDevice {
+        name: Text::new(rt.alloc(), name).expect(rt, "memory"),
+        unit,
+        base: None,
+        write: WriteFunction::Multiple,
+    }
 }
 
 fn places_in(rt: &(impl AllocGlobal + Abort), text: &str) -> Items<DevicePlace> {
