@@ -81,7 +81,7 @@ pub(crate) fn no_declaration(alloc: Global, met: &Met<'_, '_>) -> Result<Told, A
     match last.text {
         "," => no_name(alloc, met, NO_OTHER_NAME),
         ":" => no_type(alloc, met),
-        "(" | ".." => no_end(alloc, declaration),
+        "(" | ".." => no_end(alloc, met, declaration),
         ":=" => no_start(alloc, met, declaration),
         _ if has(declaration, ":") => behind_type(alloc, met, declaration, *last),
         _ => Ok(no_colon(alloc, declaration)),

@@ -89,7 +89,7 @@ pub(crate) fn no_type(alloc: Global, met: &Met<'_, '_>) -> Result<Told, AllocErr
 }
 
 const WRONG_END: Hint = Hint {
-    meaning: "no end of a range that its type can hold",
+    meaning: "no number of the type that can begin or end the range",
     help: "write (low..high) with two numbers of the type, the lower one first",
 };
 
@@ -104,7 +104,7 @@ pub(crate) fn no_start(
     met: &Met<'_, '_>,
     declaration: &[Piece<'_>],
 ) -> Result<Told, AllocError> {
-    let range = range_of(met.code, declaration);
+    let range = within(met.code, declaration, ")");
     let told = Told::new(alloc, WRONG_START);
     if range.is_empty() {
         let holds = kind_holds(alloc, declaration)?;
@@ -115,9 +115,18 @@ pub(crate) fn no_start(
 }
 
 /// What is told of what stands where the end of a range must.
-pub(crate) fn no_end(alloc: Global, declaration: &[Piece<'_>]) -> Result<Told, AllocError> {
+pub(crate) fn no_end(
+    alloc: Global,
+    met: &Met<'_, '_>,
+    declaration: &[Piece<'_>],
+) -> Result<Told, AllocError> {
     let holds = kind_holds(alloc, declaration)?;
-    Told::new(alloc, WRONG_END).knowing(holds.as_str())
+    let low = within(met.code, declaration, "..");
+    if low.is_empty() {
+        return Told::new(alloc, WRONG_END).knowing(holds.as_str());
+    }
+    let text = format!(in alloc; "{holds}, and the low end is {low}")?;
+    Told::new(alloc, WRONG_END).knowing(text.as_str())
 }
 
 const NO_TRUTH: Hint = Hint {
@@ -145,13 +154,13 @@ pub(crate) fn misfit(alloc: Global, program: &Program) -> Result<Option<Told>, A
     Ok(Some(Told::new(alloc, hint).knowing(text.as_str())?))
 }
 
-/// The range of a declaration, as it is written; empty where it has none.
-fn range_of<'a>(code: &'a str, declaration: &[Piece<'_>]) -> &'a str {
+/// What stands between the parenthesis of a declaration and the first such mark, as it is written; empty where there is none.
+fn within<'a>(code: &'a str, declaration: &[Piece<'_>], mark: &str) -> &'a str {
     let mut from = 0;
     for piece in declaration {
         if piece.text == "(" {
             from = piece.behind();
-        } else if piece.text == ")" {
+        } else if piece.text == mark {
             return code.get(from..piece.at).unwrap_or("").trim();
         }
     }

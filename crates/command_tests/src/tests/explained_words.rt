@@ -188,7 +188,7 @@ const DECLARED: &[Explained] = &[
     (
         "PROGRAM p\nVAR\nc : INT (10..0);\nEND_VAR\nLD 1\nEND_PROGRAM\n",
         "refused: read Declaration line 3\n",
-        "p.il:3: Declaration: no end of a range that its type can hold\n    3 | c : INT (10..0);\n      |              ^ INT holds -32768..32767\n  help: write (low..high) with two numbers of the type, the lower one first\n",
+        "p.il:3: Declaration: no number of the type that can begin or end the range\n    3 | c : INT (10..0);\n      |              ^ INT holds -32768..32767, and the low end is 10\n  help: write (low..high) with two numbers of the type, the lower one first\n",
     ),
     (
         "PROGRAM p\nVAR\nc : INT = 1;\nEND_VAR\nLD 1\nEND_PROGRAM\n",
