@@ -20,8 +20,8 @@ pub struct Literal {
     pub kind: IlType,
 }
 
-/// The first number of a program that isn't a literal of the type that it takes; none where there is none. It is the one
-/// for which `assemble` refuses a program that was read as LiteralType.
+/// The first number of a program that isn't a literal of the type that it takes; none where there is none. Tests show that
+/// it is the one for which `assemble` refuses, as LiteralType, a program that was read.
 pub fn first_misfit(alloc: Global, program: &Program) -> Result<Option<Literal>, AllocError>
     ensures { IfOk result (λ found. IfSome found IsMisfit) }
 {
