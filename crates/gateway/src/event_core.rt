@@ -34,7 +34,7 @@ use std::alloc::Global;
 use std::marker::Model;
 
 /// The core of a gateway: its site, the program that runs, what is known of the devices, and what clients set. It goes
-/// from event to event, takes memory when it is made alone, and never waits.
+/// from event to event, takes memory only when it is made, and never waits.
 pub struct Core<const DEPTH: usize> {
     pub(crate) site: Site,
     pub(crate) maps: Vec<Option<Map>>,
@@ -195,7 +195,7 @@ impl<const DEPTH: usize> Core<DEPTH> {
         &self.site
     }
 
-    /// The maps of the site's devices that were handed in.
+    /// The maps of the site's devices, as they stand now.
     pub fn maps(&self) -> &[Option<Map>]
         ensures { result.now ≡ self.now.maps }
     {

@@ -11,8 +11,9 @@ use Rattle.gateway.specs.declared.event_core.event.Event.{Event}
 use Rattle.gateway.specs.declared.event_core.event.Answer.{Answer}
 use Rattle.gateway.specs.declared.event_core.event.Event.TheVariants as event
 use Rattle.gateway.specs.declared.event_core.event.Answer.TheVariants as answer
-use Rattle.gateway.specs.event_core.Control.{Advances, AnswersFrame}
+use Rattle.gateway.specs.event_core.Control.{AnswersFrame}
 use Rattle.gateway.specs.event_core.Core.{Gateway, IsSame, StepsOn, numbers_of}
+use Rattle.gateway.specs.event_core.Driving.{Drives, Happens}
 use Rattle.gateway.specs.event_core.SiteRun.{Runs, Standing, Steps}
 use Rattle.service.specs.Guarding.{AnswersUnless, Guards, is_write}
 use Rattle.service.specs.Rounds.{IsRoundFor, Progress}
@@ -41,13 +42,18 @@ courses_are_site_runs g h (steps {h = middle} before e kind a i one) =
     let (es, answers, run, site, accepted) = courses_are_site_runs g middle before in (
       es ++ e ∷ [],
       answers ++ a ∷ [],
-      runs_then g.site g.machine.accepted.image (numbers_of g.machine.accepted) g.machine.accepted.budget g.standing es answers middle.standing e a i.standing run (moved g middle e a i site accepted one.0),
-      (one.1).site ∙ site,
-      (one.1).accepted ∙ accepted,
+      runs_then g.site g.machine.accepted.image (numbers_of g.machine.accepted) g.machine.accepted.budget g.standing es answers middle.standing e a i.standing run (moved g middle e a i site accepted ((one.1).0).0),
+      (((one.1).0).1).site ∙ site,
+      (((one.1).0).1).accepted ∙ accepted,
     )
 
-step_on : (g : Gateway) (e : Event) (a : Answer) (h : Gateway) → Reached g → StepsOn g e a h → IsSame g h → Reached h
-step_on g e a h from step same = record { first = from.first; opening = from.opening; goes = steps from.goes e tt a h (step, same) }
+step_on : (g : Gateway) (e : Event) (a : Answer) (h : Gateway) → Reached g → Happens g e a h → Reached h
+step_on g e a h from one = record { first = from.first; opening = from.opening; goes = steps from.goes e tt a h one }
+
+-- a client's request leaves the machine as it was
+asked : (g : Gateway) (frame : Frame) (bytes : List ℕ) (goes_on : Bool) (h : Gateway) (answers : AnswersFrame g frame bytes goes_on h) → frame.unit ≡ g.site.unit
+    → Happens g (event.Client frame.pdu) (answer.Reply answers.pdu) h
+asked g frame bytes goes_on h answers unit = let (advances, still) = (answers.answers).own unit in (0, (advances, still))
 
 learn_on : (g : Gateway) (device : ℕ) (found : Option Layout) (h : Gateway) → Reached g → IsFound g.site device found → h ≡ record g { maps = set g.maps device found } → Reached h
 learn_on g device found h from own is = subst Reached (sym is) (record { first = from.first; opening = from.opening; goes = learns from.goes device found own })
@@ -56,14 +62,14 @@ answer_on : (g : Gateway) (frame : Frame) (bytes : List ℕ) (goes_on : Bool) (h
 answer_on g frame bytes goes_on h from answers = go (eqb_tells frame.unit g.site.unit)
   where
     go : ((eqb frame.unit g.site.unit ≡ true) × (frame.unit ≡ g.site.unit)) ⊎ ((eqb frame.unit g.site.unit ≡ false) × (frame.unit ≢ g.site.unit)) → Reached h
-    go (inl own) = let on = (answers.answers).own own.1 in step_on g (event.Client frame.pdu) (answer.Reply answers.pdu) h from on.0 on.1
+    go (inl own) = step_on g (event.Client frame.pdu) (answer.Reply answers.pdu) h from (asked g frame bytes goes_on h answers own.1)
     go (inr other) = subst Reached (sym ((answers.answers).other other.1).1) from
 
 pub same_site : (g : Gateway) (frame : Frame) (bytes : List ℕ) (goes_on : Bool) (h : Gateway) → AnswersFrame g frame bytes goes_on h → h.site ≡ g.site
 same_site g frame bytes goes_on h answers = go (eqb_tells frame.unit g.site.unit)
   where
     go : ((eqb frame.unit g.site.unit ≡ true) × (frame.unit ≡ g.site.unit)) ⊎ ((eqb frame.unit g.site.unit ≡ false) × (frame.unit ≢ g.site.unit)) → h.site ≡ g.site
-    go (inl own) = (((answers.answers).own own.1).1).site
+    go (inl own) = ((((answers.answers).own own.1).0).1).site
     go (inr other) = ap (λ (x : Gateway). x.site) ((answers.answers).other other.1).1
 
 -- ---- the same of what is kept
@@ -71,8 +77,8 @@ same_site g frame bytes goes_on h answers = go (eqb_tells frame.unit g.site.unit
 pub reached_opening : (g : Gateway) → IsNew g → ∥ Reached g ∥₁
 reached_opening g opening = ∣ record { first = g; opening = opening; goes = stays g } ∣₁
 
-pub reached_step : (g : Gateway) (e : Event) (a : Answer) (h : Gateway) → ∥ Reached g ∥₁ → StepsOn g e a h → IsSame g h → ∥ Reached h ∥₁
-reached_step g e a h from step same = ∥∥₁_elim from ∥∥₁_prop (λ r. ∣ step_on g e a h r step same ∣₁)
+pub reached_step : (g : Gateway) (e : Event) (a : Answer) (h : Gateway) (depth : ℕ) → ∥ Reached g ∥₁ → StepsOn g e a h → Drives depth g e h → IsSame g h → ∥ Reached h ∥₁
+reached_step g e a h depth from step drives same = ∥∥₁_elim from ∥∥₁_prop (λ r. ∣ step_on g e a h r (depth, ((step, same), drives)) ∣₁)
 
 pub reached_learn : (g : Gateway) (device : ℕ) (found : Option Layout) (h : Gateway) → ∥ Reached g ∥₁ → ∥ IsFound g.site device found ∥₁ → h ≡ record g { maps = set g.maps device found } → ∥ Reached h ∥₁
 reached_learn g device found h from own is = ∥∥₁_elim from ∥∥₁_prop (λ r. ∥∥₁_elim own ∥∥₁_prop (λ o. ∣ learn_on g device found h r o is ∣₁))
@@ -80,15 +86,15 @@ reached_learn g device found h from own is = ∥∥₁_elim from ∥∥₁_prop 
 pub reached_answer : (g : Gateway) (frame : Frame) (bytes : List ℕ) (goes_on : Bool) (h : Gateway) → ∥ Reached g ∥₁ → AnswersFrame g frame bytes goes_on h → ∥ Reached h ∥₁
 reached_answer g frame bytes goes_on h from answers = ∥∥₁_elim from ∥∥₁_prop (λ r. ∣ answer_on g frame bytes goes_on h r answers ∣₁)
 
-pub reached_advance : (g : Gateway) (e : Event) (a : Answer) (h : Gateway) → ∥ Reached g ∥₁ → Advances g e a h → ∥ Reached h ∥₁
-reached_advance g e a h from one = reached_step g e a h from one.0 one.1
+pub reached_advance : (g : Gateway) (e : Event) (a : Answer) (h : Gateway) → ∥ Reached g ∥₁ → Happens g e a h → ∥ Reached h ∥₁
+reached_advance g e a h from one = ∥∥₁_elim from ∥∥₁_prop (λ r. ∣ step_on g e a h r one ∣₁)
 
 pub round_stays : (g : Gateway) (frame : Frame) (bytes : List ℕ) (goes_on : Bool) (h : Gateway) (p : Progress) → IsRoundFor g.site p → AnswersFrame g frame bytes goes_on h → IsRoundFor h.site p
 round_stays g frame bytes goes_on h p fits answers = subst (λ (s : Site). IsRoundFor s p) (sym (same_site g frame bytes goes_on h answers)) fits
 
 -- ---- the same behind a box
 
-pub reached_after : (g m : Gateway) (e : Event) (a : Answer) (h : Gateway) → ∥ Reached g ∥₁ → m ≡ g → Advances m e a h → ∥ Reached h ∥₁
+pub reached_after : (g m : Gateway) (e : Event) (a : Answer) (h : Gateway) → ∥ Reached g ∥₁ → m ≡ g → Happens m e a h → ∥ Reached h ∥₁
 reached_after g m e a h from same one = reached_advance m e a h (subst (λ x. ∥ Reached x ∥₁) (sym same) from) one
 
 pub reached_behind : (g m : Gateway) (frame : Frame) (bytes : List ℕ) (goes_on : Bool) (h : Gateway) → ∥ Reached g ∥₁ → m ≡ g → AnswersFrame m frame bytes goes_on h → ∥ Reached h ∥₁
@@ -102,28 +108,28 @@ round_behind g m frame bytes goes_on h p fits same answers = round_stays m frame
 sought_stays : (g : Gateway) (h : Gateway) (searches : List Sought) → AreOf g.site searches → h.site ≡ g.site → AreOf h.site searches
 sought_stays g h searches own same = subst (λ (s : Site). AreOf s searches) (sym same) own
 
-pub sought_after : (g m : Gateway) (e : Event) (a : Answer) (h : Gateway) (searches : List Sought) → AreOf g.site searches → m ≡ g → Advances m e a h → AreOf h.site searches
-sought_after g m e a h searches own same one = sought_stays m h searches (subst (λ (x : Gateway). AreOf x.site searches) (sym same) own) (one.1).site
+pub sought_after : (g m : Gateway) (e : Event) (a : Answer) (h : Gateway) (searches : List Sought) → AreOf g.site searches → m ≡ g → Happens m e a h → AreOf h.site searches
+sought_after g m e a h searches own same one = sought_stays m h searches (subst (λ (x : Gateway). AreOf x.site searches) (sym same) own) (((one.1).0).1).site
 
 pub sought_behind : (g m : Gateway) (frame : Frame) (bytes : List ℕ) (goes_on : Bool) (h : Gateway) (searches : List Sought) → AreOf g.site searches → m ≡ g → AnswersFrame m frame bytes goes_on h → AreOf h.site searches
 sought_behind g m frame bytes goes_on h searches own same answers = sought_stays m h searches (subst (λ (x : Gateway). AreOf x.site searches) (sym same) own) (same_site m frame bytes goes_on h answers)
 
 -- ---- each goes on
 
-pub goes_step : (g : Gateway) (e : Event) (a : Answer) (h : Gateway) → IsOfRounds e → StepsOn g e a h → IsSame g h → LeadsOn g h
-goes_step g e a h kind step same from before = ∥∥₁_elim before ∥∥₁_prop (λ b. ∣ steps b e kind a h (step, same) ∣₁)
+pub goes_step : (g : Gateway) (e : Event) (a : Answer) (h : Gateway) (depth : ℕ) → IsOfRounds e → StepsOn g e a h → Drives depth g e h → IsSame g h → LeadsOn g h
+goes_step g e a h depth kind step drives same from before = ∥∥₁_elim before ∥∥₁_prop (λ b. ∣ steps b e kind a h (depth, ((step, same), drives)) ∣₁)
 
 pub goes_learn : (g : Gateway) (device : ℕ) (found : Option Layout) (h : Gateway) → ∥ IsFound g.site device found ∥₁ → h ≡ record g { maps = set g.maps device found } → LeadsOn g h
 goes_learn g device found h own is from before = ∥∥₁_elim before ∥∥₁_prop (λ b. ∥∥₁_elim own ∥∥₁_prop (λ o. ∣ subst (GoesBy IsOfRounds from) (sym is) (learns b device found o) ∣₁))
 
-pub goes_after : (Kinds : Event → Type 0) (g m : Gateway) (e : Event) (a : Answer) (h : Gateway) → Kinds e → m ≡ g → Advances m e a h → LeadsOnBy Kinds g h
+pub goes_after : (Kinds : Event → Type 0) (g m : Gateway) (e : Event) (a : Answer) (h : Gateway) → Kinds e → m ≡ g → Happens m e a h → LeadsOnBy Kinds g h
 goes_after Kinds g m e a h kind same one = subst (λ x. LeadsOnBy Kinds x h) same (λ from before. ∥∥₁_elim before ∥∥₁_prop (λ b. ∣ steps b e kind a h one ∣₁))
 
 goes_answer : (g : Gateway) (frame : Frame) (bytes : List ℕ) (goes_on : Bool) (h : Gateway) → AnswersFrame g frame bytes goes_on h → LeadsOnBy IsOfClients g h
 goes_answer g frame bytes goes_on h answers = go (eqb_tells frame.unit g.site.unit)
   where
     go : ((eqb frame.unit g.site.unit ≡ true) × (frame.unit ≡ g.site.unit)) ⊎ ((eqb frame.unit g.site.unit ≡ false) × (frame.unit ≢ g.site.unit)) → LeadsOnBy IsOfClients g h
-    go (inl own) = let on = (answers.answers).own own.1 in goes_after IsOfClients g g (event.Client frame.pdu) (answer.Reply answers.pdu) h tt refl (on.0, on.1)
+    go (inl own) = goes_after IsOfClients g g (event.Client frame.pdu) (answer.Reply answers.pdu) h tt refl (asked g frame bytes goes_on h answers own.1)
     go (inr other) = subst (LeadsOnBy IsOfClients g) (sym ((answers.answers).other other.1).1) (λ from before. before)
 
 guarded : (refused : Bool) (g : Gateway) (frame : Frame) (bytes : List ℕ) (goes_on : Bool) (h : Gateway) → AnswersUnless AnswersFrame refused g frame bytes goes_on h → LeadsOnBy IsOfClients g h

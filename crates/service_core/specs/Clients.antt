@@ -15,6 +15,10 @@ ready_of c = take (c.end - c.start) (drop c.start c.out)
 abbrev pub IsDeaf : ClientPlace → Type 0
 IsDeaf c = (c.is_taken ≡ false) ⊎ (c.is_closing ≡ true) ⊎ IsOver c.session
 
+-- Its connection is to be closed: its client was silent, or its stream is over and nothing is to go out any more.
+abbrev pub IsDone : ClientPlace → Type 0
+IsDone c = (c.is_taken ≡ true) × ((c.is_closing ≡ true) ⊎ ((c.start ≡ c.end) × IsOver c.session))
+
 -- A client came now that may write, or may not: its stream begins, and nothing is to go out.
 pub record IsOpen (may_write : Bool) (now : ℕ) (c : ClientPlace) : Type 0 where
   pub taken : c.is_taken ≡ true

@@ -7,8 +7,8 @@ use Rattle.site_model.specs.declared.site.Site.{Site}
 use Rattle.gateway.specs.declared.event_core.event.Event.{Event}
 use Rattle.gateway.specs.declared.event_core.event.Event.TheVariants as event
 use Rattle.gateway.specs.declared.event_core.event.Answer.{Answer}
-use Rattle.gateway.specs.event_core.Control.{Advances}
 use Rattle.gateway.specs.event_core.Core.{Gateway, RunsOn, gateway_of}
+use Rattle.gateway.specs.event_core.Driving.{Happens}
 use Rattle.service_core.specs.Seeking.{IsFound}
 
 -- A client asks: the one kind of event that clients bring.
@@ -27,7 +27,7 @@ IsAny _ = ⊤
 -- From the one state to the other by events of these kinds and by learned maps alone, one after another.
 pub data GoesBy (Kinds : Event → Type 0) : Gateway → Gateway → Type 0 where
   stays : (g : Gateway) → GoesBy Kinds g g
-  steps : {g h : Gateway} → GoesBy Kinds g h → (e : Event) → Kinds e → (a : Answer) (i : Gateway) → Advances h e a i → GoesBy Kinds g i
+  steps : {g h : Gateway} → GoesBy Kinds g h → (e : Event) → Kinds e → (a : Answer) (i : Gateway) → Happens h e a i → GoesBy Kinds g i
   learns : {g h : Gateway} → GoesBy Kinds g h → (device : ℕ) (found : Option Layout) → IsFound h.site device found → GoesBy Kinds g (record h { maps = set h.maps device found })
 
 abbrev pub Goes : Gateway → Gateway → Type 0

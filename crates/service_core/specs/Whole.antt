@@ -1,7 +1,7 @@
 -- What a service does, whatever its connections, its clients and the clock do: its parts by name.
 --
--- Each call of a service leads its core on by events of the site run and by maps that searches find, and by nothing else
--- (`LeadsOn`). What is to be written over a connection is the rest of one frame that a device there may be asked (`IsRest`).
+-- Each call of a service leads its core on by events of the site run and by maps that searches find or that are forgotten,
+-- and by nothing else (`LeadsOnBy`; `LeadsOn` where no client asks). What is to be written over a connection is the rest of one frame that a device there may be asked (`IsRest`).
 -- What is to be written to a client answers its frames (`IsServed`).
 use Rattle.std.specs.Prelude.{◌≡◌, ℕ, Bool, List, Option}
 use Rattle.modbus_frame.specs.declared.frame.Frame.{Frame}

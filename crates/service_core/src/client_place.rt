@@ -35,7 +35,7 @@ pub(crate) struct ClientPlace {
 }
 
 impl ClientPlace {
-    ghost use Rattle.service_core.specs.Clients.{Hears, IsDeaf, IsOpen, IsSame, Sends, heard_at, ready_of};
+    ghost use Rattle.service_core.specs.Clients.{Hears, IsDeaf, IsDone, IsOpen, IsSame, Sends, heard_at, ready_of};
     ghost use Rattle.service_core.specs.Places.{closed_if_idle, is_free, is_silent};
 
     pub(crate) fn new() -> ClientPlace {
@@ -115,7 +115,10 @@ impl ClientPlace {
         self.is_closing = self.is_closing || is_idle;
     }
 
-    pub(crate) fn wants_close(&self) -> bool {
+    /// Whether its connection is to be closed: its client was silent, or its stream is over and all answers are written.
+    pub(crate) fn wants_close(&self) -> bool
+        ensures { IsTrue result ↔ IsDone self.now }
+    {
         self.is_taken && (self.is_closing || (self.start == self.end && self.session.is_over()))
     }
 

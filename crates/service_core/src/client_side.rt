@@ -1,9 +1,9 @@
 //! The clients' side.
-ghost use Rattle.std.specs.Prelude.{◌≡◌, ◌≤◌, ◌<◌, List, [], length, map, take, slice_get, Some, IfNone, IfSome, false};
+ghost use Rattle.std.specs.Prelude.{◌≡◌, ◌≤◌, ◌<◌, ◌↔◌, List, [], length, map, take, slice_get, Some, IfNone, IfSome, IsTrue, false};
 ghost use Rattle.std.specs.List.{position};
 ghost use Rattle.service_core.specs.Course.{IsOfClients, LeadsOnBy};
 ghost use Rattle.service_core.specs.declared.client_place.ClientPlace.{ClientPlace as Place};
-ghost use Rattle.service_core.specs.Clients.{DoesAt, Hears, IsDeaf, IsOpen, OthersStay, Sends, ready_of};
+ghost use Rattle.service_core.specs.Clients.{DoesAt, Hears, IsDeaf, IsDone, IsOpen, OthersStay, Sends, ready_of};
 ghost use Rattle.service_core.specs.Places.{closed_if_idle, given_place, is_free, is_silent};
 
 use crate::client_place::ClientPlace;
@@ -91,8 +91,10 @@ impl<const DEPTH: usize> Service<DEPTH> {
         }
     }
 
-    /// Whether a client's connection is to be closed once what waits is written.
-    pub fn wants_close(&self, place: usize) -> bool {
+    /// Whether a client's connection is to be closed: it was silent, or its stream is over and all answers are written.
+    pub fn wants_close(&self, place: usize) -> bool
+        ensures { (c : Place) → slice_get self.entry.now.places.items place ≡ Some c → (IsTrue result ↔ IsDone c) }
+    {
         match self.places.get(place) {
             Some(client) => client.wants_close(),
             None => true,

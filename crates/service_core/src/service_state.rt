@@ -14,8 +14,8 @@ use crate::scan_cycle::ScanCycle;
 use crate::wire::Wire;
 use gateway::Core;
 
-/// A service of a gateway: its core, connections to devices, clients, and what happened. It takes memory when it is made
-/// alone.
+/// A service of a gateway: its core, connections to devices, clients, and what happened. It takes memory only
+/// when it is made.
 #[derive(Drop)]
 pub struct Service<const DEPTH: usize> {
     pub(crate) cycle: ScanCycle<DEPTH>,

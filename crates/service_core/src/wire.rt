@@ -238,7 +238,8 @@ impl Wire {
         self.wait = 0;
     }
 
-    /// A device didn't answer. Behind one silent request and two for each device the connection itself is at fault.
+    /// A device didn't answer. After two silent requests in a row for each of its devices and one more, the connection
+    /// itself is at fault.
     pub(crate) fn missed(&mut self) {
         self.silent = self.silent.saturating_add(1);
         if self.silent >= self.devices.len().saturating_mul(2).saturating_add(1) {

@@ -79,7 +79,7 @@ impl Clients {
         let is_writer = may_write(writers, address.ip().to_canonical());
         match service.client_came(is_writer, journal.now()) {
             Some(place) => {
-                // the one who was silent longest, where there was no free place
+                // the first who was silent for over half a minute, where there was no free place
                 self.leave(place, journal);
                 let token = Token(self.first.saturating_add(place));
                 let client = Client::new(registry, token, stream, address);

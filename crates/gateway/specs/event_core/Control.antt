@@ -64,9 +64,10 @@ IsDue g i (Err cause) = IsPlanFor g.site.tags g.site.outs g.site.wants g.maps (g
 abbrev pub steps_of : Gateway → ℕ
 steps_of g = (g.standing.last).steps
 
--- A frame for the gateway's unit is answered by the site run, one for another unit by the exception that no such unit is served.
+-- A frame for the gateway's unit is answered by the site run, and the machine stays as it was; one for another unit is
+-- answered by the exception that no such unit is served.
 pub record AnswersOn (old : Gateway) (frame : Frame) (pdu : List ℕ) (new : Gateway) : Type 0 where
-  pub own : frame.unit ≡ old.site.unit → Advances old (event.Client frame.pdu) (answer.Reply pdu) new
+  pub own : frame.unit ≡ old.site.unit → Advances old (event.Client frame.pdu) (answer.Reply pdu) new × (new.machine ≡ old.machine)
   pub other : (frame.unit ≡ old.site.unit → ⊥) → (pdu ≡ unknown_unit_pdu frame) × (new ≡ old)
 
 -- These bytes go back for a frame: a reply with its transaction and unit. More frames may always be answered.

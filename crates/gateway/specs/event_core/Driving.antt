@@ -24,3 +24,7 @@ Drives depth old (event.Client pdu) new = new.machine ≡ old.machine
 -- one event of the site run, what it does to the machine, and nothing else changes
 abbrev pub TakesEvent : ℕ → Gateway → Event → Answer → Gateway → Type 0
 TakesEvent depth old e a new = Advances old e a new × Drives depth old e new
+
+-- the same, whatever number of deferred values the machine has room for
+abbrev pub Happens : Gateway → Event → Answer → Gateway → Type 0
+Happens old e a new = (depth : ℕ) × TakesEvent depth old e a new

@@ -13,10 +13,10 @@ invariant_of-self g c =
     let same = c.deref_mut.ensures.value in
     record {
       small = c.args.self.now.small;
-      reached = reached_after _ _ (event.Client c.request_pdu.result) c.step.result _ c.args.self.now.reached same (step.run, step.same);
+      reached = reached_after _ _ (event.Client c.request_pdu.result) c.step.result _ c.args.self.now.reached same (g.row.DEPTH, ((step.run, step.same), step.machine));
       fits = subst (λ (s : Site). IsRoundFor s c.args.self.now.round) (sym ((step.same).site ∙ ap (λ (x : Gateway). x.site) same)) c.args.self.now.fits;
-      sought = sought_after _ _ (event.Client c.request_pdu.result) c.step.result _ _ c.args.self.now.sought same (step.run, step.same);
+      sought = sought_after _ _ (event.Client c.request_pdu.result) c.step.result _ _ c.args.self.now.sought same (g.row.DEPTH, ((step.run, step.same), step.machine));
     }
 
 pub returns-clause-goes : goal.returns-clause-goes
-returns-clause-goes g c = goes_after IsOfClients _ _ (event.Client c.request_pdu.result) c.step.result _ tt c.deref_mut.ensures.value (c.step.ensures.run, c.step.ensures.same)
+returns-clause-goes g c = goes_after IsOfClients _ _ (event.Client c.request_pdu.result) c.step.result _ tt c.deref_mut.ensures.value (g.row.DEPTH, ((c.step.ensures.run, c.step.ensures.same), c.step.ensures.machine))
