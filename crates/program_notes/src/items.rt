@@ -54,7 +54,21 @@ impl Line {
         } else {
             self.push(", ")?;
         }
-        self.push(item)
+        self.push_broken(from, item)
+    }
+
+    /// Appends an item. Where there is no room for it and a comma, its last word stands below the others.
+    fn push_broken(&mut self, from: usize, item: &str) -> Result<(), AllocError> {
+        let behind = self.column.saturating_add(item.chars().count());
+        match item.rsplit_once(' ') {
+            Some((front, last)) if behind >= TO => {
+                self.push(front)?;
+                self.end()?;
+                self.pad_to(from.saturating_add(2))?;
+                self.push(last)
+            }
+            _ => self.push(item),
+        }
     }
 }
 

@@ -182,10 +182,43 @@ static NOT_REACHED: &str = "   1 PROGRAM p
 longest path: 2 instructions, through lines 5, 6
 ";
 
+/// One with numbers that have no room beside their type.
+static WIDE: &str = "VAR
+  energy : LINT;
+END_VAR
+  LD energy
+  MAX 5
+  ST energy
+";
+
+static BELOW: &str = "   1 PROGRAM p
+   2 VAR
+   3   energy : LINT;
+   4 END_VAR
+   5   LD energy                          0 LDV
+   6   MAX 5                              1 PUSH    r LINT
+                                                      -9223372036854775808..9223372036854775807
+                                          2 LDC     d LINT
+                                                      -9223372036854775808..9223372036854775807
+                                          3 MAX     r LINT 5..5,
+                                                    d LINT
+                                                      -9223372036854775808..9223372036854775807
+   7   ST energy                          4 STV     r LINT 5..9223372036854775807
+   8 END_PROGRAM                          5 END     r LINT 5..9223372036854775807,
+                                                    energy 5..9223372036854775807
+longest path: 6 instructions, through lines 5, 6, 7, 8
+";
+
 #[test]
 fn the_table_tells_what_is_known_before_each_instruction(rt: HostRuntime) {
     let site = site(&rt, rt.alloc());
     assert_table(&rt, rt.alloc(), &site, BODY, None, TABLE);
+}
+
+#[test]
+fn the_table_keeps_to_a_hundred_columns(rt: HostRuntime) {
+    let site = site(&rt, rt.alloc());
+    assert_table(&rt, rt.alloc(), &site, WIDE, None, BELOW);
 }
 
 #[test]
