@@ -15,7 +15,7 @@ use crate::serve_words::{
 };
 use crate::service_run::{ServiceRun, run_service};
 use crate::source::{SourceFault, read_text};
-use crate::sources::{Refusal, read_sources, read_state};
+use crate::sources::{Refusal, Sources, read_sources, read_state};
 use crate::standard_input::{STANDARD_INPUT, misuse};
 use clap::error::ErrorKind;
 use clap::{ArgMatches, Error};
@@ -235,10 +235,22 @@ fn obey_on_files<W: Write>(
     matches: &ArgMatches<'_>,
     out: &mut W,
 ) -> u8 {
-    let sources = match read_sources(rt, alloc, matches) {
-        Ok(sources) => sources,
-        Err(refusal) => return unread(rt, alloc, matches, refusal, out),
-    };
+    match read_sources(rt, alloc, matches) {
+        Ok(sources) => obey_on_texts(rt, alloc, itself, name, matches, &sources, out),
+        Err(refusal) => unread(rt, alloc, matches, refusal, out),
+    }
+}
+
+/// The same on the files' texts.
+fn obey_on_texts<W: Write>(
+    rt: &(impl Input + Print + Eprint + AllocGlobal + Files + Clock + Net + Processes),
+    alloc: Global,
+    itself: &str,
+    name: &str,
+    matches: &ArgMatches<'_>,
+    sources: &Sources,
+    out: &mut W,
+) -> u8 {
     let notes = Notes {
         quiet: matches.get_flag("quiet"),
         site_path: matches.get_str("SITE").unwrap_or(""),

@@ -220,15 +220,34 @@ fn serve_at<R: Net + Clock + Processes + Eprint + AllocGlobal + Files, W: Write>
     out: &mut W,
 ) -> u8 {
     match service_of(alloc, given, addresses, run.limits) {
-        Ok(mut service) => match run.devices {
-            Devices::Plant(plant) => serve_plant(rt, alloc, run, plant, &mut service, out),
-            _ => serve_over(rt, alloc, run, addresses, &mut service, out),
-        },
-        Err(CoreFault::OutOfMemory) => tell_no_memory(out),
-        Err(fault) => match no_core(alloc, fault.word()) {
-            Ok(line) => write_lines(out, line.as_bytes(), 1),
-            Err(_) => tell_no_memory(out),
-        },
+        Ok(mut service) => serve_with(rt, alloc, run, addresses, &mut service, out),
+        Err(fault) => tell_no_core(alloc, fault, out),
+    }
+}
+
+/// Tells why there is no core, and gives the status.
+fn tell_no_core<W: Write>(alloc: Global, fault: CoreFault, out: &mut W) -> u8 {
+    if fault == CoreFault::OutOfMemory {
+        return tell_no_memory(out);
+    }
+    match no_core(alloc, fault.word()) {
+        Ok(line) => write_lines(out, line.as_bytes(), 1),
+        Err(_) => tell_no_memory(out),
+    }
+}
+
+/// Serves the site by a service that is made for it.
+fn serve_with<R: Net + Clock + Processes + Eprint + AllocGlobal + Files, W: Write>(
+    rt: &R,
+    alloc: Global,
+    run: &ServiceRun<'_, '_, '_, '_, '_>,
+    addresses: &Addresses,
+    service: &mut Service<DEPTH>,
+    out: &mut W,
+) -> u8 {
+    match run.devices {
+        Devices::Plant(plant) => serve_plant(rt, alloc, run, plant, service, out),
+        _ => serve_over(rt, alloc, run, addresses, service, out),
     }
 }
 
