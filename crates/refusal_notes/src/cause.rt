@@ -1,6 +1,7 @@
 //! Why a command refuses, and the note that tells it on standard error.
 use crate::kind_texts::{link_help, link_meaning};
 use crate::kinds::misfit;
+use crate::limits::too_much;
 use crate::marks::{
     ends_line, mark_of_bytes, mark_of_trapped, mark_of_unassembled, mark_of_unread,
     mark_of_unverified,
@@ -256,7 +257,8 @@ impl Cause {
     }
 }
 
-/// What is told of a name or a label that isn't there, or of a number that doesn't fit; none for other faults.
+/// What is told of a name or a label that isn't there, of a number that doesn't fit, or of the limit that is met; none for
+/// other faults.
 fn told_of_fault(
     alloc: Global,
     program: &Program,
@@ -266,6 +268,7 @@ fn told_of_fault(
         AsmFaultKind::UnknownName => unknown_name(alloc, program, fault.line),
         AsmFaultKind::UnknownLabel => unknown_label(alloc, program, fault.line),
         AsmFaultKind::LiteralType => misfit(alloc, program),
+        AsmFaultKind::TooLong => Ok(Some(too_much(alloc, program, fault.line))),
         _ => Ok(None),
     }
 }

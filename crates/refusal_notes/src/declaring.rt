@@ -6,6 +6,7 @@ use crate::pieces::{Piece, has};
 use crate::reserved::{is_operator, reserved};
 use crate::told::{Hint, Told};
 use point_types::IlType;
+use source_notes::rank;
 use std::alloc::{AllocError, Global};
 
 const NO_NAME: Hint = Hint {
@@ -31,6 +32,11 @@ const NO_END_VAR: Hint = Hint {
 const NO_QUALIFIER: Hint = Hint {
     meaning: "VAR has no such word behind it",
     help: "leave it out: variables keep their values from scan to scan, and begin anew with each start; what clients set is kept with serve --state",
+};
+
+const NO_CONSTANT: Hint = Hint {
+    meaning: "there are no constants",
+    help: "write the number itself where it is used; or leave CONSTANT out: a variable that nothing stores keeps its start value",
 };
 
 const ONE_WORD: Hint = Hint {
@@ -84,7 +90,7 @@ pub(crate) fn no_declaration(alloc: Global, met: &Met<'_, '_>) -> Result<Told, A
         "(" | ".." => no_end(alloc, met, declaration),
         ":=" => no_start(alloc, met, declaration),
         _ if has(declaration, ":") => behind_type(alloc, met, declaration, *last),
-        _ => Ok(no_colon(alloc, declaration)),
+        _ => no_colon(alloc, met, declaration),
     }
 }
 
@@ -100,19 +106,58 @@ fn no_name(alloc: Global, met: &Met<'_, '_>, hint: Hint) -> Result<Told, AllocEr
 }
 
 /// What is told where a colon must stand behind the names.
-fn no_colon(alloc: Global, declaration: &[Piece<'_>]) -> Told {
+fn no_colon(
+    alloc: Global,
+    met: &Met<'_, '_>,
+    declaration: &[Piece<'_>],
+) -> Result<Told, AllocError> {
     let Some(first) = declaration.first() else {
-        return Told::new(alloc, NO_COLON);
+        return Ok(Told::new(alloc, NO_COLON));
     };
-    if first.is("EXTERNAL") {
-        return Told::on(alloc, *first, ONE_WORD);
+    if let Some(hint) = hint_on_qualifier(*first) {
+        return Ok(Told::on(alloc, *first, hint));
     }
-    for word in ["RETAIN", "NON_RETAIN", "CONSTANT", "PERSISTENT"] {
-        if first.is(word) {
-            return Told::on(alloc, *first, NO_QUALIFIER);
+    if declaration.len() == 1 && is_like_end(met, *first) {
+        let mut told = Told::new(alloc, NO_END_VAR).knowing("did you mean END_VAR?")?;
+        told.span = Some((first.at, end_behind(met, *first)));
+        return Ok(told);
+    }
+    Ok(Told::new(alloc, NO_COLON))
+}
+
+/// The hint on a word behind VAR.
+fn hint_on_qualifier(word: Piece<'_>) -> Option<Hint> {
+    if word.is("EXTERNAL") {
+        return Some(ONE_WORD);
+    }
+    if word.is("CONSTANT") {
+        return Some(NO_CONSTANT);
+    }
+    for qualifier in ["RETAIN", "NON_RETAIN", "PERSISTENT"] {
+        if word.is(qualifier) {
+            return Some(NO_QUALIFIER);
         }
     }
-    Told::new(alloc, NO_COLON)
+    None
+}
+
+/// Whether a word that stands alone on its line may be meant as END_VAR.
+fn is_like_end(met: &Met<'_, '_>, word: Piece<'_>) -> bool {
+    let is_alone = met.is(";") || line_of(met.code, word.at) < line_of(met.code, met.at);
+    if word.is("END") {
+        return is_alone || met.is("VAR");
+    }
+    is_alone && (word.is("VAR_END") || rank("END_VAR", word.text).is_some())
+}
+
+/// Where a word ends that may be meant as END_VAR: behind VAR, where that is its second part.
+fn end_behind(met: &Met<'_, '_>, word: Piece<'_>) -> usize {
+    match met.piece() {
+        Some(second)
+            if second.is("VAR") && line_of(met.code, word.at) == line_of(met.code, second.at) =>
+            second.behind(),
+        _ => word.behind(),
+    }
 }
 
 /// What is told behind a type.

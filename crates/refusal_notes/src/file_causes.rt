@@ -12,7 +12,7 @@ use std::alloc::Global;
 pub fn cause_of_site(alloc: Global, text: &str, models: &[ModelDef], fault: SiteFault) -> Cause {
     let mut cause = Cause::no_site(alloc, fault);
     if let Err(placed) = Site::read_placed(alloc, text, models) {
-        put_place(alloc, &mut cause, text, placed.place);
+        put_place(alloc, &mut cause, text, placed.place, SITE_NEEDS);
     }
     put_brackets(text, &mut cause);
     cause
@@ -23,7 +23,7 @@ pub fn cause_of_site(alloc: Global, text: &str, models: &[ModelDef], fault: Site
 pub fn cause_of_plant(alloc: Global, text: &str, models: &[ModelDef], fault: PlantFault) -> Cause {
     let mut cause = Cause::no_plant(alloc, fault);
     if let Err(placed) = Plant::read_placed(alloc, text, models) {
-        put_place(alloc, &mut cause, text, placed.place);
+        put_place(alloc, &mut cause, text, placed.place, PLANT_NEEDS);
     }
     put_brackets(text, &mut cause);
     cause
@@ -35,16 +35,39 @@ pub fn cause_of_definition(alloc: Global, defs: &[String], fault: DefFault) -> C
     for (number, text) in defs.iter().enumerate() {
         if let Err(placed) = read_placed(alloc, text.as_bytes()) {
             let mut cause = Cause::undefined(alloc, number, fault);
-            put_place(alloc, &mut cause, text.as_str(), placed.place);
+            put_place(alloc, &mut cause, text.as_str(), placed.place, &[]);
             return cause;
         }
     }
     Cause::undefined(alloc, 0, fault)
 }
 
+/// What the entries of a file need, each by what stands in its name; the keys of others are in the words of the fault.
+type Needs = &'static [(&'static str, &'static str)];
+
+const SITE_NEEDS: Needs = &[
+    ("[gateway]", "add it: the gateway needs unit and models"),
+    ("[[device]]", "add it: a device needs name and unit"),
+    (
+        "[[served]]",
+        "add it: what is served needs model, point, and one of value, text and sum",
+    ),
+];
+
+const PLANT_NEEDS: Needs = &[
+    (
+        "[[device.value]]",
+        "add it: a value needs model, point and raw",
+    ),
+    (
+        "[[fault]]",
+        "add it: a fault needs request and kind, and code, count, word or bytes where its kind has such a number",
+    ),
+];
+
 /// Adds a place in a text: the line and the column, or else the entry and what is wrong there. A place behind the last
 /// line is the end of that one.
-fn put_place(alloc: Global, cause: &mut Cause, text: &str, place: Option<FilePlace>) {
+fn put_place(alloc: Global, cause: &mut Cause, text: &str, place: Option<FilePlace>, needs: Needs) {
     let Some(place) = place else {
         return;
     };
@@ -53,7 +76,28 @@ fn put_place(alloc: Global, cause: &mut Cause, text: &str, place: Option<FilePla
     }
     match &place {
         FilePlace::Text { line, column } => put_position(alloc, cause, text, *line, *column),
-        FilePlace::Entry { key, advice, .. } => put_advice(cause, *key, advice),
+        FilePlace::Entry {
+            entry,
+            key,
+            rule,
+            advice,
+            ..
+        } => {
+            if rule.as_str() == "is missing" {
+                put_needs(cause, entry.as_str(), needs);
+            }
+            put_advice(cause, *key, advice)
+        }
+    }
+}
+
+/// Puts what an entry needs in place of the help.
+fn put_needs(cause: &mut Cause, entry: &str, needs: Needs) {
+    for (sign, help) in needs {
+        if entry.contains(sign) {
+            cause.help = help;
+            return;
+        }
     }
 }
 

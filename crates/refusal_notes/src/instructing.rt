@@ -2,7 +2,9 @@
 use crate::met::{Met, line_of};
 use crate::mistakes::{STRUCTURED, mistake_met};
 use crate::pieces::Piece;
-use crate::reserved::{is_conversion, is_one_of, is_operator, operator_meant, reserved};
+use crate::reserved::{
+    is_conversion, is_like_conversion, is_one_of, is_operator, operator_meant, reserved,
+};
 use crate::told::{Hint, Told};
 use std::alloc::{AllocError, Global};
 
@@ -14,6 +16,21 @@ const NO_CONVERSION: Hint = Hint {
 const NO_LABEL_COLON: Hint = Hint {
     meaning: "no operator stands where one must",
     help: "write a colon behind {} where it is a label; else begin the line with an operator, as LD",
+};
+
+const NO_JUMP: Hint = Hint {
+    meaning: "only a jump stands behind {LOOP n}, on its line",
+    help: "write {LOOP n} JMP label, JMPC or JMPCN on one line",
+};
+
+const ONE_LABEL: Hint = Hint {
+    meaning: "one label stands on a line",
+    help: "write each label on a line of its own, the last one before the instruction",
+};
+
+const LABEL_COLON: Hint = Hint {
+    meaning: "a jump names its label without a colon",
+    help: "leave the colon out: it stands where the label is, before a line",
 };
 
 const NO_OPERATOR: Hint = Hint {
@@ -89,30 +106,37 @@ const NONE_OPEN: Hint = Hint {
 /// What is told where an operator must stand.
 pub(crate) fn no_operator(alloc: Global, met: &Met<'_, '_>) -> Result<Told, AllocError> {
     let word = met.text();
+    if let Some(hint) = hint_before(met) {
+        return Ok(Told::new(alloc, hint));
+    }
     if let Some(hint) = mistake_met(met) {
         return Told::named(alloc, word, hint);
     }
     if met.next() == ":=" {
         return Ok(Told::new(alloc, STRUCTURED));
     }
-    if is_conversion_word(word) {
-        return conversion_meant(alloc, word);
-    }
     if is_operator(met.next()) {
         return Told::named(alloc, word, NO_LABEL_COLON);
     }
+    let hint = if is_like_conversion(word) {
+        NO_CONVERSION
+    } else {
+        NO_OPERATOR
+    };
     let question = operator_meant(alloc, word)?;
-    Told::named(alloc, word, NO_OPERATOR)?.knowing(question.as_str())
+    Told::named(alloc, word, hint)?.knowing(question.as_str())
 }
 
-/// Whether a word looks like a conversion, as `INT_TO_REAL`.
-fn is_conversion_word(word: &str) -> bool {
-    word.contains("_TO") || word.contains("_to")
-}
-
-fn conversion_meant(alloc: Global, word: &str) -> Result<Told, AllocError> {
-    let question = operator_meant(alloc, word)?;
-    Told::named(alloc, word, NO_CONVERSION)?.knowing(question.as_str())
+/// The hint on what stands behind a count, or on a label behind another one.
+fn hint_before(met: &Met<'_, '_>) -> Option<Hint> {
+    let before = met.line().last()?;
+    if before.text == "}" {
+        Some(NO_JUMP)
+    } else if before.text == ":" && met.next() == ":" {
+        Some(ONE_LABEL)
+    } else {
+        None
+    }
 }
 
 /// What is told where an operand is missing, or one is too many.
@@ -180,6 +204,8 @@ fn hint_on_operands(met: &Met<'_, '_>, operator: &str, operands: &[Piece<'_>]) -
         NO_PARENTHESIS
     } else if met.is(")") {
         OWN_LINE
+    } else if met.is(":") && is_one_of(&["JMP", "JMPC", "JMPCN"], operator) {
+        LABEL_COLON
     } else if takes_two && operands.len() < 3 {
         NO_SECOND
     } else if takes_two {

@@ -26,7 +26,7 @@ static OTHER_TYPES: [(&[&str], Hint); 8] = [
         },
     ),
     (
-        &["BYTE", "WORD", "DWORD", "LWORD", "ULINT"],
+        &["BYTE", "WORD", "DWORD", "LWORD", "ULINT", "UINT64"],
         Hint {
             meaning: "there is no type {}",
             help: "use a type of whole numbers that holds the values: SINT, INT, DINT, LINT, USINT, UINT or UDINT",
@@ -71,6 +71,17 @@ static OTHER_TYPES: [(&[&str], Hint); 8] = [
     ),
 ];
 
+/// Types by the number of their bits, and their words here.
+static BY_BITS: [(&str, &str); 7] = [
+    ("INT8", "did you mean SINT?"),
+    ("INT16", "did you mean INT?"),
+    ("INT32", "did you mean DINT?"),
+    ("INT64", "did you mean LINT?"),
+    ("UINT8", "did you mean USINT?"),
+    ("UINT16", "did you mean UINT?"),
+    ("UINT32", "did you mean UDINT?"),
+];
+
 const NO_TYPE: Hint = Hint {
     meaning: "a type must stand behind the colon",
     help: "use BOOL, SINT, INT, DINT, LINT, USINT, UINT or UDINT",
@@ -82,6 +93,11 @@ pub(crate) fn no_type(alloc: Global, met: &Met<'_, '_>) -> Result<Told, AllocErr
     for (words, hint) in OTHER_TYPES.iter() {
         if is_one_of(words, word) {
             return Told::named(alloc, word, *hint);
+        }
+    }
+    for (other, question) in BY_BITS.iter() {
+        if word.eq_ignore_ascii_case(other) {
+            return Told::new(alloc, NO_TYPE).knowing(question);
         }
     }
     let question = type_meant(alloc, word)?;

@@ -3,6 +3,7 @@
 #![tactic(auto)]
 
 mod cause;
+mod comments;
 mod declaring;
 mod definition_keys;
 mod file_causes;
@@ -10,11 +11,13 @@ mod file_fault;
 mod instructing;
 mod kind_texts;
 mod kinds;
+mod limits;
 mod marks;
 mod met;
 mod mistakes;
 mod nearest;
 mod notes;
+mod numbers;
 mod pieces;
 mod reserved;
 mod table_keys;

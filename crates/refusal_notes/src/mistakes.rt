@@ -15,7 +15,7 @@ const SEMICOLON: Hint = Hint {
     help: "leave the semicolon out; it stands behind declarations alone",
 };
 
-static MISTAKES: [Mistake; 24] = [
+static MISTAKES: [Mistake; 32] = [
     Mistake {
         kind: ReadFaultKind::Word,
         signs: &["\u{feff}"],
@@ -174,6 +174,70 @@ static MISTAKES: [Mistake; 24] = [
         hint: Hint {
             meaning: "{} is no operator",
             help: "write RET, or RETC and RETCN on a condition",
+        },
+    },
+    Mistake {
+        kind: ReadFaultKind::Operator,
+        signs: &["LOAD"],
+        hint: Hint {
+            meaning: "{} is no operator",
+            help: "write LD",
+        },
+    },
+    Mistake {
+        kind: ReadFaultKind::Operator,
+        signs: &["STORE"],
+        hint: Hint {
+            meaning: "{} is no operator",
+            help: "write ST",
+        },
+    },
+    Mistake {
+        kind: ReadFaultKind::Operator,
+        signs: &["GTE"],
+        hint: Hint {
+            meaning: "{} is no operator",
+            help: "write GE",
+        },
+    },
+    Mistake {
+        kind: ReadFaultKind::Operator,
+        signs: &["LTE"],
+        hint: Hint {
+            meaning: "{} is no operator",
+            help: "write LE",
+        },
+    },
+    Mistake {
+        kind: ReadFaultKind::Operator,
+        signs: &["NOP"],
+        hint: Hint {
+            meaning: "{} is no operator",
+            help: "leave it out: a label may stand on a line alone",
+        },
+    },
+    Mistake {
+        kind: ReadFaultKind::Operator,
+        signs: &["MUX"],
+        hint: Hint {
+            meaning: "{} is no operator",
+            help: "choose between two by SEL, as LD b / SEL 0, 1; between more by one SEL behind the other",
+        },
+    },
+    Mistake {
+        kind: ReadFaultKind::Operator,
+        signs: &["NEG"],
+        hint: Hint {
+            meaning: "{} is no operator",
+            help: "write MUL -1, or LD 0 and SUB with the name of the value",
+        },
+    },
+    Mistake {
+        kind: ReadFaultKind::Operator,
+        signs: &["SHL", "SHR", "ROL", "ROR"],
+        hint: Hint {
+            meaning: "there are no shifts of bits",
+            help: "write MUL or DIV with a power of two, as MUL 8 for three bits; a bit of a register is a tag with bit in the site file",
         },
     },
     Mistake {

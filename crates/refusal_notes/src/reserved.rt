@@ -82,6 +82,17 @@ pub(crate) fn is_conversion(word: &str) -> bool {
     false
 }
 
+/// Whether a word looks like a conversion from a type or to one, as `INT_TO_REAL`.
+pub(crate) fn is_like_conversion(word: &str) -> bool {
+    for (place, _) in word.char_indices() {
+        let front = word.get(..place).unwrap_or("");
+        if let Some(to) = behind_word(word.get(place..).unwrap_or(""), "_TO_") {
+            return type_named(front).is_some() || type_named(to).is_some();
+        }
+    }
+    false
+}
+
 /// What stands behind a word at the beginning, in capital or small letters.
 fn behind_word<'a>(text: &'a str, word: &str) -> Option<&'a str> {
     match text.get(..word.len()) {

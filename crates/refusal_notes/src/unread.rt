@@ -1,10 +1,13 @@
 //! What is told of a text that can't be read.
+use crate::comments::stray_end;
 use crate::declaring::no_declaration;
 use crate::instructing::{no_label, no_operand, no_operator, no_parenthesis};
+use crate::limits::{too_long_text, too_many};
 use crate::met::Met;
+use crate::numbers::no_number;
 use crate::pieces::pieces_of;
 use crate::told::{Hint, Told};
-use crate::wording::{no_frame, no_number, no_second, no_word, unclosed};
+use crate::wording::{no_frame, no_second, no_word, unclosed};
 use il_reader::{FaultPlace, ReadFaultKind};
 use source_notes::Code;
 use std::alloc::{AllocError, Global};
@@ -23,11 +26,17 @@ pub(crate) fn told_of(
     if text.trim().is_empty() {
         return Ok(Some(Told::new(alloc, EMPTY)));
     }
+    if place.fault.kind == ReadFaultKind::TooLong && place.behind == 0 {
+        return Ok(Some(too_long_text(alloc)));
+    }
     let code = Code::of(alloc, text)?;
     if let (ReadFaultKind::Word, Some(open)) = (place.fault.kind, code.open) {
         if place.behind == text.len() {
             return Ok(Some(unclosed(alloc, open)));
         }
+    }
+    if let Some(told) = stray_end(alloc, text, code.text.as_str(), place.at)? {
+        return Ok(Some(told));
     }
     let pieces = pieces_of(alloc, code.text.as_str())?;
     let met = Met::at_place(code.text.as_str(), pieces.as_slice(), place);
@@ -45,7 +54,8 @@ fn told_by_kind(alloc: Global, met: &Met<'_, '_>) -> Result<Option<Told>, AllocE
         ReadFaultKind::Label => no_label(alloc, met)?,
         ReadFaultKind::Parenthesis => no_parenthesis(alloc, met)?,
         ReadFaultKind::Duplicate => no_second(alloc, met)?,
-        ReadFaultKind::TooLong | ReadFaultKind::OutOfMemory => return Ok(None),
+        ReadFaultKind::TooLong => too_many(alloc, met),
+        ReadFaultKind::OutOfMemory => return Ok(None),
     };
     Ok(Some(told))
 }

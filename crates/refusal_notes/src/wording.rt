@@ -1,11 +1,10 @@
-//! What is told of characters that are no word, of numbers, of names that stand already, and of a program's frame.
-use crate::kinds::holds;
+//! What is told of characters that are no word, of names that stand already, and of a program's frame.
 use crate::met::{Met, line_of};
 use crate::mistakes::mistake_met;
 use crate::pieces::{Piece, has};
-use crate::reserved::{is_operator, reserved, type_named};
+use crate::reserved::{is_operator, reserved};
 use crate::told::{Hint, Told};
-use point_types::IlType;
+use source_notes::rank;
 use std::alloc::{AllocError, Global};
 
 const NO_POINT: Hint = Hint {
@@ -61,21 +60,6 @@ const COUNT: Hint = Hint {
 const UNCLOSED: Hint = Hint {
     meaning: "the comment isn't closed",
     help: "write *) at its end",
-};
-
-const TURNS: Hint = Hint {
-    meaning: "a counted jump has 1 to 255 turns",
-    help: "write a number from 1 to 255; count further in a variable",
-};
-
-const TOO_LARGE: Hint = Hint {
-    meaning: "the number is too large",
-    help: "write a number within the type",
-};
-
-const NO_DIGITS: Hint = Hint {
-    meaning: "what begins with a digit is a number, and this is none",
-    help: "write all its digits, as 1000, or digits of the base behind 16#, 8# or 2#; a name begins with a letter",
 };
 
 const NAMED_TWICE: Hint = Hint {
@@ -162,41 +146,6 @@ fn hint_on_word(word: &str) -> Option<Hint> {
     }
 }
 
-/// What is told of a number that is none, or too large.
-pub(crate) fn no_number(alloc: Global, met: &Met<'_, '_>) -> Result<Option<Told>, AllocError> {
-    let Some(piece) = met.piece() else {
-        return Ok(None);
-    };
-    if has(met.line(), "{") {
-        return Ok(Some(Told::on(alloc, piece, TURNS)));
-    }
-    let Some(kind) = kind_of_number(piece.text, met.next()) else {
-        return Ok(Some(Told::on(alloc, piece, NO_DIGITS)));
-    };
-    let holds = holds(alloc, kind)?;
-    Ok(Some(Told::on(alloc, piece, TOO_LARGE).knowing(holds.as_str())?))
-}
-
-/// The type of a number that is too large: the one before it, else the widest; none where it isn't a number.
-fn kind_of_number(text: &str, next: &str) -> Option<IlType> {
-    match text.split_once("#") {
-        None if are_digits(text) => Some(IlType::Lint),
-        None => None,
-        Some((front, digits)) if are_digits(digits) || next == "-" => type_named(front),
-        Some(_) => None,
-    }
-}
-
-/// Whether these are digits, with single underscores between them.
-fn are_digits(text: &str) -> bool {
-    for letter in text.chars() {
-        if letter != '_' && !letter.is_ascii_digit() {
-            return false;
-        }
-    }
-    !text.is_empty() && !text.ends_with("_") && !text.contains("__")
-}
-
 /// What is told of a name that stands already.
 pub(crate) fn no_second(alloc: Global, met: &Met<'_, '_>) -> Result<Told, AllocError> {
     let Some(first) = first_of(met) else {
@@ -235,10 +184,18 @@ pub(crate) fn no_frame(alloc: Global, met: &Met<'_, '_>) -> Result<Told, AllocEr
         return Ok(Told::new(alloc, NOT_OVER));
     }
     match met.last() {
-        None => Ok(Told::new(alloc, NOT_BEGUN)),
+        None => not_begun(alloc, met),
         Some(last) if last.is("PROGRAM") => unnamed(alloc, met),
         Some(_) => Ok(Told::new(alloc, NOT_ENDED)),
     }
+}
+
+fn not_begun(alloc: Global, met: &Met<'_, '_>) -> Result<Told, AllocError> {
+    let question = match rank("PROGRAM", met.text()) {
+        Some(_) => "did you mean PROGRAM?",
+        None => "",
+    };
+    Told::new(alloc, NOT_BEGUN).knowing(question)
 }
 
 fn unnamed(alloc: Global, met: &Met<'_, '_>) -> Result<Told, AllocError> {

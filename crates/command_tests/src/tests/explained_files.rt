@@ -43,6 +43,12 @@ const OF_SITES: &[Edited] = &[
         "site.toml: MissingKey: a key is missing\n  help: add the key; a tag needs name, access, model, point, type, exponent, low, high, and device for in and out\n",
     ),
     (
+        "unit = 2",
+        "u = 2",
+        "refused: site MissingKey\n",
+        "site.toml: MissingKey: a key is missing\n  help: add it: a device needs name and unit\n",
+    ),
+    (
         "device = \"inv1\"",
         "device = \"inv3\"",
         "refused: site UnknownDevice\n",

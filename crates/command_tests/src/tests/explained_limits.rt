@@ -8,7 +8,7 @@ fn an_expression_that_is_nested_too_deep_is_explained(rt: HostRuntime) {
         text.push_str("  ADD( 1\n").expect(&rt, "memory");
     }
     let note =
-        "p.il:103: TooLong: the text has more than a program may have\n  103 |   ADD( 1\n      |      ^\n  help: split the program, or store parts of a nested expression in variables\n";
+        "p.il:103: TooLong: at most 100 parentheses stand one inside the other\n  103 |   ADD( 1\n      |      ^\n  help: store parts of the expression in variables\n";
     assert_verdict(&rt, text.as_str(), "refused: read TooLong line 103\n", note);
 }
 
@@ -22,7 +22,7 @@ fn a_counted_jump_too_many_is_explained(rt: HostRuntime) {
     }
     text.push_str("END_PROGRAM\n").expect(&rt, "memory");
     let note =
-        "p.il:258: TooLong: more code or counted jumps than a program may have\n  258 | l256: {LOOP 2} JMP l256\n      | ^^^^^^^^^^^^^^^^^^^^^^^\n  help: shorten the program: 65,535 bytes of code and 256 counted jumps are the most\n";
+        "p.il:258: TooLong: a program has at most 256 counted jumps\n  258 | l256: {LOOP 2} JMP l256\n      | ^^^^^^^^^^^^^^^^^^^^^^^\n  help: take counted jumps away, or split the program\n";
     assert_verdict(
         &rt,
         text.as_str(),

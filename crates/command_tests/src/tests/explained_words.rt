@@ -21,7 +21,7 @@ const COMMENTS: &[Explained] = &[
     (
         "PROGRAM p\nVAR_EXTERNAL\n  inv1_w : DINT;\nEND_VAR\nVAR\n  a : INT;\n  b : BOOL;\n  x : INT (0..10);\n  rg : INT;\nEND_VAR\nLOAD x (* IF hot *)\nEND_PROGRAM\n",
         "refused: read Operator line 11\n",
-        "p.il:11: Operator: LOAD is no operator\n   11 | LOAD x (* IF hot *)\n      | ^^^^\n  help: begin the line with one operator, as LD or ADD; a label has a colon, and {LOOP n} stands before a jump\n",
+        "p.il:11: Operator: LOAD is no operator\n   11 | LOAD x (* IF hot *)\n      | ^^^^\n  help: write LD\n",
     ),
     (
         "PROGRAM p\nVAR_EXTERNAL\n  inv1_w : DINT;\nEND_VAR\nVAR\n  a : INT;\n  b : BOOL;\n  x : INT (0..10);\n  rg : INT;\nEND_VAR\nLD %IX0.0\nEND_PROGRAM\n",
@@ -115,7 +115,7 @@ const NAMES: &[Explained] = &[
     (
         "PROGRAM p\nVAR_EXTERNAL\n  inv1_w : DINT;\nEND_VAR\nVAR\n  a : INT;\n  b : BOOL;\n  x : INT (0..10);\n  rg : INT;\nEND_VAR\nDINT_TOINT\nEND_PROGRAM\n",
         "refused: read Operator line 11\n",
-        "p.il:11: Operator: there is no conversion DINT_TOINT\n   11 | DINT_TOINT\n      | ^^^^^^^^^^ did you mean DINT_TO_INT?\n  help: conversions lead from one type of whole numbers to another, as INT_TO_DINT; a number for a BOOL is chosen by SEL, as LD b / SEL 0, 1\n",
+        "p.il:11: Operator: DINT_TOINT is no operator\n   11 | DINT_TOINT\n      | ^^^^^^^^^^ did you mean DINT_TO_INT?\n  help: begin the line with one operator, as LD or ADD; a label has a colon, and {LOOP n} stands before a jump\n",
     ),
     (
         "PROGRAM p\nVAR_EXTERNAL\n  inv1_w : DINT;\nEND_VAR\nVAR\n  a : INT;\n  b : BOOL;\n  x : INT (0..10);\n  rg : INT;\nEND_VAR\nVAR_EXTERN\nx : INT;\nEND_VAR\nEND_PROGRAM\n",

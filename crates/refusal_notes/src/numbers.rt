@@ -1,0 +1,161 @@
+//! What is told of numbers that are none, or that are outside their type.
+use crate::kinds::holds;
+use crate::met::Met;
+use crate::pieces::{Piece, has};
+use crate::reserved::type_named;
+use crate::told::{Hint, Told};
+use point_types::IlType;
+use std::alloc::{AllocError, Global};
+
+const TURNS: Hint = Hint {
+    meaning: "a counted jump has 1 to 255 turns",
+    help: "write a number from 1 to 255; count further in a variable",
+};
+
+const TOO_LARGE: Hint = Hint {
+    meaning: "the number is too large",
+    help: "write a number within the type",
+};
+
+const TOO_LOW: Hint = Hint {
+    meaning: "the number is below what its type holds",
+    help: "write a number within the type",
+};
+
+const NO_DIGITS: Hint = Hint {
+    meaning: "what begins with a digit is a number, and this is none",
+    help: "write all its digits, as 1000, or digits of the base behind 16#, 8# or 2#; a name begins with a letter",
+};
+
+const NONE_BEHIND: Hint = Hint {
+    meaning: "no number stands behind the #",
+    help: "write its digits right behind it, as INT#5 or INT#-5",
+};
+
+/// A number that is met.
+#[derive(Clone, Copy)]
+struct Number<'a> {
+    /// The type in front of it; LINT, where none is.
+    kind: IlType,
+    /// Whether a type stands in front of it.
+    is_typed: bool,
+    is_negative: bool,
+    /// What stands behind the type and the sign.
+    digits: &'a str,
+    /// The place behind it.
+    behind: usize,
+}
+
+/// What is told of a number that is none, or outside its type.
+pub(crate) fn no_number(alloc: Global, met: &Met<'_, '_>) -> Result<Option<Told>, AllocError> {
+    let Some(piece) = met.piece() else {
+        return Ok(None);
+    };
+    if has(met.line(), "{") {
+        return Ok(Some(Told::on(alloc, piece, TURNS)));
+    }
+    let number = number_met(piece, met.rest);
+    let mut told = if is_number(number.digits) {
+        let hint = if number.is_negative {
+            TOO_LOW
+        } else {
+            TOO_LARGE
+        };
+        let holds = holds(alloc, number.kind)?;
+        Told::new(alloc, hint).knowing(holds.as_str())?
+    } else {
+        Told::new(alloc, hint_on_digits(&number))
+    };
+    told.span = Some((piece.at, number.behind));
+    Ok(Some(told))
+}
+
+fn hint_on_digits(number: &Number<'_>) -> Hint {
+    if number.is_typed {
+        NONE_BEHIND
+    } else {
+        NO_DIGITS
+    }
+}
+
+/// The number that begins with a piece, where these pieces are met.
+fn number_met<'a>(piece: Piece<'a>, rest: &[Piece<'a>]) -> Number<'a> {
+    let unsigned = number_of(piece);
+    match rest {
+        [sign, digits, ..] if is_sign(*sign) && sign.behind() == digits.at => {
+            signed(unsigned, *sign, *digits)
+        }
+        [kind, sign, digits, ..]
+            if unsigned.digits.is_empty()
+                && kind.behind() == sign.at
+                && is_sign(*sign)
+                && sign.behind() == digits.at => { signed(unsigned, *sign, *digits) }
+        _ => unsigned,
+    }
+}
+
+/// What a piece is as a number.
+fn number_of(piece: Piece<'_>) -> Number<'_> {
+    let typed = match piece.text.split_once("#") {
+        Some((front, digits)) => type_named(front).map(|kind| (kind, digits)),
+        None => None,
+    };
+    let (kind, digits) = typed.unwrap_or((IlType::Lint, piece.text));
+    Number {
+        kind,
+        is_typed: typed.is_some(),
+        is_negative: false,
+        digits,
+        behind: piece.behind(),
+    }
+}
+
+/// The same with a sign and its digits.
+fn signed<'a>(number: Number<'a>, sign: Piece<'a>, digits: Piece<'a>) -> Number<'a> {
+    Number {
+        is_negative: sign.text == "-",
+        digits: digits.text.trim(),
+        behind: if digits.text == "\n" {
+            sign.behind()
+        } else {
+            digits.behind()
+        },
+        ..number
+    }
+}
+
+fn is_sign(piece: Piece<'_>) -> bool {
+    piece.text == "-" || piece.text == "+"
+}
+
+/// Whether these are the digits of a number, with its base in front where that isn't 10.
+fn is_number(text: &str) -> bool {
+    match text.split_once("#") {
+        None => are_digits(text, 10),
+        Some((base, digits)) => match base {
+            "16" => are_digits(digits, 16),
+            "8" => are_digits(digits, 8),
+            "2" => are_digits(digits, 2),
+            _ => false,
+        },
+    }
+}
+
+/// Whether these are digits of a base, with single underscores between them.
+fn are_digits(text: &str, base: u32) -> bool {
+    for letter in text.chars() {
+        if letter != '_' && !is_digit_of(letter, base) {
+            return false;
+        }
+    }
+    !text.is_empty() && !text.ends_with("_") && !text.contains("__")
+}
+
+fn is_digit_of(letter: char, base: u32) -> bool {
+    match base {
+        16 => letter.is_ascii_hexdigit(),
+        8 => letter.is_digit(8),
+        2 => letter.is_digit(2),
+        _ => letter.is_ascii_digit(),
+    }
+}
