@@ -20,7 +20,7 @@ use crate::standard_input::{STANDARD_INPUT, misuse};
 use clap::error::ErrorKind;
 use clap::{ArgMatches, Error};
 use commands::{TextCommand, tell_no_memory, write_lines};
-use refusal_notes::{Notes, explain_unusable};
+use refusal_notes::{Notes, escaped, explain_unusable};
 use site_service::Serving;
 use std::alloc::{AllocError, Global};
 use std::io::{Read, Write};
@@ -158,8 +158,46 @@ pub fn obey<W: Write>(
     };
     match command.try_get_matches_from(words) {
         Ok(matches) => obey_matches(rt, alloc, words, &matches, out),
-        Err(fault) => tell_usage(rt, &fault, out),
+        Err(fault) => tell_unparsed(rt, alloc, words, &fault, out),
     }
+}
+
+/// Has `clap` tell what is wrong with the words, and gives the status. It shows words as they are: control characters are
+/// escaped before, so that no word can pass for another line.
+fn tell_unparsed<W: Write>(
+    rt: &(impl Print + Eprint),
+    alloc: Global,
+    words: &[String],
+    fault: &Error,
+    out: &mut W,
+) -> u8 {
+    match fault_of_escaped(alloc, words) {
+        Ok(Some(shown)) => tell_usage(rt, &shown, out),
+        Ok(None) => tell_usage(rt, fault, out),
+        Err(AllocError) => tell_no_memory(out),
+    }
+}
+
+/// Why the words are no command line, once their control characters are escaped.
+fn fault_of_escaped(alloc: Global, words: &[String]) -> Result<Option<Error>, AllocError> {
+    let mut shown = Vec::new(alloc);
+    push_escaped(alloc, &mut shown, words)?;
+    let command = command(alloc)?;
+    match command.try_get_matches_from(shown.as_slice()) {
+        Ok(_) => Ok(None),
+        Err(fault) => Ok(Some(fault)),
+    }
+}
+
+fn push_escaped(
+    alloc: Global,
+    shown: &mut Vec<String>,
+    words: &[String],
+) -> Result<(), AllocError> {
+    for word in words {
+        shown.push(escaped(alloc, word.as_str())?)?;
+    }
+    Ok(())
 }
 
 /// Has `clap` tell what is wrong with the words, or the help that they ask for, and gives the status.
@@ -263,9 +301,28 @@ fn obey_on_texts<W: Write>(
         defs: sources.defs.as_slice(),
     };
     match FileCommand::of(name, matches) {
-        Some(command) => obey_on(rt, alloc, itself, command, &notes, out),
+        Some(command) => {
+            warn_before(rt, name, matches, &notes);
+            obey_on(rt, alloc, itself, command, &notes, out)
+        }
         None if name == "serve" => served(rt, alloc, itself, matches, &notes, out),
         None => BAD_COMMAND_LINE,
+    }
+}
+
+/// Warns of what nothing reads in the files of a command that goes on to a link. Of the definitions whoever started this
+/// process may have warned.
+fn warn_before(
+    rt: &(impl Eprint + AllocGlobal),
+    name: &str,
+    matches: &ArgMatches<'_>,
+    notes: &Notes<'_>,
+) {
+    let files = *notes;
+    match name {
+        "simulate" if matches.get_flag("warned") => Notes { defs: &[], ..files }.warn(rt),
+        "simulate" | "run" | "probe" => files.warn(rt),
+        _ => {}
     }
 }
 
@@ -299,10 +356,7 @@ fn obey_on<W: Write>(
             };
             told(rt, explain, notes, out)
         }
-        FileCommand::Simulate { at } => {
-            notes.warn(rt);
-            simulate(rt, alloc, notes, at, out)
-        }
+        FileCommand::Simulate { at } => simulate(rt, alloc, notes, at, out),
         FileCommand::Run { plant, scans, exe } => {
             let run = PlantRun {
                 notes: *notes,
@@ -310,13 +364,9 @@ fn obey_on<W: Write>(
                 scans,
                 exe: exe.unwrap_or(itself),
             };
-            notes.warn(rt);
             run_plant(rt, alloc, &run, out)
         }
-        FileCommand::Probe { run } => {
-            notes.warn(rt);
-            probe_over(rt, alloc, run, notes, out)
-        }
+        FileCommand::Probe { run } => probe_over(rt, alloc, run, notes, out),
     }
 }
 

@@ -8,6 +8,7 @@ mod dispatch;
 mod file_command;
 mod help;
 mod link_cause;
+mod plant_lines;
 mod plant_run;
 mod plant_server;
 mod probe_link;

@@ -4,6 +4,7 @@ ghost use Rattle.command_line.specs.Printing.{Fails, Grows};
 ghost use Rattle.command_line.specs.Ran.{EndsBehind, RunsOnce, RunsOver, ScansBy, ScansLink};
 
 use crate::link_cause::cause_of_link;
+use crate::plant_lines::{REFUSED, plant_line, port_in};
 use crate::socket::{SocketLink, link_over, loopback};
 use crate::sources::Refusal;
 use crate::unwritten::UnwrittenWatch;
@@ -16,13 +17,10 @@ use gateway::{Core, Poller, serve_client};
 use modbus_frame::{Link, LinkFault};
 use refusal_notes::{Cause, FileFault, Notes, escaped, explain_unusable};
 use std::alloc::{AllocError, Global};
+use std::io;
 use std::io::{ErrorKind, Read, Write};
 use std::net::{Net, OpenListener, OpenStream, TcpListener, TcpStream};
 use std::process::{Child, Command, Output, Processes, Stdio};
-use std::{io, str};
-
-/// The most bytes of the line by which a plant says its port.
-const LONGEST_LINE: usize = 4096;
 
 /// What a run is of.
 #[derive(Clone, Copy)]
@@ -98,7 +96,7 @@ fn run_by<R: Net + Processes + Eprint + AllocGlobal, P: Read + Drop, W: Write>(
     ensures { RunsOnce run.now.notes run.now.scans (W.contents out.old) (W.contents out.new) result }
 {
     let mut lines = lines;
-    match first_line(alloc, &mut lines) {
+    match plant_line(alloc, &mut lines) {
         Ok(line) => run_behind(rt, alloc, run, line.as_slice(), out),
         Err(fault) => tell_unreached(rt, alloc, &run.notes, &fault, out),
     }
@@ -116,23 +114,24 @@ fn run_behind<R: Net + Processes + Eprint + AllocGlobal, W: Write>(
 {
     match port_in(line) {
         Some(port) => run_at(rt, alloc, run, port, out),
-        None => tell_no_port(rt, alloc, run, line, out),
+        None => tell_no_port(rt, alloc, &run.notes, run.exe, line, out),
     }
 }
 
 /// Prints the first line of a plant that doesn't listen. Where it is no refusal, the program that was started is another
 /// one, which is told on standard error.
-fn tell_no_port<R: Eprint, W: Write>(
+pub(crate) fn tell_no_port<R: Eprint, W: Write>(
     rt: &R,
     alloc: Global,
-    run: &PlantRun<'_, '_>,
+    notes: &Notes<'_>,
+    exe: &str,
     line: &[u8],
     out: &mut W,
 ) -> u8
     ensures { Fails (W.contents out.old) (W.contents out.new) result }
 {
-    if !run.notes.quiet && !line.starts_with(b"refused: ") && !line.starts_with(b"link: ") {
-        if let Ok(text) = no_sunsite(alloc, run.exe) {
+    if !notes.quiet && !line.starts_with(REFUSED) && !line.starts_with(b"link: ") {
+        if let Ok(text) = no_sunsite(alloc, exe) {
             let _ = rt.eprint(text.as_str());
         }
     }
@@ -333,7 +332,7 @@ fn status_of(code: Option<i32>) -> u8 {
     }
 }
 
-/// Starts a plant by the program at a path. What it prints can be read.
+/// Starts a plant by the program at a path. What it prints can be read. It warns of the plant file alone.
 pub(crate) fn start_plant<R: Processes>(
     rt: &R,
     alloc: Global,
@@ -346,7 +345,8 @@ pub(crate) fn start_plant<R: Processes>(
         let words = ["simulate", "--quiet", plant];
         return start(rt, alloc, exe, &words, def_paths);
     }
-    start(rt, alloc, exe, &["simulate", plant], def_paths)
+    let words = ["simulate", "--warned", plant];
+    start(rt, alloc, exe, &words, def_paths)
 }
 
 fn start_probe<R: Processes>(
@@ -402,36 +402,6 @@ fn push_def_paths(command: &mut Command, paths: &[&str]) -> io::Result<()> {
     Ok(())
 }
 
-/// The bytes up to the first line feed, and with it.
-pub(crate) fn first_line<R: Read>(alloc: Global, reader: &mut R) -> io::Result<Vec<u8>> {
-    let mut line = Vec::new(alloc);
-    push_line(&mut line, reader)?;
-    Ok(line)
-}
-
-fn push_line<R: Read>(line: &mut Vec<u8>, reader: &mut R) -> io::Result<()> {
-    for _ in 0..LONGEST_LINE {
-        let mut byte = [0u8];
-        if reader.read(&mut byte)? == 0 {
-            return Ok(());
-        }
-        line.push(byte[0])?;
-        if byte[0] == b'\n' {
-            return Ok(());
-        }
-    }
-    Ok(())
-}
-
-/// The port in the line `listening PORT`.
-pub(crate) fn port_in(line: &[u8]) -> Option<u16> {
-    let line = str::from_utf8(line).ok()?;
-    line.strip_prefix("listening ")?
-        .trim_end()
-        .parse::<u16>()
-        .ok()
-}
-
 /// Tells that the program at the path can't be started, with a note on it.
 pub(crate) fn no_start<R: Eprint + AllocGlobal, W: Write>(
     rt: &R,
@@ -446,6 +416,7 @@ pub(crate) fn no_start<R: Eprint + AllocGlobal, W: Write>(
     let why = match fault.kind() {
         ErrorKind::OutOfMemory => return tell_no_memory(out),
         ErrorKind::NotFound => FileFault::NotFound,
+        ErrorKind::NotADirectory => FileFault::NoFolder,
         ErrorKind::PermissionDenied => FileFault::NotRunnable,
         _ => FileFault::NoProgram,
     };

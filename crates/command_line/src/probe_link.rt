@@ -7,7 +7,7 @@ use commands::{models_told, probe, tell_unlinked};
 use gateway::Poller;
 use modbus_frame::{Link, LinkFault};
 use model_defs::ModelDef;
-use refusal_notes::Notes;
+use refusal_notes::{Notes, escaped};
 use site_service::has_port;
 use std::alloc::{AllocError, Global};
 use std::io;
@@ -121,6 +121,7 @@ fn explain<R: Eprint>(rt: &R, alloc: Global, word: &str, cause: NoConnection) {
 }
 
 fn cause_line(alloc: Global, word: &str, cause: &str) -> Result<String, AllocError> {
+    let word = escaped(alloc, word)?;
     let text = format!(in alloc; "{word}: Read: {cause}\n")?;
     Ok(text)
 }

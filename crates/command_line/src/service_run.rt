@@ -2,13 +2,14 @@
 ghost use Rattle.command_line.specs.Printing.{Fails};
 
 use crate::dispatch::tell_misuse;
-use crate::plant_run::{first_line, no_start, port_in, start_plant, tell_lost, tell_unreached};
+use crate::plant_lines::{plant_line, port_in};
+use crate::plant_run::{no_start, start_plant, tell_lost, tell_no_port, tell_unreached};
 use commands::{
     Accepted, DEPTH, FAILED_LINK, Outcome, accept, no_core, tell_no_memory, write_lines,
 };
 use gateway::CoreFault;
 use modbus_frame::LinkFault;
-use refusal_notes::Notes;
+use refusal_notes::{Notes, escaped};
 use scan_vm::Machine;
 use service_core::{Limits, Service};
 use site_model::Site;
@@ -206,6 +207,7 @@ fn device_fault(
         Some(device) => device.name.as_str(),
         None => "",
     };
+    let name = escaped(alloc, name)?;
     let text = format!(in alloc; "device '{name}' {why}")?;
     Ok(text)
 }
@@ -371,7 +373,7 @@ fn serve_told<R: Net + Clock + Eprint + AllocGlobal + Files, P: Read + Drop, W: 
     let Some(mut lines) = lines else {
         return tell_lost(rt, alloc, &run.notes, LinkFault::Read, out);
     };
-    match first_line(alloc, &mut lines) {
+    match plant_line(alloc, &mut lines) {
         Ok(line) => serve_behind(rt, alloc, run, line.as_slice(), service, out),
         Err(fault) => tell_unreached(rt, alloc, &run.notes, &fault, out),
     }
@@ -391,7 +393,7 @@ fn serve_behind<R: Net + Clock + Eprint + AllocGlobal + Files, W: Write>(
             Ok(addresses) => serve_over(rt, alloc, run, &addresses, service, out),
             Err(AllocError) => tell_no_memory(out),
         },
-        None => write_lines(out, line, 1),
+        None => tell_no_port(rt, alloc, &run.notes, run.exe, line, out),
     }
 }
 

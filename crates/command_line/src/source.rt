@@ -50,6 +50,7 @@ impl SourceFault {
         match kind {
             ErrorKind::OutOfMemory => SourceFault::OutOfMemory,
             ErrorKind::NotFound => SourceFault::Unusable(FileFault::NotFound),
+            ErrorKind::NotADirectory => SourceFault::Unusable(FileFault::NoFolder),
             ErrorKind::IsADirectory => SourceFault::Unusable(FileFault::Folder),
             ErrorKind::PermissionDenied => SourceFault::Unusable(FileFault::NotAllowed),
             _ => SourceFault::Unusable(FileFault::Unreadable),

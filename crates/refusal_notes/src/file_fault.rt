@@ -4,6 +4,8 @@
 #[derive(Clone, Copy, PartialEq, Eq, Debug)]
 pub enum FileFault {
     NotFound,
+    /// A part of its path before the last is no folder.
+    NoFolder,
     Folder,
     NotAllowed,
     /// Its bytes aren't UTF-8; so many before the first one at fault are.
@@ -23,6 +25,7 @@ impl FileFault {
     pub fn meaning(self) -> &'static str {
         match self {
             FileFault::NotFound => "there is no such file",
+            FileFault::NoFolder => "a part of its path is no folder",
             FileFault::Folder => "it is a folder",
             FileFault::NotAllowed => "it may not be read",
             FileFault::NotUtf8(_) => "the text isn't UTF-8",
@@ -38,6 +41,8 @@ impl FileFault {
         match self {
             FileFault::NotFound =>
                 "look for a slip in the path, which begins at the folder where you are",
+            FileFault::NoFolder =>
+                "look for a slip in the path: what stands before a / has to be a folder",
             FileFault::Folder => "name a file in it",
             FileFault::NotAllowed => "give the right to read it, to it and to each folder above it",
             FileFault::NotUtf8(_) => "save it as UTF-8",

@@ -6,6 +6,7 @@ use gateway::{Core, Report};
 use register_map::Map;
 use service_core::{Loss, Note, Unwritten};
 use site_model::Site;
+use source_notes::escaped;
 use std::alloc::{AllocError, Global};
 use std::io::Write;
 
@@ -29,11 +30,9 @@ fn line_of(alloc: Global, note: &Note, core: &Core<DEPTH>) -> Option<Result<Stri
     let site = core.site();
     match note {
         Note::Found(device) => Some(found_line(alloc, core, *device)),
-        Note::NoMap(device) => Some(lost_line(alloc, device_name(site, *device), NO_MAP)),
-        Note::Lost(device, loss) => {
-            Some(lost_line(alloc, device_name(site, *device), loss_word(*loss)))
-        }
-        Note::Back(device) => Some(device_line(alloc, device_name(site, *device), "back")),
+        Note::NoMap(device) => Some(lost(alloc, site, *device, NO_MAP)),
+        Note::Lost(device, loss) => Some(lost(alloc, site, *device, loss_word(*loss))),
+        Note::Back(device) => Some(told(alloc, site, *device, "back")),
         Note::Unwritten(output, cause) => Some(unwritten_line(
             alloc,
             output_name(site, *output),
@@ -50,7 +49,24 @@ fn found_line(alloc: Global, core: &Core<DEPTH>, device: usize) -> Result<String
         Some(Some(map)) => found_models(alloc, map)?,
         _ => String::from_str(alloc, "found")?,
     };
-    device_line(alloc, device_name(core.site(), device), models.as_str())
+    told(alloc, core.site(), device, models.as_str())
+}
+
+// `device NAME WHAT`.
+fn told(alloc: Global, site: &Site, device: usize, what: &str) -> Result<String, AllocError> {
+    let name = shown_name(alloc, site, device)?;
+    device_line(alloc, name.as_str(), what)
+}
+
+// `device NAME lost KIND`.
+fn lost(alloc: Global, site: &Site, device: usize, kind: &str) -> Result<String, AllocError> {
+    let name = shown_name(alloc, site, device)?;
+    lost_line(alloc, name.as_str(), kind)
+}
+
+// The name of a device, with control characters escaped: it may be any text, and can't pass for another line.
+fn shown_name(alloc: Global, site: &Site, device: usize) -> Result<String, AllocError> {
+    escaped(alloc, device_name(site, device))
 }
 
 // `found MODELS`.
