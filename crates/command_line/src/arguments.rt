@@ -61,7 +61,6 @@ fn simulate_command<'a>(alloc: Global) -> Result<Command<'a>, AllocError> {
         .arg(word(alloc, "PLANT", "the plant file (TOML)"))?
         .arg(plant_port_option(alloc))?
         .arg(connections_option(alloc))?
-        .arg(warned_flag(alloc))?
         .arg(quiet_flag(alloc))?
         .arg(definition_files(alloc))
 }
@@ -164,14 +163,6 @@ fn listing_flag<'a>(alloc: Global) -> Arg<'a> {
         .long("listing")
         .action(ArgAction::SetTrue)
         .help("the lines and their instructions alone, without what is known")
-}
-
-/// What `run` and `serve` say to the simulator that they start. No help has it, since nobody else needs it.
-fn warned_flag<'a>(alloc: Global) -> Arg<'a> {
-    Arg::new(alloc, "warned")
-        .long("warned")
-        .action(ArgAction::SetTrue)
-        .hide(true)
 }
 
 pub(crate) fn quiet_flag<'a>(alloc: Global) -> Arg<'a> {

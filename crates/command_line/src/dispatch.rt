@@ -13,7 +13,7 @@ use crate::probe_link::probe_over;
 use crate::serve_words::{
     devices_of, keeping_misuse, keeping_of, listen_address, service_limits, serving_of, writers_of,
 };
-use crate::service_run::{ServiceRun, run_service};
+use crate::service_run::{Devices, ServiceRun, run_service};
 use crate::source::{SourceFault, read_text};
 use crate::sources::{Refusal, Sources, read_sources, read_state};
 use crate::standard_input::{STANDARD_INPUT, misuse};
@@ -301,28 +301,9 @@ fn obey_on_texts<W: Write>(
         defs: sources.defs.as_slice(),
     };
     match FileCommand::of(name, matches) {
-        Some(command) => {
-            warn_before(rt, name, matches, &notes);
-            obey_on(rt, alloc, itself, command, &notes, out)
-        }
+        Some(command) => obey_on(rt, alloc, itself, command, &notes, out),
         None if name == "serve" => served(rt, alloc, itself, matches, &notes, out),
         None => BAD_COMMAND_LINE,
-    }
-}
-
-/// Warns of what nothing reads in the files of a command that goes on to a link. Of the definitions whoever started this
-/// process may have warned.
-fn warn_before(
-    rt: &(impl Eprint + AllocGlobal),
-    name: &str,
-    matches: &ArgMatches<'_>,
-    notes: &Notes<'_>,
-) {
-    let files = *notes;
-    match name {
-        "simulate" if matches.get_flag("warned") => Notes { defs: &[], ..files }.warn(rt),
-        "simulate" | "run" | "probe" => files.warn(rt),
-        _ => {}
     }
 }
 
@@ -356,7 +337,10 @@ fn obey_on<W: Write>(
             };
             told(rt, explain, notes, out)
         }
-        FileCommand::Simulate { at } => simulate(rt, alloc, notes, at, out),
+        FileCommand::Simulate { at } => {
+            notes.warn(rt);
+            simulate(rt, alloc, notes, at, out)
+        }
         FileCommand::Run { plant, scans, exe } => {
             let run = PlantRun {
                 notes: *notes,
@@ -364,10 +348,23 @@ fn obey_on<W: Write>(
                 scans,
                 exe: exe.unwrap_or(itself),
             };
+            warn_of_site(rt, notes);
             run_plant(rt, alloc, &run, out)
         }
-        FileCommand::Probe { run } => probe_over(rt, alloc, run, notes, out),
+        FileCommand::Probe { run } => {
+            notes.warn(rt);
+            probe_over(rt, alloc, run, notes, out)
+        }
     }
+}
+
+/// Warns of what nothing reads in the site file. The simulator that is started warns of the plant file and the definitions.
+fn warn_of_site(rt: &(impl Eprint + AllocGlobal), notes: &Notes<'_>) {
+    let of_site = Notes {
+        defs: &[],
+        ..*notes
+    };
+    of_site.warn(rt);
 }
 
 /// Tells why the texts of the files aren't had, with a note on the file, and gives the status.
@@ -449,7 +446,10 @@ fn served_with<W: Write>(
                 serving,
                 keeping: keeping_of(matches, state),
             };
-            run.notes.warn(rt);
+            match devices {
+                Devices::Plant(_) => warn_of_site(rt, notes),
+                _ => notes.warn(rt),
+            }
             run_service(rt, alloc, &run, out)
         }
         Err(why) => tell_misuse(rt, alloc, why, out),

@@ -332,7 +332,7 @@ fn status_of(code: Option<i32>) -> u8 {
     }
 }
 
-/// Starts a plant by the program at a path. What it prints can be read. It warns of the plant file alone.
+/// Starts a plant by the program at a path. What it prints can be read.
 pub(crate) fn start_plant<R: Processes>(
     rt: &R,
     alloc: Global,
@@ -345,8 +345,7 @@ pub(crate) fn start_plant<R: Processes>(
         let words = ["simulate", "--quiet", plant];
         return start(rt, alloc, exe, &words, def_paths);
     }
-    let words = ["simulate", "--warned", plant];
-    start(rt, alloc, exe, &words, def_paths)
+    start(rt, alloc, exe, &["simulate", plant], def_paths)
 }
 
 fn start_probe<R: Processes>(
