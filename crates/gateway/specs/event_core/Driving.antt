@@ -25,6 +25,6 @@ Drives depth old (event.Client pdu) new = new.machine ≡ old.machine
 abbrev pub TakesEvent : ℕ → Gateway → Event → Answer → Gateway → Type 0
 TakesEvent depth old e a new = Advances old e a new × Drives depth old e new
 
--- the same, whatever number of deferred values the machine has room for
+-- the same, by a machine that has room for some number of deferred values; for how many isn't said
 abbrev pub Happens : Gateway → Event → Answer → Gateway → Type 0
 Happens old e a new = (depth : ℕ) × TakesEvent depth old e a new
