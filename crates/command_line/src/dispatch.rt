@@ -1,29 +1,20 @@
 //! The command line.
-ghost use Rattle.std.specs.Prelude.{IfSome};
-ghost use Rattle.commands.specs.Obeyed.{Obeys};
-ghost use Rattle.commands.specs.Outcome.{IsTrial};
-ghost use Rattle.command_line.specs.Asked.{ObeysFiles};
-ghost use Rattle.command_line.specs.Tried.{TellsHindered, Tries};
-
 use crate::arguments::command;
-use crate::file_command::{FileCommand, probe_address};
-use crate::plant_run::{PlantRun, run_plant};
-use crate::plant_server::simulate;
-use crate::probe_link::probe_over;
+use crate::command_words::{file_command, probe_address};
 use crate::serve_words::{
     devices_of, keeping_misuse, keeping_of, listen_address, service_limits, serving_of, writers_of,
 };
 use crate::service_run::{Devices, ServiceRun, run_service};
-use crate::source::{SourceFault, read_text};
 use crate::sources::{Refusal, Sources, read_sources, read_state};
-use crate::standard_input::{STANDARD_INPUT, misuse};
+use crate::standard_input::misuse;
 use clap::error::ErrorKind;
 use clap::{ArgMatches, Error};
-use commands::{TextCommand, tell_no_memory, write_lines};
+use commands::tell_no_memory;
+use file_commands::{obey_on, trial_of, warn_of_site};
 use refusal_notes::{Notes, escaped, explain_unusable};
 use site_service::Serving;
 use std::alloc::{AllocError, Global};
-use std::io::{Read, Write};
+use std::io::Write;
 use std::net::Net;
 use std::process::Processes;
 use std::rt::{Env, Files};
@@ -81,68 +72,6 @@ fn trial_of_input<W: Write>(
     out: &mut W,
 ) -> u8 {
     trial_of(rt, rt.reader(), quiet, out)
-}
-
-/// A trial of the text that a reader gives; or it is told why that isn't had. Whether a read failed the reader tells no
-/// contract.
-fn trial_of<S: Read + Drop, W: Write>(
-    rt: &(impl Eprint + AllocGlobal),
-    reader: S,
-    quiet: bool,
-    out: &mut W,
-) -> u8
-    ensures { IfSome (S.remaining reader) (λ bytes. Tries bytes (W.contents out.old) (W.contents out.new) result) }
-{
-    match read_text(rt.alloc(), reader) {
-        Ok(text) => trial_on(rt, text.as_str(), quiet, out),
-        Err(fault) => tell_hindered(rt, fault, quiet, out),
-    }
-}
-
-/// A trial of the text of standard input.
-fn trial_on<W: Write>(rt: &(impl Eprint + AllocGlobal), input: &str, quiet: bool, out: &mut W) -> u8
-    ensures { IsTrial input.now (W.contents out.old) (W.contents out.new) result }
-{
-    let notes = Notes::on_program(quiet, STANDARD_INPUT, input);
-    let obeyed = commands::obey(rt.alloc(), TextCommand::Trial { input }, out);
-    notes.explain(rt, &obeyed.cause);
-    obeyed.status
-}
-
-/// Tells why the text of standard input isn't had, and gives the status.
-fn tell_hindered<W: Write>(
-    rt: &(impl Eprint + AllocGlobal),
-    fault: SourceFault,
-    quiet: bool,
-    out: &mut W,
-) -> u8
-    ensures { TellsHindered fault (W.contents out.old) (W.contents out.new) result }
-{
-    match fault {
-        SourceFault::Unusable(fault) => {
-            if !quiet {
-                explain_unusable(rt, STANDARD_INPUT, fault);
-            }
-            write_lines(out, b"refused: file -\n", 1)
-        }
-        SourceFault::OutOfMemory => tell_no_memory(out),
-    }
-}
-
-/// Has a command obeyed on the texts of its files, warns on standard error of what nothing reads in them, and explains
-/// there why a text is refused.
-fn told<W: Write>(
-    rt: &(impl Eprint + AllocGlobal),
-    command: TextCommand<'_>,
-    notes: &Notes<'_>,
-    out: &mut W,
-) -> u8
-    ensures { Obeys command.entry (W.contents out.old) (W.contents out.new) result }
-{
-    let obeyed = commands::obey(rt.alloc(), command, out);
-    notes.warn(rt);
-    notes.explain(rt, &obeyed.cause);
-    obeyed.status
 }
 
 /// Obeys the words of a command line, of which the first is the program's path, and prints what the command prints to
@@ -300,71 +229,11 @@ fn obey_on_texts<W: Write>(
         def_paths: matches.get_strs("def").unwrap_or(&[]),
         defs: sources.defs.as_slice(),
     };
-    match FileCommand::of(name, matches) {
+    match file_command(name, matches) {
         Some(command) => obey_on(rt, alloc, itself, command, &notes, out),
         None if name == "serve" => served(rt, alloc, itself, matches, &notes, out),
         None => BAD_COMMAND_LINE,
     }
-}
-
-/// Does what a command asks for, on just the texts of its files; `itself` is this program's path.
-fn obey_on<W: Write>(
-    rt: &(impl Eprint + AllocGlobal + Net + Processes),
-    alloc: Global,
-    itself: &str,
-    command: FileCommand<'_>,
-    notes: &Notes<'_>,
-    out: &mut W,
-) -> u8
-    ensures { ObeysFiles command.entry notes.now (W.contents out.old) (W.contents out.new) result }
-{
-    let (site, program, defs) = (notes.site, notes.program, notes.defs);
-    match command {
-        FileCommand::Check => {
-            let check = TextCommand::Check {
-                site,
-                program,
-                defs,
-            };
-            told(rt, check, notes, out)
-        }
-        FileCommand::Explain { listing } => {
-            let explain = TextCommand::Explain {
-                site,
-                program,
-                defs,
-                listing,
-            };
-            told(rt, explain, notes, out)
-        }
-        FileCommand::Simulate { at } => {
-            notes.warn(rt);
-            simulate(rt, alloc, notes, at, out)
-        }
-        FileCommand::Run { plant, scans, exe } => {
-            let run = PlantRun {
-                notes: *notes,
-                plant,
-                scans,
-                exe: exe.unwrap_or(itself),
-            };
-            warn_of_site(rt, notes);
-            run_plant(rt, alloc, &run, out)
-        }
-        FileCommand::Probe { run } => {
-            notes.warn(rt);
-            probe_over(rt, alloc, run, notes, out)
-        }
-    }
-}
-
-/// Warns of what nothing reads in the site file. The simulator that is started warns of the plant file and the definitions.
-fn warn_of_site(rt: &(impl Eprint + AllocGlobal), notes: &Notes<'_>) {
-    let of_site = Notes {
-        defs: &[],
-        ..*notes
-    };
-    of_site.warn(rt);
 }
 
 /// Tells why the texts of the files aren't had, with a note on the file, and gives the status.

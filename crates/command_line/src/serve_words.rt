@@ -5,7 +5,8 @@ use crate::service_run::Devices;
 use clap::builder::ValueParser;
 use clap::{Arg, ArgAction, ArgMatches, Command};
 use service_core::Limits;
-use site_service::{Keeping, KeptState, Serving, has_port, limits};
+use service_texts::{has_port, limits};
+use site_service::{Keeping, KeptState, Serving};
 use std::alloc::{AllocError, Global};
 use std::net::{IpAddr, Ipv4Addr, Net, SocketAddr, ToSocketAddrs};
 

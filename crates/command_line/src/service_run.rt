@@ -1,21 +1,18 @@
 //! The command `serve`: a program on a site, scan by scan, by the clock.
-ghost use Rattle.command_line.specs.Printing.{Fails};
-
 use crate::dispatch::tell_misuse;
-use crate::plant_lines::{plant_line, port_in};
-use crate::plant_run::{no_start, start_plant, tell_lost, tell_no_port, tell_unreached};
-use commands::{
-    Accepted, DEPTH, FAILED_LINK, Outcome, accept, no_core, tell_no_memory, write_lines,
+use commands::{Accepted, DEPTH, Outcome, accept, no_core, tell_no_memory, write_lines};
+use file_commands::{
+    no_start, plant_line, port_in, start_plant, tell_lost, tell_no_port, tell_unreached,
+    tell_unserved,
 };
 use gateway::CoreFault;
 use modbus_frame::LinkFault;
 use refusal_notes::{Notes, escaped};
 use scan_vm::Machine;
 use service_core::{Limits, Service};
+use service_texts::{AddressFault, Addresses, has_port, read_places};
 use site_model::Site;
-use site_service::{
-    AddressFault, Addresses, End, Keeping, Serving, has_port, read_places, serve_site,
-};
+use site_service::{End, Keeping, Serving, serve_site};
 use std::alloc::{AllocError, Global};
 use std::io::{ErrorKind, Read, Write};
 use std::net::{Net, SocketAddr};
@@ -299,35 +296,6 @@ fn serve_over<R: Net + Clock + Eprint + AllocGlobal + Files, W: Write>(
         Err(End::System) => tell_lost(rt, alloc, &run.notes, LinkFault::Read, out),
         Err(End::Listen(kind)) => tell_unserved(alloc, run.serving.listen, kind, out),
     }
-}
-
-/// Tells that nothing can be served at an address, and gives the status.
-pub(crate) fn tell_unserved<W: Write>(
-    alloc: Global,
-    address: SocketAddr,
-    kind: ErrorKind,
-    out: &mut W,
-) -> u8
-    ensures { Fails (W.contents out.old) (W.contents out.new) result }
-{
-    match unserved_line(alloc, address, cause_word(kind)) {
-        Ok(line) => write_lines(out, line.as_bytes(), FAILED_LINK),
-        Err(AllocError) => tell_no_memory(out),
-    }
-}
-
-fn cause_word(kind: ErrorKind) -> &'static str {
-    match kind {
-        ErrorKind::AddrInUse => "InUse",
-        ErrorKind::AddrNotAvailable => "NotAvailable",
-        ErrorKind::PermissionDenied => "Denied",
-        _ => "Failed",
-    }
-}
-
-fn unserved_line(alloc: Global, address: SocketAddr, why: &str) -> Result<String, AllocError> {
-    let text = format!(in alloc; "refused: listen {address} {why}\n")?;
-    Ok(text)
 }
 
 /// Starts a plant, serves the site over it, and ends it: one that nobody came to would wait for ever.

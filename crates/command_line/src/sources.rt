@@ -1,10 +1,10 @@
 //! The texts of the files that a command line names.
-ghost use Rattle.command_line.specs.Printing.{Fails};
+ghost use Rattle.file_commands.specs.Printing.{Fails};
 
-use crate::source::{SourceFault, read_file, read_kept};
 use clap::ArgMatches;
-use commands::{tell_no_memory, tell_unusable};
-use refusal_notes::{FileFault, escaped};
+use commands::tell_no_memory;
+use file_commands::{SourceFault, read_file, read_kept, tell_file};
+use refusal_notes::FileFault;
 use std::alloc::{AllocFailed, Global};
 use std::io::Write;
 use std::rt::Files;
@@ -34,17 +34,6 @@ impl Refusal<'_> {
             Refusal::OutOfMemory => tell_no_memory(out),
             Refusal::File(path, _) => tell_file(alloc, path, out),
         }
-    }
-}
-
-/// Writes that the file at a path can't be used, and gives the status. Control characters in the path are escaped, so that
-/// it can't pass for another line.
-fn tell_file<W: Write>(alloc: Global, path: &str, out: &mut W) -> u8
-    ensures { Fails (W.contents out.old) (W.contents out.new) result }
-{
-    match escaped(alloc, path) {
-        Ok(path) => tell_unusable(alloc, path.as_str(), out),
-        Err(_) => tell_no_memory(out),
     }
 }
 

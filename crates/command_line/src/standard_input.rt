@@ -1,8 +1,6 @@
 //! Where a command line names standard input, PATH `-`, as a file.
 use clap::ArgMatches;
-
-/// The path of standard input.
-pub(crate) const STANDARD_INPUT: &str = "-";
+use file_commands::STANDARD_INPUT;
 
 /// Why the files that a command line names can't be had, where standard input is among them: it is read once, and a
 /// second process doesn't get it.

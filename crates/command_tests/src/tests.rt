@@ -18,6 +18,7 @@ mod simulate;
 mod standard_error;
 mod text_commands;
 mod trial;
+mod unwritten;
 mod warnings;
 
 use std::fmt::Debug;

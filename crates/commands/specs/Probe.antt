@@ -21,6 +21,7 @@ use Rattle.register_map.specs.declared.layout.Block.{Block}
 use Rattle.register_map.specs.declared.layout.MapFault.{MapFault}
 use Rattle.site_model.specs.Readings.{registers_at}
 use Rattle.site_model.specs.Tagging.{is_numeric}
+use Rattle.escaped_text.specs.Escaping.{escaped}
 use Rattle.commands.specs.declared.unit_points.NoLines.{NoLines}
 use Rattle.commands.specs.declared.unit_points.NoLines.TheVariants as no_lines
 use Rattle.commands.specs.Report.{bad_map_line, line_of, link_line, no_memory_line}
@@ -32,9 +33,9 @@ use Rattle.commands.specs.Told.{IsTold, Told, refused_with}
 abbrev pub model_line : Block → List ℕ
 model_line b = line_of (codes "model " ++ decimal b.id ++ codes " " ++ decimal b.addr ++ codes " " ++ decimal b.length)
 
--- NAME NUMBER
+-- NAME NUMBER, with the control characters of the name escaped: a definition that is handed in may have any text there
 abbrev pub point_line : List ℕ → ℤ → List ℕ
-point_line name n = line_of (name ++ codes " " ++ signed_decimal n)
+point_line name n = line_of (escaped name ++ codes " " ++ signed_decimal n)
 
 -- end ADDR
 abbrev pub end_line : ℕ → List ℕ

@@ -108,7 +108,23 @@ fn no_input(program: &Program, image: &Image, name: &Name) -> &'static str {
             return "the program declares it and doesn't load it";
         }
     }
+    if is_presence(image, name.as_str()) {
+        return "it says whether an input has a value, which the line of that input tells";
+    }
     "the program has no input of this name"
+}
+
+/// Whether a name is that of the presence of an input.
+fn is_presence(image: &Image, name: &str) -> bool {
+    let Some(input) = name.strip_suffix("_ok") else {
+        return false;
+    };
+    for tag in image.tags.as_slice() {
+        if !tag.output && tag.name.as_str() == input {
+            return true;
+        }
+    }
+    false
 }
 
 fn is_same(one: &Name, other: &Name) -> bool {

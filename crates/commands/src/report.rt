@@ -5,6 +5,7 @@ ghost use Rattle.commands.specs.Probe as probe;
 ghost use Rattle.commands.specs.Report as report;
 ghost use Rattle.commands.specs.Report.{scan_line};
 
+use escaped_text::escaped;
 use gateway::Report;
 use point_types::{IlType, Name};
 use register_map::Block;
@@ -164,7 +165,7 @@ pub fn push_model(lines: &mut Vec<u8>, alloc: Global, block: &Block) -> Result<(
     Ok(())
 }
 
-/// Appends the line `NAME NUMBER`.
+/// Appends the line `NAME NUMBER`, with the name's control characters escaped.
 pub(crate) fn push_point(
     lines: &mut Vec<u8>,
     alloc: Global,
@@ -173,7 +174,9 @@ pub(crate) fn push_point(
 ) -> Result<(), AllocError>
     ensures ok { OnOk result (lines.new.items ≡ lines.old.items ++ probe.point_line name.now number) }
 {
-    let line = format!(in alloc; "{name} {number}\n")?;
+    let name = escaped(alloc, name)?;
+    let line = format!(in alloc; " {number}\n")?;
+    lines.extend_from_slice(name.as_bytes())?;
     lines.extend_from_slice(line.as_bytes())?;
     Ok(())
 }

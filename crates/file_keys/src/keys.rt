@@ -68,7 +68,7 @@ pub fn numbers_in(value: &Value) -> Option<&[Value]>
 }
 
 /// The elements of a list of texts.
-pub(crate) fn texts_in(value: &Value) -> Option<&[Value]>
+pub fn texts_in(value: &Value) -> Option<&[Value]>
     ensures { option_map (λ s. items_view s.now) result ≡ texts_in (view value.now) }
 {
     let list = value.as_array()?.as_slice();

@@ -3,13 +3,13 @@
 
 mod device;
 mod fault;
-mod fault_place;
 mod misbehaviour;
 mod part;
 mod place;
 mod plant;
 mod points;
 mod reader;
+pub mod rules;
 mod serving;
 mod tick;
 

@@ -11,7 +11,6 @@ ghost use Rattle.inverter_sim.specs.Serve.{after_among, reply_among, after_servi
 
 use crate::device::Device;
 use crate::fault::PlantFault;
-use crate::fault_place::place_of;
 use crate::misbehaviour::Fault;
 use crate::part::PlantPart;
 use crate::reader::{devices_of, faults_of, too_long};
@@ -64,8 +63,7 @@ impl Plant {
         read_to(alloc, toml, defs, &mut part)
     }
 
-    /// The same; the fault, which is that of [`Plant::read`], has the part of the file that breaks the rule, and its place
-    /// in the text.
+    /// The same; the fault, which is that of [`Plant::read`], has the part of the file that breaks the rule.
     pub fn read_placed(
         alloc: Global,
         toml: &str,
@@ -79,11 +77,7 @@ impl Plant {
         let mut part = PlantPart::File;
         match read_to(alloc, toml, defs, &mut part) {
             Ok(plant) => Ok(plant),
-            Err(fault) => Err(Placed {
-                fault,
-                part,
-                place: place_of(alloc, toml, defs, part, fault),
-            }),
+            Err(fault) => Err(Placed { fault, part }),
         }
     }
 

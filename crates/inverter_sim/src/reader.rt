@@ -7,7 +7,10 @@ mod keys;
 mod layout;
 mod values;
 
-pub(crate) use device::{definition_of, devices_of};
-pub(crate) use faults::{MOST_FAULTS, faults_of, own_key};
-pub(crate) use keys::{MOST_DEVICES, MOST_MODELS, MOST_WATTS, too_long};
-pub(crate) use values::numbers_of;
+pub use device::definition_of;
+pub(crate) use device::devices_of;
+pub(crate) use faults::faults_of;
+pub use faults::{MOST_FAULTS, own_key};
+pub(crate) use keys::too_long;
+pub use keys::{MOST_DEVICES, MOST_MODELS, MOST_WATTS};
+pub use values::numbers_of;

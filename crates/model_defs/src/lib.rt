@@ -3,7 +3,6 @@
 
 mod description;
 mod fault;
-mod fault_place;
 pub mod laws;
 mod model;
 mod models;
@@ -12,6 +11,7 @@ mod placing;
 mod point;
 mod point_object;
 mod reader;
+pub mod rules;
 
 // a definition, read or shipped
 pub use fault::DefFault;

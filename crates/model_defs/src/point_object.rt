@@ -20,7 +20,7 @@ struct PointKeys<'a> {
 }
 
 /// A number without a fraction and without an exponent.
-pub(crate) fn whole_number(tree: &Value) -> Option<i128>
+pub fn whole_number(tree: &Value) -> Option<i128>
     ensures { result ≡ whole (view tree.now) }
 {
     tree.as_number().and_then(|n| n.as_i128())
@@ -62,7 +62,7 @@ fn keys_of(tree: &Value) -> Option<PointKeys<'_>>
 }
 
 /// The kind of a type's word (SunSpec Device Information Model Specification, the table of types).
-pub(crate) fn kind_named(word: &str) -> Option<Kind>
+pub fn kind_named(word: &str) -> Option<Kind>
     ensures { result ≡ kind_of word.now }
 {
     match word {

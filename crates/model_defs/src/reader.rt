@@ -11,7 +11,6 @@ ghost use Rattle.model_defs.specs.declared.fault.DefFault.TheVariants as fault;
 
 use crate::description::Descriptions;
 use crate::fault::DefFault;
-use crate::fault_place::place_of;
 use crate::model::ModelDef;
 use crate::part::DefPart;
 use crate::placing::lay_out;
@@ -35,8 +34,7 @@ pub fn read(alloc: Global, text: &[u8]) -> Result<ModelDef, DefFault>
     read_to(alloc, text, &mut part)
 }
 
-/// The same; the fault, which is that of [`read`], has the part of the definition that breaks the rule, and its place in
-/// the text.
+/// The same; the fault, which is that of [`read`], has the part of the definition that breaks the rule.
 pub fn read_placed(alloc: Global, text: &[u8]) -> Result<ModelDef, Placed<DefFault, DefPart>>
     ensures ok { IfOk result (IsRead text.now) }
     ensures unbroken { OnOk result ((e : DefFault) → ¬ Breaks text.now e) }
@@ -46,11 +44,7 @@ pub fn read_placed(alloc: Global, text: &[u8]) -> Result<ModelDef, Placed<DefFau
     let mut part = DefPart::Model;
     match read_to(alloc, text, &mut part) {
         Ok(model) => Ok(model),
-        Err(fault) => Err(Placed {
-            fault,
-            part,
-            place: place_of(alloc, text, part, fault),
-        }),
+        Err(fault) => Err(Placed { fault, part }),
     }
 }
 

@@ -1,11 +1,12 @@
 //! Why a program is refused, by what is known where it is.
 use crate::budget::budget_detail;
-use crate::code_lines::{declared_line, instruction_line};
+use crate::code_lines::declared_line;
 use crate::refusing::instruction_text;
 use crate::words::{access_words, type_word};
 use facts::{Refusal, RefusalKind, RefusedAt};
 use il_reader::Program;
 use point_types::Name;
+use program_rows::instruction_line;
 use scan_code::{Image, Tag};
 use site_model::{Site, SiteTag};
 use std::alloc::{AllocError, Global};

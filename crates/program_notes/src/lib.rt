@@ -11,20 +11,17 @@ mod line_index;
 mod longest;
 mod mending;
 mod refusing;
-mod rows;
 mod stacking;
 mod table;
 mod typing;
 mod uses;
 mod words;
 
-pub use code_lines::{
-    address_of, declared_line, instruction_line, line_inside, name_in, number_at, tag_name,
-};
+pub use code_lines::{address_of, declared_line, line_inside, name_in, number_at, tag_name};
 pub use detail::{Detail, detail_of};
 pub use mending::Mend;
-pub use refusing::mend_of;
-pub use rows::{Row, rows_of};
+pub use program_rows::{Row, instruction_line, rows_of};
+pub use refusing::{is_divided_by_zero, mend_of};
 pub use table::{Beside, table_of};
 pub use uses::{Use, other_use_text, uses_in};
 pub use words::type_word;

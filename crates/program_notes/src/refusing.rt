@@ -79,16 +79,39 @@ fn fact_text(
     match kind {
         RefusalKind::Overflow => overflow_text(alloc, fact, op),
         RefusalKind::ZeroDivisor => divisor_text(alloc, fact),
-        RefusalKind::MayBeMissing => String::from_str(
-            alloc,
-            "an input without a default, and nothing before says that it is present",
-        ),
+        RefusalKind::MayBeMissing => {
+            String::from_str(alloc, absent_words(context.instructions(), number))
+        }
         RefusalKind::StoreRange => store_text(alloc, image, context, fact, op),
         RefusalKind::WrongType => type_text(alloc, image, before, fact, op),
         RefusalKind::NoResult => String::from_str(alloc, missing_words(before)),
         RefusalKind::Stack => stack_text(alloc, fact, op),
         _ => Ok(String::new(alloc)),
     }
+}
+
+/// Why an input may be missing.
+fn absent_words(instructions: &[(usize, Op)], number: usize) -> &'static str {
+    if is_behind_repeated(instructions, number) {
+        "an input without a default; what is known before the label of a counted jump is forgotten there, and nothing behind it says that it is present"
+    } else {
+        "an input without a default, and nothing before says that it is present"
+    }
+}
+
+/// Whether an instruction stands at the label of a counted jump or behind it.
+fn is_behind_repeated(instructions: &[(usize, Op)], number: usize) -> bool {
+    let Some((address, _)) = instructions.get(number) else {
+        return false;
+    };
+    for (_, op) in instructions {
+        if let Op::Repeat(_, _, _, label) = op {
+            if usize::from(*label) <= *address {
+                return true;
+            }
+        }
+    }
+    false
 }
 
 /// Why there is no result, by the instructions before.
@@ -118,6 +141,27 @@ pub fn mend_of(alloc: Global, image: &Image, site: &Site, number: usize) -> Opti
     match known(alloc, &context, number) {
         Ok(Arrived::AbstractValue(fact)) => mended_by(image, &fact, op),
         _ => None,
+    }
+}
+
+/// Whether the divisor at an instruction is known to be 0.
+pub fn is_divided_by_zero(alloc: Global, image: &Image, site: &Site, number: usize) -> bool {
+    let Ok(context) = framed(alloc, image, site, MOST_DEFERRED) else {
+        return false;
+    };
+    if number >= context.size() {
+        return false;
+    }
+    match known(alloc, &context, number) {
+        Ok(Arrived::AbstractValue(fact)) => has_zero(&fact),
+        _ => false,
+    }
+}
+
+fn has_zero(fact: &Fact) -> bool {
+    match &fact.result {
+        Some(result) => result.span.ends() == Some((0, 0)),
+        None => false,
     }
 }
 
@@ -178,6 +222,9 @@ fn past_type(
 
 fn divisor_text(alloc: Global, fact: &Fact) -> Result<String, AllocError> {
     match &fact.result {
+        Some(_) if has_zero(fact) => {
+            String::from_str(alloc, "the divisor is 0 on each way to here")
+        }
         Some(divisor) => {
             let span = span_words(alloc, divisor.span)?;
             let span = span.as_str();

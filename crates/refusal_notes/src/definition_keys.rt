@@ -1,6 +1,6 @@
 //! The keys of a model definition that are known, and which others stand there.
 use crate::unread_keys::{Unread, is_among};
-use file_keys::{EntryName, entry_named};
+use file_places::{EntryName, entry_named};
 use serde_json::Value;
 use std::alloc::AllocError;
 

@@ -1,6 +1,6 @@
 //! What is noted of a file that is refused.
 use crate::cause::Cause;
-use file_keys::{Advice, FilePlace};
+use file_places::{Advice, FilePlace, place_in_definition, place_in_plant, place_in_site};
 use inverter_sim::{Plant, PlantFault};
 use model_defs::{DefFault, ModelDef, read_placed};
 use site_model::{Site, SiteFault};
@@ -12,7 +12,8 @@ use std::alloc::Global;
 pub fn cause_of_site(alloc: Global, text: &str, models: &[ModelDef], fault: SiteFault) -> Cause {
     let mut cause = Cause::no_site(alloc, fault);
     if let Err(placed) = Site::read_placed(alloc, text, models) {
-        put_place(alloc, &mut cause, text, placed.place, SITE_NEEDS);
+        let place = place_in_site(alloc, text, models, placed.part, placed.fault);
+        put_place(alloc, &mut cause, text, place, SITE_NEEDS);
     }
     put_brackets(text, &mut cause);
     cause
@@ -23,7 +24,8 @@ pub fn cause_of_site(alloc: Global, text: &str, models: &[ModelDef], fault: Site
 pub fn cause_of_plant(alloc: Global, text: &str, models: &[ModelDef], fault: PlantFault) -> Cause {
     let mut cause = Cause::no_plant(alloc, fault);
     if let Err(placed) = Plant::read_placed(alloc, text, models) {
-        put_place(alloc, &mut cause, text, placed.place, PLANT_NEEDS);
+        let place = place_in_plant(alloc, text, models, placed.part, placed.fault);
+        put_place(alloc, &mut cause, text, place, PLANT_NEEDS);
     }
     put_brackets(text, &mut cause);
     cause
@@ -35,7 +37,8 @@ pub fn cause_of_definition(alloc: Global, defs: &[String], fault: DefFault) -> C
     for (number, text) in defs.iter().enumerate() {
         if let Err(placed) = read_placed(alloc, text.as_bytes()) {
             let mut cause = Cause::undefined(alloc, number, fault);
-            put_place(alloc, &mut cause, text.as_str(), placed.place, &[]);
+            let place = place_in_definition(alloc, text.as_bytes(), placed.part, placed.fault);
+            put_place(alloc, &mut cause, text.as_str(), place, &[]);
             return cause;
         }
     }

@@ -15,13 +15,41 @@ const SEMICOLON: Hint = Hint {
     help: "leave the semicolon out; it stands behind declarations alone",
 };
 
-static MISTAKES: [Mistake; 32] = [
+static MISTAKES: [Mistake; 35] = [
     Mistake {
         kind: ReadFaultKind::Word,
         signs: &["\u{feff}"],
         hint: Hint {
             meaning: "a byte order mark stands in front of the text",
             help: "save the file as UTF-8 without it",
+        },
+    },
+    Mistake {
+        kind: ReadFaultKind::Word,
+        signs: &[
+            "\u{a0}", "\u{2002}", "\u{2003}", "\u{2007}", "\u{2009}", "\u{202f}", "\u{3000}",
+        ],
+        hint: Hint {
+            meaning: "a blank of another width stands here",
+            help: "write an ordinary blank in its place",
+        },
+    },
+    Mistake {
+        kind: ReadFaultKind::Word,
+        signs: &["\u{ad}", "\u{200b}", "\u{200c}", "\u{200d}", "\u{2060}"],
+        hint: Hint {
+            meaning: "a character without a shape stands here",
+            help: "write the line anew, or take away what is not seen",
+        },
+    },
+    Mistake {
+        kind: ReadFaultKind::Word,
+        signs: &[
+            "\u{2010}", "\u{2011}", "\u{2012}", "\u{2013}", "\u{2014}", "\u{2212}",
+        ],
+        hint: Hint {
+            meaning: "a dash or a minus of another form stands here",
+            help: "write the sign of a number as -, right before its digits",
         },
     },
     Mistake {
@@ -58,7 +86,7 @@ static MISTAKES: [Mistake; 32] = [
     },
     Mistake {
         kind: ReadFaultKind::Word,
-        signs: &["'", "\""],
+        signs: &["'", "\"", "\u{2018}", "\u{2019}", "\u{201c}", "\u{201d}"],
         hint: Hint {
             meaning: "there are no texts in quotes",
             help: "use whole numbers, TRUE and FALSE",

@@ -1,6 +1,7 @@
 //! The keys of site and plant files that are read, and which others stand there.
 use crate::unread_keys::{Unread, is_among};
-use file_keys::{EntryName, list_at, named_entry};
+use file_keys::list_at;
+use file_places::{EntryName, named_entry};
 use std::alloc::AllocError;
 use toml::Value;
 

@@ -1,7 +1,7 @@
 //! Warnings of the keys of a file that nothing reads.
 use crate::definition_keys::push_unread_of_definition;
 use crate::table_keys::{push_unread_of_plant, push_unread_of_site};
-use file_keys::{EntryName, entry_shown};
+use file_places::{EntryName, entry_shown};
 use source_notes::{escaped, nearest_of};
 use std::alloc::{AllocError, Global};
 

@@ -3,7 +3,9 @@ use crate::cause::Cause;
 use crate::nearest::Nearest;
 use il_reader::Program;
 use point_types::Name;
-use program_notes::{Mend, address_of, detail_of, mend_of, name_in, tag_name, type_word};
+use program_notes::{
+    Mend, address_of, detail_of, is_divided_by_zero, mend_of, name_in, tag_name, type_word,
+};
 use scan_code::{Image, decode};
 use site_model::Site;
 use std::alloc::{AllocError, Global};
@@ -38,9 +40,22 @@ pub fn cause_of_refusal(alloc: Global, program: &Program, site: &Site, refused: 
         RefusalKind::WrongType => {
             let _ = put_mend(alloc, &mut cause, site, refused);
         }
+        RefusalKind::ZeroDivisor => put_divisor(alloc, &mut cause, site, refused),
         _ => {}
     }
     cause
+}
+
+/// The help on a divisor that is always 0.
+const NO_DIVISOR: &str = "divide by another number: no scan could go on behind this";
+
+/// Puts in that another divisor is wanted, where it is always 0.
+fn put_divisor(alloc: Global, cause: &mut Cause, site: &Site, refused: &Refused) {
+    if let RefusedAt::Instruction(number) = refused.at {
+        if is_divided_by_zero(alloc, &refused.image, site, number) {
+            cause.help = NO_DIVISOR;
+        }
+    }
 }
 
 /// The help on two types of which one is converted.

@@ -106,6 +106,10 @@ pub(crate) fn no_word(alloc: Global, met: &Met<'_, '_>) -> Option<Told> {
     }
     let piece = met.piece()?;
     let hint = mistake_met(met).or(hint_on_word(piece.text))?;
+    // (what is no part of a piece, as a blank of another width, is marked where it stands)
+    if piece.at > met.at {
+        return Some(Told::new(alloc, hint));
+    }
     Some(Told::on(alloc, piece, hint))
 }
 

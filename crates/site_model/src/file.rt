@@ -12,7 +12,6 @@ use crate::device::SiteDevice;
 use crate::device_numbers::device_numbers;
 use crate::devices::read_devices;
 use crate::fault::SiteFault;
-use crate::fault_place::place_of;
 use crate::gateway::{Gateway, read_gateway};
 use crate::lengths::lengths_of;
 use crate::part::SitePart;
@@ -29,13 +28,13 @@ use std::alloc::{AllocError, Global};
 use toml::Value;
 
 /// The most models of a gateway.
-pub(crate) const MOST_MODELS: usize = 16;
+pub const MOST_MODELS: usize = 16;
 /// The most devices of a site.
-pub(crate) const MOST_DEVICES: usize = 64;
+pub const MOST_DEVICES: usize = 64;
 /// The most tags of a site.
-pub(crate) const MOST_TAGS: usize = 1024;
+pub const MOST_TAGS: usize = 1024;
 /// The most entries of what is served.
-pub(crate) const MOST_SERVED: usize = 256;
+pub const MOST_SERVED: usize = 256;
 
 impl Site {
     /// Reads a site file (TOML) over model definitions, of which the last one of an ID counts. Unknown keys aren't looked
@@ -48,8 +47,7 @@ impl Site {
         read_to(alloc, toml, defs, &mut part)
     }
 
-    /// The same; the fault, which is that of [`Site::read`], has the part of the file that breaks the rule, and its place
-    /// in the text.
+    /// The same; the fault, which is that of [`Site::read`], has the part of the file that breaks the rule.
     pub fn read_placed(
         alloc: Global,
         toml: &str,
@@ -62,11 +60,7 @@ impl Site {
         let mut part = SitePart::File;
         match read_to(alloc, toml, defs, &mut part) {
             Ok(site) => Ok(site),
-            Err(fault) => Err(Placed {
-                fault,
-                part,
-                place: place_of(alloc, toml, defs, part, fault),
-            }),
+            Err(fault) => Err(Placed { fault, part }),
         }
     }
 }

@@ -65,7 +65,7 @@ fn keys_at(file: &Value) -> Option<GatewayKeys<'_>>
 }
 
 /// The definition of an ID; of two with one ID the last one counts.
-pub(crate) fn definition_of(defs: &[ModelDef], id: i64) -> Option<&ModelDef>
+pub fn definition_of(defs: &[ModelDef], id: i64) -> Option<&ModelDef>
     ensures { option_map (λ d. d.now) result ≡ definition_of defs.now id }
 {
     let mut found = None;

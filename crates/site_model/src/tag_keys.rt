@@ -75,7 +75,7 @@ fn numbers_of(entry: &Value) -> Option<Numbers>
 }
 
 /// The access of a word.
-pub(crate) fn access_of(word: &str) -> Option<Access>
+pub fn access_of(word: &str) -> Option<Access>
     ensures { result ≡ access_of word.now }
 {
     match word {
@@ -88,7 +88,7 @@ pub(crate) fn access_of(word: &str) -> Option<Access>
 }
 
 /// The type of a word (IEC 61131-3 edition 2, 2.3.1).
-pub(crate) fn type_of(word: &str) -> Option<IlType>
+pub fn type_of(word: &str) -> Option<IlType>
     ensures { result ≡ type_of word.now }
 {
     match word {
@@ -105,7 +105,7 @@ pub(crate) fn type_of(word: &str) -> Option<IlType>
 }
 
 /// The name of a tag, which is in lower case and isn't that of another one's presence.
-pub(crate) fn tag_name(text: &str) -> Option<Name>
+pub fn tag_name(text: &str) -> Option<Name>
     ensures { result ≡ tag_name text.now }
 {
     let name = Name::from_bytes(text.as_bytes())?;

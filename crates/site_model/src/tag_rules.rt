@@ -15,7 +15,7 @@ use model_defs::{ModelDef, Point};
 use point_types::{IlType, Kind};
 
 /// Whether the tag's point is a device's.
-pub(crate) fn is_polled(access: Access) -> bool
+pub fn is_polled(access: Access) -> bool
     ensures { result ≡ is_polled access }
 {
     matches!(access, Access::Input | Access::Output)
@@ -133,7 +133,7 @@ fn bit_of(point: Kind, bit: Option<i64>) -> Option<Option<u8>>
 }
 
 /// The last bit of a bitfield that may be a tag.
-pub(crate) fn last_bit(point: Kind) -> Option<u8>
+pub fn last_bit(point: Kind) -> Option<u8>
     ensures { result ≡ last_bit point }
 {
     match point {

@@ -134,7 +134,7 @@ fn model_for<'a>(scope: Scope<'a, '_>, access: Option<Access>, id: i64) -> Optio
 }
 
 /// The point of a name.
-pub(crate) fn point_for<'a>(name: &str, model: &'a ModelDef) -> Option<&'a Point>
+pub fn point_for<'a>(name: &str, model: &'a ModelDef) -> Option<&'a Point>
     ensures { option_map (λ p. p.now) result ≡ point_for name.now model.now }
 {
     model.points.as_slice().get(model.find(name)?)
@@ -175,7 +175,7 @@ fn is_same_point(tag: &SiteTag, other: &SiteTag) -> bool
 }
 
 /// Whether both are written to devices, or both are the gateway's own.
-pub(crate) fn is_same_side(access: Access, other: Access) -> bool
+pub fn is_same_side(access: Access, other: Access) -> bool
     ensures { result ≡ is_same_side access other }
 {
     match (access, other) {

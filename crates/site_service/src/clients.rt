@@ -2,11 +2,11 @@
 use crate::client::Client;
 use crate::door::Door;
 use crate::journal::Journal;
-use crate::writers::may_write;
 use commands::DEPTH;
 use mio::net::TcpStream;
 use mio::{Registry, Token};
 use service_core::Service;
+use service_texts::may_write;
 use std::alloc::{AllocError, Global};
 use std::io::Write;
 use std::net::{IpAddr, SocketAddr};

@@ -1,9 +1,7 @@
 //! All that a service has beside what decides.
-use crate::addresses::Addresses;
 use crate::journal::Journal;
 use crate::keeping::Keeping;
 use crate::kept_files::KeptFiles;
-use crate::lines::{late_line, listening_line};
 use crate::room::Room;
 use crate::serving::{End, Serving};
 use crate::sockets::Sockets;
@@ -11,6 +9,7 @@ use crate::status::status_text;
 use crate::telling::{tell, tell_scan};
 use commands::DEPTH;
 use service_core::{Note, Service};
+use service_texts::{Addresses, late_line, listening_line};
 use std::alloc::{AllocError, Global};
 use std::io;
 use std::io::Write;

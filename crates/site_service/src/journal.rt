@@ -1,6 +1,6 @@
 //! Where lines are told.
-use crate::lines::{client_line, left_out_line, stamped};
 use crate::room::Room;
+use service_texts::{client_line, left_out_line, stamped};
 use std::alloc::{AllocError, Global};
 use std::io::Write;
 use std::net::SocketAddr;

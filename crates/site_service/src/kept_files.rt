@@ -1,13 +1,13 @@
 //! The files of a service, over its time.
 use crate::journal::Journal;
 use crate::keeping::Keeping;
-use crate::lines::file_line;
 use crate::restoring::restore;
 use crate::state_file::StateFile;
 use crate::status_file::StatusFile;
 use commands::DEPTH;
 use gateway::Core;
 use service_core::Service;
+use service_texts::file_line;
 use std::alloc::{AllocError, Global};
 use std::io::Write;
 use std::rt::Files;

@@ -1,9 +1,8 @@
 //! What is set at the start.
 use crate::journal::Journal;
-use crate::lines::left_out_setting_line;
-use crate::state_lines::{setting_in, tag_named};
 use commands::DEPTH;
 use service_core::Service;
+use service_texts::{left_out_setting_line, setting_in, tag_named};
 use std::alloc::{AllocError, Global};
 use std::io::Write;
 

@@ -2,10 +2,9 @@
 ghost use Rattle.std.specs.Prelude.{◌≡◌, length, IfOk};
 
 use crate::replacing::replace_for_good;
-use crate::state_lines::state_text;
-use crate::write_record::WriteRecord;
 use commands::DEPTH;
 use gateway::Core;
+use service_texts::{WriteRecord, state_text};
 use std::alloc::{AllocError, Global};
 use std::io;
 use std::rt::Files;

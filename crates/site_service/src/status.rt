@@ -1,5 +1,4 @@
 //! How a service stands, as JSON.
-use crate::addresses::Addresses;
 use crate::clients::Clients;
 use crate::members::{put_list, put_number, put_text};
 use crate::status_devices::devices_value;
@@ -7,6 +6,7 @@ use crate::status_tags::{outputs_value, set_value, tags_value, variables_value};
 use commands::DEPTH;
 use serde_json::{Map, Value, put};
 use service_core::Service;
+use service_texts::Addresses;
 use std::alloc::{AllocError, Global};
 
 /// The text of how a service stands, so many seconds behind its start, with so many rounds that began late.

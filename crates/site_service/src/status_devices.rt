@@ -1,11 +1,11 @@
 //! How the devices of a service stand, as JSON.
-use crate::addresses::Addresses;
 use crate::members::{put_list, put_number, put_text, put_truth};
 use crate::telling::{device_name, loss_word};
 use commands::DEPTH;
 use gateway::Core;
 use serde_json::{Map, Value, put};
 use service_core::{Counts, DeviceStatus, Loss, Service};
+use service_texts::Addresses;
 use std::alloc::{AllocError, Global};
 
 /// Each device, in the order of the site file.

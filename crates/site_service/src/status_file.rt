@@ -1,6 +1,6 @@
 //! The file that says how a service stands.
 use crate::replacing::replace;
-use crate::write_record::WriteRecord;
+use service_texts::WriteRecord;
 use std::alloc::{AllocError, Global};
 use std::io;
 use std::rt::Files;

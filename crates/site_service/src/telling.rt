@@ -1,10 +1,10 @@
 //! What a service tells, as lines.
 use crate::journal::Journal;
-use crate::lines::{device_line, lost_line, unwritten_line, written_line};
 use commands::{DEPTH, scanned};
 use gateway::{Core, Report};
 use register_map::Map;
 use service_core::{Loss, Note, Unwritten};
+use service_texts::{device_line, lost_line, unwritten_line, written_line};
 use site_model::Site;
 use source_notes::escaped;
 use std::alloc::{AllocError, Global};

@@ -1,10 +1,10 @@
 //! The turns of a service: the clock, bytes in, bytes out, what is told, and a wait.
-use crate::addresses::Addresses;
 use crate::desk::Desk;
 use crate::keeping::Keeping;
 use crate::serving::{End, Serving};
 use commands::DEPTH;
 use service_core::Service;
+use service_texts::Addresses;
 use std::alloc::Global;
 use std::io::Write;
 use std::net::Net;

@@ -3,7 +3,6 @@
 #![tactic(auto)]
 
 mod code;
-mod escaping;
 mod marking;
 mod nearest;
 mod note;
@@ -11,7 +10,7 @@ mod note;
 mod tests;
 
 pub use code::Code;
-pub use escaping::{escaped, plain_letter, push_letter};
+pub use escaped_text::{escaped, plain_letter, push_letter};
 pub use marking::Mark;
 pub use nearest::{Near, nearer, nearest_of, rank};
 pub use note::Note;

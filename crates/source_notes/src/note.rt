@@ -1,7 +1,7 @@
 //! A note on a line of a text.
 use crate::code::Code;
-use crate::escaping::{escaped, plain_letter, push_escaped};
 use crate::marking::{Mark, marked};
+use escaped_text::{escaped, plain_letter, push_escaped};
 use std::alloc::{AllocError, Global};
 
 /// The most bytes that a line has which is shown.

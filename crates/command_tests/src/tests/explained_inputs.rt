@@ -11,6 +11,10 @@ const PROGRAM: &str =
 /// An input line, and what is told of it in place of the rules of all lines.
 const LINES: &[(&str, &str)] = &[
     ("inv1=5", "the program has no input of this name"),
+    (
+        "inv1_w_OK=TRUE",
+        "it says whether an input has a value, which the line of that input tells",
+    ),
     ("a=5", "this is a variable of the program, and no input"),
     ("out=5", "this is an output, which the program stores"),
     ("idle=5", "the program declares it and doesn't load it"),

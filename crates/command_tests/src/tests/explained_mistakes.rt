@@ -3,6 +3,26 @@ use crate::tests::explained::{Explained, assert_explained};
 
 const MISTAKES: &[Explained] = &[
     (
+        "PROGRAM p\nVAR a : INT; END_VAR\nLD\u{a0}a\nEND_PROGRAM\n",
+        "refused: read Word line 3\n",
+        "p.il:3: Word: a blank of another width stands here\n    3 | LD\u{a0}a\n      |   ^\n  help: write an ordinary blank in its place\n",
+    ),
+    (
+        "PROGRAM p\nVAR a : INT; END_VAR\nLD a\u{200b}\nEND_PROGRAM\n",
+        "refused: read Word line 3\n",
+        "p.il:3: Word: a character without a shape stands here\n    3 | LD a?\n      |     ^\n  help: write the line anew, or take away what is not seen\n",
+    ),
+    (
+        "PROGRAM p\nVAR a : INT; END_VAR\nLD \u{2212}5\nEND_PROGRAM\n",
+        "refused: read Word line 3\n",
+        "p.il:3: Word: a dash or a minus of another form stands here\n    3 | LD \u{2212}5\n      |    ^\n  help: write the sign of a number as -, right before its digits\n",
+    ),
+    (
+        "PROGRAM p\nVAR a : INT; END_VAR\nLD \u{201c}a\u{201d}\nEND_PROGRAM\n",
+        "refused: read Word line 3\n",
+        "p.il:3: Word: there are no texts in quotes\n    3 | LD \u{201c}a\u{201d}\n      |    ^\n  help: use whole numbers, TRUE and FALSE\n",
+    ),
+    (
         "PROGRAM p\nVAR RETAIN\n  a : INT;\nEND_VAR\nLD a\nEND_PROGRAM\n",
         "refused: read Declaration line 3\n",
         "p.il:2: Declaration: VAR has no such word behind it\n    2 | VAR RETAIN\n      |     ^^^^^^\n  help: leave it out: variables keep their values from scan to scan, and begin anew with each start; what clients set is kept with serve --state\n",

@@ -193,6 +193,16 @@ const OF_DETAILS: &[Explained] = &[
         "p.il:12: Type: operands of two types, or not of the type that is wanted\n   12 | AND(\n      | ^^^ b is BOOL, a is INT; it acts at the ) behind line 13\n  help: make a BOOL of the number by a comparison, as NE 0\n",
     ),
     (
+        "PROGRAM p\nVAR\n  a : INT;\nEND_VAR\n  LD a\n  DIV 0\nEND_PROGRAM\n",
+        "refused: verify ZeroDivisor at 3\n",
+        "p.il:6: ZeroDivisor: the divisor may be 0\n    6 |   DIV 0\n      |       ^ the divisor is 0 on each way to here\n  help: divide by another number: no scan could go on behind this\n",
+    ),
+    (
+        "PROGRAM p\nVAR_EXTERNAL\n  inv1_w : DINT;\nEND_VAR\n  LD inv1_w_OK\n  JMPCN over\nagain:\n  LD inv1_w\n  LD TRUE\n  {LOOP 3} JMPC again\nover:\nEND_PROGRAM\n",
+        "refused: verify MayBeMissing at 2\n",
+        "p.il:8: MayBeMissing: inv1_w may be missing here\n    8 |   LD inv1_w\n      |      ^^^^^^ an input without a default; what is known before the label of a counted jump is forgotten there, and nothing behind it says that it is present\n  help: test it first (LD inv1_w_OK / JMPCN elsewhere), or give the tag a default in the site file\n",
+    ),
+    (
         "PROGRAM p\nVAR_EXTERNAL\n  inv1w : DINT;\nEND_VAR\n  LD inv1w\nEND_PROGRAM\n",
         "refused: verify TagUnknown at 0\n",
         "p.il:3: TagUnknown: the site has no tag inv1w\n    3 |   inv1w : DINT;\n      |   ^^^^^ the program loads it as DINT; did you mean inv1_w?\n  help: add a [[tag]] of that name to the site file, or correct the name; an external that isn't used asks for no tag\n",

@@ -9,7 +9,17 @@ use std::process::Abort;
 
 /// What is printed of a unit on a link, and the status.
 fn told<L: Link + Drop>(rt: &(impl AllocGlobal + Abort), link: L, unit: u8) -> Told {
-    let models = definitions(rt.alloc(), &[]).expect(rt, "the shipped definitions");
+    told_by(rt, link, unit, &[])
+}
+
+/// The same by these definitions too.
+fn told_by<L: Link + Drop>(
+    rt: &(impl AllocGlobal + Abort),
+    link: L,
+    unit: u8,
+    defs: &[String],
+) -> Told {
+    let models = definitions(rt.alloc(), defs).expect(rt, "the shipped definitions");
     let mut poller = Poller::new(link);
     let mut out = Vec::new(rt.alloc());
     let status = probe(rt.alloc(), &mut poller, unit, models.as_slice(), &mut out);
@@ -151,6 +161,20 @@ fn points_are_those_of_the_shipped_definitions(rt: HostRuntime) {
         let (lines, _) = told_of(&rt, plant, defs.as_slice(), 1);
         assert_same(&rt, &lines.as_str(), wanted);
     }
+}
+
+#[test]
+fn a_name_of_a_point_forges_no_line(rt: HostRuntime) {
+    let def = r#"{"id": 64001, "group": {"points": [
+  {"name": "ID", "type": "uint16", "size": 1},
+  {"name": "L", "type": "uint16", "size": 1},
+  {"name": "W 1\nend 1\u202e", "type": "uint16", "size": 1}]}}"#;
+    let plant =
+        "[[device]]\nunit = 1\nmodels = [1, 64001]\nwmax = 5000\navailable = [4000]\n[[device.value]]\nmodel = 64001\npoint = \"W 1\\nend 1\\u202e\"\nraw = 7\n";
+    let wanted = "model 1 40002 66\nmodel 64001 40070 1\nW 1\\u{a}end 1\\u{202e} 7\nend 40073\n";
+    let defs = texts(&rt, &[def]);
+    let link = PlantLink::new(&rt, plant, defs.as_slice());
+    assert_told(&rt, &told_by(&rt, link, 1, defs.as_slice()), wanted, 0);
 }
 
 /// Only that a link failed was printed.

@@ -9,36 +9,51 @@ use std::cell::Cell;
 use std::fmt::Display;
 use std::fs::{Metadata, OpenOptions};
 use std::io;
-use std::io::{ErrorKind, Lines};
+use std::io::{BufRead, ErrorKind, Lines};
 use std::net::{Net, SocketAddr};
 use std::process::{Child, Command, Processes, Stdio};
 use std::rt::Files;
 use std::time::{Clock, Duration};
 
-/// A runtime whose standard error counts what is printed on it, and takes it or fails.
+/// Bytes of which the first three are UTF-8: a letter as Latin-1 has it stands behind them.
+const LATIN: &[u8] = b"abc\xe9d";
+
+/// A runtime whose standard error keeps what is printed on it and counts the calls, and takes it or fails. Its standard
+/// input gives bytes that are no UTF-8.
 #[derive(Drop)]
-struct Screen {
+pub(crate) struct Screen {
     rt: HostRuntime,
     lines: Cell<u32>,
+    shown: Cell<String>,
     broken: bool,
 }
 
 impl Screen {
-    fn new(rt: &HostRuntime, broken: bool) -> Screen {
+    pub(crate) fn new(rt: &HostRuntime, broken: bool) -> Screen {
         Screen {
             rt: *rt,
             lines: Cell::new(0),
+            shown: Cell::new(String::new(rt.alloc())),
             broken,
         }
+    }
+
+    /// What was printed so far.
+    pub(crate) fn shown(&self) -> String {
+        self.shown.replace(String::new(self.rt.alloc()))
     }
 }
 
 impl Eprint for Screen {
-    fn eprint<D: Display + Drop>(&self, _value: D) -> io::Result<()> {
+    fn eprint<D: Display + Drop>(&self, value: D) -> io::Result<()> {
         self.lines.set(self.lines.get().saturating_add(1));
         if self.broken {
             return Err(io::Error::from(ErrorKind::BrokenPipe));
         }
+        let more = format!(in self.rt.alloc(); "{value}")?;
+        let mut shown = self.shown();
+        shown.push_str(more.as_str())?;
+        self.shown.set(shown);
         Ok(())
     }
 
@@ -62,18 +77,18 @@ impl Print for Screen {
 }
 
 impl Input for Screen {
-    type Reader = <HostRuntime as Input>::Reader;
+    type Reader = &'static [u8];
 
     fn read_line<A: Allocator + Clone>(&self, buf: &mut String<A>) -> io::Result<usize> {
         self.rt.read_line(buf)
     }
 
     fn lines<A: Allocator>(&self, alloc: A) -> Lines<Self::Reader, A> {
-        self.rt.lines(alloc)
+        self.reader().lines(alloc)
     }
 
     fn reader(&self) -> Self::Reader {
-        self.rt.reader()
+        LATIN
     }
 }
 
@@ -83,7 +98,11 @@ impl Files for Screen {
     type Dir = <HostRuntime as Files>::Dir;
 
     fn open_file(&self, how: &OpenOptions, path: &str) -> io::Result<Self::File> {
-        self.rt.open_file(how, path)
+        match path {
+            "locked.toml" => Err(io::Error::from(ErrorKind::PermissionDenied)),
+            "broken.toml" => Err(io::Error::from(ErrorKind::Other)),
+            _ => self.rt.open_file(how, path),
+        }
     }
 
     fn open_dir(&self, path: &str) -> io::Result<Self::Dir> {
@@ -234,5 +253,61 @@ fn a_refusal_is_explained_once_unless_quiet(rt: HostRuntime) {
         notes.explain(&(&screen, rt.alloc()), &cause);
         assert_same(&rt, &status, &1);
         assert_same(&rt, &screen.lines.get(), times);
+    }
+}
+
+/// A file that can't be used, what is printed, and what is told on standard error.
+const UNUSABLE: &[(&str, &str, &str)] = &[
+    (
+        "no/site.toml",
+        "refused: file no/site.toml\n",
+        "no/site.toml: file: there is no such file\n  help: look for a slip in the path, which begins at the folder where you are\n",
+    ),
+    (
+        "/dev/null/site.toml",
+        "refused: file /dev/null/site.toml\n",
+        "/dev/null/site.toml: file: a part of its path is no folder\n  help: look for a slip in the path: what stands before a / has to be a folder\n",
+    ),
+    (
+        ".",
+        "refused: file .\n",
+        ".: file: it is a folder\n  help: name a file in it\n",
+    ),
+    (
+        "locked.toml",
+        "refused: file locked.toml\n",
+        "locked.toml: file: it may not be read\n  help: give the right to read it, to it and to each folder above it\n",
+    ),
+    (
+        "broken.toml",
+        "refused: file broken.toml\n",
+        "broken.toml: file: it can't be read to its end\n  help: look whether its disk or its connection works\n",
+    ),
+    (
+        "/dev/zero",
+        "refused: file /dev/zero\n",
+        "/dev/zero: file: it has more than 16,777,216 bytes\n  help: look whether the path is that of another file\n",
+    ),
+    (
+        "-",
+        "refused: file -\n",
+        "-: file: the text isn't UTF-8\n  byte 4 of it isn't\n  help: save it as UTF-8\n",
+    ),
+    (
+        "no/a\nb",
+        "refused: file no/a\\u{a}b\n",
+        "no/a\\u{a}b: file: there is no such file\n  help: look for a slip in the path, which begins at the folder where you are\n",
+    ),
+];
+
+#[test]
+fn a_file_that_cannot_be_used_is_told_with_its_cause(rt: HostRuntime) {
+    for (path, line, note) in UNUSABLE.iter() {
+        let screen = Screen::new(&rt, false);
+        let words = texts(&rt, &["sunsite", "check", *path, "p"]);
+        let (lines, status) = told(&screen, rt.alloc(), words.as_slice());
+        assert_same(&rt, &status, &1);
+        assert_same(&rt, &printed(&rt, lines).as_str(), line);
+        assert_same(&rt, &screen.shown().as_str(), note);
     }
 }

@@ -95,7 +95,7 @@ fn device_keys(alloc: Global, entry: &Value) -> Result<DeviceKeys, PlantFault>
 }
 
 /// The definition of an ID; of two the last one counts.
-pub(crate) fn definition_of(defs: &[ModelDef], number: i64) -> Option<&ModelDef>
+pub fn definition_of(defs: &[ModelDef], number: i64) -> Option<&ModelDef>
     ensures { option_map (λ d. d.now) result ≡ definition_of defs.now number }
 {
     defs.iter().rev().find(|d| i64::from(d.id) == number)

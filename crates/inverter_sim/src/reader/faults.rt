@@ -16,7 +16,7 @@ use file_keys::{is_more, number_at, section_at, text_at};
 use std::alloc::Global;
 use toml::Value;
 
-pub(crate) const MOST_FAULTS: usize = 256;
+pub const MOST_FAULTS: usize = 256;
 
 /// The keys of an entry.
 #[derive(Clone, Copy)]
@@ -113,7 +113,7 @@ fn fault_keys(tree: &Value) -> Option<FaultKeys<'_>>
 }
 
 /// The key that a kind of fault has of its own.
-pub(crate) fn own_key(kind: &str) -> Option<&'static str>
+pub fn own_key(kind: &str) -> Option<&'static str>
     ensures { option_copied result ≡ own_key kind.now }
 {
     match kind {

@@ -51,11 +51,11 @@ fn integers_in(alloc: Global, trees: &Vec<Value>) -> Result<Vec<i64>, PlantFault
 }
 
 /// The most devices, models of a device and watts of a device.
-pub(crate) const MOST_DEVICES: usize = 64;
+pub const MOST_DEVICES: usize = 64;
 
-pub(crate) const MOST_MODELS: usize = 16;
+pub const MOST_MODELS: usize = 16;
 
-pub(crate) const MOST_WATTS: usize = 1024;
+pub const MOST_WATTS: usize = 1024;
 
 fn device_has_too_many(tree: &Value) -> bool
     ensures { result ≡ device_has_too_many (view tree.now) }

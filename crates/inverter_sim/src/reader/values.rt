@@ -128,7 +128,7 @@ fn number_of_point(point: &Point, raw: i64) -> Option<u64>
 }
 
 /// The least and the greatest raw number that a point's registers stand for; none for ID and L, and for a string.
-pub(crate) fn numbers_of(point: &Point) -> Option<(i128, i128)> {
+pub fn numbers_of(point: &Point) -> Option<(i128, i128)> {
     if point.offset < 2 || matches!(point.kind, Kind::String) {
         return None;
     }

@@ -3,7 +3,7 @@
 
 use crate::tests::files::SITE;
 use crate::tests::{assert_same, assert_true, definitions, edited, given_definitions};
-use file_keys::FilePlace;
+use file_places::{FilePlace, place_in_definition, place_in_plant, place_in_site};
 use inverter_sim::Plant;
 use model_defs::{ModelDef, read, read_placed};
 use site_model::{Site, SiteFault};
@@ -27,7 +27,8 @@ fn assert_site_refused(
 ) {
     let refused = Site::read_placed(alloc, text, defs).err();
     let refused = refused.expect(rt, "a fault");
-    let found = told(rt, alloc, refused.fault.word(), &refused.place);
+    let place = place_in_site(alloc, text, defs, refused.part, refused.fault);
+    let found = told(rt, alloc, refused.fault.word(), &place);
     assert_same(rt, &found.as_str(), &wanted);
     let plain = Site::read(alloc, text, defs).err();
     assert_same(rt, &plain, &Some(refused.fault));
@@ -49,6 +50,16 @@ const SECTIONS: &[(&str, &str, &str)] = &[
         "[gateway]",
         "[way]",
         "MissingKey: the file: [gateway] is missing",
+    ),
+    (
+        "[gateway]",
+        "[[gateway]]",
+        "MissingKey: the file: gateway = (array) is no table",
+    ),
+    (
+        "[gateway]",
+        "gateway = 5\n[way]",
+        "MissingKey: the file: gateway = 5 is no table",
     ),
     (
         "base = 40000",
@@ -233,6 +244,38 @@ fn of_sections(rt: HostRuntime) {
     assert_sites(&rt, rt.alloc(), SECTIONS);
 }
 
+/// Lists of a site file whose entries are no tables, and what is told.
+const NO_TABLES: &[(&str, &str)] = &[
+    (
+        "device = [5]",
+        "MissingKey: the file: device = (array) is no list of tables",
+    ),
+    ("tag = [{}, 5]", "MissingKey: [[tag]] 1: name is missing"),
+    (
+        "tag = [5]",
+        "MissingKey: the file: tag = (array) is no list of tables",
+    ),
+    (
+        "served = [5]",
+        "MissingKey: the file: served = (array) is no list of tables",
+    ),
+    (
+        "served = 5",
+        "MissingKey: the file: served = 5 is no list of tables",
+    ),
+];
+
+#[test]
+fn of_entries_that_are_no_tables(rt: HostRuntime) {
+    let defs = definitions(&rt, rt.alloc());
+    for row in NO_TABLES {
+        let (line, wanted) = *row;
+        let text = format!(in rt.alloc(); "{line}\n[gateway]\nunit = 1\nmodels = [1]\n");
+        let text = text.expect(&rt, "memory");
+        assert_site_refused(&rt, rt.alloc(), &defs, text.as_str(), wanted);
+    }
+}
+
 #[test]
 fn of_tags(rt: HostRuntime) {
     assert_sites(&rt, rt.alloc(), TAGS);
@@ -283,6 +326,14 @@ const LINES: &[(&str, &str)] = &[
         "TooMany: [[device]] 2: models has more than 16 entries",
     ),
     (
+        "value = 5\n",
+        "MissingKey: [[device]] 1: value = 5 is no list of tables",
+    ),
+    (
+        "value = [5]\n",
+        "MissingKey: [[device]] 1: value = (array) is no list of tables",
+    ),
+    (
         "[[device.value]]\nmodel = 103\npoint = \"WX\"\nraw = 0\n",
         "UnknownPoint: [[device]] 1, [[device.value]] 1: point = \"WX\" is no point of its model",
     ),
@@ -318,7 +369,8 @@ fn assert_plant_refused(
 ) {
     let refused = Plant::read_placed(alloc, text, defs).err();
     let refused = refused.expect(rt, "a fault");
-    let found = told(rt, alloc, refused.fault.word(), &refused.place);
+    let place = place_in_plant(alloc, text, defs, refused.part, refused.fault);
+    let found = told(rt, alloc, refused.fault.word(), &place);
     assert_same(rt, &found.as_str(), &wanted);
     let plain = Plant::read(alloc, text, defs).err();
     assert_same(rt, &plain, &Some(refused.fault));
@@ -346,6 +398,21 @@ const EDITS: &[(&str, &str, &str)] = &[
         "\"id\": 64001",
         "\"id\": \"a\"",
         "MissingKey: the model: id = \"a\" is no whole number",
+    ),
+    (
+        "\"group\": {\"points\"",
+        "\"group\": [], \"x\": {\"points\"",
+        "MissingKey: the model: group = (array) is no object",
+    ),
+    (
+        "\"points\": [",
+        "\"points\": 5, \"x\": [",
+        "MissingKey: the model: group.points = 5 is no list of objects",
+    ),
+    (
+        "\"points\": [",
+        "\"points\": [5, ",
+        "MissingKey: the model: group.points = (array) is no list of objects",
     ),
     (
         "\"type\": \"int16\", ",
@@ -398,10 +465,17 @@ const EDITS: &[(&str, &str, &str)] = &[
 fn assert_model_refused(rt: &impl Abort, alloc: Global, text: &str, wanted: &str) {
     let refused = read_placed(alloc, text.as_bytes()).err();
     let refused = refused.expect(rt, "a fault");
-    let found = told(rt, alloc, refused.fault.word(), &refused.place);
+    let place = place_in_definition(alloc, text.as_bytes(), refused.part, refused.fault);
+    let found = told(rt, alloc, refused.fault.word(), &place);
     assert_same(rt, &found.as_str(), &wanted);
     let plain = read(alloc, text.as_bytes()).err();
     assert_same(rt, &plain, &Some(refused.fault));
+}
+
+#[test]
+fn of_a_text_that_is_no_object(rt: HostRuntime) {
+    let wanted = "MissingKey: the model: the text is no object";
+    assert_model_refused(&rt, rt.alloc(), "[5]", wanted);
 }
 
 #[test]

@@ -1,0 +1,5 @@
+use Rattle.escaped_text.proofs.Plain.{escaped_texts_are_plain}
+use Rattle.escaped_text.proofs.escaped_texts_are_plain.Goals as goal
+
+pub returns : goal.returns
+returns c = escaped_texts_are_plain

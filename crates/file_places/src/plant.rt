@@ -1,0 +1,124 @@
+//! Where a text breaks a rule of plant files.
+mod device;
+mod entries;
+
+use crate::finding::{EntryName, Finding, named_entry};
+use crate::looking::{first_long, first_unlisted, no_table_in};
+use crate::place::FilePlace;
+use device::{EACH_VALUE, device_finding};
+use entries::{fault_finding, value_finding, value_name};
+use file_keys::section_at;
+use inverter_sim::rules::{MOST_DEVICES, MOST_FAULTS, MOST_MODELS, MOST_WATTS};
+use inverter_sim::{PlantFault, PlantPart};
+use model_defs::ModelDef;
+use std::alloc::Global;
+use toml::{Value, table_from_str};
+
+/// Where a fault of that part of a plant file, read over these definitions, is found; None where memory was refused.
+pub fn place_in_plant(
+    alloc: Global,
+    toml: &str,
+    defs: &[ModelDef],
+    part: PlantPart,
+    fault: PlantFault,
+) -> Option<FilePlace> {
+    if fault == PlantFault::OutOfMemory {
+        return None;
+    }
+    match table_from_str(alloc, toml) {
+        Ok(table) => place_in(alloc, &Value::Table(table), defs, part, fault),
+        Err(error) => FilePlace::of_toml(toml, &error),
+    }
+}
+
+fn place_in(
+    alloc: Global,
+    file: &Value,
+    defs: &[ModelDef],
+    part: PlantPart,
+    fault: PlantFault,
+) -> Option<FilePlace> {
+    if let Some((list, finding)) = no_table_at(file, part) {
+        return FilePlace::at_entry(alloc, list, finding).ok();
+    }
+    let entry = name_of(file, part)?;
+    let finding = found_at(file, defs, part, fault)?;
+    FilePlace::at_entry(alloc, entry, finding).ok()
+}
+
+/// An entry that is no table, so that it has no keys: what its list stands in, and that.
+fn no_table_at(file: &Value, part: PlantPart) -> Option<(EntryName<'_>, Finding<'_>)> {
+    let whole = EntryName::Alone("the file");
+    match part {
+        PlantPart::File => None,
+        PlantPart::Device(number) => Some((whole, no_table_in(file, "device", number)?)),
+        PlantPart::Fault(number) => Some((whole, no_table_in(file, "fault", number)?)),
+        PlantPart::Value(device, number) => {
+            let entry = section_at(file, "device")?.get(device)?;
+            let finding = no_table_in(entry, "value", number)?.helped(EACH_VALUE);
+            Some((named_entry("[[device]]", entry, device), finding))
+        }
+    }
+}
+
+/// How a part of the file is named.
+fn name_of<'a>(file: &'a Value, part: PlantPart) -> Option<EntryName<'a>> {
+    match part {
+        PlantPart::File => Some(EntryName::Alone("the file")),
+        PlantPart::Device(number) => {
+            let entry = section_at(file, "device")?.get(number)?;
+            Some(named_entry("[[device]]", entry, number))
+        }
+        PlantPart::Value(number, value) => Some(value_name(number, value)),
+        PlantPart::Fault(number) => Some(EntryName::Numbered(
+            "[[fault]]",
+            number.saturating_add(1),
+        )),
+    }
+}
+
+/// What breaks the rule in a part of the file.
+fn found_at<'a>(
+    file: &'a Value,
+    defs: &'a [ModelDef],
+    part: PlantPart,
+    fault: PlantFault,
+) -> Option<Finding<'a>> {
+    match part {
+        PlantPart::File => in_file(file, fault),
+        PlantPart::Device(number) => in_device(section_at(file, "device")?, defs, number, fault),
+        PlantPart::Value(number, value) => {
+            let values = section_at(section_at(file, "device")?.get(number)?, "value")?;
+            value_finding(values, defs, number, value, fault)
+        }
+        PlantPart::Fault(number) => {
+            let entries = section_at(file, "fault")?;
+            fault_finding(entries.get(..number)?, entries.get(number)?, fault)
+        }
+    }
+}
+
+/// The section that is too long, or no list.
+fn in_file(file: &Value, fault: PlantFault) -> Option<Finding<'_>> {
+    match fault {
+        PlantFault::TooMany => {
+            first_long(file, &[("device", MOST_DEVICES), ("fault", MOST_FAULTS)])
+        }
+        _ => first_unlisted(file, &["device", "fault"]),
+    }
+}
+
+fn in_device<'a>(
+    entries: &'a [Value],
+    defs: &[ModelDef],
+    number: usize,
+    fault: PlantFault,
+) -> Option<Finding<'a>> {
+    let entry = entries.get(number)?;
+    match fault {
+        PlantFault::TooMany => {
+            first_long(entry, &[("models", MOST_MODELS), ("available", MOST_WATTS)])
+        }
+        fault => device_finding(entries.get(..number)?, entry, defs, fault),
+    }
+}

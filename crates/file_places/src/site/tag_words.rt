@@ -1,0 +1,70 @@
+//! What breaks a rule in the words of a tag.
+use super::tags::{access, is_of_device, kind};
+use crate::finding::Finding;
+use file_keys::text_at;
+use point_types::IlType;
+use site_model::Access;
+use site_model::rules::tag_name;
+use source_notes::nearest_of;
+use toml::Value;
+
+const ACCESSES: &[&str] = &["in", "out", "set", "site"];
+
+const TYPES: &[&str] = &[
+    "BOOL", "SINT", "INT", "DINT", "LINT", "USINT", "UINT", "UDINT",
+];
+
+/// The word that isn't allowed, or the key that doesn't go with the others.
+pub(super) fn bad_word(entry: &Value) -> Finding<'_> {
+    if !is_name(entry) {
+        return Finding::at(entry, "name", "is no name of a tag").helped(
+            "write it in lower case, with letters, digits and single underscores, 32 at most; it is no word of Instruction List and doesn't end in _ok",
+        );
+    }
+    if access(entry).is_none() {
+        let finding = Finding::at(entry, "access", "is none of in, out, set, site");
+        return finding.meaning(meant(entry, "access", ACCESSES));
+    }
+    if kind(entry).is_none() {
+        let words = "is none of BOOL, SINT, INT, DINT, LINT, USINT, UINT, UDINT";
+        let finding = Finding::at(entry, "type", words);
+        return finding.meaning(meant(entry, "type", TYPES));
+    }
+    unlike_others(entry)
+}
+
+fn is_name(entry: &Value) -> bool {
+    match text_at(entry, "name") {
+        Some(name) => tag_name(name).is_some(),
+        None => false,
+    }
+}
+
+/// The one of some words that is nearest to the one at a key.
+fn meant(entry: &Value, key: &str, words: &[&'static str]) -> Option<&'static str> {
+    nearest_of(words, text_at(entry, key)?)
+}
+
+/// The key that doesn't go with the others.
+fn unlike_others(entry: &Value) -> Finding<'_> {
+    let is_input = matches!(access(entry), Some(Access::Input));
+    if !is_of_device(entry) && entry.get("device").is_some() {
+        let finding = Finding::at(entry, "device", "is for tags on devices, in and out");
+        return finding.helped("take the key away: a tag set or site is on the gateway");
+    }
+    if entry.get("bit").is_some() && !(is_input && matches!(kind(entry), Some(IlType::Bool))) {
+        let finding = Finding::at(entry, "bit", "is for tags in of type BOOL");
+        return finding.helped("take the key away, or write access in and type BOOL");
+    }
+    if entry.get("round").is_some() && !is_rounding(entry, is_input) {
+        let finding = Finding::at(entry, "round", "may be down, for tags in without a bit");
+        return finding.helped("write \"down\", or take the key away");
+    }
+    Finding::at(entry, "point", "is of a kind that such a tag can't have").helped(
+        "take a point that has a number; a scale factor is for in and out, and a bit for bitfields",
+    )
+}
+
+fn is_rounding(entry: &Value, is_input: bool) -> bool {
+    is_input && entry.get("bit").is_none() && text_at(entry, "round") == Some("down")
+}

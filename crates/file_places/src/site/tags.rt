@@ -1,0 +1,190 @@
+//! What breaks a rule in the entry of a tag.
+use super::named::{nearest_entry, nearest_point, point_at};
+use super::tag_words::bad_word;
+use crate::finding::{EntryName, Finding, KeyRule, Kind, Rule, Stands, named_entry, stands_at};
+use crate::looking::{first_alike, first_broken, first_outside, is_alike};
+use file_keys::{number_at, section_at, text_at};
+use model_defs::ModelDef;
+use point_types::IlType;
+use site_model::rules::{access_of, is_polled, is_same_side, last_bit, type_of};
+use site_model::{Access, SiteFault};
+use toml::Value;
+
+static NEEDED: [KeyRule; 8] = [
+    ("name", Kind::Text),
+    ("access", Kind::Text),
+    ("type", Kind::Text),
+    ("model", Kind::Number),
+    ("point", Kind::Text),
+    ("exponent", Kind::Number),
+    ("low", Kind::Number),
+    ("high", Kind::Number),
+];
+
+static OPTIONAL: [KeyRule; 4] = [
+    ("device", Kind::Text),
+    ("default", Kind::Number),
+    ("bit", Kind::Number),
+    ("round", Kind::Text),
+];
+
+static EXPONENT: [(&str, i64, i64); 1] = [("exponent", -10, 10)];
+
+/// What breaks the rule in the tag of a number.
+pub(super) fn tag_finding<'a>(
+    file: &'a Value,
+    defs: &'a [ModelDef],
+    number: usize,
+    entry: &'a Value,
+    fault: SiteFault,
+) -> Option<Finding<'a>> {
+    match fault {
+        SiteFault::MissingKey => missing(entry),
+        SiteFault::UnknownDevice => Some(unknown_device(file, entry)),
+        SiteFault::UnknownModel => Some(Finding::at(entry, "model", unknown_model(entry))),
+        SiteFault::UnknownPoint => {
+            let finding = Finding::at(entry, "point", "is no point of its model");
+            Some(finding.meaning(nearest_point(entry, defs)))
+        }
+        SiteFault::NotWritable => Some(Finding::at(entry, "point", "can't be written")),
+        SiteFault::BadRange => Some(outside(entry, defs)),
+        SiteFault::BadType => Some(bad_word(entry)),
+        SiteFault::Duplicate => { Some(known_tag(section_at(file, "tag")?.get(..number)?, entry)) }
+        _ => None,
+    }
+}
+
+/// The access that an entry names.
+pub(super) fn access(entry: &Value) -> Option<Access> {
+    access_of(text_at(entry, "access")?)
+}
+
+/// The type that an entry names.
+pub(super) fn kind(entry: &Value) -> Option<IlType> {
+    type_of(text_at(entry, "type")?)
+}
+
+/// Whether the tag's point is a device's.
+pub(super) fn is_of_device(entry: &Value) -> bool {
+    match access(entry) {
+        Some(access) => is_polled(access),
+        None => false,
+    }
+}
+
+fn unknown_device<'a>(file: &'a Value, entry: &'a Value) -> Finding<'a> {
+    let finding = Finding::at(entry, "device", "is the name of no device");
+    match text_at(entry, "device") {
+        Some(written) => finding.meaning(nearest_entry(file, "device", written)),
+        None => finding,
+    }
+}
+
+/// A key that is missing or of another kind, or the device of a device's point.
+fn missing(entry: &Value) -> Option<Finding<'_>> {
+    if let Some(finding) = first_broken(entry, &NEEDED, &OPTIONAL) {
+        return Some(finding);
+    }
+    if is_of_device(entry) && entry.get("device").is_none() {
+        return Some(Finding::missing("device"));
+    }
+    None
+}
+
+fn unknown_model(entry: &Value) -> &'static str {
+    if is_of_device(entry) {
+        "has no definition"
+    } else {
+        "is none of the gateway's models"
+    }
+}
+
+/// The number that is outside its range.
+fn outside<'a>(entry: &'a Value, defs: &[ModelDef]) -> Finding<'a> {
+    if let Some(finding) = out_of_order(entry) {
+        return finding;
+    }
+    if let Some(finding) = out_of_type(entry) {
+        return finding;
+    }
+    match first_outside(entry, &EXPONENT) {
+        Some(finding) => finding,
+        None => no_bit(entry, defs),
+    }
+}
+
+/// A bit that the point doesn't have.
+fn no_bit<'a>(entry: &'a Value, defs: &[ModelDef]) -> Finding<'a> {
+    let last = point_at(entry, defs).and_then(|point| last_bit(point.kind));
+    match last {
+        Some(last) => {
+            Finding::by(
+                "bit",
+                stands_at(entry, "bit"),
+                Rule::Within(0, i64::from(last)),
+            )
+        }
+        None => Finding::at(entry, "bit", "is no bit of its point"),
+    }
+}
+
+/// Of low, default and high two that don't ascend.
+fn out_of_order(entry: &Value) -> Option<Finding<'_>> {
+    let low = number_at(entry, "low")?;
+    let high = number_at(entry, "high")?;
+    if low > high {
+        return Some(numbered("low", low, Rule::Over("high", high)));
+    }
+    let default = number_at(entry, "default")?;
+    if default < low {
+        return Some(numbered("default", default, Rule::Under("low", low)));
+    }
+    if default > high {
+        return Some(numbered("default", default, Rule::Over("high", high)));
+    }
+    None
+}
+
+fn numbered(key: &'static str, number: i64, rule: Rule<'static>) -> Finding<'static> {
+    Finding::by(key, Stands::Number(number), rule)
+}
+
+fn out_of_type(entry: &Value) -> Option<Finding<'_>> {
+    let kind = kind(entry)?;
+    let (low, high) = (kind.low(), kind.high());
+    first_outside(entry, &[("low", low, high), ("high", low, high)])
+}
+
+/// The name that a tag before has, or its point.
+fn known_tag<'a>(before: &'a [Value], entry: &'a Value) -> Finding<'a> {
+    if let Some(other) = first_alike("[[tag]]", before, entry, &["name"]) {
+        let rule = Rule::Repeats("is the name of", other);
+        return Finding::by("name", stands_at(entry, "name"), rule);
+    }
+    match on_same_point(before, entry) {
+        Some(other) => {
+            let rule = Rule::Repeats("is the point of", other);
+            Finding::by("point", stands_at(entry, "point"), rule)
+        }
+        None => Finding::at(entry, "point", "is the ID or the length of a model").helped(
+            "take another point: the gateway has these two itself",
+        ),
+    }
+}
+
+/// The tag before that has the same point for itself.
+fn on_same_point<'a>(before: &'a [Value], entry: &Value) -> Option<EntryName<'a>> {
+    for (number, other) in before.iter().enumerate() {
+        if is_on_same_side(other, entry) && is_alike(other, entry, &["device", "model", "point"]) {
+            return Some(named_entry("[[tag]]", other, number));
+        }
+    }
+    None
+}
+
+fn is_on_same_side(one: &Value, other: &Value) -> bool {
+    match (access(one), access(other)) {
+        (Some(one), Some(other)) => is_same_side(other, one),
+        _ => false,
+    }
+}

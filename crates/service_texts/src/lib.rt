@@ -1,0 +1,27 @@
+//! What a service over sockets reads and writes as text, and what it is told: where a site file says that devices are, who
+//! may write, how long is waited, the file of set values, and its lines.
+#![tactic(auto)]
+
+mod addresses;
+mod device_places;
+mod lines;
+mod state_lines;
+mod waiting;
+mod write_record;
+mod writers;
+
+// where the devices are
+pub use addresses::{Addresses, has_port};
+pub use device_places::{AddressFault, DevicePlace, read_places};
+// which clients may write
+pub use writers::may_write;
+// how long is waited
+pub use waiting::limits;
+// what is kept over a restart
+pub use state_lines::{Setting, setting_in, state_text, tag_named};
+pub use write_record::WriteRecord;
+// what is told of a service
+pub use lines::{
+    client_line, device_line, file_line, late_line, left_out_line, left_out_setting_line,
+    listening_line, lost_line, stamped, unwritten_line, written_line,
+};

@@ -1,0 +1,97 @@
+//! The text in which set values are kept: a line `NAME=NUMBER` for each tag that is set.
+ghost use Rattle.std.specs.Prelude.{◌≡◌, ◌++◌, ℕ, ℤ, List, Some, IfOk, OnOk, MatchOption};
+ghost use Rattle.std.specs.Str.Lines.{lines};
+ghost use Rattle.service_texts.specs.State.{AreSaid, IsFit, Says, state_text, tag_from, tag_line};
+
+use point_types::Name;
+use site_model::SiteTag;
+use std::alloc::{AllocError, Global};
+
+/// What a line of the text says.
+#[derive(Clone, Copy)]
+pub struct Setting<'a> {
+    /// What stands before the line's first equals sign.
+    pub name: &'a str,
+    /// The number behind it.
+    pub number: i64,
+}
+
+/// The lines of the tags that are set, in their order. Read line by line, they say just these settings.
+pub fn state_text(
+    alloc: Global,
+    tags: &[SiteTag],
+    settings: &[Option<i64>],
+) -> Result<Vec<u8>, AllocError>
+    ensures exact { IfOk result (λ text. text.items ≡ state_text tags.now settings.now) }
+    ensures again { IfOk result (λ text. AreSaid tags.now settings.now (lines text.items)) }
+{
+    let mut text = Vec::new(alloc);
+    let mut tags = tags;
+    let mut settings = settings;
+    while let Some((tag, more_tags)) = tags.split_first() {
+        let Some((number, more_settings)) = settings.split_first() else {
+            break;
+        };
+        push_tag(&mut text, alloc, &tag.name, *number)?;
+        tags = more_tags;
+        settings = more_settings;
+    }
+    Ok(text)
+}
+
+/// Appends the line of a tag, where it is set.
+fn push_tag(
+    text: &mut Vec<u8>,
+    alloc: Global,
+    name: &Name,
+    number: Option<i64>,
+) -> Result<(), AllocError>
+    ensures line { OnOk result (text.new.items ≡ text.old.items ++ tag_line name.now number) }
+    ensures fit { OnOk result (IsFit name.now number) }
+{
+    match number {
+        Some(number) => push_setting(text, alloc, name, number),
+        None => Ok(()),
+    }
+}
+
+/// Appends the line of a setting.
+fn push_setting(
+    text: &mut Vec<u8>,
+    alloc: Global,
+    name: &Name,
+    number: i64,
+) -> Result<(), AllocError>
+    ensures line { OnOk result (text.new.items ≡ text.old.items ++ tag_line name.now (Some number)) }
+    ensures fit { OnOk result (IsFit name.now (Some number)) }
+{
+    text.extend_from_slice(name.as_bytes())?;
+    text.push(b'=')?;
+    let number = number.to_string(alloc)?;
+    text.extend_from_slice(number.as_bytes())?;
+    text.push(b'\n')?;
+    Ok(())
+}
+
+/// What a line says; none where it isn't `NAME=NUMBER`.
+pub fn setting_in(line: &str) -> Option<Setting<'_>>
+    ensures { MatchOption result ((name : List ℕ) (number : ℤ) → Says line.now name number → ⊥) (λ s. Says line.now s.name.now s.number) }
+{
+    let (name, number) = line.split_once('=')?;
+    match number.parse::<i64>() {
+        Ok(number) => Some(Setting { name, number }),
+        Err(_) => None,
+    }
+}
+
+/// The number of the tag of a name.
+pub fn tag_named(tags: &[SiteTag], name: &str) -> Option<usize>
+    ensures { result ≡ tag_from 0 name.now tags.now }
+{
+    for (number, tag) in tags.iter().enumerate() {
+        if tag.name.as_str() == name {
+            return Some(number);
+        }
+    }
+    None
+}

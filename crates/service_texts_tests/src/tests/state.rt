@@ -1,0 +1,79 @@
+//! The lines of the file of set values.
+use service_texts::{setting_in, state_text, tag_named};
+use site_model::Site;
+use std::process::Abort;
+use worked_texts::sites::{SITE, site_of};
+
+/// What the five tags of the worked site are set to.
+static SETTINGS: [Option<i64>; 5] = [None, Some(-5), Some(30), None, Some(i64::MIN)];
+
+/// The lines of these.
+static TEXT: &str = "inv2_w=-5\ntarget=30\nena1=-9223372036854775808\n";
+
+/// Lines, and the name and the number that each says.
+static SAYING: [(&str, &str, i64); 7] = [
+    ("target=30", "target", 30),
+    ("target=-30", "target", -30),
+    ("target=+030", "target", 30),
+    ("a=9223372036854775807", "a", 9_223_372_036_854_775_807),
+    ("=1", "", 1),
+    (" a =1", " a ", 1),
+    ("TARGET=0", "TARGET", 0),
+];
+
+/// Lines that say nothing.
+static SILENT: [&str; 10] = [
+    "",
+    "target",
+    "target=",
+    "target=-",
+    "target= 30",
+    "target=30 ",
+    "target=3_0",
+    "target=30=30",
+    "target=0x1e",
+    "a=9223372036854775808",
+];
+
+#[test]
+fn the_tags_that_are_set_have_lines(rt: HostRuntime) {
+    let site = site(&rt);
+    let text = state_text(rt.alloc(), site.tags(), SETTINGS.as_slice()).expect(&rt, "memory");
+    assert!(&rt; text.as_slice() == TEXT.as_bytes());
+}
+
+fn site(rt: &(impl AllocGlobal + Abort)) -> Site {
+    match site_of(rt.alloc(), SITE) {
+        Some(site) => site,
+        None => panic!(rt; "no site"),
+    }
+}
+
+#[test]
+fn a_line_says_a_name_and_a_number(rt: HostRuntime) {
+    for (line, name, number) in &SAYING {
+        assert!(&rt; says(line, name, *number));
+    }
+}
+
+fn says(line: &str, name: &str, number: i64) -> bool {
+    match setting_in(line) {
+        Some(setting) => setting.name == name && setting.number == number,
+        None => false,
+    }
+}
+
+#[test]
+fn other_lines_say_nothing(rt: HostRuntime) {
+    for line in &SILENT {
+        assert!(&rt; setting_in(line).is_none());
+    }
+}
+
+#[test]
+fn a_tag_is_found_by_its_name(rt: HostRuntime) {
+    let site = site(&rt);
+    assert!(&rt; tag_named(site.tags(), "target") == Some(2));
+    assert!(&rt; tag_named(site.tags(), "Target") == None);
+    assert!(&rt; tag_named(site.tags(), "") == None);
+}

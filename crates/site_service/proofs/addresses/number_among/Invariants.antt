@@ -1,7 +1,0 @@
-use Rattle.std.proofs.Common.{◌≡◌, drop}
-use Rattle.site_service.specs.Stations.{number_from}
-use Rattle.site_service.proofs.addresses.number_among.Given as goal
-
--- what the addresses behind give
-abbrev pub invariant-loop-number : goal.invariant-loop-number
-invariant-loop-number l = number_from 0 l.address l.links ≡ number_from l.number l.address (drop l.number l.links)

@@ -1,6 +1,0 @@
-use Rattle.std.proofs.Common.{◌≢◌, All, drop}
-use Rattle.site_service.proofs.writers.may_write.Given as goal
-
--- where none of the rest is the address, none is
-abbrev pub invariant-loop-known : goal.invariant-loop-known
-invariant-loop-known l = All (λ known. known ≢ l.address) (drop l.known-index l.writers) → All (λ known. known ≢ l.address) l.writers
