@@ -1,9 +1,2 @@
-pub mod Sought
-pub mod Runs
-pub mod Calls
-pub mod Rightful
 pub mod Opening
-pub mod Heard
-pub mod Restored
 pub mod Whole
-pub mod Told

@@ -1,9 +1,2 @@
-pub mod Seeking
-pub mod Course
-pub mod Calls
-pub mod Requests
-pub mod Counting
-pub mod Clients
-pub mod Places
 pub mod Whole
 pub mod Standing

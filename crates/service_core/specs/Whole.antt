@@ -8,10 +8,10 @@ use Rattle.modbus_frame.specs.declared.frame.Frame.{Frame}
 use Rattle.gateway.specs.declared.event_core.event.Event.{Event}
 use Rattle.gateway.specs.declared.event_core.event.Answer.{Answer}
 use Rattle.gateway.specs.event_core.Core.{Gateway, RunsOn}
-use Rattle.service_core.specs.declared.limits.Station.{Station}
-use Rattle.service_core.specs.Clients.{ClientsAreAnswered}
-use Rattle.service_core.specs.Course.{CoursesAreSiteRuns}
-use Rattle.service_core.specs.Requests.{IsRest}
+use Rattle.service_parts.specs.declared.limits.Station.{Station}
+use Rattle.service_parts.specs.Clients.{ClientsAreAnswered}
+use Rattle.service_parts.specs.Course.{CoursesAreSiteRuns}
+use Rattle.service_parts.specs.Requests.{IsRest}
 
 -- The one state is that of a site run which led to the other: of the same site, and of the program that was accepted.
 pub record IsBefore (old new : Gateway) : Type 0 where

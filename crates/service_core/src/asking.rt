@@ -2,17 +2,15 @@
 ghost use Rattle.std.specs.Prelude.{◌≡◌, ◌<◌, ℕ, IfSome, Some, length, set, slice_get};
 ghost use Rattle.modbus_frame.specs.Message.{HasQuantity};
 ghost use Rattle.service.specs.declared.search.Step.TheVariants.{Found};
-ghost use Rattle.service_core.specs.Course.{LeadsOn};
-ghost use Rattle.service_core.specs.Requests.{MayGoOver};
-ghost use Rattle.service_core.specs.Seeking.{IsSought};
+ghost use Rattle.service_parts.specs.Course.{LeadsOn};
+ghost use Rattle.service_parts.specs.Requests.{MayGoOver};
+ghost use Rattle.service_parts.specs.Seeking.{IsSought};
 
-use crate::note::Note;
 use crate::service_state::Service;
-use crate::times::sooner;
-use crate::wire::{Aim, Asked};
 use modbus_frame::Request;
 use register_map::Map;
 use service::{Fate, Step};
+use service_parts::{Aim, Asked, Note, sooner};
 
 /// A request that may begin.
 #[derive(Drop)]
@@ -175,7 +173,7 @@ impl<const DEPTH: usize> Service<DEPTH> {
     }
 
     /// A request of the round, by the map that was found over this very connection.
-    #[tactic(auto, using(crate::proofs::Rightful::round_over))]
+    #[tactic(auto, using(service_parts::proofs::Rightful::round_over))]
     fn wish_of_round(&mut self, link: usize, device: usize) -> Option<Wish>
         ensures quantity { IfSome result (λ wish. HasQuantity wish.request) }
         ensures asked { IfSome result (λ wish. MayGoOver self.new.cycle.core.value self.new.lines.links.numbers.items self.new.lines.found_on.items link device wish.request) }
@@ -201,7 +199,7 @@ impl<const DEPTH: usize> Service<DEPTH> {
         }
     }
 
-    #[tactic(auto, using(crate::proofs::Rightful::search_over))]
+    #[tactic(auto, using(service_parts::proofs::Rightful::search_over))]
     fn wish_of_search(&mut self, link: usize, device: usize) -> Option<Wish>
         ensures quantity { IfSome result (λ wish. HasQuantity wish.request) }
         ensures asked { IfSome result (λ wish. MayGoOver self.new.cycle.core.value self.new.lines.links.numbers.items self.new.lines.found_on.items link device wish.request) }
@@ -288,7 +286,7 @@ impl<const DEPTH: usize> Service<DEPTH> {
     }
 
     /// Begins a request, where the connection is free. What becomes of it may stand in the bytes that came before.
-    #[tactic(auto, using(crate::proofs::Rightful::whole_frame))]
+    #[tactic(auto, using(service_parts::proofs::Rightful::whole_frame))]
     fn start(&mut self, link: usize, asked: Asked, request: Request) -> Option<Fate>
         requires quantity { HasQuantity request }
         requires asked { MayGoOver self.old.cycle.core.value self.old.lines.links.numbers.items self.old.lines.found_on.items link asked.device request }

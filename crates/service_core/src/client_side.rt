@@ -1,15 +1,13 @@
 //! The clients' side.
-ghost use Rattle.std.specs.Prelude.{◌≡◌, ◌≤◌, ◌<◌, ◌↔◌, List, [], length, map, take, slice_get, Some, IfNone, IfSome, IsTrue, false};
-ghost use Rattle.std.specs.List.{position};
-ghost use Rattle.service_core.specs.Course.{IsOfClients, LeadsOnBy};
-ghost use Rattle.service_core.specs.declared.client_place.ClientPlace.{ClientPlace as Place};
-ghost use Rattle.service_core.specs.Clients.{DoesAt, Hears, IsDeaf, IsDone, IsOpen, OthersStay, Sends, ready_of};
-ghost use Rattle.service_core.specs.Places.{closed_if_idle, given_place, is_free, is_silent};
+ghost use Rattle.std.specs.Prelude.{◌≡◌, ◌≤◌, ◌<◌, ◌↔◌, [], length, take, slice_get, Some, IfNone, IfSome, IsTrue, false};
+ghost use Rattle.service_parts.specs.Course.{IsOfClients, LeadsOnBy};
+ghost use Rattle.service_parts.specs.declared.client_place.ClientPlace.{ClientPlace as Place};
+ghost use Rattle.service_parts.specs.Clients.{DoesAt, Hears, IsDeaf, IsDone, IsOpen, OthersStay, Sends, ready_of};
+ghost use Rattle.service_parts.specs.Places.{given_place};
 
-use crate::client_place::ClientPlace;
-use crate::scan_cycle::ScanCycle;
 use crate::service_state::Service;
 use modbus_frame::Responder;
+use service_parts::{ScanCycle, place_for};
 
 impl<const DEPTH: usize> Service<DEPTH> {
     /// A client came: its place, or none where it is to be closed, since each place is taken and each client was heard of
@@ -100,38 +98,4 @@ impl<const DEPTH: usize> Service<DEPTH> {
             None => true,
         }
     }
-}
-
-/// Clients of whom nothing was heard for so long are to be closed.
-pub(crate) fn close_idle(places: &mut [ClientPlace], now: u64, idle: u64)
-    ensures { places.new ≡ map (closed_if_idle now idle) places.old }
-{
-    for client in places.iter_mut() {
-        client.close_if_idle(now, idle);
-    }
-}
-
-/// The place of a client that comes.
-fn place_for(places: &[ClientPlace], now: u64) -> Option<usize>
-    ensures place { result ≡ given_place now places.now }
-    ensures inside { IfSome result (λ i. i < length places.now) }
-{
-    match free_place(places) {
-        Some(place) => Some(place),
-        None => silent_place(places, now),
-    }
-}
-
-fn free_place(places: &[ClientPlace]) -> Option<usize>
-    ensures place { result ≡ position is_free places.now }
-    ensures inside { IfSome result (λ i. i < length places.now) }
-{
-    places.iter().position(|client| client.is_free())
-}
-
-fn silent_place(places: &[ClientPlace], now: u64) -> Option<usize>
-    ensures place { result ≡ position (is_silent now) places.now }
-    ensures inside { IfSome result (λ i. i < length places.now) }
-{
-    places.iter().position(|client| client.is_silent(now))
 }

@@ -4,20 +4,13 @@ ghost use Rattle.verifier.specs.Verified.{HasLinks};
 ghost use Rattle.gateway.specs.declared.event_core.fault.CoreFault.TheVariants.{Foreign};
 ghost use Rattle.gateway.specs.event_core.Core.{gateway_of};
 ghost use Rattle.gateway.specs.event_core.SiteRun.{none_of};
-ghost use Rattle.service_core.specs.Course.{IsNew};
+ghost use Rattle.service_parts.specs.Course.{IsNew};
 
-use crate::client_place::ClientPlace;
-use crate::device::Device;
-use crate::limits::{Limits, Station};
-use crate::lines::Lines;
-use crate::notes::Notes;
-use crate::output::Output;
-use crate::scan_cycle::ScanCycle;
 use crate::service_state::Service;
-use crate::wire::Wire;
 use gateway::{Core, CoreFault};
 use register_map::Map;
 use scan_vm::Machine;
+use service_parts::{ClientPlace, Device, Limits, Lines, Notes, Output, ScanCycle, Station, Wire};
 use site_model::{Site, SiteDevice};
 use std::alloc::{AllocError, Global};
 
@@ -50,7 +43,7 @@ impl<const DEPTH: usize> Service<DEPTH> {
         }
     }
 
-    #[tactic(auto, using(crate::proofs::Runs::reached_opening))]
+    #[tactic(auto, using(service_parts::proofs::Runs::reached_opening))]
     fn over(
         alloc: Global,
         core: Core<DEPTH>,

@@ -1,14 +1,12 @@
 //! The devices' side: connections, and what comes over them.
 ghost use Rattle.std.specs.Prelude.{◌≡◌, ◌+◌, ◌<◌, ◌^◌, ℕ, Some, set, slice_get};
-ghost use Rattle.service_core.specs.Course.{LeadsOn};
-ghost use Rattle.service_core.specs.Requests.{IsRightfulOn};
+ghost use Rattle.service_parts.specs.Course.{LeadsOn};
+ghost use Rattle.service_parts.specs.Requests.{IsRightfulOn};
 
-use crate::note::{Loss, Note, Unwritten};
-use crate::output::OutputState;
 use crate::service_state::Service;
-use crate::wire::{Aim, Asked, Wire};
 use gateway::Outcome;
 use service::Fate;
+use service_parts::{Aim, Asked, Loss, Note, OutputState, Unwritten, Wire};
 
 impl<const DEPTH: usize> Service<DEPTH> {
     /// Whether a connection is to be made: it is down, no dial is under way, and its back-off is over.

@@ -1,7 +1,7 @@
 //! What clients set is set again behind a restart.
 ghost use Rattle.std.specs.Prelude.{◌≡◌, IsTrue, Some, false, slice_set};
 ghost use Rattle.gateway.specs.event_core.Restoring.{NothingSets};
-ghost use Rattle.service_core.specs.Course.{IsOfClients, LeadsOnBy};
+ghost use Rattle.service_parts.specs.Course.{IsOfClients, LeadsOnBy};
 
 use crate::service_state::Service;
 
@@ -17,12 +17,6 @@ impl<const DEPTH: usize> Service<DEPTH> {
         ensures refused { result ≡ false → (self.new.cycle.core.value ≡ self.old.cycle.core.value) × NothingSets self.old.cycle.core.value.site tag number }
         ensures places { self.new.places.items ≡ self.old.places.items }
     {
-        match self.cycle.request_to_set(tag, number) {
-            Some(request) => {
-                self.cycle.set(&request, tag, number);
-                true
-            }
-            None => false,
-        }
+        self.cycle.restore(tag, number)
     }
 }

@@ -1,15 +1,12 @@
 //! Rounds, by the time.
 ghost use Rattle.std.specs.Prelude.{◌≡◌, map, max};
-ghost use Rattle.service_core.specs.Course.{LeadsOn};
-ghost use Rattle.service_core.specs.Places.{closed_if_idle};
+ghost use Rattle.service_parts.specs.Course.{LeadsOn};
+ghost use Rattle.service_parts.specs.Places.{closed_if_idle};
 
-use crate::client_side::close_idle;
-use crate::note::{Loss, Note, Unwritten};
-use crate::output::OutputState;
-use crate::scan_cycle::Phase;
 use crate::service_state::Service;
 use gateway::{Core, Report};
 use point_writer::NoWrite;
+use service_parts::{Loss, Note, OutputState, Phase, Unwritten, close_idle};
 
 impl<const DEPTH: usize> Service<DEPTH> {
     /// The time is this: ends waits, begins rounds. It is to be called behind each wait.

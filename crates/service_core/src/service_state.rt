@@ -1,18 +1,10 @@
 //! A service of a gateway.
 ghost use Rattle.std.specs.Prelude.{◌≡◌};
-ghost use Rattle.service_core.specs.Course.{LeadsOn, Reached};
-ghost use Rattle.service_core.specs.Requests.{AreRightfulBy};
+ghost use Rattle.service_parts.specs.Course.{LeadsOn, Reached};
+ghost use Rattle.service_parts.specs.Requests.{AreRightfulBy};
 
-use crate::client_place::ClientPlace;
-use crate::device::Device;
-use crate::limits::Limits;
-use crate::lines::Lines;
-use crate::note::Note;
-use crate::notes::Notes;
-use crate::output::Output;
-use crate::scan_cycle::ScanCycle;
-use crate::wire::Wire;
 use gateway::Core;
+use service_parts::{ClientPlace, Device, Limits, Lines, Note, Notes, Output, ScanCycle, Wire};
 
 /// A service of a gateway: its core, connections to devices, clients, and what happened. It takes memory only
 /// when it is made.

@@ -1,12 +1,10 @@
 //! How a service stands, for whoever looks after it.
 ghost use Rattle.std.specs.Prelude.{◌≡◌, ◌≤◌, IfNone, IfSome, Some, length, slice_get};
-ghost use Rattle.service_core.specs.declared.device.Device.{Device as Own};
+ghost use Rattle.service_parts.specs.declared.device.Device.{Device as Own};
 ghost use Rattle.service_core.specs.Standing.{IsStatus};
 
-use crate::counts::Counts;
-use crate::note::Loss;
-use crate::output::OutputState;
 use crate::service_state::Service;
+use service_parts::{Counts, Loss, OutputState};
 
 /// How a device stands.
 #[derive(Clone, Copy, Debug, PartialEq, Eq)]

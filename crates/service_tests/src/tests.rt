@@ -1,8 +1,15 @@
 //! What the tests of the service share.
+mod conversations;
 mod inquiries;
 mod memory;
+mod orders;
+mod plant;
 mod searches;
 mod sessions;
+mod state;
+mod steps;
+mod texts;
+mod units;
 
 use std::fmt::Debug;
 use std::process::Abort;

@@ -2,7 +2,7 @@
 use Rattle.std.proofs.Common.{◌≡◌, ℕ, zero, suc, ◌+◌, Bool, true, false, List, [], ◌∷◌, ◌++◌, length, Option, Some, None, slice_get, refl, sym, ap, subst, arith, append_assoc, bytes_eq, if◌then◌else◌}
 use Rattle.std.proofs.lemmas.List.{append-nil}
 use Rattle.std.proofs.lemmas.Slice.Eq.{bytes_eq-Decides}
-use Rattle.service_core.specs.declared.limits.Station.{Station}
+use Rattle.service_parts.specs.declared.limits.Station.{Station}
 use Rattle.service_texts.specs.declared.addresses.Addresses.{Addresses}
 use Rattle.service_texts.specs.declared.device_places.DevicePlace.{DevicePlace}
 use Rattle.service_texts.specs.Stations.{number_from, with_station, addresses_behind, addresses_of, IsAt, AreAt}

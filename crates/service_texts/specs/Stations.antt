@@ -3,7 +3,7 @@
 use Rattle.std.specs.Prelude.{◌≡◌, ℕ, ◌+◌, List, [], ◌∷◌, ◌++◌, length, map, Option, Some, None, slice_get, ⊤, if◌then◌else◌}
 use Rattle.std.specs.Str.{bytes_eq}
 use Rattle.site_model.specs.declared.device.SiteDevice.{SiteDevice}
-use Rattle.service_core.specs.declared.limits.Station.{Station}
+use Rattle.service_parts.specs.declared.limits.Station.{Station}
 use Rattle.service_texts.specs.declared.addresses.Addresses.{Addresses}
 use Rattle.service_texts.specs.declared.device_places.DevicePlace.{DevicePlace}
 

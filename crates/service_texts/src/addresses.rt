@@ -4,7 +4,7 @@ ghost use Rattle.service_texts.specs.Stations.{AreAt, addresses_of, all_behind, 
 
 use crate::device_places::DevicePlace;
 use point_types::Items;
-use service_core::Station;
+use service_parts::Station;
 use site_model::{SiteDevice, Text};
 use std::alloc::{AllocError, Global};
 

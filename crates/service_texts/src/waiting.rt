@@ -1,7 +1,7 @@
 //! How long the service waits.
 ghost use Rattle.std.specs.Prelude.{◌≡◌, ◌≤◌, ◌*◌};
 
-use service_core::Limits;
+use service_parts::Limits;
 
 /// The longest wait between two tries to reach a device, in milliseconds.
 const BACK_OFF_MOST: u64 = 60_000;

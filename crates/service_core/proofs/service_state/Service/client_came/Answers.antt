@@ -1,7 +1,7 @@
 use Rattle.std.proofs.Common.{rules, ◌≡◌, ◌<◌, Some, length, refl}
 use Rattle.std.specs.Prelude.{slice_get}
 use Rattle.std.proofs.lemmas.Option.{slice_get_read}
-use Rattle.service_core.proofs.Heard.{others_stay, stands_there}
+use Rattle.service_parts.proofs.Heard.{others_stay, stands_there}
 use Rattle.service_core.proofs.service_state.Service.client_came.Goals as goal
 
 pub returns-clause-open : goal.returns-clause-open

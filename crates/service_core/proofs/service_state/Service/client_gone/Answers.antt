@@ -1,8 +1,8 @@
 use Rattle.std.proofs.Common.{rules, ◌≡◌, ◌≤◌, ◌<◌, false, Some, length, refl}
 use Rattle.std.specs.Prelude.{slice_get}
 use Rattle.std.proofs.lemmas.Option.{slice_get_past, slice_get_read}
-use Rattle.service_core.specs.declared.client_place.ClientPlace.{ClientPlace}
-use Rattle.service_core.proofs.Heard.{done_at, nobody_at}
+use Rattle.service_parts.specs.declared.client_place.ClientPlace.{ClientPlace}
+use Rattle.service_parts.proofs.Heard.{done_at, nobody_at}
 use Rattle.service_core.proofs.service_state.Service.client_gone.Goals as goal
 
 pub returns-in-Some-clause-gone : goal.returns-in-Some-clause-gone

@@ -1,4 +1,4 @@
-use Rattle.service_core.proofs.Rightful.{right_on}
+use Rattle.service_parts.proofs.Rightful.{right_on}
 use Rattle.service_core.proofs.service_state.Service.find_none.Goals as goal
 
 pub invariant_of-self : goal.invariant_of-self

@@ -1,5 +1,5 @@
 use Rattle.std.proofs.Common.{◌≡◌}
-use Rattle.service_core.specs.Course.{LeadsOn}
+use Rattle.service_parts.specs.Course.{LeadsOn}
 use Rattle.service_core.proofs.service_state.Service.forget_all.Given as goal
 
 abbrev pub invariant-loop-device : goal.invariant-loop-device

@@ -1,10 +1,10 @@
 use Rattle.std.proofs.Common.{rules, ◌≡◌, ◌≤◌, ◌<◌, [], Some, length, refl, ap}
 use Rattle.std.specs.Prelude.{slice_get}
 use Rattle.std.proofs.lemmas.Option.{slice_get_past, slice_get_read}
-use Rattle.service_core.proofs.Heard.{done_at, nobody_at, that_one}
-use Rattle.service_core.specs.declared.client_place.ClientPlace.{ClientPlace}
-use Rattle.service_core.specs.Clients.{IsDeaf, ready_of}
-use Rattle.service_core.proofs.Rightful.{right_behind_clients}
+use Rattle.service_parts.proofs.Heard.{done_at, nobody_at, that_one}
+use Rattle.service_parts.specs.declared.client_place.ClientPlace.{ClientPlace}
+use Rattle.service_parts.specs.Clients.{IsDeaf, ready_of}
+use Rattle.service_parts.proofs.Rightful.{right_behind_clients}
 use Rattle.service_core.proofs.service_state.Service.from_client.Goals as goal
 
 pub returns-in-Some-clause-hears : goal.returns-in-Some-clause-hears

@@ -1,5 +1,0 @@
-use Rattle.service_core.proofs.Heard.{hears_nothing}
-use Rattle.service_core.proofs.client_place.ClientPlace.take.Goals as goal
-
-pub returns-then-self-clause-hears : goal.returns-then-self-clause-hears
-returns-then-self-clause-hears g c heard = hears_nothing _ _ _ _ c.args.self.now c.turn_to.ensures

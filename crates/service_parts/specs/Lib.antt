@@ -1,0 +1,8 @@
+pub mod Maps
+pub mod Seeking
+pub mod Course
+pub mod Calls
+pub mod Requests
+pub mod Counting
+pub mod Clients
+pub mod Places

@@ -1,0 +1,67 @@
+-- What goes out to a device: frames of the requests that it may be asked, and nothing else
+-- (MODBUS Messaging on TCP/IP Implementation Guide, sections 3.1.3 and 4.4.1).
+use Rattle.std.specs.Prelude.{◌≡◌, ◌⊎◌, ℕ, List, [], ◌++◌, Option, Some, slice_get}
+use Rattle.modbus_frame.specs.declared.message.Request.{Request}
+use Rattle.modbus_frame.specs.Frame.{frame_bytes}
+use Rattle.gateway.specs.event_core.Core.{Gateway}
+use Rattle.gateway.specs.poller.LinkRun.{frame_of}
+use Rattle.service.specs.declared.search.Step.TheVariants as step
+use Rattle.service_parts.specs.declared.limits.Station.{Station}
+use Rattle.service_parts.specs.declared.line.Line.{Line}
+use Rattle.service_parts.specs.declared.lines.Lines.{Lines}
+use Rattle.service_parts.specs.Calls.{IsCallOf}
+use Rattle.service_parts.specs.Course.{Goes, Reached}
+use Rattle.service_parts.specs.Seeking.{IsSought}
+
+-- It reads a block that is wanted of the device, or writes what is planned for it, by this state of the core.
+pub record IsOfRound (core : Gateway) (device : ℕ) (request : Request) : Type 0 where
+  pub unit : ℕ
+  pub call : IsCallOf core device (record { unit = unit; request = request })
+
+-- The device's map was found over the connection with this number.
+abbrev pub IsFoundOn : List (Option ℕ) → ℕ → ℕ → Type 0
+IsFoundOn found_on number device = slice_get found_on device ≡ Some (Some number)
+
+-- Over the connection with this number: a request of a round, where the device's map was found over this very connection,
+-- or the next read of a search for the device's map.
+abbrev pub MayBeAsked : Gateway → List (Option ℕ) → ℕ → ℕ → Request → Type 0
+MayBeAsked core found_on number device request = (IsOfRound core device request × IsFoundOn found_on number device) ⊎ IsSought core.site device (step.Ask request)
+
+-- These bytes are the rest of the frame of a request that the device may be asked over the connection with this number, by
+-- a state of the core from which events and learned maps led to the one of now. The device's station is on this link, and
+-- the frame is for its unit there.
+pub record IsRest (now : Gateway) (stations : List Station) (found_on : List (Option ℕ)) (link number : ℕ) (bytes : List ℕ) : Type 0 where
+  pub device : ℕ
+  pub unit : ℕ
+  pub station : slice_get stations device ≡ Some (record { link = link; unit = unit })
+  pub core : Gateway
+  pub reached : Reached core
+  pub since : Goes core now
+  pub request : Request
+  pub asked : MayBeAsked core found_on number device request
+  pub id : ℕ
+  pub gone : List ℕ
+  pub whole : gone ++ bytes ≡ frame_bytes (frame_of (record { id = id; unit = unit; request = request }))
+
+abbrev pub IsRightful : Gateway → List Station → List (Option ℕ) → ℕ → ℕ → List ℕ → Type 0
+IsRightful now stations found_on link number bytes = (bytes ≡ []) ⊎ IsRest now stations found_on link number bytes
+
+-- What is still to be written over each link is so, by the number of the connection that it has now.
+abbrev pub AreRightful : Gateway → List Station → List ℕ → List (Option ℕ) → List Line → Type 0
+AreRightful now stations numbers found_on lines =
+    (link number : ℕ) (line : Line) → slice_get numbers link ≡ Some number → slice_get lines link ≡ Some line → ∥ IsRightful now stations found_on link number line.out.items ∥₁
+
+abbrev pub IsRightfulOn : Gateway → Lines → ℕ → List ℕ → Type 0
+IsRightfulOn now lines link bytes =
+    (number : ℕ) → slice_get lines.links.numbers.items link ≡ Some number → ∥ IsRightful now lines.links.stations.items lines.found_on.items link number bytes ∥₁
+
+abbrev pub AreRightfulBy : Gateway → Lines → Type 0
+AreRightfulBy now lines = AreRightful now lines.links.stations.items lines.links.numbers.items lines.found_on.items lines.lines.items
+
+-- What was rightful, by whatever state, stays so.
+abbrev pub StayRightful : Lines → Lines → Type 0
+StayRightful old new = (now : Gateway) → AreRightfulBy now old → AreRightfulBy now new
+
+-- It may be asked over the connection that a link has now.
+abbrev pub MayGoOver : Gateway → List ℕ → List (Option ℕ) → ℕ → ℕ → Request → Type 0
+MayGoOver core numbers found_on link device request = (number : ℕ) → slice_get numbers link ≡ Some number → ∥ MayBeAsked core found_on number device request ∥₁

@@ -1,0 +1,202 @@
+//! A place for a client.
+ghost use Rattle.std.specs.Prelude.{◌≡◌, ◌≤◌, ◌<◌, ◌↔◌, [], length, take, IsTrue, true, false};
+ghost use Rattle.service.specs.Sessions.{IsFree, ServesOn};
+ghost use Rattle.service_parts.specs.Counting.{more_by};
+ghost use Rattle.service_parts.specs.Course.{IsOfClients, LeadsOnBy};
+
+use crate::scan_cycle::ScanCycle;
+use crate::times::heard_at;
+use modbus_frame::Responder;
+use service::{Session, Turned};
+
+/// Room for the answers of one turn.
+const ROOM: usize = 2080;
+
+/// A client that was silent for more than this may lose its place to another one.
+const GIVES_WAY: u64 = 30_000;
+
+/// A place for a client, with the bytes that wait to go out to it.
+#[derive(Drop)]
+pub struct ClientPlace {
+    session: Session,
+    may_write: bool,
+    out: [u8; 2080],
+    start: usize,
+    end: usize,
+    is_taken: bool,
+    is_closing: bool,
+    /// When it came, or its last whole frame.
+    last: u64,
+    /// How many of its frames were answered.
+    requests: u64,
+    ghost begins: { start ≤ end },
+    ghost room: { end ≤ 2080 },
+    ghost quiet: { start ≡ end → session.waiting ≡ [] },
+}
+
+impl ClientPlace {
+    ghost use Rattle.service_parts.specs.Clients.{Hears, IsDeaf, IsDone, IsOpen, IsSame, Sends, heard_at, ready_of};
+    ghost use Rattle.service_parts.specs.Places.{closed_if_idle, is_free, is_silent};
+
+    pub fn new() -> ClientPlace {
+        ClientPlace {
+            session: Session::new(),
+            may_write: false,
+            out: [0; ROOM],
+            start: 0,
+            end: 0,
+            is_taken: false,
+            is_closing: false,
+            last: 0,
+            requests: 0,
+        }
+    }
+
+    /// Whether nobody is there.
+    pub fn is_free(&self) -> bool
+        ensures { result ≡ is_free self.now }
+    {
+        !self.is_taken
+    }
+
+    /// Whether nothing was heard of its client for over half a minute.
+    pub fn is_silent(&self, now: u64) -> bool
+        ensures { result ≡ is_silent now self.now }
+    {
+        self.last.saturating_add(GIVES_WAY) < now
+    }
+
+    /// How many of its frames were answered.
+    pub fn requests(&self) -> u64
+        ensures { result ≡ self.now.requests }
+    {
+        self.requests
+    }
+
+    /// When its client came, or sent its last whole frame.
+    pub fn last(&self) -> u64
+        ensures { result ≡ self.now.last }
+    {
+        self.last
+    }
+
+    /// Whether its client waits to be closed once it was silent for long.
+    pub fn is_waited_for(&self) -> bool {
+        self.is_taken && !self.is_closing
+    }
+
+    /// A client comes.
+    pub fn open(&mut self, may_write: bool, now: u64)
+        ensures { IsOpen may_write now self.new }
+    {
+        self.session = Session::new();
+        self.may_write = may_write;
+        self.start = 0;
+        self.end = 0;
+        self.is_taken = true;
+        self.is_closing = false;
+        self.last = now;
+        self.requests = 0;
+    }
+
+    /// Its client is gone.
+    pub fn leave(&mut self)
+        ensures { self.new.is_taken ≡ false }
+    {
+        self.open(false, 0);
+        self.is_taken = false;
+    }
+
+    /// Its client is to be closed, where nothing was heard of it for so long.
+    pub fn close_if_idle(&mut self, now: u64, idle: u64)
+        ensures { self.new ≡ closed_if_idle now idle self.old }
+    {
+        let is_idle = self.is_taken && self.last.saturating_add(idle) <= now;
+        self.is_closing = self.is_closing || is_idle;
+    }
+
+    /// Whether its connection is to be closed: its client was silent, or its stream is over and all answers are written.
+    pub fn wants_close(&self) -> bool
+        ensures { IsTrue result ↔ IsDone self.now }
+    {
+        self.is_taken && (self.is_closing || (self.start == self.end && self.session.is_over()))
+    }
+
+    /// The bytes that are to go out.
+    pub fn out(&self) -> &[u8]
+        ensures { result.now ≡ ready_of self.now }
+    {
+        &self.out[self.start..self.end]
+    }
+
+    /// So many bytes are gone; what still waits takes their place once all are.
+    pub fn sent(&mut self, n: usize)
+        ensures { Sends self.old n self.new }
+    {
+        self.start += n.min(self.end - self.start);
+        if self.start == self.end {
+            let end = self.session.put(&mut self.out);
+            self.start = 0;
+            self.end = end;
+        }
+    }
+
+    /// Whether nothing more is heard of its client: nobody is there, it is to be closed, or its stream is over.
+    fn is_deaf(&self) -> bool
+        ensures { IsTrue result ↔ IsDeaf self.now }
+    {
+        !self.is_taken || self.is_closing || self.session.is_over()
+    }
+
+    /// Takes bytes of the client, and answers frames in them, at most 8; how many bytes it used: none while answers are to
+    /// go out, and all that come once nothing more is heard of it.
+    pub fn take<const DEPTH: usize>(
+        &mut self,
+        cycle: &mut ScanCycle<DEPTH>,
+        bytes: &[u8],
+        now: u64,
+    ) -> usize
+        ensures used { result ≤ length bytes.now }
+        ensures hears { (IsDeaf self.old → ⊥) → Hears ⟦<ScanCycle<DEPTH> as Responder>⟧.answers now (record cycle.old { may_write = self.old.may_write })
+            self.old (take result bytes.now) cycle.new self.new }
+        ensures takes { (IsDeaf self.old → ⊥) → ready_of self.old ≡ [] → 0 < length bytes.now → 0 < result }
+        ensures goes { LeadsOnBy IsOfClients cycle.old.core.value cycle.new.core.value }
+        ensures deaf { IsDeaf self.old → (self.new ≡ self.old) × (cycle.new ≡ cycle.old) }
+    {
+        if self.is_deaf() {
+            return bytes.len();
+        }
+        cycle.turn_to(self.may_write);
+        if self.start < self.end {
+            return 0;
+        }
+        self.serve(cycle, bytes, now).used
+    }
+
+    // One turn of the client.
+    #[tactic(auto, using(crate::proofs::Heard::counted))]
+    fn serve<const DEPTH: usize>(
+        &mut self,
+        cycle: &mut ScanCycle<DEPTH>,
+        bytes: &[u8],
+        now: u64,
+    ) -> Turned
+        ensures serves { ServesOn ⟦<ScanCycle<DEPTH> as Responder>⟧.answers result.frames cycle.old
+            self.old.session (take result.used bytes.now) (take self.new.end self.new.out) cycle.new self.new.session }
+        ensures few { result.frames ≤ 8 }
+        ensures goes { LeadsOnBy IsOfClients cycle.old.core.value cycle.new.core.value }
+        ensures used { result.used ≤ length bytes.now }
+        ensures takes { IsFree self.old.session → 0 < length bytes.now → 0 < result.used }
+        ensures front { self.new.start ≡ 0 }
+        ensures same { IsSame self.old self.new }
+        ensures since { self.new.last ≡ heard_at now result.frames self.old.last }
+        ensures count { self.new.requests ≡ more_by result.frames self.old.requests }
+    {
+        let turned = self.session.turn(cycle, bytes, &mut self.out);
+        self.start = 0;
+        self.end = turned.put;
+        self.requests = self.requests.saturating_add(turned.frames as u64);
+        self.last = heard_at(turned.frames, now, self.last);
+        turned
+    }
+}

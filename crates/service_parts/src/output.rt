@@ -1,0 +1,41 @@
+//! What was told of an output.
+use crate::note::Unwritten;
+
+/// What became of an output.
+#[derive(Clone, Copy, Debug, PartialEq, Eq)]
+pub enum OutputState {
+    /// Its device took it.
+    Written,
+    /// It isn't written.
+    Unwritten(Unwritten),
+}
+
+/// What was told of an output last, and whether its write is waited for in this round.
+#[derive(Clone, Copy)]
+pub struct Output {
+    told: Option<OutputState>,
+    pub is_awaited: bool,
+}
+
+impl Output {
+    /// Nothing was told of it.
+    pub fn new() -> Output {
+        Output {
+            told: None,
+            is_awaited: false,
+        }
+    }
+
+    /// What became of it last.
+    pub fn told(&self) -> Option<OutputState> {
+        self.told
+    }
+
+    /// This became of it in this round; whether that is to be told.
+    pub fn settle(&mut self, state: OutputState) -> bool {
+        self.is_awaited = false;
+        let is_new = self.told != Some(state);
+        self.told = Some(state);
+        is_new
+    }
+}

@@ -1,0 +1,262 @@
+//! A connection to devices.
+ghost use Rattle.std.specs.Prelude.{◌≡◌, IfSome, IsSome, IsTrue, None};
+ghost use Rattle.modbus_frame.specs.Frame.{frame_bytes};
+ghost use Rattle.modbus_frame.specs.Message.{HasQuantity};
+ghost use Rattle.gateway.specs.poller.LinkRun.{frame_of};
+
+use crate::limits::Limits;
+use crate::times::longer;
+use arrayvec::ArrayVec;
+use modbus_frame::Request;
+use service::{Fate, Inquiry};
+
+/// What a request is made for.
+#[derive(Clone, Copy, PartialEq, Eq)]
+pub enum Aim {
+    /// A map.
+    Map,
+    /// A wanted block.
+    Block,
+    /// The output of this number.
+    Output(usize),
+    /// A round that is over.
+    Past,
+}
+
+/// The request that is under way.
+#[derive(Clone, Copy)]
+pub struct Asked {
+    pub device: usize,
+    pub aim: Aim,
+    pub since: u64,
+    pub until: u64,
+}
+
+/// A connection to devices, up or down, with the request that is under way on it.
+#[derive(Drop)]
+pub struct Wire {
+    inquiry: Inquiry,
+    asked: Option<Asked>,
+    id: u16,
+    is_up: bool,
+    is_bad: bool,
+    /// The numbers of its devices, the lowest first.
+    devices: Vec<usize>,
+    /// Before this time there is nothing to ask over it, unless something happens.
+    rest_until: u64,
+    /// So many requests in a row had no answer.
+    silent: usize,
+    /// The number of the device from which on the next one is asked.
+    turn: usize,
+    dial_at: u64,
+    /// Until when the dial that is under way may take.
+    dial_until: Option<u64>,
+    /// Its last back-off; 0 where a device answered since.
+    wait: u64,
+}
+
+impl Wire {
+    /// One to these devices that is down.
+    pub fn new(devices: Vec<usize>) -> Wire {
+        Wire {
+            inquiry: Inquiry::new(),
+            asked: None,
+            id: 0,
+            is_up: false,
+            is_bad: false,
+            devices,
+            rest_until: 0,
+            silent: 0,
+            turn: 0,
+            dial_at: 0,
+            dial_until: None,
+            wait: 0,
+        }
+    }
+
+    pub fn is_up(&self) -> bool {
+        self.is_up
+    }
+
+    /// Whether it is up, and nothing is wrong with it.
+    pub fn is_well(&self) -> bool {
+        self.is_up && !self.is_bad
+    }
+
+    /// Whether it is well, and no request is under way.
+    pub fn is_free(&self) -> bool
+        ensures { IsTrue result → self.now.asked ≡ None }
+    {
+        self.is_up && !self.is_bad && self.asked.is_none()
+    }
+
+    /// Whether it is to be hung up.
+    pub fn is_bad(&self) -> bool {
+        self.is_up && self.is_bad
+    }
+
+    pub fn asked(&self) -> Option<Asked> {
+        self.asked
+    }
+
+    /// The numbers of its devices, the lowest first.
+    pub fn devices(&self) -> &[usize] {
+        &self.devices
+    }
+
+    pub fn turn(&self) -> usize {
+        self.turn
+    }
+
+    /// Whether something may be to be asked at this time.
+    pub fn is_stirred(&self, now: u64) -> bool {
+        now >= self.rest_until
+    }
+
+    /// There is nothing to ask before this time, unless something happens.
+    pub fn rest_until(&mut self, until: u64) {
+        self.rest_until = until;
+    }
+
+    /// Something happened: there may be something to ask.
+    pub fn stir(&mut self) {
+        self.rest_until = 0;
+    }
+
+    /// Whether it is to be made: it is down, no dial is under way, and its back-off is over.
+    pub fn wants_dial(&self, now: u64) -> bool {
+        !self.is_up && self.dial_until.is_none() && now >= self.dial_at
+    }
+
+    /// A dial begins that may take until this time.
+    pub fn dial(&mut self, until: u64) {
+        if !self.is_up {
+            self.dial_until = Some(until);
+        }
+    }
+
+    /// Whether it is to be closed, or the dial that is under way to be given up.
+    pub fn wants_hang_up(&self, now: u64) -> bool {
+        match self.dial_until {
+            Some(until) => now >= until,
+            None => self.is_bad(),
+        }
+    }
+
+    /// When something is to be done about it: a wait or a dial ends, a dial is due, or, once all is written, a device may
+    /// be asked again.
+    pub fn wakes_at(&self, is_sent: bool) -> u64 {
+        if !self.is_up {
+            return self.dial_until.unwrap_or(self.dial_at);
+        }
+        match self.asked {
+            Some(asked) => asked.until,
+            None if is_sent => self.rest_until,
+            None => u64::MAX,
+        }
+    }
+
+    /// It is up from now on: a new stream.
+    pub fn come_up(&mut self) {
+        self.inquiry = Inquiry::new();
+        self.asked = None;
+        self.is_up = true;
+        self.is_bad = false;
+        self.dial_until = None;
+        self.rest_until = 0;
+        self.silent = 0;
+    }
+
+    /// It is down from now on, and isn't made again for a while.
+    pub fn go_down(&mut self, now: u64, limits: &Limits) {
+        self.inquiry = Inquiry::new();
+        self.asked = None;
+        self.is_up = false;
+        self.is_bad = false;
+        self.dial_until = None;
+        self.wait = longer(self.wait, limits.period, limits.back_off_most);
+        self.dial_at = now.saturating_add(self.wait);
+    }
+
+    /// It is to be hung up.
+    pub fn spoil(&mut self) {
+        self.is_bad = true;
+    }
+
+    /// Begins a request to a device at this unit, where none is under way, and gives the bytes of its frame.
+    pub fn begin(&mut self, asked: Asked, unit: u8, request: Request) -> Option<ArrayVec<u8, 260>>
+        requires quantity { HasQuantity request }
+        ensures one { IsSome self.old.asked → self.new ≡ self.old }
+        ensures frame { IfSome result (λ bytes. bytes.items ≡ frame_bytes (frame_of (record { id = self.old.id; unit = unit; request = request }))) }
+    {
+        if !self.is_free() {
+            return None;
+        }
+        let id = self.id;
+        self.id = id.wrapping_add(1);
+        self.asked = Some(asked);
+        self.turn = asked.device.saturating_add(1);
+        Some(self.inquiry.begin(id, unit, request))
+    }
+
+    /// What became of the request that is under way, where the bytes that came before it tell.
+    pub fn fate(&mut self) -> Option<Fate> {
+        self.inquiry.take(&[])
+    }
+
+    /// Takes bytes, as many as have room, and tells how many, and what became of the request.
+    pub fn take(&mut self, bytes: &[u8]) -> (usize, Option<Fate>) {
+        if !self.is_well() {
+            return (bytes.len(), None);
+        }
+        let n = self.inquiry.room().min(bytes.len());
+        (n, self.inquiry.take(bytes.split_at(n).0))
+    }
+
+    /// The request is over.
+    pub fn end(&mut self) -> Option<Asked> {
+        self.asked.take()
+    }
+
+    /// The request is given up. A part of its frame that wasn't written spoils the stream.
+    pub fn give_up(&mut self, is_sent: bool) {
+        self.asked = None;
+        let _ = self.inquiry.end();
+        if !is_sent {
+            self.is_bad = true;
+        }
+    }
+
+    /// A device answered.
+    pub fn heard(&mut self) {
+        self.silent = 0;
+        self.wait = 0;
+    }
+
+    /// A device didn't answer. After two silent requests in a row for each of its devices and one more, the connection
+    /// itself is at fault.
+    pub fn missed(&mut self) {
+        self.silent = self.silent.saturating_add(1);
+        if self.silent >= self.devices.len().saturating_mul(2).saturating_add(1) {
+            self.is_bad = true;
+        }
+    }
+
+    /// A write of a round that is over.
+    pub fn outlive(&mut self) {
+        if let Some(asked) = self.asked {
+            self.asked = Some(Asked {
+                aim: past(asked.aim),
+                ..asked
+            });
+        }
+    }
+}
+
+/// What a request is made for once its round is over.
+fn past(aim: Aim) -> Aim {
+    match aim {
+        Aim::Map => Aim::Map,
+        _ => Aim::Past,
+    }
+}
