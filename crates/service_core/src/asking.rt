@@ -10,7 +10,7 @@ use crate::service_state::Service;
 use modbus_frame::Request;
 use register_map::Map;
 use service::{Fate, Step};
-use service_parts::{Aim, Asked, Note, sooner};
+use service_parts::{Aim, Asked};
 
 /// A request that may begin.
 #[derive(Drop)]
@@ -35,7 +35,7 @@ impl<const DEPTH: usize> Service<DEPTH> {
         ensures goes { LeadsOn self.old.cycle.core.value self.new.cycle.core.value }
         ensures places { self.new.places.items ≡ self.old.places.items }
     {
-        for link in 0..self.wires.len() {
+        for link in 0..self.side.wires.len() {
             self.ask(link);
         }
     }
@@ -46,12 +46,12 @@ impl<const DEPTH: usize> Service<DEPTH> {
         ensures goes { LeadsOn self.old.cycle.core.value self.new.cycle.core.value }
         ensures places { self.new.places.items ≡ self.old.places.items }
     {
-        for _ in 0..self.devices.len().saturating_add(64) {
+        for _ in 0..self.cycle.devices().saturating_add(64) {
             if !self.may_ask(link) {
                 return;
             }
             if !self.ask_for(link, Purpose::Round) && !self.ask_for(link, Purpose::Search) {
-                self.rest_link(link);
+                self.side.rest_link(link);
                 return;
             }
         }
@@ -59,49 +59,7 @@ impl<const DEPTH: usize> Service<DEPTH> {
 
     /// Whether a connection is free, and may have something to ask.
     fn may_ask(&self, link: usize) -> bool {
-        match self.wires.get(link) {
-            Some(wire) => wire.is_stirred(self.now) && self.is_free(link),
-            None => false,
-        }
-    }
-
-    /// There is nothing to ask over the connection before one of its devices may be asked again, or something happens.
-    fn rest_link(&mut self, link: usize)
-        ensures links { self.new.lines.links ≡ self.old.lines.links }
-        ensures goes { LeadsOn self.old.cycle.core.value self.new.cycle.core.value }
-        ensures places { self.new.places.items ≡ self.old.places.items }
-    {
-        let mut until = u64::MAX;
-        for i in 0..self.device_count(link) {
-            until = self.asked_again_by(link, i, until);
-        }
-        if let Some(wire) = self.wires.get_mut(link) {
-            wire.rest_until(until);
-        }
-    }
-
-    fn asked_again_by(&self, link: usize, i: usize, until: u64) -> u64 {
-        let device = match self.device_at(link, i) {
-            Some(device) => device,
-            None => return until,
-        };
-        match self.devices.get(device) {
-            Some(found) => sooner(until, found.asked_again_at(), self.now),
-            None => until,
-        }
-    }
-
-    /// How many devices a connection has.
-    fn device_count(&self, link: usize) -> usize {
-        match self.wires.get(link) {
-            Some(wire) => wire.devices().len(),
-            None => 0,
-        }
-    }
-
-    /// The number of a connection's device.
-    fn device_at(&self, link: usize, i: usize) -> Option<usize> {
-        self.wires.get(link)?.devices().get(i).copied()
+        self.side.is_stirred(link) && self.is_free(link)
     }
 
     /// Asks the next device in turn that there is something to ask of; whether there is one.
@@ -110,9 +68,8 @@ impl<const DEPTH: usize> Service<DEPTH> {
         ensures goes { LeadsOn self.old.cycle.core.value self.new.cycle.core.value }
         ensures places { self.new.places.items ≡ self.old.places.items }
     {
-        let turn = match self.wires.get(link) {
-            Some(wire) => wire.turn(),
-            None => return false,
+        let Some(turn) = self.side.turn(link) else {
+            return false;
         };
         self.ask_between(link, purpose, turn, usize::MAX)
             || self.ask_between(link, purpose, 0, turn)
@@ -124,8 +81,8 @@ impl<const DEPTH: usize> Service<DEPTH> {
         ensures goes { LeadsOn self.old.cycle.core.value self.new.cycle.core.value }
         ensures places { self.new.places.items ≡ self.old.places.items }
     {
-        for i in 0..self.device_count(link) {
-            if let Some(device) = self.device_at(link, i) {
+        for i in 0..self.side.devices_on(link) {
+            if let Some(device) = self.side.device_at(link, i) {
                 if first <= device && device < end && self.ask_device(link, device, purpose) {
                     return true;
                 }
@@ -139,7 +96,7 @@ impl<const DEPTH: usize> Service<DEPTH> {
         ensures goes { LeadsOn self.old.cycle.core.value self.new.cycle.core.value }
         ensures places { self.new.places.items ≡ self.old.places.items }
     {
-        if !self.is_rested(device) {
+        if !self.side.is_rested(device) {
             return false;
         }
         match self.wish_of(link, device, purpose) {
@@ -147,13 +104,6 @@ impl<const DEPTH: usize> Service<DEPTH> {
                 self.begin(link, device, wish);
                 true
             }
-            None => false,
-        }
-    }
-
-    pub(crate) fn is_rested(&self, device: usize) -> bool {
-        match self.devices.get(device) {
-            Some(found) => found.is_rested(self.now),
             None => false,
         }
     }
@@ -207,7 +157,7 @@ impl<const DEPTH: usize> Service<DEPTH> {
         ensures goes { LeadsOn self.old.cycle.core.value self.new.cycle.core.value }
         ensures places { self.new.places.items ≡ self.old.places.items }
     {
-        if !self.is_sought(device) {
+        if !self.side.is_sought(device) {
             return None;
         }
         match self.cycle.seek(device)? {
@@ -226,13 +176,6 @@ impl<const DEPTH: usize> Service<DEPTH> {
         }
     }
 
-    fn is_sought(&self, device: usize) -> bool {
-        match self.devices.get(device) {
-            Some(found) => found.is_sought(self.now),
-            None => false,
-        }
-    }
-
     fn find(&mut self, link: usize, device: usize, map: Map)
         requires { ∥ IsSought self.old.cycle.core.value.site device (Found map) ∥₁ }
         ensures learned { device < length self.old.cycle.core.value.site.devices → self.new.cycle.core.value.maps ≡ set self.old.cycle.core.value.maps device (Some map) }
@@ -244,10 +187,7 @@ impl<const DEPTH: usize> Service<DEPTH> {
     {
         self.cycle.learn(device, Some(map));
         self.lines.find(link, device);
-        if let Some(found) = self.devices.get_mut(device) {
-            found.is_lost = false;
-        }
-        self.notes.add(Note::Found(device));
+        self.side.find(device);
     }
 
     fn find_none(&mut self, device: usize)
@@ -255,12 +195,8 @@ impl<const DEPTH: usize> Service<DEPTH> {
         ensures goes { LeadsOn self.old.cycle.core.value self.new.cycle.core.value }
         ensures places { self.new.places.items ≡ self.old.places.items }
     {
-        let again = self.now.saturating_add(self.limits.search_again);
         self.cycle.seek_anew(device);
-        if let Some(found) = self.devices.get_mut(device) {
-            found.seek_from(again);
-        }
-        self.notes.add(Note::NoMap(device));
+        self.side.find_none(device);
     }
 
     fn begin(&mut self, link: usize, device: usize, wish: Wish)
@@ -273,13 +209,11 @@ impl<const DEPTH: usize> Service<DEPTH> {
         let asked = Asked {
             device,
             aim: wish.aim,
-            since: self.now,
-            until: self.until(wish.aim),
+            since: self.side.now,
+            until: self.side.until(wish.aim),
         };
         let fate = self.start(link, asked, wish.request);
-        if let Some(found) = self.devices.get_mut(device) {
-            found.counts.ask();
-        }
+        self.side.count(device);
         if let Some(fate) = fate {
             self.settle(link, fate);
         }
@@ -298,19 +232,9 @@ impl<const DEPTH: usize> Service<DEPTH> {
         if !self.lines.is_sent(link) {
             return None;
         }
-        let wire = self.wires.get_mut(link)?;
+        let wire = self.side.wires.get_mut(link)?;
         let bytes = wire.begin(asked, unit, request)?;
         self.lines.put(link, bytes);
         wire.fate()
-    }
-
-    /// Until when an answer is waited for. A search takes nothing of the next round.
-    fn until(&self, aim: Aim) -> u64 {
-        let until = self.now.saturating_add(self.limits.timeout);
-        match aim {
-            Aim::Block => until.min(self.deadline),
-            Aim::Map => until.min(self.next_round),
-            Aim::Output(_) | Aim::Past => until,
-        }
     }
 }

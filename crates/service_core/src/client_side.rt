@@ -16,13 +16,13 @@ impl<const DEPTH: usize> Service<DEPTH> {
     pub fn client_came(&mut self, may_write: bool, now: u64) -> Option<usize>
         ensures links { self.new.lines.links ≡ self.old.lines.links }
         ensures core { self.new.cycle.core.value ≡ self.old.cycle.core.value }
-        ensures given { result ≡ given_place self.new.now self.old.places.items }
+        ensures given { result ≡ given_place self.new.side.now self.old.places.items }
         ensures refused { IfNone result (self.new.places.items ≡ self.old.places.items) }
-        ensures open { IfSome result (λ place. (c : Place) × (slice_get self.new.places.items place ≡ Some c) × IsOpen may_write self.new.now c) }
+        ensures open { IfSome result (λ place. (c : Place) × (slice_get self.new.places.items place ≡ Some c) × IsOpen may_write self.new.side.now c) }
         ensures others { IfSome result (λ place. OthersStay self.old.places.items place self.new.places.items) }
     {
-        let now = self.now.max(now);
-        self.now = now;
+        self.side.turn_to(now);
+        let now = self.side.now;
         let place = place_for(&self.places, now)?;
         self.places[place].open(may_write, now);
         Some(place)
@@ -47,11 +47,11 @@ impl<const DEPTH: usize> Service<DEPTH> {
         ensures used { result ≤ length bytes.now }
         ensures takes { (c : Place) → slice_get self.old.places.items place ≡ Some c → (IsDeaf c → ⊥) → ready_of c ≡ [] → 0 < length bytes.now → 0 < result }
         ensures deaf { DoesAt (λ c d. IsDeaf c → (d ≡ c) × (self.new.cycle.core.value ≡ self.old.cycle.core.value)) self.old.places.items place self.new.places.items }
-        ensures hears { DoesAt (λ c d. (IsDeaf c → ⊥) → Hears ⟦<ScanCycle<DEPTH> as Responder>⟧.answers self.new.now (record self.old.cycle { may_write = c.may_write })
+        ensures hears { DoesAt (λ c d. (IsDeaf c → ⊥) → Hears ⟦<ScanCycle<DEPTH> as Responder>⟧.answers self.new.side.now (record self.old.cycle { may_write = c.may_write })
             c (take result bytes.now) self.new.cycle d) self.old.places.items place self.new.places.items }
     {
-        let now = self.now.max(now);
-        self.now = now;
+        self.side.turn_to(now);
+        let now = self.side.now;
         match self.places.get_mut(place) {
             Some(client) => client.take(&mut self.cycle, bytes, now),
             None => bytes.len(),

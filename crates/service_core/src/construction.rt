@@ -2,10 +2,12 @@
 ghost use Rattle.std.specs.Prelude.{◌≡◌, ◌≤◌, replicate, IfErr, IfOk, OnOk};
 ghost use Rattle.verifier.specs.Verified.{HasLinks};
 ghost use Rattle.gateway.specs.declared.event_core.fault.CoreFault.TheVariants.{Foreign};
-ghost use Rattle.gateway.specs.event_core.Core.{gateway_of};
+ghost use Rattle.gateway.specs.event_core.Core.{Gateway, gateway_of};
 ghost use Rattle.gateway.specs.event_core.SiteRun.{none_of};
 ghost use Rattle.service_parts.specs.Course.{IsNew};
+ghost use Rattle.service_parts.specs.Requests.{AreRightfulBy};
 
+use crate::device_side::DeviceSide;
 use crate::service_state::Service;
 use gateway::{Core, CoreFault};
 use register_map::Map;
@@ -58,28 +60,71 @@ impl<const DEPTH: usize> Service<DEPTH> {
         ensures stations { IfOk result (λ service. service.lines.links.stations.items ≡ stations.now) }
         ensures numbers { IfOk result (λ service. service.lines.links.numbers.items ≡ replicate links 0) }
     {
-        let devices = devices_of(alloc, core.site().devices().len())?;
-        let outputs = outputs_of(alloc, core.site().outs())?;
-        let wires = wires_to(alloc, links, stations, devices.len())?;
-        let lines = Lines::new(alloc, links, stations)?;
-        let places = places_for(alloc, limits.clients)?;
-        let notes = Notes::new(alloc, most_notes(devices.len(), outputs.len()))?;
+        let peers = peers_of(alloc, core.site(), links, stations, limits, now)?;
         let cycle = ScanCycle::new(alloc, core)?;
         Ok(Service {
             cycle,
-            lines,
-            wires,
-            devices,
-            outputs,
-            places,
-            notes,
-            limits,
-            now,
-            next_round: now.saturating_add(limits.period),
-            deadline: now,
-            scans: 0,
+            lines: peers.lines,
+            side: peers.side,
+            places: peers.places,
         })
     }
+}
+
+/// What a service keeps of its peers.
+#[derive(Drop)]
+struct Peers {
+    lines: Lines,
+    side: DeviceSide,
+    places: Vec<ClientPlace>,
+}
+
+fn peers_of(
+    alloc: Global,
+    site: &Site,
+    links: usize,
+    stations: &[Station],
+    limits: Limits,
+    now: u64,
+) -> Result<Peers, AllocError>
+    ensures rightful { IfOk result (λ peers. (now : Gateway) → AreRightfulBy now peers.lines) }
+    ensures stations { IfOk result (λ peers. peers.lines.links.stations.items ≡ stations.now) }
+    ensures numbers { IfOk result (λ peers. peers.lines.links.numbers.items ≡ replicate links 0) }
+{
+    let lines = Lines::new(alloc, links, stations)?;
+    let side = device_side(alloc, site, links, stations, limits, now)?;
+    let places = places_for(alloc, limits.clients)?;
+    Ok(Peers {
+        lines,
+        side,
+        places,
+    })
+}
+
+/// The devices and outputs of a site, and so many connections, all of them down.
+fn device_side(
+    alloc: Global,
+    site: &Site,
+    links: usize,
+    stations: &[Station],
+    limits: Limits,
+    now: u64,
+) -> Result<DeviceSide, AllocError> {
+    let devices = devices_of(alloc, site.devices().len())?;
+    let outputs = outputs_of(alloc, site.outs())?;
+    let wires = wires_to(alloc, links, stations, devices.len())?;
+    let notes = Notes::new(alloc, most_notes(devices.len(), outputs.len()))?;
+    Ok(DeviceSide {
+        wires,
+        devices,
+        outputs,
+        notes,
+        limits,
+        now,
+        next_round: now.saturating_add(limits.period),
+        deadline: now,
+        scans: 0,
+    })
 }
 
 /// No map for each device.

@@ -1,201 +1,273 @@
-//! The devices' side: connections, and what comes over them.
-ghost use Rattle.std.specs.Prelude.{◌≡◌, ◌+◌, ◌<◌, ◌^◌, ℕ, Some, set, slice_get};
-ghost use Rattle.service_parts.specs.Course.{LeadsOn};
-ghost use Rattle.service_parts.specs.Requests.{IsRightfulOn};
+//! The devices' side of a service, apart from its core and from what goes out: connections, devices and outputs.
+ghost use Rattle.std.specs.Prelude.{◌≡◌, max};
 
-use crate::service_state::Service;
-use gateway::Outcome;
+use gateway::{Core, Report};
+use point_writer::NoWrite;
 use service::Fate;
-use service_parts::{Aim, Asked, Loss, Note, OutputState, Unwritten, Wire};
+use service_parts::{
+    Aim, Asked, Device, Limits, Lines, Loss, Note, Notes, Output, OutputState, Unwritten, Wire,
+    sooner,
+};
 
-impl<const DEPTH: usize> Service<DEPTH> {
+/// How connections, devices and outputs stand, what is told of them, and when something is to be done about them.
+#[derive(Drop)]
+pub struct DeviceSide {
+    pub(crate) wires: Vec<Wire>,
+    pub(crate) devices: Vec<Device>,
+    pub(crate) outputs: Vec<Output>,
+    pub(crate) notes: Notes,
+    pub(crate) limits: Limits,
+    pub(crate) now: u64,
+    /// When the next round begins.
+    pub(crate) next_round: u64,
+    /// Until when wanted blocks are waited for.
+    pub(crate) deadline: u64,
+    pub(crate) scans: u64,
+}
+
+impl DeviceSide {
+    /// Time goes up.
+    pub(crate) fn turn_to(&mut self, now: u64)
+        ensures { self.new ≡ record self.old { now = max self.old.now now } }
+    {
+        self.now = self.now.max(now);
+    }
+
     /// Whether a connection is to be made: it is down, no dial is under way, and its back-off is over.
-    pub fn wants_dial(&self, link: usize) -> bool {
+    pub(crate) fn wants_dial(&self, link: usize) -> bool {
         match self.wires.get(link) {
             Some(wire) => wire.wants_dial(self.now),
             None => false,
         }
     }
 
-    /// A dial began. It may take as long as a device may take to answer; then it is to be given up, and told as down.
-    pub fn dial_began(&mut self, link: usize, now: u64)
-        ensures links { self.new.lines.links ≡ self.old.lines.links }
-        ensures core { self.new.cycle.core.value ≡ self.old.cycle.core.value }
-        ensures places { self.new.places.items ≡ self.old.places.items }
-    {
-        self.now = self.now.max(now);
+    /// A dial begins, which may take as long as a device may take to answer.
+    pub(crate) fn dial(&mut self, link: usize) {
         let until = self.now.saturating_add(self.limits.timeout);
         if let Some(wire) = self.wires.get_mut(link) {
             wire.dial(until);
         }
     }
 
-    /// A connection is up: its devices have no map, until a search finds one. It has the next number of its link.
-    pub fn link_up(&mut self, link: usize, now: u64)
-        ensures stations { self.new.lines.links.stations ≡ self.old.lines.links.stations }
-        ensures goes { LeadsOn self.old.cycle.core.value self.new.cycle.core.value }
-        ensures next { (number : ℕ) → slice_get self.old.lines.links.numbers.items link ≡ Some number → number + 1 < 2 ^ 64
-            → self.new.lines.links.numbers.items ≡ set self.old.lines.links.numbers.items link (number + 1) }
-        ensures places { self.new.places.items ≡ self.old.places.items }
-    {
-        self.turn_to(now);
-        if self.lines.come_up(link) {
-            self.begin_anew(link);
-        }
-    }
-
-    /// A link has a new connection: what was known of its devices isn't known any more.
-    fn begin_anew(&mut self, link: usize)
-        ensures links { self.new.lines.links ≡ self.old.lines.links }
-        ensures goes { LeadsOn self.old.cycle.core.value self.new.cycle.core.value }
-        ensures places { self.new.places.items ≡ self.old.places.items }
-    {
+    pub(crate) fn come_up(&mut self, link: usize) {
         if let Some(wire) = self.wires.get_mut(link) {
             wire.come_up();
         }
-        self.forget_all(link);
-        self.go_on();
     }
 
-    fn forget_all(&mut self, link: usize)
-        ensures links { self.new.lines.links ≡ self.old.lines.links }
-        ensures goes { LeadsOn self.old.cycle.core.value self.new.cycle.core.value }
-        ensures places { self.new.places.items ≡ self.old.places.items }
-    {
-        for device in 0..self.devices.len() {
-            if self.lines.is_at(device, link) {
-                self.forget(device);
-            }
-        }
-    }
-
-    /// A connection is down: a dial failed, the peer ended it, or there was an error.
-    pub fn link_down(&mut self, link: usize, now: u64)
-        ensures links { self.new.lines.links ≡ self.old.lines.links }
-        ensures goes { LeadsOn self.old.cycle.core.value self.new.cycle.core.value }
-        ensures places { self.new.places.items ≡ self.old.places.items }
-    {
-        self.turn_to(now);
-        let now = self.now;
-        self.lines.go_down(link);
+    pub(crate) fn go_down(&mut self, link: usize) {
         if let Some(wire) = self.wires.get_mut(link) {
-            wire.go_down(now, &self.limits);
+            wire.go_down(self.now, &self.limits);
         }
-        self.lose_all(link, Loss::Down);
-        self.go_on();
     }
 
-    /// Whether a connection is to be closed, or its dial to be given up, and told as down.
-    pub fn wants_hang_up(&self, link: usize) -> bool {
+    /// What came over a connection is no frame.
+    pub(crate) fn spoil(&mut self, link: usize) {
+        if let Some(wire) = self.wires.get_mut(link) {
+            wire.spoil();
+        }
+    }
+
+    /// Whether a connection is to be closed, or its dial to be given up.
+    pub(crate) fn wants_hang_up(&self, link: usize) -> bool {
         match self.wires.get(link) {
             Some(wire) => wire.wants_hang_up(self.now),
             None => false,
         }
     }
 
-    fn is_bad(&self, link: usize) -> bool {
+    pub(crate) fn is_up(&self, link: usize) -> bool {
+        match self.wires.get(link) {
+            Some(wire) => wire.is_up(),
+            None => false,
+        }
+    }
+
+    pub(crate) fn is_bad(&self, link: usize) -> bool {
         match self.wires.get(link) {
             Some(wire) => wire.is_bad(),
             None => false,
         }
     }
 
-    /// Bytes of a connection; how many of them were used. The rest is to be given again.
-    pub fn from_link(&mut self, link: usize, bytes: &[u8], now: u64) -> usize
-        ensures links { self.new.lines.links ≡ self.old.lines.links }
-        ensures goes { LeadsOn self.old.cycle.core.value self.new.cycle.core.value }
-        ensures places { self.new.places.items ≡ self.old.places.items }
-    {
-        self.turn_to(now);
-        let (used, fate) = match self.wires.get_mut(link) {
-            Some(wire) => wire.take(bytes),
-            None => (bytes.len(), None),
-        };
-        if let Some(fate) = fate {
-            self.settle(link, fate);
-            self.go_on();
-        }
-        used
-    }
-
-    /// What is to be written to a connection: the rest of the frame of a request that a device may be asked whose station
-    /// is there, for its unit, by a state that this service's core came through. A round asks and writes by a map that was
-    /// found over this very connection.
-    pub fn to_link(&self, link: usize) -> &[u8]
-        ensures { IsRightfulOn self.entry.now.cycle.core.value self.entry.now.lines link result.now }
-    {
-        self.lines.out(link)
-    }
-
-    /// So many bytes are written to a connection.
-    pub fn sent_to_link(&mut self, link: usize, n: usize)
-        ensures links { self.new.lines.links ≡ self.old.lines.links }
-        ensures goes { LeadsOn self.old.cycle.core.value self.new.cycle.core.value }
-        ensures places { self.new.places.items ≡ self.old.places.items }
-    {
-        self.lines.sent(link, n);
-        // a request that was given up before all of it was written
-        if self.is_free(link) {
-            self.go_on();
-        }
-    }
-
-    /// Whether a request may begin on a connection.
-    pub(crate) fn is_free(&self, link: usize) -> bool {
+    pub(crate) fn is_well(&self, link: usize) -> bool {
         match self.wires.get(link) {
-            Some(wire) => wire.is_free() && self.lines.is_sent(link),
+            Some(wire) => wire.is_well(),
             None => false,
         }
     }
 
-    /// The connection over which a device is reached.
-    pub(crate) fn wire_of(&self, device: usize) -> Option<&Wire> {
-        self.wires.get(self.lines.station(device)?.link)
-    }
-
-    /// A device's map is forgotten, and it is searched from now on.
-    pub(crate) fn forget(&mut self, device: usize)
-        ensures links { self.new.lines.links ≡ self.old.lines.links }
-        ensures goes { LeadsOn self.old.cycle.core.value self.new.cycle.core.value }
-        ensures places { self.new.places.items ≡ self.old.places.items }
-    {
-        self.cycle.forget(device);
-        self.cycle.give_up(device);
-        self.cycle.seek_anew(device);
-        let now = self.now;
-        if let Some(device) = self.devices.get_mut(device) {
-            device.seek_from(now);
+    /// Whether a connection is well, and no request is under way on it.
+    pub(crate) fn is_free(&self, link: usize) -> bool {
+        match self.wires.get(link) {
+            Some(wire) => wire.is_free(),
+            None => false,
         }
     }
 
-    /// All devices of a connection are lost.
-    pub(crate) fn lose_all(&mut self, link: usize, loss: Loss)
-        ensures links { self.new.lines.links ≡ self.old.lines.links }
-        ensures goes { LeadsOn self.old.cycle.core.value self.new.cycle.core.value }
-        ensures places { self.new.places.items ≡ self.old.places.items }
-    {
-        for device in 0..self.devices.len() {
-            if self.lines.is_at(device, link) {
-                self.lose(device, loss);
-            }
+    /// Whether there may be something to ask over a connection.
+    pub(crate) fn is_stirred(&self, link: usize) -> bool {
+        match self.wires.get(link) {
+            Some(wire) => wire.is_stirred(self.now),
+            None => false,
         }
     }
 
-    /// A device is lost: it is asked nothing more in this round.
-    pub(crate) fn lose(&mut self, device: usize, loss: Loss)
-        ensures links { self.new.lines.links ≡ self.old.lines.links }
-        ensures goes { LeadsOn self.old.cycle.core.value self.new.cycle.core.value }
-        ensures places { self.new.places.items ≡ self.old.places.items }
-    {
-        self.cycle.give_up(device);
-        self.tell_lost(device, loss);
+    /// There may be something to ask over each connection.
+    pub(crate) fn stir_all(&mut self) {
+        for wire in self.wires.iter_mut() {
+            wire.stir();
+        }
     }
 
-    fn tell_lost(&mut self, device: usize, loss: Loss)
-        ensures links { self.new.lines.links ≡ self.old.lines.links }
-        ensures goes { LeadsOn self.old.cycle.core.value self.new.cycle.core.value }
-        ensures places { self.new.places.items ≡ self.old.places.items }
-    {
+    /// There is nothing to ask over the connection before one of its devices may be asked again, or something happens.
+    pub(crate) fn rest_link(&mut self, link: usize) {
+        let mut until = u64::MAX;
+        for i in 0..self.devices_on(link) {
+            until = self.asked_again_by(link, i, until);
+        }
+        if let Some(wire) = self.wires.get_mut(link) {
+            wire.rest_until(until);
+        }
+    }
+
+    fn asked_again_by(&self, link: usize, i: usize, until: u64) -> u64 {
+        let device = match self.device_at(link, i) {
+            Some(device) => device,
+            None => return until,
+        };
+        match self.devices.get(device) {
+            Some(found) => sooner(until, found.asked_again_at(), self.now),
+            None => until,
+        }
+    }
+
+    /// How many devices a connection has.
+    pub(crate) fn devices_on(&self, link: usize) -> usize {
+        match self.wires.get(link) {
+            Some(wire) => wire.devices().len(),
+            None => 0,
+        }
+    }
+
+    /// The number of a connection's device.
+    pub(crate) fn device_at(&self, link: usize, i: usize) -> Option<usize> {
+        self.wires.get(link)?.devices().get(i).copied()
+    }
+
+    /// The number of the device from which on the next one of a connection is asked.
+    pub(crate) fn turn(&self, link: usize) -> Option<usize> {
+        Some(self.wires.get(link)?.turn())
+    }
+
+    /// Takes bytes of a connection, and tells how many, and what became of the request that is under way.
+    pub(crate) fn take(&mut self, link: usize, bytes: &[u8]) -> (usize, Option<Fate>) {
+        match self.wires.get_mut(link) {
+            Some(wire) => wire.take(bytes),
+            None => (bytes.len(), None),
+        }
+    }
+
+    /// The request that is under way on a connection is over.
+    pub(crate) fn end(&mut self, link: usize) -> Option<Asked> {
+        let wire = self.wires.get_mut(link)?;
+        wire.stir();
+        wire.end()
+    }
+
+    /// The request that is under way on a connection, where its time is over.
+    pub(crate) fn overdue(&self, link: usize) -> Option<Asked> {
+        let asked = self.wires.get(link)?.asked()?;
+        if self.now < asked.until {
+            return None;
+        }
+        Some(asked)
+    }
+
+    /// A request is given up, of which all was sent, or a part.
+    pub(crate) fn give_up(&mut self, link: usize, is_sent: bool) {
+        if let Some(wire) = self.wires.get_mut(link) {
+            wire.stir();
+            wire.give_up(is_sent);
+        }
+    }
+
+    /// Until when an answer is waited for. A search takes nothing of the next round.
+    pub(crate) fn until(&self, aim: Aim) -> u64 {
+        let until = self.now.saturating_add(self.limits.timeout);
+        match aim {
+            Aim::Block => until.min(self.deadline),
+            Aim::Map => until.min(self.next_round),
+            Aim::Output(_) | Aim::Past => until,
+        }
+    }
+
+    /// Whether a request since then had a fair time.
+    pub(crate) fn had_time(&self, since: u64) -> bool {
+        let fair = self.limits.timeout.min(self.limits.period / 4);
+        self.now >= since.saturating_add(fair)
+    }
+
+    /// Not later than at this time something is to be done about a connection, or at the given one.
+    pub(crate) fn wakes_at(&self, lines: &Lines, at: u64) -> u64 {
+        let mut at = at;
+        for (link, wire) in self.wires.iter().enumerate() {
+            at = at.min(wire.wakes_at(lines.is_sent(link)));
+        }
+        at
+    }
+}
+
+impl DeviceSide {
+    /// Whether a device may be asked, by its back-off.
+    pub(crate) fn is_rested(&self, device: usize) -> bool {
+        match self.devices.get(device) {
+            Some(found) => found.is_rested(self.now),
+            None => false,
+        }
+    }
+
+    /// Whether a device may be searched.
+    pub(crate) fn is_sought(&self, device: usize) -> bool {
+        match self.devices.get(device) {
+            Some(found) => found.is_sought(self.now),
+            None => false,
+        }
+    }
+
+    /// A device is searched from now on.
+    pub(crate) fn seek(&mut self, device: usize) {
+        if let Some(found) = self.devices.get_mut(device) {
+            found.seek_from(self.now);
+        }
+    }
+
+    /// A device's map is found.
+    pub(crate) fn find(&mut self, device: usize) {
+        if let Some(found) = self.devices.get_mut(device) {
+            found.is_lost = false;
+        }
+        self.notes.add(Note::Found(device));
+    }
+
+    /// A search found no map: the next one begins later.
+    pub(crate) fn find_none(&mut self, device: usize) {
+        let again = self.now.saturating_add(self.limits.search_again);
+        if let Some(found) = self.devices.get_mut(device) {
+            found.seek_from(again);
+        }
+        self.notes.add(Note::NoMap(device));
+    }
+
+    /// A request to a device is counted.
+    pub(crate) fn count(&mut self, device: usize) {
+        if let Some(found) = self.devices.get_mut(device) {
+            found.counts.ask();
+        }
+    }
+
+    /// A device is lost; it is told where it wasn't before.
+    pub(crate) fn lose(&mut self, device: usize, loss: Loss) {
         if let Some(found) = self.devices.get_mut(device) {
             if found.lose(loss) {
                 self.notes.add(Note::Lost(device, loss));
@@ -203,80 +275,14 @@ impl<const DEPTH: usize> Service<DEPTH> {
         }
     }
 
-    /// This became of the request that is under way on a connection.
-    pub(crate) fn settle(&mut self, link: usize, fate: Fate)
-        ensures links { self.new.lines.links ≡ self.old.lines.links }
-        ensures goes { LeadsOn self.old.cycle.core.value self.new.cycle.core.value }
-        ensures places { self.new.places.items ≡ self.old.places.items }
-    {
-        let asked = match self.wires.get_mut(link) {
-            Some(wire) => {
-                wire.stir();
-                wire.end()
-            }
-            None => None,
-        };
-        if let Some(asked) = asked {
-            self.settle_asked(link, asked, fate);
-        }
-    }
-
-    fn settle_asked(&mut self, link: usize, asked: Asked, fate: Fate)
-        ensures links { self.new.lines.links ≡ self.old.lines.links }
-        ensures goes { LeadsOn self.old.cycle.core.value self.new.cycle.core.value }
-        ensures places { self.new.places.items ≡ self.old.places.items }
-    {
-        match fate {
-            Fate::Lost => {
-                self.lose_write(asked.aim);
-                self.spoil(link);
-            }
-            Fate::Told(Outcome::Stale) => {
-                self.lose_write(asked.aim);
-                self.miss(link, asked.device, Loss::Stale);
-            }
-            Fate::Told(outcome) => {
-                self.hear(link, asked.device);
-                self.take(asked, outcome);
-            }
-        }
-    }
-
-    /// A write that went out had no answer.
-    fn lose_write(&mut self, aim: Aim)
-        ensures links { self.new.lines.links ≡ self.old.lines.links }
-        ensures goes { LeadsOn self.old.cycle.core.value self.new.cycle.core.value }
-        ensures places { self.new.places.items ≡ self.old.places.items }
-    {
-        if let Aim::Output(_) = aim {
-            self.cycle.wrote(false);
-        }
-    }
-
-    /// What came over a connection is no frame.
-    fn spoil(&mut self, link: usize)
-        ensures links { self.new.lines.links ≡ self.old.lines.links }
-        ensures goes { LeadsOn self.old.cycle.core.value self.new.cycle.core.value }
-        ensures places { self.new.places.items ≡ self.old.places.items }
-    {
-        if let Some(wire) = self.wires.get_mut(link) {
-            wire.spoil();
-        }
-        self.lose_all(link, Loss::Frame);
-    }
-
-    /// A device answered.
-    fn hear(&mut self, link: usize, device: usize)
-        ensures links { self.new.lines.links ≡ self.old.lines.links }
-        ensures goes { LeadsOn self.old.cycle.core.value self.new.cycle.core.value }
-        ensures places { self.new.places.items ≡ self.old.places.items }
-    {
+    /// A device answered, one that has a map or not.
+    pub(crate) fn hear(&mut self, link: usize, device: usize, is_mapped: bool) {
         if let Some(wire) = self.wires.get_mut(link) {
             wire.heard();
         }
         if let Some(found) = self.devices.get_mut(device) {
             found.heard();
-            if found.is_lost && self.cycle.is_mapped(device) {
+            if found.is_lost && is_mapped {
                 found.is_lost = false;
                 self.notes.add(Note::Back(device));
             }
@@ -284,119 +290,106 @@ impl<const DEPTH: usize> Service<DEPTH> {
     }
 
     /// A device didn't answer: it isn't asked for a while.
-    fn miss(&mut self, link: usize, device: usize, loss: Loss)
-        ensures links { self.new.lines.links ≡ self.old.lines.links }
-        ensures goes { LeadsOn self.old.cycle.core.value self.new.cycle.core.value }
-        ensures places { self.new.places.items ≡ self.old.places.items }
-    {
-        let now = self.now;
+    pub(crate) fn miss(&mut self, link: usize, device: usize) {
         if let Some(found) = self.devices.get_mut(device) {
-            found.rest(now, &self.limits);
+            found.rest(self.now, &self.limits);
         }
-        self.cycle.seek_anew(device);
-        self.lose(device, loss);
         if let Some(wire) = self.wires.get_mut(link) {
             wire.missed();
         }
-        if self.is_bad(link) {
-            self.lose_all(link, loss);
-        }
-    }
-
-    fn take(&mut self, asked: Asked, outcome: Outcome)
-        ensures links { self.new.lines.links ≡ self.old.lines.links }
-        ensures goes { LeadsOn self.old.cycle.core.value self.new.cycle.core.value }
-        ensures places { self.new.places.items ≡ self.old.places.items }
-    {
-        match asked.aim {
-            Aim::Map => self.cycle.answered(asked.device, &outcome),
-            Aim::Block => self.take_block(asked.device, outcome),
-            Aim::Output(output) => self.take_write(asked.device, output, outcome),
-            Aim::Past => {}
-        }
-    }
-
-    fn take_block(&mut self, device: usize, outcome: Outcome)
-        ensures links { self.new.lines.links ≡ self.old.lines.links }
-        ensures goes { LeadsOn self.old.cycle.core.value self.new.cycle.core.value }
-        ensures places { self.new.places.items ≡ self.old.places.items }
-    {
-        if self.cycle.close(device, Fate::Told(outcome)) {
-            self.forget(device);
-        }
-    }
-
-    fn take_write(&mut self, device: usize, output: usize, outcome: Outcome)
-        ensures links { self.new.lines.links ≡ self.old.lines.links }
-        ensures goes { LeadsOn self.old.cycle.core.value self.new.cycle.core.value }
-        ensures places { self.new.places.items ≡ self.old.places.items }
-    {
-        let is_done = outcome == Outcome::Wrote;
-        self.cycle.wrote(is_done);
-        self.settle_output(output, state_by(is_done));
-        self.cycle.close(device, Fate::Told(outcome));
-    }
-
-    /// The time of each request that is over ends its wait.
-    pub(crate) fn end_waits(&mut self)
-        ensures links { self.new.lines.links ≡ self.old.lines.links }
-        ensures goes { LeadsOn self.old.cycle.core.value self.new.cycle.core.value }
-        ensures places { self.new.places.items ≡ self.old.places.items }
-    {
-        for link in 0..self.wires.len() {
-            self.end_wait(link);
-        }
-    }
-
-    fn end_wait(&mut self, link: usize)
-        ensures links { self.new.lines.links ≡ self.old.lines.links }
-        ensures goes { LeadsOn self.old.cycle.core.value self.new.cycle.core.value }
-        ensures places { self.new.places.items ≡ self.old.places.items }
-    {
-        let asked = match self.wires.get(link) {
-            Some(wire) => wire.asked(),
-            None => None,
-        };
-        if let Some(asked) = asked {
-            if self.now >= asked.until {
-                self.give_up(link, asked);
-            }
-        }
-    }
-
-    fn give_up(&mut self, link: usize, asked: Asked)
-        ensures links { self.new.lines.links ≡ self.old.lines.links }
-        ensures goes { LeadsOn self.old.cycle.core.value self.new.cycle.core.value }
-        ensures places { self.new.places.items ≡ self.old.places.items }
-    {
-        let is_sent = self.lines.is_sent(link);
-        if let Some(wire) = self.wires.get_mut(link) {
-            wire.stir();
-            wire.give_up(is_sent);
-        }
-        self.lose_write(asked.aim);
-        if self.had_time(asked.since) {
-            self.miss(link, asked.device, Loss::Silent);
-        } else if asked.aim != Aim::Map {
-            self.lose(asked.device, Loss::NoTime);
-        }
-        if self.is_bad(link) {
-            self.lose_all(link, Loss::Silent);
-        }
-    }
-
-    /// Whether a request since then had a fair time.
-    fn had_time(&self, since: u64) -> bool {
-        let fair = self.limits.timeout.min(self.limits.period / 4);
-        self.now >= since.saturating_add(fair)
     }
 }
 
-/// What became of an output whose write was answered.
-fn state_by(is_done: bool) -> OutputState {
-    if is_done {
-        OutputState::Written
-    } else {
-        OutputState::Unwritten(Unwritten::Refused)
+impl DeviceSide {
+    /// Whether the next round is to begin.
+    pub(crate) fn is_due(&self) -> bool {
+        self.now >= self.next_round
+    }
+
+    /// Whether wanted blocks aren't waited for any more.
+    pub(crate) fn is_behind_deadline(&self) -> bool {
+        self.now >= self.deadline
+    }
+
+    /// A round begins now: its deadline, and when the next one begins. A round that begins late is told, and the next one
+    /// begins a period behind it.
+    pub(crate) fn plan_round(&mut self) {
+        if self.now > self.next_round.saturating_add(self.limits.period) {
+            let late = self.now.saturating_sub(self.next_round);
+            self.notes.add(Note::Late(late));
+            self.next_round = self.now;
+        }
+        self.deadline = self.now.saturating_add(self.limits.period / 2);
+        self.next_round = self.next_round.saturating_add(self.limits.period);
+        if self.next_round <= self.now {
+            self.next_round = self.now.saturating_add(self.limits.period.max(1));
+        }
+    }
+
+    /// The program ran. Each output's write is waited for from now on, where there is one.
+    pub(crate) fn count_scan<const DEPTH: usize>(&mut self, core: &Core<DEPTH>) {
+        self.scans = self.scans.saturating_add(1);
+        for output in 0..self.outputs.len() {
+            self.await_output(output, cause_at(core, output));
+        }
+    }
+
+    fn await_output(&mut self, output: usize, cause: Option<NoWrite>) {
+        if let Some(cause) = cause {
+            let state = OutputState::Unwritten(Unwritten::NoSetPoint(cause));
+            self.settle_output(output, state);
+        } else if let Some(found) = self.outputs.get_mut(output) {
+            found.is_awaited = true;
+        }
+    }
+
+    /// This became of an output; it is told where it is new.
+    pub(crate) fn settle_output(&mut self, output: usize, state: OutputState) {
+        let is_new = match self.outputs.get_mut(output) {
+            Some(found) => found.settle(state),
+            None => false,
+        };
+        if is_new {
+            self.notes.add(match state {
+                OutputState::Written => Note::Written(output),
+                OutputState::Unwritten(cause) => Note::Unwritten(output, cause),
+            });
+        }
+    }
+
+    /// A round is over: what was still to be written isn't.
+    pub(crate) fn finish(&mut self, report: Report) {
+        for output in 0..self.outputs.len() {
+            if self.is_awaited(output) {
+                let state = OutputState::Unwritten(Unwritten::Unanswered);
+                self.settle_output(output, state);
+            }
+        }
+        self.notes.add(Note::Scanned(report));
+    }
+
+    fn is_awaited(&self, output: usize) -> bool {
+        match self.outputs.get(output) {
+            Some(found) => found.is_awaited,
+            None => false,
+        }
+    }
+
+    /// The requests that are under way are those of a round that is over.
+    pub(crate) fn outlive_all(&mut self) {
+        for wire in self.wires.iter_mut() {
+            wire.outlive();
+        }
+    }
+}
+
+/// Why there is no set point for an output.
+fn cause_at<const DEPTH: usize>(core: &Core<DEPTH>, output: usize) -> Option<NoWrite> {
+    if output >= core.site().outs().len() {
+        return None;
+    }
+    match core.write(output) {
+        Ok(_) => None,
+        Err(cause) => Some(cause),
     }
 }

@@ -4,6 +4,7 @@
 
 mod asking;
 mod client_side;
+mod connections;
 mod construction;
 mod device_side;
 pub mod laws;

@@ -4,20 +4,17 @@ ghost use Rattle.service_parts.specs.Course.{LeadsOn};
 ghost use Rattle.service_parts.specs.Places.{closed_if_idle};
 
 use crate::service_state::Service;
-use gateway::{Core, Report};
-use point_writer::NoWrite;
-use service_parts::{Loss, Note, OutputState, Phase, Unwritten, close_idle};
+use service_parts::{Loss, Phase, close_idle};
 
 impl<const DEPTH: usize> Service<DEPTH> {
     /// The time is this: ends waits, begins rounds. It is to be called behind each wait.
     pub fn tick(&mut self, now: u64)
         ensures links { self.new.lines.links ≡ self.old.lines.links }
         ensures goes { LeadsOn self.old.cycle.core.value self.new.cycle.core.value }
-        ensures places { self.new.places.items ≡ map (closed_if_idle (max self.old.now now) self.old.limits.idle) self.old.places.items }
+        ensures places { self.new.places.items ≡ map (closed_if_idle (max self.old.side.now now) self.old.side.limits.idle) self.old.places.items }
     {
-        let now = self.now.max(now);
-        self.now = now;
-        close_idle(&mut self.places, now, self.limits.idle);
+        self.side.turn_to(now);
+        close_idle(&mut self.places, self.side.now, self.side.limits.idle);
         self.end_waits();
         self.end_reading();
         self.begin_round();
@@ -43,7 +40,7 @@ impl<const DEPTH: usize> Service<DEPTH> {
         ensures places { self.new.places.items ≡ self.old.places.items }
     {
         if let Some(report) = self.cycle.end() {
-            self.finish(report);
+            self.side.finish(report);
         }
     }
 
@@ -53,7 +50,7 @@ impl<const DEPTH: usize> Service<DEPTH> {
         ensures goes { LeadsOn self.old.cycle.core.value self.new.cycle.core.value }
         ensures places { self.new.places.items ≡ self.old.places.items }
     {
-        if self.cycle.phase() == Phase::Reading && self.now >= self.deadline {
+        if self.cycle.phase() == Phase::Reading && self.side.is_behind_deadline() {
             self.cut_off_all();
         }
     }
@@ -76,7 +73,7 @@ impl<const DEPTH: usize> Service<DEPTH> {
         let lost = self.cycle.lost();
         self.cycle.give_up(device);
         if self.cycle.lost() > lost {
-            self.lose(device, Loss::NoTime);
+            self.side.lose(device, Loss::NoTime);
         }
     }
 
@@ -86,15 +83,14 @@ impl<const DEPTH: usize> Service<DEPTH> {
         ensures goes { LeadsOn self.old.cycle.core.value self.new.cycle.core.value }
         ensures places { self.new.places.items ≡ self.old.places.items }
     {
-        if self.now < self.next_round {
+        if !self.side.is_due() {
             return;
         }
         self.end_round();
-        self.note_late();
-        self.plan_next();
+        self.side.plan_round();
         self.begin_reading();
         self.leave_out_all();
-        self.stir_all();
+        self.side.stir_all();
     }
 
     fn begin_reading(&mut self)
@@ -119,9 +115,7 @@ impl<const DEPTH: usize> Service<DEPTH> {
         if self.cycle.phase() == Phase::Writing {
             self.cut_short();
         }
-        for link in 0..self.wires.len() {
-            self.outlive(link);
-        }
+        self.side.outlive_all();
     }
 
     fn cut_short(&mut self)
@@ -130,81 +124,7 @@ impl<const DEPTH: usize> Service<DEPTH> {
         ensures places { self.new.places.items ≡ self.old.places.items }
     {
         let report = self.cycle.cut();
-        self.finish(report);
-    }
-
-    fn outlive(&mut self, link: usize)
-        ensures links { self.new.lines.links ≡ self.old.lines.links }
-        ensures goes { LeadsOn self.old.cycle.core.value self.new.cycle.core.value }
-        ensures places { self.new.places.items ≡ self.old.places.items }
-    {
-        if let Some(wire) = self.wires.get_mut(link) {
-            wire.outlive();
-        }
-    }
-
-    /// The round is over: what was still to be written isn't.
-    fn finish(&mut self, report: Report)
-        ensures links { self.new.lines.links ≡ self.old.lines.links }
-        ensures goes { LeadsOn self.old.cycle.core.value self.new.cycle.core.value }
-        ensures places { self.new.places.items ≡ self.old.places.items }
-    {
-        for output in 0..self.outputs.len() {
-            if self.is_awaited(output) {
-                let state = OutputState::Unwritten(Unwritten::Unanswered);
-                self.settle_output(output, state);
-            }
-        }
-        self.notes.add(Note::Scanned(report));
-    }
-
-    fn is_awaited(&self, output: usize) -> bool {
-        match self.outputs.get(output) {
-            Some(found) => found.is_awaited,
-            None => false,
-        }
-    }
-
-    /// This became of an output; it is told where it is new.
-    pub(crate) fn settle_output(&mut self, output: usize, state: OutputState)
-        ensures links { self.new.lines.links ≡ self.old.lines.links }
-        ensures goes { LeadsOn self.old.cycle.core.value self.new.cycle.core.value }
-        ensures places { self.new.places.items ≡ self.old.places.items }
-    {
-        let is_new = match self.outputs.get_mut(output) {
-            Some(found) => found.settle(state),
-            None => false,
-        };
-        if is_new {
-            self.notes.add(match state {
-                OutputState::Written => Note::Written(output),
-                OutputState::Unwritten(cause) => Note::Unwritten(output, cause),
-            });
-        }
-    }
-
-    fn note_late(&mut self)
-        ensures links { self.new.lines.links ≡ self.old.lines.links }
-        ensures goes { LeadsOn self.old.cycle.core.value self.new.cycle.core.value }
-        ensures places { self.new.places.items ≡ self.old.places.items }
-    {
-        if self.now > self.next_round.saturating_add(self.limits.period) {
-            let late = self.now.saturating_sub(self.next_round);
-            self.notes.add(Note::Late(late));
-            self.next_round = self.now;
-        }
-    }
-
-    fn plan_next(&mut self)
-        ensures links { self.new.lines.links ≡ self.old.lines.links }
-        ensures goes { LeadsOn self.old.cycle.core.value self.new.cycle.core.value }
-        ensures places { self.new.places.items ≡ self.old.places.items }
-    {
-        self.deadline = self.now.saturating_add(self.limits.period / 2);
-        self.next_round = self.next_round.saturating_add(self.limits.period);
-        if self.next_round <= self.now {
-            self.next_round = self.now.saturating_add(self.limits.period.max(1));
-        }
+        self.side.finish(report);
     }
 
     /// What can't be asked now isn't waited for.
@@ -228,22 +148,13 @@ impl<const DEPTH: usize> Service<DEPTH> {
         }
     }
 
-    /// There may be something to ask over each connection.
-    fn stir_all(&mut self)
-        ensures links { self.new.lines.links ≡ self.old.lines.links }
-        ensures goes { LeadsOn self.old.cycle.core.value self.new.cycle.core.value }
-        ensures places { self.new.places.items ≡ self.old.places.items }
-    {
-        for wire in self.wires.iter_mut() {
-            wire.stir();
-        }
-    }
-
     /// Whether a device may be asked: its connection is well, it has a map, and its back-off is over.
     fn is_there(&self, device: usize) -> bool {
-        match self.wire_of(device) {
-            Some(wire) => {
-                wire.is_well() && self.is_rested(device) && self.cycle.is_mapped(device)
+        match self.lines.station(device) {
+            Some(station) => {
+                self.side.is_well(station.link)
+                    && self.side.is_rested(device)
+                    && self.cycle.is_mapped(device)
             }
             None => false,
         }
@@ -258,11 +169,8 @@ impl<const DEPTH: usize> Service<DEPTH> {
         if !self.run() {
             return false;
         }
-        for output in 0..self.outputs.len() {
-            self.await_output(output);
-        }
         self.leave_out_all();
-        self.stir_all();
+        self.side.stir_all();
         true
     }
 
@@ -273,36 +181,8 @@ impl<const DEPTH: usize> Service<DEPTH> {
     {
         let has_run = self.cycle.scan();
         if has_run {
-            self.scans = self.scans.saturating_add(1);
+            self.side.count_scan(self.cycle.core());
         }
         has_run
-    }
-
-    /// An output's write is waited for from now on, where there is one.
-    fn await_output(&mut self, output: usize)
-        ensures links { self.new.lines.links ≡ self.old.lines.links }
-        ensures goes { LeadsOn self.old.cycle.core.value self.new.cycle.core.value }
-        ensures places { self.new.places.items ≡ self.old.places.items }
-    {
-        match cause_at(self.cycle.core(), output) {
-            Some(cause) => {
-                let state = OutputState::Unwritten(Unwritten::NoSetPoint(cause));
-                self.settle_output(output, state);
-            }
-            None => {
-                if let Some(found) = self.outputs.get_mut(output) {
-                    found.is_awaited = true;
-                }
-            }
-        }
-    }
-}
-
-/// Why there is no set point for an output.
-fn cause_at<const DEPTH: usize>(core: &Core<DEPTH>, output: usize) -> Option<NoWrite> {
-    if output < core.site().outs().len() {
-        core.write(output).err()
-    } else {
-        None
     }
 }

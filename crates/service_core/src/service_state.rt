@@ -1,10 +1,11 @@
 //! A service of a gateway.
 ghost use Rattle.std.specs.Prelude.{◌≡◌};
-ghost use Rattle.service_parts.specs.Course.{LeadsOn, Reached};
+ghost use Rattle.service_parts.specs.Course.{Reached};
 ghost use Rattle.service_parts.specs.Requests.{AreRightfulBy};
 
+use crate::device_side::DeviceSide;
 use gateway::Core;
-use service_parts::{ClientPlace, Device, Limits, Lines, Note, Notes, Output, ScanCycle, Wire};
+use service_parts::{ClientPlace, Lines, Note, ScanCycle};
 
 /// A service of a gateway: its core, connections to devices, clients, and what happened. It takes memory only
 /// when it is made.
@@ -12,18 +13,8 @@ use service_parts::{ClientPlace, Device, Limits, Lines, Note, Notes, Output, Sca
 pub struct Service<const DEPTH: usize> {
     pub(crate) cycle: ScanCycle<DEPTH>,
     pub(crate) lines: Lines,
-    pub(crate) wires: Vec<Wire>,
-    pub(crate) devices: Vec<Device>,
-    pub(crate) outputs: Vec<Output>,
+    pub(crate) side: DeviceSide,
     pub(crate) places: Vec<ClientPlace>,
-    pub(crate) notes: Notes,
-    pub(crate) limits: Limits,
-    pub(crate) now: u64,
-    /// When the next round begins.
-    pub(crate) next_round: u64,
-    /// Until when wanted blocks are waited for.
-    pub(crate) deadline: u64,
-    pub(crate) scans: u64,
     ghost rightful: { AreRightfulBy cycle.core.value lines },
 }
 
@@ -34,7 +25,7 @@ impl<const DEPTH: usize> Service<DEPTH> {
         ensures core { self.new.cycle.core.value ≡ self.old.cycle.core.value }
         ensures places { self.new.places.items ≡ self.old.places.items }
     {
-        self.notes.next()
+        self.side.notes.next()
     }
 
     /// The core. Events and learned maps alone brought it to where it stands, whatever came from clients, devices and the
@@ -47,15 +38,6 @@ impl<const DEPTH: usize> Service<DEPTH> {
 
     /// How many times the program ran.
     pub fn scans(&self) -> u64 {
-        self.scans
-    }
-
-    /// Time goes up.
-    pub(crate) fn turn_to(&mut self, now: u64)
-        ensures links { self.new.lines.links ≡ self.old.lines.links }
-        ensures goes { LeadsOn self.old.cycle.core.value self.new.cycle.core.value }
-        ensures places { self.new.places.items ≡ self.old.places.items }
-    {
-        self.now = self.now.max(now);
+        self.side.scans
     }
 }

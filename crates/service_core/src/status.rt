@@ -24,12 +24,12 @@ pub struct DeviceStatus {
 impl<const DEPTH: usize> Service<DEPTH> {
     /// How a device stands, by its number; None where the site has no such device.
     pub fn device_status(&self, device: usize) -> Option<DeviceStatus>
-        ensures stands { IfSome result (λ status. (own : Own) → slice_get self.entry.now.devices.items device ≡ Some own → IsStatus self.entry.now.cycle.core.value device own status) }
-        ensures none { IfNone result (length self.entry.now.devices.items ≤ device) }
+        ensures stands { IfSome result (λ status. (own : Own) → slice_get self.entry.now.side.devices.items device ≡ Some own → IsStatus self.entry.now.cycle.core.value device own status) }
+        ensures none { IfNone result (length self.entry.now.side.devices.items ≤ device) }
     {
-        let found = self.devices.get(device)?;
-        let is_up = match self.wire_of(device) {
-            Some(wire) => wire.is_up(),
+        let found = self.side.devices.get(device)?;
+        let is_up = match self.lines.station(device) {
+            Some(station) => self.side.is_up(station.link),
             None => false,
         };
         Some(DeviceStatus {
@@ -43,6 +43,6 @@ impl<const DEPTH: usize> Service<DEPTH> {
 
     /// What became of an output last, by its number among the site's outputs; None before its first scan.
     pub fn output_state(&self, output: usize) -> Option<OutputState> {
-        self.outputs.get(output)?.told()
+        self.side.outputs.get(output)?.told()
     }
 }

@@ -1,6 +1,0 @@
-use Rattle.std.proofs.Common.{◌≡◌}
-use Rattle.service_parts.specs.Course.{LeadsOn}
-use Rattle.service_core.proofs.service_state.Service.finish.Given as goal
-
-abbrev pub invariant-loop-output : goal.invariant-loop-output
-invariant-loop-output g l = (l.self.lines.links ≡ l.fn.self.lines.links) × (LeadsOn l.fn.self.cycle.core.value l.self.cycle.core.value) × (l.self.places.items ≡ l.fn.self.places.items)
