@@ -3,7 +3,7 @@ use Rattle.std.proofs.Common.{ℕ, Bool, List}
 use Rattle.modbus_frame.specs.declared.frame.Frame.{Frame}
 use Rattle.service_core.specs.Whole.{RestsAreOfTheRun, SiteIsServed}
 use Rattle.service_parts.proofs.Heard.{clients_are_answered}
-use Rattle.service_parts.proofs.Runs.{courses_are_site_runs}
+use Rattle.service_core.proofs.Runs.{courses_are_site_runs}
 
 rests_are_of_the_run : RestsAreOfTheRun
 rests_are_of_the_run now stations found_on link number bytes rest =

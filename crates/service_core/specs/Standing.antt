@@ -2,7 +2,7 @@
 use Rattle.std.specs.Prelude.{◌≡◌, ℕ}
 use Rattle.gateway.specs.event_core.Core.{Gateway}
 use Rattle.service_parts.specs.declared.device.Device.{Device}
-use Rattle.service_parts.specs.Maps.{has_map}
+use Rattle.service_core.specs.Maps.{has_map}
 use Rattle.service_core.specs.declared.status.DeviceStatus.{DeviceStatus}
 
 -- It tells what is kept of the device, and whether there is a map of it.

@@ -5,9 +5,10 @@ ghost use Rattle.service_parts.specs.declared.client_place.ClientPlace.{ClientPl
 ghost use Rattle.service_parts.specs.Clients.{DoesAt, Hears, IsDeaf, IsDone, IsOpen, OthersStay, Sends, ready_of};
 ghost use Rattle.service_parts.specs.Places.{given_place};
 
+use crate::scan_cycle::ScanCycle;
 use crate::service_state::Service;
 use modbus_frame::Responder;
-use service_parts::{ScanCycle, place_for};
+use service_parts::place_for;
 
 impl<const DEPTH: usize> Service<DEPTH> {
     /// A client came: its place, or none where it is to be closed, since each place is taken and each client was heard of
@@ -53,7 +54,10 @@ impl<const DEPTH: usize> Service<DEPTH> {
         self.side.turn_to(now);
         let now = self.side.now;
         match self.places.get_mut(place) {
-            Some(client) => client.take(&mut self.cycle, bytes, now),
+            Some(client) => {
+                self.cycle.turn_to(client.may_write());
+                client.take(&mut self.cycle, bytes, now)
+            }
             None => bytes.len(),
         }
     }

@@ -8,11 +8,12 @@ ghost use Rattle.service_parts.specs.Course.{IsNew};
 ghost use Rattle.service_parts.specs.Requests.{AreRightfulBy};
 
 use crate::device_side::DeviceSide;
+use crate::scan_cycle::ScanCycle;
 use crate::service_state::Service;
 use gateway::{Core, CoreFault};
 use register_map::Map;
 use scan_vm::Machine;
-use service_parts::{ClientPlace, Device, Limits, Lines, Notes, Output, ScanCycle, Station, Wire};
+use service_parts::{ClientPlace, Device, Limits, Lines, Notes, Output, Station, Wire};
 use site_model::{Site, SiteDevice};
 use std::alloc::{AllocError, Global};
 
@@ -45,7 +46,7 @@ impl<const DEPTH: usize> Service<DEPTH> {
         }
     }
 
-    #[tactic(auto, using(service_parts::proofs::Runs::reached_opening))]
+    #[tactic(auto, using(crate::proofs::Runs::reached_opening))]
     fn over(
         alloc: Global,
         core: Core<DEPTH>,

@@ -10,6 +10,7 @@ mod device_side;
 pub mod laws;
 mod restoring;
 mod round_times;
+mod scan_cycle;
 mod service_state;
 mod status;
 mod wakes;

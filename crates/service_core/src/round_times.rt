@@ -3,8 +3,9 @@ ghost use Rattle.std.specs.Prelude.{◌≡◌, map, max};
 ghost use Rattle.service_parts.specs.Course.{LeadsOn};
 ghost use Rattle.service_parts.specs.Places.{closed_if_idle};
 
+use crate::scan_cycle::Phase;
 use crate::service_state::Service;
-use service_parts::{Loss, Phase, close_idle};
+use service_parts::{Loss, close_idle};
 
 impl<const DEPTH: usize> Service<DEPTH> {
     /// The time is this: ends waits, begins rounds. It is to be called behind each wait.

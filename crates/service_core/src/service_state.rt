@@ -4,8 +4,9 @@ ghost use Rattle.service_parts.specs.Course.{Reached};
 ghost use Rattle.service_parts.specs.Requests.{AreRightfulBy};
 
 use crate::device_side::DeviceSide;
+use crate::scan_cycle::ScanCycle;
 use gateway::Core;
-use service_parts::{ClientPlace, Lines, Note, ScanCycle};
+use service_parts::{ClientPlace, Lines, Note};
 
 /// A service of a gateway: its core, connections to devices, clients, and what happened. It takes memory only
 /// when it is made.

@@ -1,6 +1,7 @@
 //! When something is to be done next.
+use crate::scan_cycle::Phase;
 use crate::service_state::Service;
-use service_parts::{ClientPlace, Phase};
+use service_parts::ClientPlace;
 
 impl<const DEPTH: usize> Service<DEPTH> {
     /// Not later than at this time a tick is wanted. A time that is over asks for something at once: a connection is to be

@@ -19,10 +19,24 @@ use Rattle.service_parts.specs.declared.limits.Station.{Station}
 use Rattle.service_parts.specs.declared.line.Line.{Line}
 use Rattle.service_parts.specs.declared.lines.Lines.{Lines}
 use Rattle.service_parts.specs.Calls.{IsCallOf}
-use Rattle.service_parts.specs.Course.{IsOfClients, IsOfRounds, LeadsOnBy, Reached, stays}
+use Rattle.service_parts.specs.Course.{Goes, GoesBy, IsOfClients, IsOfRounds, LeadsOnBy, Reached, stays, steps, learns}
 use Rattle.service_parts.specs.Requests.{AreRightful, AreRightfulBy, IsFoundOn, IsOfRound, IsRightful, MayBeAsked, MayGoOver}
 use Rattle.service_parts.specs.Seeking.{IsSought}
-use Rattle.service_parts.proofs.Runs.{goes_behind}
+
+-- ---- whatever kinds there are
+
+of_any : (Kinds : Event → Type 0) (g h : Gateway) → GoesBy Kinds g h → Goes g h
+of_any Kinds g h (stays s) = stays g
+of_any Kinds g h (learns {h = middle} before device found is) = learns (of_any Kinds g middle before) device found is
+of_any Kinds g h (steps {h = middle} before e kind a i one) = steps (of_any Kinds g middle before) e tt a i one
+
+and_then : (f g h : Gateway) → Goes f g → Goes g h → Goes f h
+and_then f g h first (stays s) = first
+and_then f g h first (learns {h = middle} before device found is) = learns (and_then f g middle first before) device found is
+and_then f g h first (steps {h = middle} before e kind a i one) = steps (and_then f g middle first before) e kind a i one
+
+pub goes_behind : (Kinds : Event → Type 0) (f old new : Gateway) → Goes f old → LeadsOnBy Kinds old new → ∥ Goes f new ∥₁
+goes_behind Kinds f old new before goes = ∥∥₁_elim (goes old ∣ stays old ∣₁) ∥∥₁_prop (λ more. ∣ and_then f old new before (of_any Kinds old new more) ∣₁)
 
 -- ---- what may be asked
 

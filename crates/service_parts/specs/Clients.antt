@@ -55,6 +55,10 @@ module _ {S : Type 0} (Answers : S → Frame → List ℕ → Bool → S → Typ
   abbrev pub IsServed : List (Turn S) → (stream gone : List ℕ) → S → ClientPlace → Type 0
   IsServed turns stream gone s c = Serving Answers turns stream (gone ++ ready_of c) s c.session
 
+  -- What answers went on by the turns of some frames in a row, and by nothing else.
+  abbrev pub HasAnswered : S → S → Type 0
+  HasAnswered s t = (turns : List (Turn S)) × IsChain Answers s turns t
+
   -- These bytes are taken, and at most 8 frames answered in a row, each in the state that the one before it left.
   pub record Hears (now : ℕ) (s : S) (old : ClientPlace) (bytes : List ℕ) (t : S) (new : ClientPlace) : Type 0 where
     pub same : IsSame old new

@@ -1,4 +1,3 @@
-pub mod Maps
 pub mod Seeking
 pub mod Course
 pub mod Calls

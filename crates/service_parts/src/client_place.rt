@@ -2,9 +2,7 @@
 ghost use Rattle.std.specs.Prelude.{◌≡◌, ◌≤◌, ◌<◌, ◌↔◌, [], length, take, IsTrue, true, false};
 ghost use Rattle.service.specs.Sessions.{IsFree, ServesOn};
 ghost use Rattle.service_parts.specs.Counting.{more_by};
-ghost use Rattle.service_parts.specs.Course.{IsOfClients, LeadsOnBy};
 
-use crate::scan_cycle::ScanCycle;
 use crate::times::heard_at;
 use modbus_frame::Responder;
 use service::{Session, Turned};
@@ -35,7 +33,7 @@ pub struct ClientPlace {
 }
 
 impl ClientPlace {
-    ghost use Rattle.service_parts.specs.Clients.{Hears, IsDeaf, IsDone, IsOpen, IsSame, Sends, heard_at, ready_of};
+    ghost use Rattle.service_parts.specs.Clients.{HasAnswered, Hears, IsDeaf, IsDone, IsOpen, IsSame, Sends, heard_at, ready_of};
     ghost use Rattle.service_parts.specs.Places.{closed_if_idle, is_free, is_silent};
 
     pub fn new() -> ClientPlace {
@@ -148,43 +146,37 @@ impl ClientPlace {
         !self.is_taken || self.is_closing || self.session.is_over()
     }
 
+    /// Whether its client may write.
+    pub fn may_write(&self) -> bool
+        ensures { result ≡ self.now.may_write }
+    {
+        self.may_write
+    }
+
     /// Takes bytes of the client, and answers frames in them, at most 8; how many bytes it used: none while answers are to
     /// go out, and all that come once nothing more is heard of it.
-    pub fn take<const DEPTH: usize>(
-        &mut self,
-        cycle: &mut ScanCycle<DEPTH>,
-        bytes: &[u8],
-        now: u64,
-    ) -> usize
+    pub fn take<R: Responder>(&mut self, responder: &mut R, bytes: &[u8], now: u64) -> usize
         ensures used { result ≤ length bytes.now }
-        ensures hears { (IsDeaf self.old → ⊥) → Hears ⟦<ScanCycle<DEPTH> as Responder>⟧.answers now (record cycle.old { may_write = self.old.may_write })
-            self.old (take result bytes.now) cycle.new self.new }
+        ensures hears { (IsDeaf self.old → ⊥) → Hears R.answers now responder.old self.old (take result bytes.now) responder.new self.new }
         ensures takes { (IsDeaf self.old → ⊥) → ready_of self.old ≡ [] → 0 < length bytes.now → 0 < result }
-        ensures goes { LeadsOnBy IsOfClients cycle.old.core.value cycle.new.core.value }
-        ensures deaf { IsDeaf self.old → (self.new ≡ self.old) × (cycle.new ≡ cycle.old) }
+        ensures chain { HasAnswered R.answers responder.old responder.new }
+        ensures deaf { IsDeaf self.old → (self.new ≡ self.old) × (responder.new ≡ responder.old) }
     {
         if self.is_deaf() {
             return bytes.len();
         }
-        cycle.turn_to(self.may_write);
         if self.start < self.end {
             return 0;
         }
-        self.serve(cycle, bytes, now).used
+        self.serve(responder, bytes, now).used
     }
 
     // One turn of the client.
     #[tactic(auto, using(crate::proofs::Heard::counted))]
-    fn serve<const DEPTH: usize>(
-        &mut self,
-        cycle: &mut ScanCycle<DEPTH>,
-        bytes: &[u8],
-        now: u64,
-    ) -> Turned
-        ensures serves { ServesOn ⟦<ScanCycle<DEPTH> as Responder>⟧.answers result.frames cycle.old
-            self.old.session (take result.used bytes.now) (take self.new.end self.new.out) cycle.new self.new.session }
+    fn serve<R: Responder>(&mut self, responder: &mut R, bytes: &[u8], now: u64) -> Turned
+        ensures serves { ServesOn R.answers result.frames responder.old
+            self.old.session (take result.used bytes.now) (take self.new.end self.new.out) responder.new self.new.session }
         ensures few { result.frames ≤ 8 }
-        ensures goes { LeadsOnBy IsOfClients cycle.old.core.value cycle.new.core.value }
         ensures used { result.used ≤ length bytes.now }
         ensures takes { IsFree self.old.session → 0 < length bytes.now → 0 < result.used }
         ensures front { self.new.start ≡ 0 }
@@ -192,7 +184,7 @@ impl ClientPlace {
         ensures since { self.new.last ≡ heard_at now result.frames self.old.last }
         ensures count { self.new.requests ≡ more_by result.frames self.old.requests }
     {
-        let turned = self.session.turn(cycle, bytes, &mut self.out);
+        let turned = self.session.turn(responder, bytes, &mut self.out);
         self.start = 0;
         self.end = turned.put;
         self.requests = self.requests.saturating_add(turned.frames as u64);

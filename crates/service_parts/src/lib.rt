@@ -1,6 +1,5 @@
-//! The parts of which a service of a gateway is made, each with its own promise: the core with its round and searches, what
-//! goes out over the links to devices, connections, the places of clients, and what is told. None knows of a socket or a
-//! clock.
+//! What a service of a gateway is made of beside its core, each part with its own promise: what goes out over the links to
+//! devices, connections, the places of clients, and what is told. None knows of a socket or a clock.
 #![tactic(auto)]
 
 mod client_place;
@@ -14,14 +13,11 @@ mod links;
 mod note;
 mod notes;
 mod output;
-mod scan_cycle;
 mod times;
 mod wire;
 
 // what is asked of a service
 pub use limits::{Limits, Station};
-// the core, and one scan of it
-pub use scan_cycle::{Phase, ScanCycle};
 // devices, and the links to them
 pub use device::Device;
 pub use lines::Lines;

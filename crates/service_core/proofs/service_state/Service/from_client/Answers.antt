@@ -1,10 +1,12 @@
-use Rattle.std.proofs.Common.{rules, ◌≡◌, ◌≤◌, ◌<◌, [], Some, length, refl, ap}
+use Rattle.std.proofs.Common.{rules, ◌≡◌, ◌≤◌, ◌<◌, [], Some, length, refl, subst, ap, ◌∙◌}
 use Rattle.std.specs.Prelude.{slice_get}
 use Rattle.std.proofs.lemmas.Option.{slice_get_past, slice_get_read}
 use Rattle.service_parts.proofs.Heard.{done_at, nobody_at, that_one}
 use Rattle.service_parts.specs.declared.client_place.ClientPlace.{ClientPlace}
 use Rattle.service_parts.specs.Clients.{IsDeaf, ready_of}
+use Rattle.service_parts.specs.Course.{IsOfClients, LeadsOnBy}
 use Rattle.service_parts.proofs.Rightful.{right_behind_clients}
+use Rattle.service_core.proofs.Runs.{goes_chain, goes_guarded, hears_from}
 use Rattle.service_core.proofs.service_state.Service.from_client.Goals as goal
 
 pub returns-in-Some-clause-hears : goal.returns-in-Some-clause-hears
@@ -12,7 +14,8 @@ returns-in-Some-clause-hears g c =
     let places = c.args.self.now.places.items in
     let within : c.args.place < length places = search rules in
     let at : slice_get places c.args.place ≡ Some c.in-Some.client.now = slice_get_read places _ c.args.place c.in-Some.client.now refl within c.in-Some.ensures.value in
-    done_at _ places places c.args.place c.in-Some.client.now c.take.new.self refl at c.take.ensures.hears
+    done_at _ places places c.args.place c.in-Some.client.now c.take.new.self refl at
+    (λ heard. hears_from _ _ _ _ _ _ _ _ (c.turn_to-in-Some.ensures ∙ ap (λ b. record c.args.self.now.cycle { may_write = b }) c.may_write.ensures) (c.take.ensures.hears heard))
 
 pub returns-in-None-clause-hears : goal.returns-in-None-clause-hears
 returns-in-None-clause-hears g c =
@@ -27,13 +30,22 @@ returns-in-Some-clause-takes g c =
     let at : slice_get places c.args.place ≡ Some c.in-Some.client.now = slice_get_read places _ c.args.place c.in-Some.client.now refl within c.in-Some.ensures.value in
     that_one (λ (x : ClientPlace). (IsDeaf x → ⊥) → ready_of x ≡ [] → 0 < length c.args.bytes.now → 0 < c.take.result) places c.args.place c.in-Some.client.now at c.take.ensures.takes
 
+pub returns-in-Some-clause-goes : goal.returns-in-Some-clause-goes
+returns-in-Some-clause-goes g c =
+    let led = goes_chain _ (λ s. s.core.value) (λ s frame bytes goes_on t answers. goes_guarded s.may_write s.core.value frame bytes goes_on t.core.value answers.2) _ _ _ (c.take.ensures.chain).1 in
+    let goes : LeadsOnBy IsOfClients c.args.self.now.cycle.core.value c.take.new.responder.core.value = subst (λ s. LeadsOnBy IsOfClients s.core.value c.take.new.responder.core.value) c.turn_to-in-Some.ensures led in
+    goes
+
 pub invariant_of-self : goal.invariant_of-self
-invariant_of-self g c = record { rightful = right_behind_clients _ _ c.args.self.now.lines c.take.ensures.goes c.args.self.now.rightful }
+invariant_of-self g c =
+    let led = goes_chain _ (λ s. s.core.value) (λ s frame bytes goes_on t answers. goes_guarded s.may_write s.core.value frame bytes goes_on t.core.value answers.2) _ _ _ (c.take.ensures.chain).1 in
+    let goes : LeadsOnBy IsOfClients c.args.self.now.cycle.core.value c.take.new.responder.core.value = subst (λ s. LeadsOnBy IsOfClients s.core.value c.take.new.responder.core.value) c.turn_to-in-Some.ensures led in
+    record { rightful = right_behind_clients _ _ c.args.self.now.lines goes c.args.self.now.rightful }
 
 pub returns-in-Some-clause-deaf : goal.returns-in-Some-clause-deaf
 returns-in-Some-clause-deaf g c =
     let places = c.args.self.now.places.items in
     let within : c.args.place < length places = search rules in
     let at : slice_get places c.args.place ≡ Some c.in-Some.client.now = slice_get_read places _ c.args.place c.in-Some.client.now refl within c.in-Some.ensures.value in
-    done_at (λ (old new : ClientPlace). IsDeaf old → (new ≡ old) × (c.take.new.cycle.core.value ≡ c.args.self.now.cycle.core.value)) places places c.args.place c.in-Some.client.now c.take.new.self refl at
-    (λ deaf. ((c.take.ensures.deaf deaf).0, ap (λ x. x.core.value) (c.take.ensures.deaf deaf).1))
+    done_at (λ (old new : ClientPlace). IsDeaf old → (new ≡ old) × (c.take.new.responder.core.value ≡ c.args.self.now.cycle.core.value)) places places c.args.place c.in-Some.client.now c.take.new.self refl at
+    (λ deaf. ((c.take.ensures.deaf deaf).0, ap (λ x. x.core.value) (c.take.ensures.deaf deaf).1 ∙ ap (λ x. x.core.value) c.turn_to-in-Some.ensures))

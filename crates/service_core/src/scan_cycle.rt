@@ -8,7 +8,7 @@ ghost use Rattle.service_parts.specs.Calls.{IsCallOf};
 ghost use Rattle.service_parts.specs.Course.{IsOfClients, IsOfRounds, LeadsOn, LeadsOnBy, Reached};
 ghost use Rattle.service_parts.specs.Requests.{IsOfRound};
 ghost use Rattle.service_parts.specs.Seeking.{AreOf, IsFound, IsSought};
-ghost use Rattle.service_parts.specs.Maps.{has_map};
+ghost use Rattle.service_core.specs.Maps.{has_map};
 
 use gateway::{Call, Core, Event, Outcome, Report};
 use modbus_frame::{Frame, FrameReply, Request, Responder, request_pdu};
@@ -180,7 +180,7 @@ impl<const DEPTH: usize> ScanCycle<DEPTH> {
     }
 
     /// The next request to the device; wanted blocks that there is none for are lost.
-    #[tactic(auto, using(crate::proofs::Rightful::of_round))]
+    #[tactic(auto, using(service_parts::proofs::Rightful::of_round))]
     pub fn next(&mut self, device: usize) -> Option<Call>
         ensures goes { LeadsOn self.old.core.value self.new.core.value }
         ensures asked { IfSome result (λ call. IsOfRound self.new.core.value device call.request) }

@@ -3,7 +3,7 @@ use Rattle.std.specs.Int.{w64}
 use Rattle.std.proofs.lemmas.Int.{to_z-of_z}
 use Rattle.gateway.specs.event_core.Core.{Gateway}
 use Rattle.gateway.specs.event_core.Restoring.{NothingSets}
-use Rattle.service_parts.proofs.scan_cycle.ScanCycle.request_to_set.Goals as goal
+use Rattle.service_core.proofs.scan_cycle.ScanCycle.request_to_set.Goals as goal
 
 pub returns-clause-none : goal.returns-clause-none
 returns-clause-none g c is_none =

@@ -19,6 +19,8 @@ use Rattle.service.specs.Guarding.{AnswersUnless, Guards, is_write}
 use Rattle.service.specs.Rounds.{IsRoundFor, Progress}
 use Rattle.service.specs.Searches.{Sought}
 use Rattle.service.specs.Sessions.{IsChain, Turn}
+use Rattle.service_parts.specs.declared.client_place.ClientPlace.{ClientPlace}
+use Rattle.service_parts.specs.Clients.{Hears}
 use Rattle.service_parts.specs.Course.{CoursesAreSiteRuns, Goes, GoesBy, IsOfClients, IsOfRounds, LeadsOn, LeadsOnBy, IsNew, Reached, stays, steps, learns}
 use Rattle.service_parts.specs.Seeking.{AreOf, IsFound}
 
@@ -148,17 +150,7 @@ module _ {S : Type 0} (Answers : S → Frame → List ℕ → Bool → S → Typ
       let here : LeadsOnBy IsOfClients (core_of s) (core_of turn.after) = subst (λ x. LeadsOnBy IsOfClients (core_of x) (core_of turn.after)) first (each turn.before turn.frame bytes goes_on turn.after answered) in
       λ from before. goes_chain turn.after turns t rest from (here from before)
 
--- ---- whatever kinds there are
-
-of_any : (Kinds : Event → Type 0) (g h : Gateway) → GoesBy Kinds g h → Goes g h
-of_any Kinds g h (stays s) = stays g
-of_any Kinds g h (learns {h = middle} before device found is) = learns (of_any Kinds g middle before) device found is
-of_any Kinds g h (steps {h = middle} before e kind a i one) = steps (of_any Kinds g middle before) e tt a i one
-
-and_then : (f g h : Gateway) → Goes f g → Goes g h → Goes f h
-and_then f g h first (stays s) = first
-and_then f g h first (learns {h = middle} before device found is) = learns (and_then f g middle first before) device found is
-and_then f g h first (steps {h = middle} before e kind a i one) = steps (and_then f g middle first before) e kind a i one
-
-pub goes_behind : (Kinds : Event → Type 0) (f old new : Gateway) → Goes f old → LeadsOnBy Kinds old new → ∥ Goes f new ∥₁
-goes_behind Kinds f old new before goes = ∥∥₁_elim (goes old ∣ stays old ∣₁) ∥∥₁_prop (λ more. ∣ and_then f old new before (of_any Kinds old new more) ∣₁)
+-- bytes that are taken in a state are taken in one that equals it
+pub hears_from : {S : Type 0} (Answers : S → Frame → List ℕ → Bool → S → Type 0) (now : ℕ) (s t : S) (old : ClientPlace) (bytes : List ℕ) (u : S) (new : ClientPlace)
+    → s ≡ t → Hears Answers now s old bytes u new → Hears Answers now t old bytes u new
+hears_from Answers now s t old bytes u new same hears = subst (λ x. Hears Answers now x old bytes u new) same hears

@@ -1,8 +1,8 @@
 use Rattle.std.proofs.Common.{rules, ◌≡◌, ◌∙◌, ◌<◌, Some, ap, length, refl, slice_get, sym}
 use Rattle.std.proofs.lemmas.Bool.{ltb-true}
 use Rattle.std.proofs.lemmas.Option.{slice_get_read}
-use Rattle.service_parts.proofs.Sought.{with_new}
-use Rattle.service_parts.proofs.scan_cycle.ScanCycle.seek_anew.Goals as goal
+use Rattle.service_core.proofs.Sought.{with_new}
+use Rattle.service_core.proofs.scan_cycle.ScanCycle.seek_anew.Goals as goal
 
 pub invariant_of-self : goal.invariant_of-self
 invariant_of-self g c =

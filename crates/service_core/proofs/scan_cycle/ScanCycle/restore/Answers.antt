@@ -2,7 +2,7 @@ use Rattle.std.proofs.Common.{rules, FitsSigned, refl, subst}
 use Rattle.std.specs.Int.{w64}
 use Rattle.std.proofs.lemmas.Int.{to_z-of_z}
 use Rattle.gateway.specs.event_core.Restoring.{NothingSets}
-use Rattle.service_parts.proofs.scan_cycle.ScanCycle.restore.Goals as goal
+use Rattle.service_core.proofs.scan_cycle.ScanCycle.restore.Goals as goal
 
 pub returns-in-None-clause-refused : goal.returns-in-None-clause-refused
 returns-in-None-clause-refused g c refused =

@@ -1,6 +1,6 @@
 use Rattle.std.proofs.Common.{rules, ◌≡◌}
-use Rattle.service_parts.proofs.Runs.{reached_behind, round_behind, sought_behind}
-use Rattle.service_parts.proofs.scan_cycle.ScanCycleResponder.answer.Goals as goal
+use Rattle.service_core.proofs.Runs.{reached_behind, round_behind, sought_behind}
+use Rattle.service_core.proofs.scan_cycle.ScanCycleResponder.answer.Goals as goal
 
 pub invariant_of-self : goal.invariant_of-self
 invariant_of-self g c =

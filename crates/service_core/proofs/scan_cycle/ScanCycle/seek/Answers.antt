@@ -1,8 +1,8 @@
 use Rattle.std.proofs.Common.{◌≡◌, ◌∙◌, Some, ap, refl, slice_get, sym}
 use Rattle.std.proofs.lemmas.Bool.{ltb-true}
 use Rattle.std.proofs.lemmas.Option.{slice_get_read}
-use Rattle.service_parts.proofs.Sought.{next_step}
-use Rattle.service_parts.proofs.scan_cycle.ScanCycle.seek.Goals as goal
+use Rattle.service_core.proofs.Sought.{next_step}
+use Rattle.service_core.proofs.scan_cycle.ScanCycle.seek.Goals as goal
 
 pub returns-clause-sought : goal.returns-clause-sought
 returns-clause-sought g c =

@@ -1,7 +1,7 @@
 use Rattle.std.proofs.Common.{rules, ◌≡◌, ◌<◌, Some, length, refl, slice_get}
 use Rattle.std.proofs.lemmas.Option.{slice_get_read}
-use Rattle.service_parts.proofs.Sought.{with_answer}
-use Rattle.service_parts.proofs.scan_cycle.ScanCycle.answered.Goals as goal
+use Rattle.service_core.proofs.Sought.{with_answer}
+use Rattle.service_core.proofs.scan_cycle.ScanCycle.answered.Goals as goal
 
 pub invariant_of-self : goal.invariant_of-self
 invariant_of-self g c =

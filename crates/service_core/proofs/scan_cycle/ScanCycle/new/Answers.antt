@@ -1,6 +1,6 @@
 use Rattle.std.proofs.Common.{rules, ◌≡◌}
-use Rattle.service_parts.proofs.Sought.{all_new}
-use Rattle.service_parts.proofs.scan_cycle.ScanCycle.new.Goals as goal
+use Rattle.service_core.proofs.Sought.{all_new}
+use Rattle.service_core.proofs.scan_cycle.ScanCycle.new.Goals as goal
 
 pub invariant_of-result-clause-sought : goal.invariant_of-result-clause-sought
 invariant_of-result-clause-sought g c =

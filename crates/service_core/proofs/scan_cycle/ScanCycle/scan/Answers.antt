@@ -2,8 +2,8 @@ use Rattle.std.proofs.Common.{rules, ◌≡◌, length}
 use Rattle.gateway.specs.declared.event_core.event.Event.TheVariants as event
 use Rattle.gateway.specs.declared.event_core.event.Answer.TheVariants as answer
 use Rattle.service_parts.specs.Course.{IsOfRounds}
-use Rattle.service_parts.proofs.Runs.{goes_after, reached_after, sought_after}
-use Rattle.service_parts.proofs.scan_cycle.ScanCycle.scan.Goals as goal
+use Rattle.service_core.proofs.Runs.{goes_after, reached_after, sought_after}
+use Rattle.service_core.proofs.scan_cycle.ScanCycle.scan.Goals as goal
 
 pub invariant_of-self-2 : goal.invariant_of-self-2
 invariant_of-self-2 g c =

@@ -4,8 +4,8 @@ use Rattle.gateway.specs.event_core.Core.{Gateway}
 use Rattle.gateway.specs.declared.event_core.event.Event.TheVariants as event
 use Rattle.service.specs.Rounds.{IsRoundFor}
 use Rattle.service_parts.specs.Course.{IsOfClients}
-use Rattle.service_parts.proofs.Runs.{goes_after, reached_after, sought_after}
-use Rattle.service_parts.proofs.scan_cycle.ScanCycle.set.Goals as goal
+use Rattle.service_core.proofs.Runs.{goes_after, reached_after, sought_after}
+use Rattle.service_core.proofs.scan_cycle.ScanCycle.set.Goals as goal
 
 pub invariant_of-self : goal.invariant_of-self
 invariant_of-self g c =
