@@ -1,7 +1,7 @@
 //! A service is made.
 ghost use Rattle.std.specs.Prelude.{◌≡◌, ◌≤◌, replicate, IfErr, IfOk, OnOk};
 ghost use Rattle.verifier.specs.Verified.{HasLinks};
-ghost use Rattle.gateway.specs.declared.event_core.fault.CoreFault.TheVariants.{Foreign};
+ghost use Rattle.gateway.specs.declared.event_core.fault.CoreFault.TheVariants.{Foreign, OutOfMemory};
 ghost use Rattle.gateway.specs.event_core.Core.{Gateway, gateway_of};
 ghost use Rattle.gateway.specs.event_core.SiteRun.{none_of};
 ghost use Rattle.service_parts.specs.Course.{IsNew};
@@ -40,10 +40,7 @@ impl<const DEPTH: usize> Service<DEPTH> {
     {
         let maps = no_maps(alloc, site.devices())?;
         let core = Core::new(alloc, site, machine, maps)?;
-        match Service::over(alloc, core, links, stations, limits, now) {
-            Ok(service) => Ok(service),
-            Err(AllocError) => Err(CoreFault::OutOfMemory),
-        }
+        Service::over(alloc, core, links, stations, limits, now)
     }
 
     #[tactic(auto, using(crate::proofs::Runs::reached_opening))]
@@ -54,10 +51,11 @@ impl<const DEPTH: usize> Service<DEPTH> {
         stations: &[Station],
         limits: Limits,
         now: u64,
-    ) -> Result<Service<DEPTH>, AllocError>
+    ) -> Result<Service<DEPTH>, CoreFault>
         requires small { DEPTH ≤ 65536 }
         requires opened { IsNew core }
         ensures opened { IfOk result (λ service. service.cycle.core.value ≡ core.entry) }
+        ensures memory { IfErr result (λ e. e ≡ OutOfMemory) }
         ensures stations { IfOk result (λ service. service.lines.links.stations.items ≡ stations.now) }
         ensures numbers { IfOk result (λ service. service.lines.links.numbers.items ≡ replicate links 0) }
     {

@@ -2,7 +2,7 @@
 ghost use Rattle.std.specs.Prelude.{◌≡◌, max};
 
 use gateway::{Core, Report};
-use point_writer::NoWrite;
+use point_writer::{NoWrite, Write};
 use service::Fate;
 use service_parts::{
     Aim, Asked, Device, Limits, Lines, Loss, Note, Notes, Output, OutputState, Unwritten, Wire,
@@ -326,20 +326,26 @@ impl DeviceSide {
         }
     }
 
-    /// The program ran. Each output's write is waited for from now on, where there is one.
+    /// The program ran, and this is planned for each output.
     pub(crate) fn count_scan<const DEPTH: usize>(&mut self, core: &Core<DEPTH>) {
         self.scans = self.scans.saturating_add(1);
-        for output in 0..self.outputs.len() {
-            self.await_output(output, cause_at(core, output));
+        for output in 0..core.site().outs().len() {
+            self.await_output(output, &core.write(output));
         }
     }
 
-    fn await_output(&mut self, output: usize, cause: Option<NoWrite>) {
-        if let Some(cause) = cause {
-            let state = OutputState::Unwritten(Unwritten::NoSetPoint(cause));
-            self.settle_output(output, state);
-        } else if let Some(found) = self.outputs.get_mut(output) {
-            found.is_awaited = true;
+    /// An output's write is waited for from now on, where there is one.
+    fn await_output(&mut self, output: usize, plan: &Result<Write, NoWrite>) {
+        match plan {
+            Ok(_) => {
+                if let Some(found) = self.outputs.get_mut(output) {
+                    found.is_awaited = true;
+                }
+            }
+            Err(cause) => {
+                let state = OutputState::Unwritten(Unwritten::NoSetPoint(*cause));
+                self.settle_output(output, state);
+            }
         }
     }
 
@@ -380,16 +386,5 @@ impl DeviceSide {
         for wire in self.wires.iter_mut() {
             wire.outlive();
         }
-    }
-}
-
-/// Why there is no set point for an output.
-fn cause_at<const DEPTH: usize>(core: &Core<DEPTH>, output: usize) -> Option<NoWrite> {
-    if output >= core.site().outs().len() {
-        return None;
-    }
-    match core.write(output) {
-        Ok(_) => None,
-        Err(cause) => Some(cause),
     }
 }

@@ -1,5 +1,5 @@
 //! The core with its round and its searches.
-ghost use Rattle.std.specs.Prelude.{◌≡◌, ◌<◌, ◌≤◌, [], length, map, set, slice_set, IfOk, IfSome, IsTrue, None, Some, false};
+ghost use Rattle.std.specs.Prelude.{◌≡◌, ◌<◌, ◌≤◌, [], length, map, set, slice_get, slice_set, IfOk, IfSome, IsTrue, None, Some, false};
 ghost use Rattle.modbus_frame.specs.Message.{HasQuantity, IsRequest};
 ghost use Rattle.gateway.specs.event_core.Restoring.{NothingSets, SetsAlone};
 ghost use Rattle.service.specs.Rounds.{IsRoundFor};
@@ -8,13 +8,13 @@ ghost use Rattle.service_parts.specs.Calls.{IsCallOf};
 ghost use Rattle.service_parts.specs.Course.{IsOfClients, IsOfRounds, LeadsOn, LeadsOnBy, Reached};
 ghost use Rattle.service_parts.specs.Requests.{IsOfRound};
 ghost use Rattle.service_parts.specs.Seeking.{AreOf, IsFound, IsSought};
-ghost use Rattle.service_core.specs.Maps.{has_map};
+ghost use Rattle.service_core.specs.Maps.{has_map, is_there};
 
 use gateway::{Call, Core, Event, Outcome, Report};
 use modbus_frame::{Frame, FrameReply, Request, Responder, request_pdu};
 use register_map::Map;
 use service::{Fate, Round, Search, Step, Turn, is_write, refusal};
-use site_model::SiteDevice;
+use site_model::{Site, SiteDevice};
 use std::alloc::{AllocError, Global};
 
 /// How far a round is.
@@ -53,10 +53,10 @@ impl<const DEPTH: usize> ScanCycle<DEPTH> {
         requires reached { ∥ Reached core ∥₁ }
         ensures { IfOk result (λ cycle. cycle.core.value ≡ core.entry) }
     {
-        let round = Round::new(alloc, core.site())?;
-        let searches = searches_for(alloc, core.site().devices())?;
+        let (round, searches) = begun(alloc, core.site())?;
+        let core = Box::new(alloc, core)?;
         Ok(ScanCycle {
-            core: Box::new(alloc, core)?,
+            core,
             round,
             searches,
             may_write: false,
@@ -93,7 +93,7 @@ impl<const DEPTH: usize> ScanCycle<DEPTH> {
     pub fn is_mapped(&self, device: usize) -> bool
         ensures { result ≡ has_map self.now.core.value device }
     {
-        has_map(&self.core, device)
+        is_there(self.core.maps(), device)
     }
 
     /// From now on the turn is a client's that may write, or may not.
@@ -376,6 +376,16 @@ impl<const DEPTH: usize> Responder for ScanCycle<DEPTH> {
     }
 }
 
+/// The round and the searches of a site, as they begin.
+fn begun(alloc: Global, site: &Site) -> Result<(Round, Vec<Search>), AllocError>
+    ensures round { IfOk result (λ parts. IsRoundFor site.now parts.0) }
+    ensures searches { IfOk result (λ parts. AreOf site.now parts.1.items) }
+{
+    let round = Round::new(alloc, site)?;
+    let searches = searches_for(alloc, site.devices())?;
+    Ok((round, searches))
+}
+
 /// A search for each device's map.
 fn searches_for(alloc: Global, devices: &[SiteDevice]) -> Result<Vec<Search>, AllocError>
     ensures { IfOk result (λ searches. searches.items ≡ map (λ own. record { base = own.base; answers = [] }) devices.now) }
@@ -395,10 +405,11 @@ fn take(search: &mut Search, outcome: &Outcome)
     }
 }
 
-fn has_map<const DEPTH: usize>(core: &Core<DEPTH>, device: usize) -> bool
-    ensures { result ≡ has_map core.now device }
+/// Whether there is a map at this place.
+fn is_there(maps: &[Option<Map>], device: usize) -> bool
+    ensures { result ≡ is_there (slice_get maps.now device) }
 {
-    match core.maps().get(device) {
+    match maps.get(device) {
         Some(Some(_)) => true,
         _ => false,
     }
