@@ -23,3 +23,8 @@ pub(crate) fn assert_same<T: PartialEq + Debug>(rt: &impl Abort, found: &T, want
 pub(crate) fn assert_true(rt: &impl Abort, found: bool) {
     assert!(rt; found);
 }
+
+/// The same, where a loop has to say at which of its rows.
+pub(crate) fn assert_true_at(rt: &impl Abort, row: usize, found: bool) {
+    assert_eq!(rt; (row, found), (row, true));
+}

@@ -3,6 +3,7 @@
 
 use crate::tests::plant::{Plant, core, device_at, new_plant};
 use crate::tests::units::{Manner, byte, word};
+use crate::tests::{assert_same, assert_true_at};
 use gateway::{Answer, Core, Event};
 use modbus_frame::{Pdu, Words};
 use site_model::Want;
@@ -47,19 +48,24 @@ struct Run {
 /// One whose devices have maps, and are asked for the blocks of a round.
 fn asked(rt: &impl Abort, alloc: Global) -> Run {
     let mut plant = new_plant(rt, alloc, &[Manner::Well; 3], 3);
-    plant.come_up(0);
-    plant.come_up(1);
-    plant.pass(rt, 999);
-    for place in 0..3 {
-        let came = plant.service.client_came(true, plant.now);
-        assert_eq!(rt; came, Some(place));
-    }
-    plant.tick(1000);
+    begin_round(rt, &mut plant);
     Run {
         plant,
         events: Vec::new(alloc),
         replies: Vec::new(alloc),
     }
+}
+
+/// The devices are searched, three clients come, and a round begins.
+fn begin_round(rt: &impl Abort, plant: &mut Plant) {
+    plant.come_up(0);
+    plant.come_up(1);
+    plant.pass(rt, 999);
+    for place in 0..3 {
+        let came = plant.service.client_came(true, plant.now);
+        assert_same(rt, &came, &Some(place));
+    }
+    plant.tick(1000);
 }
 
 /// The inputs in the order of this number.
@@ -91,16 +97,14 @@ impl Run {
         let Some(request) = REQUESTS.get(place) else {
             return;
         };
-        let service = &mut self.plant.service;
-        let used = service.from_client(place, request, self.plant.now);
-        assert_eq!(rt; used, request.len());
-        let reply = Vec::from_slice(self.plant.alloc, service.to_client(place)).expect(
-            rt, "memory",
-        );
-        service.sent_to_client(place, reply.len());
+        let reply = self.plant.serve(rt, place, request);
         self.replies.push(reply).expect(rt, "memory");
         let pdu = Pdu::from_bytes(behind(request, 7)).expect(rt, "a PDU");
-        self.events.push(Event::Client(pdu)).expect(rt, "memory");
+        self.came(rt, Event::Client(pdu));
+    }
+
+    fn came(&mut self, rt: &impl Abort, event: Event) {
+        self.events.push(event).expect(rt, "memory");
     }
 
     /// A link's devices answer until nothing is asked.
@@ -118,10 +122,10 @@ impl Run {
         let reply = self.plant.reply(rt, link);
         self.plant.give(rt, link, &reply);
         if let Some(block) = block_in(rt, self.plant.alloc, link, &reply) {
-            self.events.push(block).expect(rt, "memory");
+            self.came(rt, block);
         }
         if self.plant.service.scans() > scans {
-            self.events.push(Event::Scan).expect(rt, "memory");
+            self.came(rt, Event::Scan);
         }
     }
 }
@@ -144,16 +148,15 @@ fn block_in(rt: &impl Abort, alloc: Global, link: usize, reply: &[u8]) -> Option
     Some(Event::Block(Want { device, model }, Words::from_slice(&words)?))
 }
 
-/// The answers of the site run of some events, and the core behind it.
-fn replayed(rt: &impl Abort, alloc: Global, events: &[Event]) -> (Core<32>, Vec<Answer>) {
-    let mut core = core(rt, alloc);
+/// The answers of the site run of some events.
+fn replayed(rt: &impl Abort, alloc: Global, core: &mut Core<32>, events: &[Event]) -> Vec<Answer> {
     let mut answers = Vec::new(alloc);
     for _ in events {
         answers.push(Answer::None).expect(rt, "memory");
     }
     assert!(rt; answers.len() == events.len());
     core.replay(events, &mut answers);
-    (core, answers)
+    answers
 }
 
 /// Whether what clients got is these answers, in order.
@@ -170,22 +173,39 @@ fn are_heard(answers: &[Answer], replies: &[Vec<u8>]) -> bool {
     heard == replies.len()
 }
 
+/// What is known behind both is the same.
+fn assert_alike(rt: &impl Abort, number: usize, replayed: &Core<32>, now: &Core<32>) {
+    assert_true_at(rt, number, replayed.settings() == now.settings());
+    assert_true_at(rt, number, replayed.outputs() == now.outputs());
+    assert_true_at(rt, number, replayed.readings() == now.readings());
+}
+
+/// The site run of the same events gives what the clients got, and what is known.
+fn assert_replayed(rt: &impl Abort, alloc: Global, number: usize, run: &Run) {
+    let mut core = core(rt, alloc);
+    let answers = replayed(rt, alloc, &mut core, &run.events);
+    assert_true_at(rt, number, are_heard(&answers, &run.replies));
+    assert_alike(rt, number, &core, run.plant.service.core());
+}
+
+/// What happens in the order of this number.
+fn run_of(rt: &impl Abort, alloc: Global, number: usize) -> Run {
+    let mut run = asked(rt, alloc);
+    for input in &order_of(rt, alloc, number) {
+        run.take(rt, *input);
+    }
+    run
+}
+
 #[test]
 fn in_each_order(rt: HostRuntime) {
     for number in 0..ORDERS {
-        let mut run = asked(&rt, rt.alloc());
-        for input in &order_of(&rt, rt.alloc(), number) {
-            run.take(&rt, *input);
-        }
-        assert_eq!(rt;
-            (number, run.replies.len(), run.plant.service.scans()),
-            (number, 3, 1)
+        let run = run_of(&rt, rt.alloc(), number);
+        assert_same(
+            &rt,
+            &(number, run.replies.len(), run.plant.service.scans()),
+            &(number, 3, 1),
         );
-        let (core, answers) = replayed(&rt, rt.alloc(), &run.events);
-        let now = run.plant.service.core();
-        assert_eq!(rt; (number, are_heard(&answers, &run.replies)), (number, true));
-        assert_eq!(rt; (number, core.settings() == now.settings()), (number, true));
-        assert_eq!(rt; (number, core.outputs() == now.outputs()), (number, true));
-        assert_eq!(rt; (number, core.readings() == now.readings()), (number, true));
+        assert_replayed(&rt, rt.alloc(), number, &run);
     }
 }

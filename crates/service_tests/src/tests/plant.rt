@@ -1,5 +1,6 @@
 //! A service with three devices in memory, over two links, and what happens between them.
 
+use crate::tests::assert_same;
 use crate::tests::units::{Manner, Unit, answer, byte, unit_of};
 use gateway::Core;
 use scan_code::Image;
@@ -8,6 +9,7 @@ use service_core::{Limits, Note, Service, Station};
 use site_model::Site;
 use std::alloc::Global;
 use std::process::Abort;
+use verifier::Verified;
 use verifier::verify::verify;
 use worked_texts::sites::{SITE, edited, site_of};
 
@@ -62,10 +64,16 @@ fn site(rt: &impl Abort, alloc: Global) -> Site {
     site_of(alloc, &text).expect(rt, "a site")
 }
 
-fn machine(rt: &impl Abort, alloc: Global, site: &Site) -> Machine<32> {
+fn verified(rt: &impl Abort, alloc: Global, site: &Site) -> Verified<32> {
     let image = Image::read(alloc, &LIMITER).expect(rt, "an image");
-    let verified = verify(alloc, image, site).ok().expect(rt, "accepted");
-    Machine::new(alloc, verified).expect(rt, "memory")
+    match verify(alloc, image, site) {
+        Ok(verified) => verified,
+        Err(_) => panic!(rt; "refused"),
+    }
+}
+
+fn machine(rt: &impl Abort, alloc: Global, site: &Site) -> Machine<32> {
+    Machine::new(alloc, verified(rt, alloc, site)).expect(rt, "memory")
 }
 
 /// The service of the site, with places for so many clients.
@@ -169,28 +177,45 @@ impl Plant {
         }
     }
 
+    /// A client's whole request is taken, and answered at once.
+    pub(crate) fn serve(&mut self, rt: &impl Abort, place: usize, request: &[u8]) -> Vec<u8> {
+        let used = self.service.from_client(place, request, self.now);
+        assert_same(rt, &used, &request.len());
+        let reply = Vec::from_slice(self.alloc, self.service.to_client(place)).expect(rt, "memory");
+        self.service.sent_to_client(place, reply.len());
+        reply
+    }
+
     /// Bytes come over a link.
     pub(crate) fn give(&mut self, rt: &impl Abort, link: usize, bytes: &[u8]) {
-        if let Some(waiting) = self.waiting.get_mut(link) {
-            waiting.extend_from_slice(bytes).expect(rt, "memory");
-        }
+        self.keep(rt, link, bytes);
         self.offer(rt, link);
     }
 
     /// What came over a link is handed in, in pieces, as far as it is used.
     fn offer(&mut self, rt: &impl Abort, link: usize) {
         let came = self.take_waiting(link);
-        let mut rest: &[u8] = &came;
+        let rest = self.hand_in(link, &came);
+        self.keep(rt, link, rest);
+    }
+
+    /// Hands in what came, piece by piece, as far as it is used; what is left of it.
+    fn hand_in<'a>(&mut self, link: usize, came: &'a [u8]) -> &'a [u8] {
+        let mut rest = came;
         for _ in 0..2000 {
-            let n = self.piece.min(rest.len());
-            let used = self.service.from_link(link, rest.split_at(n).0, self.now);
+            let (piece, _) = rest.split_at(self.piece.min(rest.len()));
+            let used = self.service.from_link(link, piece, self.now);
             if used == 0 {
                 break;
             }
             rest = rest.split_at(used.min(rest.len())).1;
         }
+        rest
+    }
+
+    fn keep(&mut self, rt: &impl Abort, link: usize, bytes: &[u8]) {
         if let Some(waiting) = self.waiting.get_mut(link) {
-            waiting.extend_from_slice(rest).expect(rt, "memory");
+            waiting.extend_from_slice(bytes).expect(rt, "memory");
         }
     }
 

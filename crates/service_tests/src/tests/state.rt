@@ -1,6 +1,7 @@
 //! The lines of the file of set values.
+use crate::tests::assert_same;
 use service_texts::{setting_in, state_text, tag_named};
-use site_model::Site;
+use site_model::{Site, SiteTag};
 use std::process::Abort;
 use worked_texts::sites::{SITE, site_of};
 
@@ -39,7 +40,7 @@ static SILENT: [&str; 10] = [
 fn the_tags_that_are_set_have_lines(rt: HostRuntime) {
     let site = site(&rt);
     let text = state_text(rt.alloc(), site.tags(), SETTINGS.as_slice()).expect(&rt, "memory");
-    assert!(&rt; text.as_slice() == TEXT.as_bytes());
+    assert_same(&rt, &text.as_slice(), &TEXT.as_bytes());
 }
 
 fn site(rt: &(impl AllocGlobal + Abort)) -> Site {
@@ -73,7 +74,11 @@ fn other_lines_say_nothing(rt: HostRuntime) {
 #[test]
 fn a_tag_is_found_by_its_name(rt: HostRuntime) {
     let site = site(&rt);
-    assert!(&rt; tag_named(site.tags(), "target") == Some(2));
-    assert!(&rt; tag_named(site.tags(), "Target") == None);
-    assert!(&rt; tag_named(site.tags(), "") == None);
+    assert_found(&rt, site.tags());
+}
+
+fn assert_found(rt: &impl Abort, tags: &[SiteTag]) {
+    assert_same(rt, &tag_named(tags, "target"), &Some(2));
+    assert_same(rt, &tag_named(tags, "Target"), &None);
+    assert_same(rt, &tag_named(tags, ""), &None);
 }

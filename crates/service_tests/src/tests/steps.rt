@@ -1,5 +1,6 @@
 //! Conversations of a service with its devices and clients, as lists of steps.
 
+use crate::tests::assert_true_at;
 use crate::tests::plant::{Plant, new_plant};
 use crate::tests::units::{Manner, registers};
 use gateway::Report;
@@ -87,14 +88,13 @@ pub(crate) fn play(
     steps: &[Step],
 ) {
     let mut plant = new_plant(rt, alloc, manners, 2);
-    plant.piece = piece;
-    play_on(rt, &mut plant, steps);
+    play_on(rt, &mut plant, piece, steps);
 }
 
-fn play_on(rt: &impl Abort, plant: &mut Plant, steps: &[Step]) {
+fn play_on(rt: &impl Abort, plant: &mut Plant, piece: usize, steps: &[Step]) {
+    plant.piece = piece;
     for (i, step) in steps.iter().enumerate() {
-        let holds = take(rt, plant, *step);
-        assert_eq!(rt; (i, holds), (i, true));
+        assert_true_at(rt, i, take(rt, plant, *step));
     }
 }
 

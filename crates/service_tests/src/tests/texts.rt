@@ -1,4 +1,5 @@
 //! Where devices are, who may write, and how long is waited.
+use crate::tests::assert_same;
 use point_types::Items;
 use service_parts::Station;
 use service_texts::{
@@ -33,6 +34,9 @@ static STATIONS: [Station; 3] = [
     Station { link: 1, unit: 1 },
     Station { link: 0, unit: 3 },
 ];
+
+/// The stations of two devices, units 7 and 1, behind one address.
+static BEHIND_ONE: [Station; 2] = [Station { link: 0, unit: 7 }, Station { link: 0, unit: 1 }];
 
 /// Texts of one line, each with the number of the device that has no place, and whether its unit is at fault.
 static NOWHERE: [(&str, usize, bool); 5] = [
@@ -72,19 +76,19 @@ static ADDRESSES: [(&str, bool); 9] = [
 fn each_address_has_one_connection(rt: HostRuntime) {
     let places = places_in(&rt, SITE);
     let found = Addresses::of(rt.alloc(), places.as_slice()).expect(&rt, "memory");
-    assert!(&rt; found.links.len() == 2);
-    assert!(&rt; found.stations.as_slice() == STATIONS.as_slice());
+    assert_reached(&rt, &found, 2, STATIONS.as_slice());
+}
+
+fn assert_reached(rt: &impl Abort, found: &Addresses, links: usize, stations: &[Station]) {
+    assert_same(rt, &found.links.len(), &links);
+    assert_same(rt, &found.stations.as_slice(), &stations);
 }
 
 #[test]
 fn behind_one_address_each_device_has_its_own_unit(rt: HostRuntime) {
     let devices = [device(&rt, "a", 7), device(&rt, "b", 1)];
     let found = Addresses::behind(rt.alloc(), "192.0.2.7:502", &devices).expect(&rt, "memory");
-    assert!(&rt; found.links.len() == 1);
-    assert!(&rt;
-        found.stations.as_slice()
-            == [Station { link: 0, unit: 7 }, Station { link: 0, unit: 1 }].as_slice()
-    );
+    assert_reached(&rt, &found, 1, BEHIND_ONE.as_slice());
 }
 
 fn device(rt: &(impl AllocGlobal + Abort), name: &str, unit: u8) -> SiteDevice {

@@ -4,7 +4,7 @@ use std::alloc::Global;
 use std::process::Abort;
 
 /// How a device answers.
-#[derive(Clone, Copy, Debug, PartialEq, Eq)]
+#[derive(Clone, Copy)]
 pub(crate) enum Manner {
     Well,
     /// Not at all.
@@ -22,6 +22,22 @@ pub(crate) struct Unit {
     pub(crate) words: Vec<u16>,
     pub(crate) written: Vec<(u16, u16)>,
     pub(crate) asked: usize,
+}
+
+impl Unit {
+    /// The registers from an address on, where there are so many.
+    fn words_at(&self, addr: u16, qty: u16) -> Option<&[u16]> {
+        let first = usize::from(addr.checked_sub(self.base)?);
+        let (_, from) = self.words.split_at(first.min(self.words.len()));
+        if from.len() < usize::from(qty) {
+            return None;
+        }
+        Some(from.split_at(usize::from(qty)).0)
+    }
+
+    fn note_write(&mut self, rt: &impl Abort, addr: u16, value: u16) {
+        self.written.push((addr, value)).expect(rt, "memory");
+    }
 }
 
 /// The registers of an inverter that has these models in front of 103 and 123; W is 3000, and the factor of the limit -1.
@@ -76,62 +92,54 @@ fn reply(rt: &impl Abort, alloc: Global, of: &mut Unit, request: &[u8]) -> Vec<u
     match byte(request, 7) {
         3 => reply_words(rt, alloc, of, request),
         6 => {
-            let at = word(request, 8);
-            of.written
-                .push((at, word(request, 10)))
-                .expect(rt, "memory");
-            Vec::from_slice(alloc, request).expect(rt, "memory")
+            of.note_write(rt, word(request, 8), word(request, 10));
+            front(rt, alloc, request, 12)
         }
         _ => {
-            let at = word(request, 8);
-            of.written
-                .push((at, word(request, 13)))
-                .expect(rt, "memory");
-            let mut bytes = Vec::from_slice(alloc, request).expect(rt, "memory");
-            bytes.truncate(12);
-            if let Some(len) = bytes.get_mut(5) {
-                *len = 6;
-            }
-            bytes
+            of.note_write(rt, word(request, 8), word(request, 13));
+            with_length(front(rt, alloc, request, 12))
         }
     }
 }
 
-fn low_byte(word: u16) -> u8 {
-    (word % 256) as u8
+/// The first bytes of a request, so many.
+fn front(rt: &impl Abort, alloc: Global, request: &[u8], n: usize) -> Vec<u8> {
+    let (front, _) = request.split_at(n.min(request.len()));
+    Vec::from_slice(alloc, front).expect(rt, "memory")
+}
+
+/// The frame says how long it is.
+fn with_length(mut frame: Vec<u8>) -> Vec<u8> {
+    let len = frame.len().saturating_sub(6);
+    if let Some(low) = frame.get_mut(5) {
+        *low = u8::try_from(len).unwrap_or(0);
+    }
+    frame
 }
 
 fn reply_words(rt: &impl Abort, alloc: Global, of: &Unit, request: &[u8]) -> Vec<u8> {
-    let addr = word(request, 8);
-    let qty = word(request, 10);
-    let mut bytes = Vec::from_slice(alloc, request).expect(rt, "memory");
-    bytes.truncate(8);
-    let first = addr.checked_sub(of.base);
-    match first {
-        Some(first) if (first as usize) + (qty as usize) <= of.words.len() => {
-            bytes
-                .push(low_byte(qty.wrapping_mul(2)))
-                .expect(rt, "memory");
-            for i in 0..qty {
-                let word = of
-                    .words
-                    .get((first as usize) + (i as usize))
-                    .copied()
-                    .unwrap_or(0);
-                bytes.push((word / 256) as u8).expect(rt, "memory");
-                bytes.push(low_byte(word)).expect(rt, "memory");
-            }
-        }
-        _ => {
-            if let Some(function) = bytes.get_mut(7) {
-                *function = 0x83;
-            }
-            bytes.push(2).expect(rt, "memory");
-        }
+    let mut frame = front(rt, alloc, request, 8);
+    match of.words_at(word(request, 8), word(request, 10)) {
+        Some(words) => add_words(rt, &mut frame, words),
+        None => refuse(rt, &mut frame),
     }
-    let len = bytes.len().saturating_sub(6);
-    if let Some(low) = bytes.get_mut(5) {
-        *low = u8::try_from(len).unwrap_or(0);
+    with_length(frame)
+}
+
+fn add_words(rt: &impl Abort, frame: &mut Vec<u8>, words: &[u16]) {
+    let bytes = u8::try_from(words.len().saturating_mul(2)).unwrap_or(0);
+    frame.push(bytes).expect(rt, "memory");
+    for word in words {
+        frame
+            .extend_from_slice(&word.to_be_bytes())
+            .expect(rt, "memory");
     }
-    bytes
+}
+
+/// There are no such registers.
+fn refuse(rt: &impl Abort, frame: &mut Vec<u8>) {
+    if let Some(function) = frame.get_mut(7) {
+        *function = 0x83;
+    }
+    frame.push(2).expect(rt, "memory");
 }
