@@ -28,3 +28,10 @@ pub(crate) fn assert_true(rt: &impl Abort, found: bool) {
 pub(crate) fn assert_true_at(rt: &impl Abort, row: usize, found: bool) {
     assert_eq!(rt; (row, found), (row, true));
 }
+
+/// A stream in three pieces, cut at two places.
+pub(crate) fn cut(stream: &[u8], first: usize, second: usize) -> [&[u8]; 3] {
+    let (front, three) = stream.split_at(second.min(stream.len()));
+    let (one, two) = front.split_at(first.min(front.len()));
+    [one, two, three]
+}

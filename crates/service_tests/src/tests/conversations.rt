@@ -5,12 +5,10 @@ use crate::tests::steps::Step::{
     CutOff, Down, Floods, Forget, GiveBack, HangsUp, Hears, IsSet, KeepBack, Leaves, Pass, Rebuilt,
     Reported, Restores, Says, Scans, Stands, Tick, Told, Took, Up, Wakes, Wrote,
 };
-use crate::tests::steps::{Step, play};
+use crate::tests::steps::{Step, play, play_well};
 use crate::tests::units::Manner;
 use point_writer::NoWrite;
 use service_core::{Loss, Note, OutputState, Unwritten};
-
-const WELL: [Manner; 3] = [Manner::Well, Manner::Well, Manner::Well];
 
 /// The limit of 50 percent by the factor -1, and then that it holds.
 const LIMITED: &[(u16, u16)] = &[(40127, 500), (40131, 1)];
@@ -43,7 +41,7 @@ const THREE_DEVICES: &[Step] = &[
 
 #[test]
 fn three_devices(rt: HostRuntime) {
-    play(&rt, rt.alloc(), &WELL, 300, THREE_DEVICES);
+    play_well(&rt, rt.alloc(), THREE_DEVICES);
 }
 
 const ONE_ROUND: &[Step] = &[Up(0), Up(1), Pass(1000), Scans(1), Reported(0, (0, 2, 0))];
@@ -51,7 +49,7 @@ const ONE_ROUND: &[Step] = &[Up(0), Up(1), Pass(1000), Scans(1), Reported(0, (0,
 #[test]
 fn replies_in_pieces(rt: HostRuntime) {
     for piece in 1..12 {
-        play(&rt, rt.alloc(), &WELL, piece, ONE_ROUND);
+        play(&rt, rt.alloc(), &[Manner::Well; 3], piece, ONE_ROUND);
     }
 }
 
@@ -116,7 +114,7 @@ const A_LINK_GOES_DOWN_IN_MID_ROUND: &[Step] = &[
 
 #[test]
 fn a_link_goes_down_in_mid_round(rt: HostRuntime) {
-    play(&rt, rt.alloc(), &WELL, 300, A_LINK_GOES_DOWN_IN_MID_ROUND);
+    play_well(&rt, rt.alloc(), A_LINK_GOES_DOWN_IN_MID_ROUND);
 }
 
 const ANOTHER_MAP: &[Step] = &[
@@ -141,7 +139,7 @@ const ANOTHER_MAP: &[Step] = &[
 
 #[test]
 fn another_map_is_never_written_at_the_old_address(rt: HostRuntime) {
-    play(&rt, rt.alloc(), &WELL, 300, ANOTHER_MAP);
+    play_well(&rt, rt.alloc(), ANOTHER_MAP);
 }
 
 const OTHER_WORDS: &[Step] = &[
@@ -161,7 +159,7 @@ const OTHER_WORDS: &[Step] = &[
 
 #[test]
 fn other_words_are_searched_again(rt: HostRuntime) {
-    play(&rt, rt.alloc(), &WELL, 300, OTHER_WORDS);
+    play_well(&rt, rt.alloc(), OTHER_WORDS);
 }
 
 const A_LATE_REPLY: &[Step] = &[
@@ -192,7 +190,7 @@ const A_LATE_REPLY: &[Step] = &[
 
 #[test]
 fn a_late_reply_counts_for_nothing(rt: HostRuntime) {
-    play(&rt, rt.alloc(), &WELL, 300, A_LATE_REPLY);
+    play_well(&rt, rt.alloc(), A_LATE_REPLY);
 }
 
 const A_SLOW_REPLY: &[Step] = &[
@@ -214,7 +212,7 @@ const A_SLOW_REPLY: &[Step] = &[
 
 #[test]
 fn a_round_lasts_as_long_as_its_slowest(rt: HostRuntime) {
-    play(&rt, rt.alloc(), &WELL, 300, A_SLOW_REPLY);
+    play_well(&rt, rt.alloc(), A_SLOW_REPLY);
 }
 
 const A_SILENT_WRITE: &[Step] = &[
@@ -238,7 +236,7 @@ const A_SILENT_WRITE: &[Step] = &[
 
 #[test]
 fn a_write_without_an_answer(rt: HostRuntime) {
-    play(&rt, rt.alloc(), &WELL, 300, A_SILENT_WRITE);
+    play_well(&rt, rt.alloc(), A_SILENT_WRITE);
 }
 
 /// A reply to another transaction of device 0, and half a frame.
@@ -270,7 +268,7 @@ const A_FLOOD: &[Step] = &[
 
 #[test]
 fn a_flood(rt: HostRuntime) {
-    play(&rt, rt.alloc(), &WELL, 300, A_FLOOD);
+    play_well(&rt, rt.alloc(), A_FLOOD);
 }
 
 /// A device is gone behind so many bytes of its reply, which has 113.
@@ -293,7 +291,7 @@ fn gone_behind(n: usize) -> [Step; 11] {
 #[test]
 fn gone_at_each_byte(rt: HostRuntime) {
     for n in 0..113 {
-        play(&rt, rt.alloc(), &WELL, 300, &gone_behind(n));
+        play_well(&rt, rt.alloc(), &gone_behind(n));
     }
 }
 
@@ -311,7 +309,7 @@ const A_LATE_ROUND: &[Step] = &[
 
 #[test]
 fn a_late_round(rt: HostRuntime) {
-    play(&rt, rt.alloc(), &WELL, 300, A_LATE_ROUND);
+    play_well(&rt, rt.alloc(), A_LATE_ROUND);
 }
 
 /// Reads the gateway's first two registers, as transaction 1 and then 2, of unit 1.
@@ -374,7 +372,7 @@ const CLIENTS: &[Step] = &[
 
 #[test]
 fn clients_in_between(rt: HostRuntime) {
-    play(&rt, rt.alloc(), &WELL, 300, CLIENTS);
+    play_well(&rt, rt.alloc(), CLIENTS);
 }
 
 /// The target of the worked site is the tag behind the three powers, and clients set it from 0 to 100.
@@ -394,5 +392,5 @@ const RESTORED: &[Step] = &[
 
 #[test]
 fn what_was_set_is_set_again(rt: HostRuntime) {
-    play(&rt, rt.alloc(), &WELL, 300, RESTORED);
+    play_well(&rt, rt.alloc(), RESTORED);
 }

@@ -99,8 +99,7 @@ impl Run {
         };
         let reply = self.plant.serve(rt, place, request);
         self.replies.push(reply).expect(rt, "memory");
-        let pdu = Pdu::from_bytes(behind(request, 7)).expect(rt, "a PDU");
-        self.came(rt, Event::Client(pdu));
+        self.came(rt, request_in(rt, request));
     }
 
     fn came(&mut self, rt: &impl Abort, event: Event) {
@@ -134,26 +133,46 @@ fn behind(bytes: &[u8], n: usize) -> &[u8] {
     bytes.split_at(n.min(bytes.len())).1
 }
 
+/// The request in a client's frame.
+fn request_in(rt: &impl Abort, frame: &[u8]) -> Event {
+    Event::Client(Pdu::from_bytes(behind(frame, 7)).expect(rt, "a PDU"))
+}
+
 /// The block in a reply to a read.
 fn block_in(rt: &impl Abort, alloc: Global, link: usize, reply: &[u8]) -> Option<Event> {
     if byte(reply, 7) != 3 {
         return None;
     }
     let device = device_at(link, byte(reply, 6))?;
+    block_of(device, &words_in(rt, alloc, reply))
+}
+
+/// The words in a reply to a read.
+fn words_in(rt: &impl Abort, alloc: Global, reply: &[u8]) -> Vec<u16> {
     let mut words = Vec::new(alloc);
     for i in 0..usize::from(byte(reply, 8) / 2) {
         words.push(word(reply, 9 + 2 * i)).expect(rt, "memory");
     }
+    words
+}
+
+/// The block of these words, of which the first is the model's number.
+fn block_of(device: usize, words: &[u16]) -> Option<Event> {
     let model = words.get(0).copied()?;
-    Some(Event::Block(Want { device, model }, Words::from_slice(&words)?))
+    Some(Event::Block(Want { device, model }, Words::from_slice(words)?))
+}
+
+fn no_answers(rt: &impl Abort, alloc: Global, events: usize) -> Vec<Answer> {
+    let mut answers = Vec::new(alloc);
+    for _ in 0..events {
+        answers.push(Answer::None).expect(rt, "memory");
+    }
+    answers
 }
 
 /// The answers of the site run of some events.
 fn replayed(rt: &impl Abort, alloc: Global, core: &mut Core<32>, events: &[Event]) -> Vec<Answer> {
-    let mut answers = Vec::new(alloc);
-    for _ in events {
-        answers.push(Answer::None).expect(rt, "memory");
-    }
+    let mut answers = no_answers(rt, alloc, events.len());
     assert!(rt; answers.len() == events.len());
     core.replay(events, &mut answers);
     answers
@@ -180,8 +199,11 @@ fn assert_alike(rt: &impl Abort, number: usize, replayed: &Core<32>, now: &Core<
     assert_true_at(rt, number, replayed.readings() == now.readings());
 }
 
-/// The site run of the same events gives what the clients got, and what is known.
+/// Each client got one answer, and one scan was done. The site run of the same events gives the same answers, and what is
+/// known.
 fn assert_replayed(rt: &impl Abort, alloc: Global, number: usize, run: &Run) {
+    let counts = (number, run.replies.len(), run.plant.service.scans());
+    assert_same(rt, &counts, &(number, 3, 1));
     let mut core = core(rt, alloc);
     let answers = replayed(rt, alloc, &mut core, &run.events);
     assert_true_at(rt, number, are_heard(&answers, &run.replies));
@@ -201,11 +223,6 @@ fn run_of(rt: &impl Abort, alloc: Global, number: usize) -> Run {
 fn in_each_order(rt: HostRuntime) {
     for number in 0..ORDERS {
         let run = run_of(&rt, rt.alloc(), number);
-        assert_same(
-            &rt,
-            &(number, run.replies.len(), run.plant.service.scans()),
-            &(number, 3, 1),
-        );
         assert_replayed(&rt, rt.alloc(), number, &run);
     }
 }

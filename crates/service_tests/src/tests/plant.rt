@@ -3,6 +3,7 @@
 use crate::tests::assert_same;
 use crate::tests::units::{Manner, Unit, answer, byte, unit_of};
 use gateway::Core;
+use register_map::Map;
 use scan_code::Image;
 use scan_vm::Machine;
 use service_core::{Limits, Note, Service, Station};
@@ -88,12 +89,17 @@ fn service(rt: &impl Abort, alloc: Global, clients: usize) -> Service<32> {
 pub(crate) fn core(rt: &impl Abort, alloc: Global) -> Core<32> {
     let site = site(rt, alloc);
     let machine = machine(rt, alloc, &site);
-    let mut maps = Vec::new(alloc);
-    for _ in site.devices() {
-        maps.push(None).expect(rt, "memory");
-    }
+    let maps = no_maps(rt, alloc, site.devices().len());
     assert!(rt; maps.len() == site.devices().len());
     Core::new(alloc, site, machine, maps).expect(rt, "a core")
+}
+
+fn no_maps(rt: &impl Abort, alloc: Global, devices: usize) -> Vec<Option<Map>> {
+    let mut maps = Vec::new(alloc);
+    for _ in 0..devices {
+        maps.push(None).expect(rt, "memory");
+    }
+    maps
 }
 
 /// A service, its devices, and what it told. Devices 0 and 1 are on link 0, device 2 is on link 1.
@@ -128,10 +134,8 @@ pub(crate) fn device_at(link: usize, unit: u8) -> Option<usize> {
 
 fn units_of(rt: &impl Abort, alloc: Global, manners: &[Manner; 3]) -> Vec<Unit> {
     let mut units = Vec::new(alloc);
-    for (manner, station) in manners.iter().zip(STATIONS.iter()) {
-        units
-            .push(unit_of(rt, alloc, station.unit, *manner))
-            .expect(rt, "memory");
+    for manner in manners {
+        units.push(unit_of(rt, alloc, *manner)).expect(rt, "memory");
     }
     units
 }
@@ -142,6 +146,23 @@ fn two_empty(rt: &impl Abort, alloc: Global) -> Vec<Vec<u8>> {
         both.push(Vec::new(alloc)).expect(rt, "memory");
     }
     both
+}
+
+/// What a link's device answers to a request; nothing where it has no such unit.
+fn reply_of(
+    rt: &impl Abort,
+    alloc: Global,
+    units: &mut [Unit],
+    link: usize,
+    request: &[u8],
+) -> Vec<u8> {
+    let Some(device) = device_at(link, byte(request, 6)) else {
+        return Vec::new(alloc);
+    };
+    match units.get_mut(device) {
+        Some(of) => answer(rt, alloc, of, request),
+        None => Vec::new(alloc),
+    }
 }
 
 /// A plant whose devices answer so, and whose service has places for so many clients.
@@ -168,13 +189,7 @@ impl Plant {
     pub(crate) fn reply(&mut self, rt: &impl Abort, link: usize) -> Vec<u8> {
         let request = Vec::from_slice(self.alloc, self.service.to_link(link)).expect(rt, "memory");
         self.service.sent_to_link(link, request.len());
-        let Some(device) = device_at(link, byte(&request, 6)) else {
-            return Vec::new(self.alloc);
-        };
-        match self.units.get_mut(device) {
-            Some(of) => answer(rt, self.alloc, of, &request),
-            None => Vec::new(self.alloc),
-        }
+        reply_of(rt, self.alloc, &mut self.units, link, &request)
     }
 
     /// A client's whole request is taken, and answered at once.
@@ -233,14 +248,22 @@ impl Plant {
         self.service.link_up(link, self.now);
     }
 
-    /// One exchange on a link, a dial or a hang-up; whether there was one.
-    fn exchange(&mut self, rt: &impl Abort, link: usize) -> bool {
+    /// A link is dialled or hung up, where it is to be; whether it was.
+    fn dial_or_hang_up(&mut self, link: usize) -> bool {
         if self.service.wants_dial(link) {
             self.service.dial_began(link, self.now);
             return true;
         }
         if self.service.wants_hang_up(link) {
             self.service.link_down(link, self.now);
+            return true;
+        }
+        false
+    }
+
+    /// One exchange on a link, a dial or a hang-up; whether there was one.
+    fn exchange(&mut self, rt: &impl Abort, link: usize) -> bool {
+        if self.dial_or_hang_up(link) {
             return true;
         }
         if self.service.to_link(link).is_empty() {

@@ -1,6 +1,6 @@
 //! Sessions, in whatever pieces their streams come, and who may write.
 
-use crate::tests::{assert_same, assert_true};
+use crate::tests::{assert_same, assert_true, cut};
 use modbus_frame::{Frame, FrameReply, Pdu, Responder};
 use service::{Session, is_write, refusal};
 use std::process::Abort;
@@ -84,11 +84,9 @@ fn assert_cut(rt: &impl Abort, first: usize, second: usize) {
     let mut session = Session::new();
     let mut counter = Counter::new(0);
     let mut sent = Sent::new();
-    let (front, three) = STREAM.split_at(second.min(16));
-    let (one, two) = front.split_at(first.min(front.len()));
-    talk(&mut session, &mut counter, one, &mut sent);
-    talk(&mut session, &mut counter, two, &mut sent);
-    talk(&mut session, &mut counter, three, &mut sent);
+    for piece in cut(&STREAM, first, second) {
+        talk(&mut session, &mut counter, piece, &mut sent);
+    }
     assert_same(rt, &sent.bytes(), &ANSWERS.as_slice());
 }
 
@@ -146,28 +144,38 @@ fn ten_frames() -> [u8; 80] {
     stream
 }
 
+/// A turn uses so many bytes, puts so many, and answers so many frames.
+fn assert_turn(
+    rt: &impl Abort,
+    session: &mut Session,
+    counter: &mut Counter,
+    stream: &[u8],
+    out: &mut [u8],
+    wanted: (usize, usize, usize),
+) {
+    let turned = session.turn(counter, stream, out);
+    assert_same(rt, &(turned.used, turned.put, turned.frames), &wanted);
+}
+
 #[test]
 fn eight_frames_a_turn(rt: HostRuntime) {
     let stream = ten_frames();
     let mut session = Session::new();
     let mut counter = Counter::new(0);
     let mut out = [0; 100];
-    let first = session.turn(&mut counter, &stream, &mut out);
-    assert_true(
+    assert_turn(
         &rt,
-        first.used == 64 && first.put == 72 && first.frames == 8,
+        &mut session,
+        &mut counter,
+        &stream,
+        &mut out,
+        (64, 72, 8),
     );
     assert_true(&rt, out[71] == 8);
-    let second = session.turn(&mut counter, stream.split_at(64).1, &mut out);
-    assert_true(
-        &rt,
-        second.used == 16 && second.put == 18 && second.frames == 2,
-    );
-    let third = session.turn(&mut counter, &stream, out.split_at_mut(20).0);
-    assert_true(
-        &rt,
-        third.used == 24 && third.put == 20 && third.frames == 3,
-    );
+    let rest = stream.split_at(64).1;
+    assert_turn(&rt, &mut session, &mut counter, rest, &mut out, (16, 18, 2));
+    let few = out.split_at_mut(20).0;
+    assert_turn(&rt, &mut session, &mut counter, &stream, few, (24, 20, 3));
 }
 
 /// A function, whether it writes, and what answers it where that isn't let through.
@@ -181,13 +189,22 @@ static GUARDED: [(u8, bool, [u8; 9]); 4] = [
 #[test]
 fn what_writes_and_how_it_is_refused(rt: HostRuntime) {
     for (function, writes, answer) in &GUARDED {
-        let pdu = Pdu::from_bytes(&[*function]).expect(&rt, "a PDU");
-        assert_true(&rt, is_write(&pdu) == *writes);
-        let mut reply = refusal(&Frame {
-            transaction: 7,
-            unit: 1,
-            pdu,
-        });
-        assert_same(&rt, &reply.next_piece().as_slice(), &answer.as_slice());
+        let frame = frame_of(&rt, *function);
+        assert_true(&rt, is_write(&frame.pdu) == *writes);
+        assert_refused(&rt, &frame, answer);
     }
+}
+
+/// A frame of this function alone.
+fn frame_of(rt: &impl Abort, function: u8) -> Frame {
+    Frame {
+        transaction: 7,
+        unit: 1,
+        pdu: Pdu::from_bytes(&[function]).expect(rt, "a PDU"),
+    }
+}
+
+fn assert_refused(rt: &impl Abort, frame: &Frame, answer: &[u8]) {
+    let mut reply = refusal(frame);
+    assert_same(rt, &reply.next_piece().as_slice(), &answer);
 }

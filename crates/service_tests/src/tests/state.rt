@@ -1,7 +1,8 @@
 //! The lines of the file of set values.
-use crate::tests::assert_same;
+use crate::tests::{assert_same, assert_true};
 use service_texts::{setting_in, state_text, tag_named};
 use site_model::{Site, SiteTag};
+use std::alloc::Global;
 use std::process::Abort;
 use worked_texts::sites::{SITE, site_of};
 
@@ -39,8 +40,12 @@ static SILENT: [&str; 10] = [
 #[test]
 fn the_tags_that_are_set_have_lines(rt: HostRuntime) {
     let site = site(&rt);
-    let text = state_text(rt.alloc(), site.tags(), SETTINGS.as_slice()).expect(&rt, "memory");
-    assert_same(&rt, &text.as_slice(), &TEXT.as_bytes());
+    assert_lines(&rt, rt.alloc(), site.tags());
+}
+
+fn assert_lines(rt: &impl Abort, alloc: Global, tags: &[SiteTag]) {
+    let text = state_text(alloc, tags, SETTINGS.as_slice()).expect(rt, "memory");
+    assert_same(rt, &text.as_slice(), &TEXT.as_bytes());
 }
 
 fn site(rt: &(impl AllocGlobal + Abort)) -> Site {
@@ -53,7 +58,7 @@ fn site(rt: &(impl AllocGlobal + Abort)) -> Site {
 #[test]
 fn a_line_says_a_name_and_a_number(rt: HostRuntime) {
     for (line, name, number) in &SAYING {
-        assert!(&rt; says(line, name, *number));
+        assert_true(&rt, says(line, name, *number));
     }
 }
 
@@ -67,7 +72,7 @@ fn says(line: &str, name: &str, number: i64) -> bool {
 #[test]
 fn other_lines_say_nothing(rt: HostRuntime) {
     for line in &SILENT {
-        assert!(&rt; setting_in(line).is_none());
+        assert_true(&rt, setting_in(line).is_none());
     }
 }
 

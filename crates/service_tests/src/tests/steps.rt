@@ -2,9 +2,9 @@
 
 use crate::tests::assert_true_at;
 use crate::tests::plant::{Plant, new_plant};
-use crate::tests::units::{Manner, registers};
+use crate::tests::units::{Manner, Unit, registers};
 use gateway::Report;
-use service_core::{Loss, Note, OutputState};
+use service_core::{Loss, Note, OutputState, Service};
 use std::alloc::Global;
 use std::process::Abort;
 
@@ -79,6 +79,11 @@ pub(crate) enum Step {
     IsSet(usize, Option<i64>),
 }
 
+/// Plays the steps with devices that answer well, whose replies come whole.
+pub(crate) fn play_well(rt: &impl Abort, alloc: Global, steps: &[Step]) {
+    play(rt, alloc, &[Manner::Well; 3], 300, steps);
+}
+
 /// Plays the steps with devices of these manners, whose replies come in pieces of so many bytes.
 pub(crate) fn play(
     rt: &impl Abort,
@@ -101,24 +106,16 @@ fn play_on(rt: &impl Abort, plant: &mut Plant, piece: usize, steps: &[Step]) {
 /// Takes a step; whether it is as it says.
 fn take(rt: &impl Abort, plant: &mut Plant, step: Step) -> bool {
     match step {
-        Step::Told(..) | Step::Scans(_) | Step::Reported(..) | Step::AllReported(_) => {
-            is_told(plant, step)
+        Step::Told(..) | Step::Reported(..) | Step::AllReported(_) => is_told(&plant.notes, step),
+        Step::Scans(_) | Step::Asks(..) | Step::Wakes(_) | Step::HangsUp(..) => {
+            is_so(&plant.service, step)
         }
-        Step::Wrote(..) | Step::Asks(..) | Step::Wakes(_) | Step::HangsUp(..) => {
-            is_so(plant, step)
+        Step::Stands(..) | Step::Counted(..) | Step::Became(..) | Step::IsSet(..) => {
+            stands(&plant.service, step)
         }
-        Step::Stands(..)
-        | Step::Counted(..)
-        | Step::Became(..)
-        | Step::Answered(..)
-        | Step::IsSet(..) => stands(plant, step),
-        Step::Restores(tag, number, does) => plant.service.restore(tag, number) == does,
-        Step::Comes(..)
-        | Step::Says(..)
-        | Step::Hears(..)
-        | Step::Took(..)
-        | Step::Leaves(_)
-        | Step::Closes(..) => converse(plant, step),
+        Step::Hears(..) | Step::Closes(..) | Step::Answered(..) => is_heard(&plant.service, step),
+        Step::Wrote(device, written) => have_taken(&plant.units, device, written),
+        Step::Restores(..) | Step::Comes(..) | Step::Says(..) => converse(plant, step),
         Step::Pass(until) => plant.pass(rt, until),
         _ => {
             happen(rt, plant, step);
@@ -127,7 +124,7 @@ fn take(rt: &impl Abort, plant: &mut Plant, step: Step) -> bool {
     }
 }
 
-/// What happens to the devices and their links.
+/// What happens to the devices, their links, and clients.
 fn happen(rt: &impl Abort, plant: &mut Plant, step: Step) {
     match step {
         Step::Up(link) => plant.come_up(link),
@@ -137,13 +134,22 @@ fn happen(rt: &impl Abort, plant: &mut Plant, step: Step) {
             plant.answer_one(rt);
         }
         Step::Answer => plant.answer_all(rt),
+        Step::Took(place, n) => plant.service.sent_to_client(place, n),
+        Step::Leaves(place) => plant.service.client_gone(place),
+        Step::Becomes(device, manner) => become_so(&mut plant.units, device, manner),
+        Step::Rebuilt(device, common) => rebuild(rt, plant.alloc, &mut plant.units, device, common),
+        Step::Forget => plant.notes.clear(),
+        _ => come_otherwise(rt, plant, step),
+    }
+}
+
+/// Replies come late or in part, and bytes unasked.
+fn come_otherwise(rt: &impl Abort, plant: &mut Plant, step: Step) {
+    match step {
         Step::KeepBack(link) => plant.late = plant.reply(rt, link),
         Step::GiveBack(link) => give_back(rt, plant, link),
         Step::CutOff(link, n) => cut_off(rt, plant, link, n),
         Step::Floods(link, bytes, times) => flood(rt, plant, link, bytes, times),
-        Step::Becomes(device, manner) => become_so(plant, device, manner),
-        Step::Rebuilt(device, common) => rebuild(rt, plant, device, common),
-        Step::Forget => plant.notes.clear(),
         _ => {}
     }
 }
@@ -164,27 +170,25 @@ fn flood(rt: &impl Abort, plant: &mut Plant, link: usize, bytes: &[u8], times: u
     }
 }
 
-fn become_so(plant: &mut Plant, device: usize, manner: Manner) {
-    if let Some(unit) = plant.units.get_mut(device) {
+fn become_so(units: &mut [Unit], device: usize, manner: Manner) {
+    if let Some(unit) = units.get_mut(device) {
         unit.manner = manner;
     }
 }
 
-fn rebuild(rt: &impl Abort, plant: &mut Plant, device: usize, common: u16) {
-    if let Some(unit) = plant.units.get_mut(device) {
-        unit.words = registers(rt, plant.alloc, common);
+fn rebuild(rt: &impl Abort, alloc: Global, units: &mut [Unit], device: usize, common: u16) {
+    if let Some(unit) = units.get_mut(device) {
+        unit.words = registers(rt, alloc, common);
         unit.written.clear();
     }
 }
 
 /// Whether this was told.
-fn is_told(plant: &Plant, step: Step) -> bool {
+fn is_told(notes: &[Note], step: Step) -> bool {
     match step {
-        Step::Told(note, count) => plant.notes.iter().filter(|told| **told == note).count()
-            == count,
-        Step::Scans(count) => plant.service.scans() == count,
-        Step::Reported(n, counts) => nth_counts(plant, n) == Some(counts),
-        Step::AllReported(counts) => have_all_counts(plant, counts),
+        Step::Told(note, count) => notes.iter().filter(|told| **told == note).count() == count,
+        Step::Reported(n, counts) => nth_counts(notes, n) == Some(counts),
+        Step::AllReported(counts) => have_all_counts(notes, counts),
         _ => false,
     }
 }
@@ -194,9 +198,9 @@ fn counts_of(report: &Report) -> (usize, usize, usize) {
 }
 
 /// What the n-th scan lost, wrote and was refused.
-fn nth_counts(plant: &Plant, n: usize) -> Option<(usize, usize, usize)> {
+fn nth_counts(notes: &[Note], n: usize) -> Option<(usize, usize, usize)> {
     let mut before: usize = 0;
-    for note in &plant.notes {
+    for note in notes {
         if let Note::Scanned(report) = note {
             if before == n {
                 return Some(counts_of(report));
@@ -207,8 +211,8 @@ fn nth_counts(plant: &Plant, n: usize) -> Option<(usize, usize, usize)> {
     None
 }
 
-fn have_all_counts(plant: &Plant, counts: (usize, usize, usize)) -> bool {
-    for note in &plant.notes {
+fn have_all_counts(notes: &[Note], counts: (usize, usize, usize)) -> bool {
+    for note in notes {
         if let Note::Scanned(report) = note {
             if counts_of(report) != counts {
                 return false;
@@ -218,59 +222,67 @@ fn have_all_counts(plant: &Plant, counts: (usize, usize, usize)) -> bool {
     true
 }
 
+/// Whether these, by address, are what was written to a device.
+fn have_taken(units: &[Unit], device: usize, written: &[(u16, u16)]) -> bool {
+    match units.get(device) {
+        Some(unit) => unit.written.as_slice() == written,
+        None => false,
+    }
+}
+
 /// Whether this is so.
-fn is_so(plant: &Plant, step: Step) -> bool {
+fn is_so(service: &Service<32>, step: Step) -> bool {
     match step {
-        Step::Wrote(device, written) => match plant.units.get(device) {
-            Some(unit) => unit.written.as_slice() == written,
-            None => false,
-        },
-        Step::Asks(link, function) => plant.service.to_link(link).get(7).copied() == function,
-        Step::Wakes(at) => plant.service.wakes_at() == at,
-        Step::HangsUp(link, does) => plant.service.wants_hang_up(link) == does,
+        Step::Scans(count) => service.scans() == count,
+        Step::Asks(link, function) => service.to_link(link).get(7).copied() == function,
+        Step::Wakes(at) => service.wakes_at() == at,
+        Step::HangsUp(link, does) => service.wants_hang_up(link) == does,
         _ => false,
     }
 }
 
-/// Whether the service says that it stands so.
-fn stands(plant: &Plant, step: Step) -> bool {
+/// Whether a device, an output or a tag stands so.
+fn stands(service: &Service<32>, step: Step) -> bool {
     match step {
-        Step::Stands(device, how, loss) => match plant.service.device_status(device) {
-            Some(status) => {
-                (status.is_up, status.is_mapped, status.is_lost) == how && status.last_loss == loss
-            }
-            None => false,
-        },
-        Step::Counted(device, counts) => match plant.service.device_status(device) {
-            Some(status) => (status.counts.requests, status.counts.silent) == counts,
-            None => false,
-        },
-        Step::Became(output, state) => plant.service.output_state(output) == state,
-        Step::Answered(place, count) => plant.service.client_requests(place) == count,
-        Step::IsSet(tag, number) => {
-            plant.service.core().settings().get(tag).copied().flatten() == number
-        }
+        Step::Stands(device, how, loss) => standing(service, device) == Some((how, loss)),
+        Step::Counted(device, counts) => counted(service, device) == Some(counts),
+        Step::Became(output, state) => service.output_state(output) == state,
+        Step::IsSet(tag, number) => service.core().settings().get(tag).copied().flatten() == number,
         _ => false,
     }
 }
 
-/// What a client does; whether it gets this.
+/// Whether a device is up, has a map, is lost; why it was lost last.
+fn standing(service: &Service<32>, device: usize) -> Option<((bool, bool, bool), Option<Loss>)> {
+    let status = service.device_status(device)?;
+    let how = (status.is_up, status.is_mapped, status.is_lost);
+    Some((how, status.last_loss))
+}
+
+/// How many requests a device got, and how often it was silent.
+fn counted(service: &Service<32>, device: usize) -> Option<(u64, u64)> {
+    let counts = service.device_status(device)?.counts;
+    Some((counts.requests, counts.silent))
+}
+
+/// Whether a client's connection stands so.
+fn is_heard(service: &Service<32>, step: Step) -> bool {
+    match step {
+        Step::Hears(place, bytes) => service.to_client(place) == bytes,
+        Step::Closes(place, does) => service.wants_close(place) == does,
+        Step::Answered(place, count) => service.client_requests(place) == count,
+        _ => false,
+    }
+}
+
+/// What a client does, or did before a restart; whether it gets this.
 fn converse(plant: &mut Plant, step: Step) -> bool {
+    let now = plant.now;
+    let service = &mut plant.service;
     match step {
-        Step::Comes(may_write, place) => plant.service.client_came(may_write, plant.now) == place,
-        Step::Says(place, bytes, used) => {
-            plant.service.from_client(place, bytes, plant.now) == used
-        }
-        Step::Hears(place, bytes) => plant.service.to_client(place) == bytes,
-        Step::Took(place, n) => {
-            plant.service.sent_to_client(place, n);
-            true
-        }
-        Step::Leaves(place) => {
-            plant.service.client_gone(place);
-            true
-        }
-        Step::Closes(place, does) => plant.service.wants_close(place) == does,
+        Step::Comes(may_write, place) => service.client_came(may_write, now) == place,
+        Step::Says(place, bytes, used) => service.from_client(place, bytes, now) == used,
+        Step::Restores(tag, number, does) => service.restore(tag, number) == does,
         _ => false,
     }
 }

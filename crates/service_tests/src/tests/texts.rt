@@ -1,5 +1,5 @@
 //! Where devices are, who may write, and how long is waited.
-use crate::tests::assert_same;
+use crate::tests::{assert_same, assert_true};
 use point_types::Items;
 use service_parts::Station;
 use service_texts::{
@@ -111,7 +111,7 @@ fn places_in(rt: &(impl AllocGlobal + Abort), text: &str) -> Items<DevicePlace> 
 fn the_first_device_without_a_place_is_told(rt: HostRuntime) {
     for (text, device, is_unit) in &NOWHERE {
         let fault = read_places(rt.alloc(), text).err();
-        assert!(&rt; is_told(fault, *device, *is_unit));
+        assert_true(&rt, is_told(fault, *device, *is_unit));
     }
 }
 
@@ -126,16 +126,20 @@ fn is_told(fault: Option<AddressFault>, device: usize, is_unit: bool) -> bool {
 #[test]
 fn an_address_has_a_host_and_a_port(rt: HostRuntime) {
     for (word, is_one) in &ADDRESSES {
-        assert!(&rt; has_port(word) == *is_one);
+        assert_true(&rt, has_port(word) == *is_one);
     }
 }
 
 #[test]
 fn clients_at_the_given_addresses_may_write(rt: HostRuntime) {
     let writers = [address(&rt, "127.0.0.1"), address(&rt, "2001:db8::7")];
-    assert!(&rt; may_write(&writers, address(&rt, "2001:db8::7")));
-    assert!(&rt; !may_write(&writers, address(&rt, "127.0.0.2")));
-    assert!(&rt; !may_write(&[], address(&rt, "127.0.0.1")));
+    assert_writer(&rt, &writers, "2001:db8::7", true);
+    assert_writer(&rt, &writers, "127.0.0.2", false);
+    assert_writer(&rt, &[], "127.0.0.1", false);
+}
+
+fn assert_writer(rt: &impl Abort, writers: &[IpAddr], word: &str, is_one: bool) {
+    assert_same(rt, &may_write(writers, address(rt, word)), &is_one);
 }
 
 fn address(rt: &impl Abort, word: &str) -> IpAddr {
@@ -147,6 +151,6 @@ fn address(rt: &impl Abort, word: &str) -> IpAddr {
 
 #[test]
 fn half_a_period_is_waited_at_most(rt: HostRuntime) {
-    assert!(&rt; limits(1000, 1000, 3).timeout == 500);
-    assert!(&rt; limits(1000, 200, 3).timeout == 200);
+    assert_true(&rt, limits(1000, 1000, 3).timeout == 500);
+    assert_true(&rt, limits(1000, 200, 3).timeout == 200);
 }

@@ -13,21 +13,18 @@ pub(crate) enum Manner {
     Garbage,
 }
 
-/// A device: its registers from the address on, and what was written to it.
+/// A device: its registers from 40000 on, and what was written to it.
 #[derive(Drop)]
 pub(crate) struct Unit {
-    pub(crate) unit: u8,
     pub(crate) manner: Manner,
-    pub(crate) base: u16,
     pub(crate) words: Vec<u16>,
     pub(crate) written: Vec<(u16, u16)>,
-    pub(crate) asked: usize,
 }
 
 impl Unit {
     /// The registers from an address on, where there are so many.
     fn words_at(&self, addr: u16, qty: u16) -> Option<&[u16]> {
-        let first = usize::from(addr.checked_sub(self.base)?);
+        let first = usize::from(addr.checked_sub(40000)?);
         let (_, from) = self.words.split_at(first.min(self.words.len()));
         if from.len() < usize::from(qty) {
             return None;
@@ -59,14 +56,11 @@ fn add(rt: &impl Abort, words: &mut Vec<u16>, id: u16, length: u16, at: u16, val
     }
 }
 
-pub(crate) fn unit_of(rt: &impl Abort, alloc: Global, unit: u8, manner: Manner) -> Unit {
+pub(crate) fn unit_of(rt: &impl Abort, alloc: Global, manner: Manner) -> Unit {
     Unit {
-        unit,
         manner,
-        base: 40000,
         words: registers(rt, alloc, 66),
         written: Vec::new(alloc),
-        asked: 0,
     }
 }
 
@@ -80,7 +74,6 @@ pub(crate) fn word(bytes: &[u8], i: usize) -> u16 {
 
 /// What the device answers to one request.
 pub(crate) fn answer(rt: &impl Abort, alloc: Global, of: &mut Unit, request: &[u8]) -> Vec<u8> {
-    of.asked = of.asked.saturating_add(1);
     match of.manner {
         Manner::Well => reply(rt, alloc, of, request),
         Manner::Silent => Vec::new(alloc),
@@ -88,18 +81,15 @@ pub(crate) fn answer(rt: &impl Abort, alloc: Global, of: &mut Unit, request: &[u
     }
 }
 
+/// The words that are read, or to a write its own first part.
 fn reply(rt: &impl Abort, alloc: Global, of: &mut Unit, request: &[u8]) -> Vec<u8> {
-    match byte(request, 7) {
-        3 => reply_words(rt, alloc, of, request),
-        6 => {
-            of.note_write(rt, word(request, 8), word(request, 10));
-            front(rt, alloc, request, 12)
-        }
-        _ => {
-            of.note_write(rt, word(request, 8), word(request, 13));
-            with_length(front(rt, alloc, request, 12))
-        }
+    let function = byte(request, 7);
+    if function == 3 {
+        return reply_words(rt, alloc, of, request);
     }
+    let value = if function == 6 { 10 } else { 13 };
+    of.note_write(rt, word(request, 8), word(request, value));
+    with_length(front(rt, alloc, request, 12))
 }
 
 /// The first bytes of a request, so many.
