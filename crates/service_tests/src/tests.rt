@@ -26,7 +26,7 @@ pub(crate) fn assert_true(rt: &impl Abort, found: bool) {
 
 /// The same, where a loop has to say at which of its rows.
 pub(crate) fn assert_true_at(rt: &impl Abort, row: usize, found: bool) {
-    assert_eq!(rt; (row, found), (row, true));
+    assert_same(rt, &(row, found), &(row, true));
 }
 
 /// A stream in three pieces, cut at two places.

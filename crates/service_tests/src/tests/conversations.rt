@@ -41,7 +41,7 @@ const THREE_DEVICES: &[Step] = &[
 
 #[test]
 fn three_devices(rt: HostRuntime) {
-    play_well(&rt, rt.alloc(), THREE_DEVICES);
+    play_well(&rt, THREE_DEVICES);
 }
 
 const ONE_ROUND: &[Step] = &[Up(0), Up(1), Pass(1000), Scans(1), Reported(0, (0, 2, 0))];
@@ -114,7 +114,7 @@ const A_LINK_GOES_DOWN_IN_MID_ROUND: &[Step] = &[
 
 #[test]
 fn a_link_goes_down_in_mid_round(rt: HostRuntime) {
-    play_well(&rt, rt.alloc(), A_LINK_GOES_DOWN_IN_MID_ROUND);
+    play_well(&rt, A_LINK_GOES_DOWN_IN_MID_ROUND);
 }
 
 const ANOTHER_MAP: &[Step] = &[
@@ -139,7 +139,7 @@ const ANOTHER_MAP: &[Step] = &[
 
 #[test]
 fn another_map_is_never_written_at_the_old_address(rt: HostRuntime) {
-    play_well(&rt, rt.alloc(), ANOTHER_MAP);
+    play_well(&rt, ANOTHER_MAP);
 }
 
 const OTHER_WORDS: &[Step] = &[
@@ -159,7 +159,7 @@ const OTHER_WORDS: &[Step] = &[
 
 #[test]
 fn other_words_are_searched_again(rt: HostRuntime) {
-    play_well(&rt, rt.alloc(), OTHER_WORDS);
+    play_well(&rt, OTHER_WORDS);
 }
 
 const A_LATE_REPLY: &[Step] = &[
@@ -190,7 +190,7 @@ const A_LATE_REPLY: &[Step] = &[
 
 #[test]
 fn a_late_reply_counts_for_nothing(rt: HostRuntime) {
-    play_well(&rt, rt.alloc(), A_LATE_REPLY);
+    play_well(&rt, A_LATE_REPLY);
 }
 
 const A_SLOW_REPLY: &[Step] = &[
@@ -212,7 +212,7 @@ const A_SLOW_REPLY: &[Step] = &[
 
 #[test]
 fn a_round_lasts_as_long_as_its_slowest(rt: HostRuntime) {
-    play_well(&rt, rt.alloc(), A_SLOW_REPLY);
+    play_well(&rt, A_SLOW_REPLY);
 }
 
 const A_SILENT_WRITE: &[Step] = &[
@@ -236,7 +236,7 @@ const A_SILENT_WRITE: &[Step] = &[
 
 #[test]
 fn a_write_without_an_answer(rt: HostRuntime) {
-    play_well(&rt, rt.alloc(), A_SILENT_WRITE);
+    play_well(&rt, A_SILENT_WRITE);
 }
 
 /// A reply to another transaction of device 0, and half a frame.
@@ -268,7 +268,7 @@ const A_FLOOD: &[Step] = &[
 
 #[test]
 fn a_flood(rt: HostRuntime) {
-    play_well(&rt, rt.alloc(), A_FLOOD);
+    play_well(&rt, A_FLOOD);
 }
 
 /// A device is gone behind so many bytes of its reply, which has 113.
@@ -291,7 +291,7 @@ fn gone_behind(n: usize) -> [Step; 11] {
 #[test]
 fn gone_at_each_byte(rt: HostRuntime) {
     for n in 0..113 {
-        play_well(&rt, rt.alloc(), &gone_behind(n));
+        play_well(&rt, &gone_behind(n));
     }
 }
 
@@ -309,7 +309,7 @@ const A_LATE_ROUND: &[Step] = &[
 
 #[test]
 fn a_late_round(rt: HostRuntime) {
-    play_well(&rt, rt.alloc(), A_LATE_ROUND);
+    play_well(&rt, A_LATE_ROUND);
 }
 
 /// Reads the gateway's first two registers, as transaction 1 and then 2, of unit 1.
@@ -372,7 +372,7 @@ const CLIENTS: &[Step] = &[
 
 #[test]
 fn clients_in_between(rt: HostRuntime) {
-    play_well(&rt, rt.alloc(), CLIENTS);
+    play_well(&rt, CLIENTS);
 }
 
 /// The target of the worked site is the tag behind the three powers, and clients set it from 0 to 100.
@@ -392,5 +392,5 @@ const RESTORED: &[Step] = &[
 
 #[test]
 fn what_was_set_is_set_again(rt: HostRuntime) {
-    play_well(&rt, rt.alloc(), RESTORED);
+    play_well(&rt, RESTORED);
 }

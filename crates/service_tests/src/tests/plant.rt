@@ -1,7 +1,7 @@
 //! A service with three devices in memory, over two links, and what happens between them.
 
 use crate::tests::assert_same;
-use crate::tests::units::{Manner, Unit, answer, byte, unit_of};
+use crate::tests::units::{Manner, Unit, answer, byte, copied, unit_of};
 use gateway::Core;
 use register_map::Map;
 use scan_code::Image;
@@ -109,7 +109,7 @@ pub(crate) struct Plant {
     pub(crate) units: Vec<Unit>,
     pub(crate) notes: Vec<Note>,
     /// A reply that is kept back.
-    pub(crate) late: Vec<u8>,
+    late: Vec<u8>,
     /// What came over each link and wasn't used yet.
     waiting: Vec<Vec<u8>>,
     pub(crate) now: u64,
@@ -127,9 +127,12 @@ static STATIONS: [Station; 3] = [
 
 /// The number of the device at a unit of a link.
 pub(crate) fn device_at(link: usize, unit: u8) -> Option<usize> {
-    STATIONS
-        .iter()
-        .position(|station| station.link == link && station.unit == unit)
+    for (device, station) in STATIONS.iter().enumerate() {
+        if station.link == link && station.unit == unit {
+            return Some(device);
+        }
+    }
+    None
 }
 
 fn units_of(rt: &impl Abort, alloc: Global, manners: &[Manner; 3]) -> Vec<Unit> {
@@ -146,6 +149,21 @@ fn two_empty(rt: &impl Abort, alloc: Global) -> Vec<Vec<u8>> {
         both.push(Vec::new(alloc)).expect(rt, "memory");
     }
     both
+}
+
+/// What came over a link waits behind what does already.
+fn add_waiting(rt: &impl Abort, links: &mut [Vec<u8>], link: usize, bytes: &[u8]) {
+    if let Some(waiting) = links.get_mut(link) {
+        waiting.extend_from_slice(bytes).expect(rt, "memory");
+    }
+}
+
+/// What waits of a link, which is empty then.
+fn take_waiting(alloc: Global, links: &mut [Vec<u8>], link: usize) -> Vec<u8> {
+    match links.get_mut(link) {
+        Some(waiting) => std::mem::replace(waiting, Vec::new(alloc)),
+        None => Vec::new(alloc),
+    }
 }
 
 /// What a link's device answers to a request; nothing where it has no such unit.
@@ -187,7 +205,7 @@ pub(crate) fn new_plant(
 impl Plant {
     /// Takes what a link has to send; the reply to it.
     pub(crate) fn reply(&mut self, rt: &impl Abort, link: usize) -> Vec<u8> {
-        let request = Vec::from_slice(self.alloc, self.service.to_link(link)).expect(rt, "memory");
+        let request = copied(rt, self.alloc, self.service.to_link(link));
         self.service.sent_to_link(link, request.len());
         reply_of(rt, self.alloc, &mut self.units, link, &request)
     }
@@ -196,22 +214,34 @@ impl Plant {
     pub(crate) fn serve(&mut self, rt: &impl Abort, place: usize, request: &[u8]) -> Vec<u8> {
         let used = self.service.from_client(place, request, self.now);
         assert_same(rt, &used, &request.len());
-        let reply = Vec::from_slice(self.alloc, self.service.to_client(place)).expect(rt, "memory");
+        let reply = copied(rt, self.alloc, self.service.to_client(place));
         self.service.sent_to_client(place, reply.len());
         reply
     }
 
     /// Bytes come over a link.
     pub(crate) fn give(&mut self, rt: &impl Abort, link: usize, bytes: &[u8]) {
-        self.keep(rt, link, bytes);
+        add_waiting(rt, &mut self.waiting, link, bytes);
+        self.offer(rt, link);
+    }
+
+    /// The reply to a link's request is kept back.
+    pub(crate) fn keep_back(&mut self, rt: &impl Abort, link: usize) {
+        self.late = self.reply(rt, link);
+    }
+
+    /// The reply that was kept back comes.
+    pub(crate) fn give_back(&mut self, rt: &impl Abort, link: usize) {
+        add_waiting(rt, &mut self.waiting, link, &self.late);
+        self.late.clear();
         self.offer(rt, link);
     }
 
     /// What came over a link is handed in, in pieces, as far as it is used.
     fn offer(&mut self, rt: &impl Abort, link: usize) {
-        let came = self.take_waiting(link);
+        let came = take_waiting(self.alloc, &mut self.waiting, link);
         let rest = self.hand_in(link, &came);
-        self.keep(rt, link, rest);
+        add_waiting(rt, &mut self.waiting, link, rest);
     }
 
     /// Hands in what came, piece by piece, as far as it is used; what is left of it.
@@ -228,23 +258,9 @@ impl Plant {
         rest
     }
 
-    fn keep(&mut self, rt: &impl Abort, link: usize, bytes: &[u8]) {
-        if let Some(waiting) = self.waiting.get_mut(link) {
-            waiting.extend_from_slice(bytes).expect(rt, "memory");
-        }
-    }
-
-    fn take_waiting(&mut self, link: usize) -> Vec<u8> {
-        let none = Vec::new(self.alloc);
-        match self.waiting.get_mut(link) {
-            Some(waiting) => std::mem::replace(waiting, none),
-            None => none,
-        }
-    }
-
     /// A link comes up: a new stream.
     pub(crate) fn come_up(&mut self, link: usize) {
-        let _ = self.take_waiting(link);
+        let _ = take_waiting(self.alloc, &mut self.waiting, link);
         self.service.link_up(link, self.now);
     }
 

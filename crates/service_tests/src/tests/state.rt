@@ -38,21 +38,26 @@ static SILENT: [&str; 10] = [
 ];
 
 #[test]
-fn the_tags_that_are_set_have_lines(rt: HostRuntime) {
+fn tags_have_lines_and_are_found_by_their_names(rt: HostRuntime) {
     let site = site(&rt);
     assert_lines(&rt, rt.alloc(), site.tags());
+    assert_found(&rt, site.tags());
 }
 
+/// Those that are set have lines.
 fn assert_lines(rt: &impl Abort, alloc: Global, tags: &[SiteTag]) {
     let text = state_text(alloc, tags, SETTINGS.as_slice()).expect(rt, "memory");
     assert_same(rt, &text.as_slice(), &TEXT.as_bytes());
 }
 
+fn assert_found(rt: &impl Abort, tags: &[SiteTag]) {
+    assert_same(rt, &tag_named(tags, "target"), &Some(2));
+    assert_same(rt, &tag_named(tags, "Target"), &None);
+    assert_same(rt, &tag_named(tags, ""), &None);
+}
+
 fn site(rt: &(impl AllocGlobal + Abort)) -> Site {
-    match site_of(rt.alloc(), SITE) {
-        Some(site) => site,
-        None => panic!(rt; "no site"),
-    }
+    site_of(rt.alloc(), SITE).expect(rt, "a site")
 }
 
 #[test]
@@ -74,16 +79,4 @@ fn other_lines_say_nothing(rt: HostRuntime) {
     for line in &SILENT {
         assert_true(&rt, setting_in(line).is_none());
     }
-}
-
-#[test]
-fn a_tag_is_found_by_its_name(rt: HostRuntime) {
-    let site = site(&rt);
-    assert_found(&rt, site.tags());
-}
-
-fn assert_found(rt: &impl Abort, tags: &[SiteTag]) {
-    assert_same(rt, &tag_named(tags, "target"), &Some(2));
-    assert_same(rt, &tag_named(tags, "Target"), &None);
-    assert_same(rt, &tag_named(tags, ""), &None);
 }

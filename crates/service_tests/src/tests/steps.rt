@@ -80,8 +80,8 @@ pub(crate) enum Step {
 }
 
 /// Plays the steps with devices that answer well, whose replies come whole.
-pub(crate) fn play_well(rt: &impl Abort, alloc: Global, steps: &[Step]) {
-    play(rt, alloc, &[Manner::Well; 3], 300, steps);
+pub(crate) fn play_well(rt: &(impl AllocGlobal + Abort), steps: &[Step]) {
+    play(rt, rt.alloc(), &[Manner::Well; 3], 300, steps);
 }
 
 /// Plays the steps with devices of these manners, whose replies come in pieces of so many bytes.
@@ -99,64 +99,49 @@ pub(crate) fn play(
 fn play_on(rt: &impl Abort, plant: &mut Plant, piece: usize, steps: &[Step]) {
     plant.piece = piece;
     for (i, step) in steps.iter().enumerate() {
-        assert_true_at(rt, i, take(rt, plant, *step));
+        assert_true_at(rt, i, take(rt, plant, step));
     }
 }
 
-/// Takes a step; whether it is as it says.
-fn take(rt: &impl Abort, plant: &mut Plant, step: Step) -> bool {
-    match step {
-        Step::Told(..) | Step::Reported(..) | Step::AllReported(_) => is_told(&plant.notes, step),
-        Step::Scans(_) | Step::Asks(..) | Step::Wakes(_) | Step::HangsUp(..) => {
-            is_so(&plant.service, step)
-        }
-        Step::Stands(..) | Step::Counted(..) | Step::Became(..) | Step::IsSet(..) => {
-            stands(&plant.service, step)
-        }
-        Step::Hears(..) | Step::Closes(..) | Step::Answered(..) => is_heard(&plant.service, step),
-        Step::Wrote(device, written) => have_taken(&plant.units, device, written),
-        Step::Restores(..) | Step::Comes(..) | Step::Says(..) => converse(plant, step),
-        Step::Pass(until) => plant.pass(rt, until),
-        _ => {
-            happen(rt, plant, step);
-            true
-        }
-    }
+/// Takes a step; whether it is as it says. Each of these knows its own kinds of step, and says no to any other.
+fn take(rt: &impl Abort, plant: &mut Plant, step: &Step) -> bool {
+    happens(rt, plant, step)
+        || comes_otherwise(rt, plant, step)
+        || converses(plant, step)
+        || is_so(&plant.service, step)
+        || stands(&plant.service, step)
+        || is_heard(&plant.service, step)
+        || is_told(&plant.notes, step)
+        || is_changed(rt, plant.alloc, &mut plant.units, step)
 }
 
-/// What happens to the devices, their links, and clients.
-fn happen(rt: &impl Abort, plant: &mut Plant, step: Step) {
-    match step {
+/// What happens on links, and as time passes.
+fn happens(rt: &impl Abort, plant: &mut Plant, step: &Step) -> bool {
+    match *step {
         Step::Up(link) => plant.come_up(link),
         Step::Down(link) => plant.service.link_down(link, plant.now),
+        Step::Pass(until) => return plant.pass(rt, until),
         Step::Tick(now) => plant.tick(now),
         Step::AnswerOne => {
             plant.answer_one(rt);
         }
         Step::Answer => plant.answer_all(rt),
-        Step::Took(place, n) => plant.service.sent_to_client(place, n),
-        Step::Leaves(place) => plant.service.client_gone(place),
-        Step::Becomes(device, manner) => become_so(&mut plant.units, device, manner),
-        Step::Rebuilt(device, common) => rebuild(rt, plant.alloc, &mut plant.units, device, common),
         Step::Forget => plant.notes.clear(),
-        _ => come_otherwise(rt, plant, step),
+        _ => return false,
     }
+    true
 }
 
 /// Replies come late or in part, and bytes unasked.
-fn come_otherwise(rt: &impl Abort, plant: &mut Plant, step: Step) {
-    match step {
-        Step::KeepBack(link) => plant.late = plant.reply(rt, link),
-        Step::GiveBack(link) => give_back(rt, plant, link),
+fn comes_otherwise(rt: &impl Abort, plant: &mut Plant, step: &Step) -> bool {
+    match *step {
+        Step::KeepBack(link) => plant.keep_back(rt, link),
+        Step::GiveBack(link) => plant.give_back(rt, link),
         Step::CutOff(link, n) => cut_off(rt, plant, link, n),
         Step::Floods(link, bytes, times) => flood(rt, plant, link, bytes, times),
-        _ => {}
+        _ => return false,
     }
-}
-
-fn give_back(rt: &impl Abort, plant: &mut Plant, link: usize) {
-    let late = std::mem::replace(&mut plant.late, Vec::new(plant.alloc));
-    plant.give(rt, link, &late);
+    true
 }
 
 fn cut_off(rt: &impl Abort, plant: &mut Plant, link: usize, n: usize) {
@@ -168,6 +153,17 @@ fn flood(rt: &impl Abort, plant: &mut Plant, link: usize, bytes: &[u8], times: u
     for _ in 0..times {
         plant.give(rt, link, bytes);
     }
+}
+
+/// A device is another from now on, or what was written to one is this, by address.
+fn is_changed(rt: &impl Abort, alloc: Global, units: &mut [Unit], step: &Step) -> bool {
+    match *step {
+        Step::Becomes(device, manner) => become_so(units, device, manner),
+        Step::Rebuilt(device, common) => rebuild(rt, alloc, units, device, common),
+        Step::Wrote(device, written) => return have_taken(units, device, written),
+        _ => return false,
+    }
+    true
 }
 
 fn become_so(units: &mut [Unit], device: usize, manner: Manner) {
@@ -183,14 +179,31 @@ fn rebuild(rt: &impl Abort, alloc: Global, units: &mut [Unit], device: usize, co
     }
 }
 
+fn have_taken(units: &[Unit], device: usize, written: &[(u16, u16)]) -> bool {
+    match units.get(device) {
+        Some(unit) => unit.written.as_slice() == written,
+        None => false,
+    }
+}
+
 /// Whether this was told.
-fn is_told(notes: &[Note], step: Step) -> bool {
-    match step {
-        Step::Told(note, count) => notes.iter().filter(|told| **told == note).count() == count,
+fn is_told(notes: &[Note], step: &Step) -> bool {
+    match *step {
+        Step::Told(note, count) => times_told(notes, &note) == count,
         Step::Reported(n, counts) => nth_counts(notes, n) == Some(counts),
         Step::AllReported(counts) => have_all_counts(notes, counts),
         _ => false,
     }
+}
+
+fn times_told(notes: &[Note], note: &Note) -> usize {
+    let mut times: usize = 0;
+    for told in notes {
+        if *told == *note {
+            times = times.saturating_add(1);
+        }
+    }
+    times
 }
 
 fn counts_of(report: &Report) -> (usize, usize, usize) {
@@ -222,17 +235,9 @@ fn have_all_counts(notes: &[Note], counts: (usize, usize, usize)) -> bool {
     true
 }
 
-/// Whether these, by address, are what was written to a device.
-fn have_taken(units: &[Unit], device: usize, written: &[(u16, u16)]) -> bool {
-    match units.get(device) {
-        Some(unit) => unit.written.as_slice() == written,
-        None => false,
-    }
-}
-
 /// Whether this is so.
-fn is_so(service: &Service<32>, step: Step) -> bool {
-    match step {
+fn is_so(service: &Service<32>, step: &Step) -> bool {
+    match *step {
         Step::Scans(count) => service.scans() == count,
         Step::Asks(link, function) => service.to_link(link).get(7).copied() == function,
         Step::Wakes(at) => service.wakes_at() == at,
@@ -242,8 +247,8 @@ fn is_so(service: &Service<32>, step: Step) -> bool {
 }
 
 /// Whether a device, an output or a tag stands so.
-fn stands(service: &Service<32>, step: Step) -> bool {
-    match step {
+fn stands(service: &Service<32>, step: &Step) -> bool {
+    match *step {
         Step::Stands(device, how, loss) => standing(service, device) == Some((how, loss)),
         Step::Counted(device, counts) => counted(service, device) == Some(counts),
         Step::Became(output, state) => service.output_state(output) == state,
@@ -266,8 +271,8 @@ fn counted(service: &Service<32>, device: usize) -> Option<(u64, u64)> {
 }
 
 /// Whether a client's connection stands so.
-fn is_heard(service: &Service<32>, step: Step) -> bool {
-    match step {
+fn is_heard(service: &Service<32>, step: &Step) -> bool {
+    match *step {
         Step::Hears(place, bytes) => service.to_client(place) == bytes,
         Step::Closes(place, does) => service.wants_close(place) == does,
         Step::Answered(place, count) => service.client_requests(place) == count,
@@ -276,13 +281,21 @@ fn is_heard(service: &Service<32>, step: Step) -> bool {
 }
 
 /// What a client does, or did before a restart; whether it gets this.
-fn converse(plant: &mut Plant, step: Step) -> bool {
+fn converses(plant: &mut Plant, step: &Step) -> bool {
     let now = plant.now;
     let service = &mut plant.service;
-    match step {
+    match *step {
         Step::Comes(may_write, place) => service.client_came(may_write, now) == place,
         Step::Says(place, bytes, used) => service.from_client(place, bytes, now) == used,
         Step::Restores(tag, number, does) => service.restore(tag, number) == does,
+        Step::Took(place, n) => {
+            service.sent_to_client(place, n);
+            true
+        }
+        Step::Leaves(place) => {
+            service.client_gone(place);
+            true
+        }
         _ => false,
     }
 }

@@ -6,6 +6,7 @@ use service_texts::{
     AddressFault, Addresses, DevicePlace, has_port, limits, may_write, read_places,
 };
 use site_model::{SiteDevice, Text, WriteFunction};
+use std::alloc::Global;
 use std::net::IpAddr;
 use std::process::Abort;
 
@@ -86,14 +87,21 @@ fn assert_reached(rt: &impl Abort, found: &Addresses, links: usize, stations: &[
 
 #[test]
 fn behind_one_address_each_device_has_its_own_unit(rt: HostRuntime) {
-    let devices = [device(&rt, "a", 7), device(&rt, "b", 1)];
+    let devices = two_devices(&rt, rt.alloc());
     let found = Addresses::behind(rt.alloc(), "192.0.2.7:502", &devices).expect(&rt, "memory");
     assert_reached(&rt, &found, 1, BEHIND_ONE.as_slice());
 }
 
-fn device(rt: &(impl AllocGlobal + Abort), name: &str, unit: u8) -> SiteDevice {
+fn two_devices(rt: &impl Abort, alloc: Global) -> Vec<SiteDevice> {
+    let mut devices = Vec::new(alloc);
+    devices.push(device(rt, alloc, "a", 7)).expect(rt, "memory");
+    devices.push(device(rt, alloc, "b", 1)).expect(rt, "memory");
+    devices
+}
+
+fn device(rt: &impl Abort, alloc: Global, name: &str, unit: u8) -> SiteDevice {
     SiteDevice {
-        name: Text::new(rt.alloc(), name).expect(rt, "memory"),
+        name: Text::new(alloc, name).expect(rt, "memory"),
         unit,
         base: None,
         write: WriteFunction::Multiple,

@@ -25,11 +25,7 @@ impl Unit {
     /// The registers from an address on, where there are so many.
     fn words_at(&self, addr: u16, qty: u16) -> Option<&[u16]> {
         let first = usize::from(addr.checked_sub(40000)?);
-        let (_, from) = self.words.split_at(first.min(self.words.len()));
-        if from.len() < usize::from(qty) {
-            return None;
-        }
-        Some(from.split_at(usize::from(qty)).0)
+        self.words.get(first..)?.get(..usize::from(qty))
     }
 
     fn note_write(&mut self, rt: &impl Abort, addr: u16, value: u16) {
@@ -48,8 +44,7 @@ pub(crate) fn registers(rt: &impl Abort, alloc: Global, common: u16) -> Vec<u16>
 }
 
 fn add(rt: &impl Abort, words: &mut Vec<u16>, id: u16, length: u16, at: u16, value: u16) {
-    words.push(id).expect(rt, "memory");
-    words.push(length).expect(rt, "memory");
+    words.extend_from_slice(&[id, length]).expect(rt, "memory");
     for i in 0..length {
         let word = if i == at { value } else { 0 };
         words.push(word).expect(rt, "memory");
@@ -77,7 +72,7 @@ pub(crate) fn answer(rt: &impl Abort, alloc: Global, of: &mut Unit, request: &[u
     match of.manner {
         Manner::Well => reply(rt, alloc, of, request),
         Manner::Silent => Vec::new(alloc),
-        Manner::Garbage => Vec::from_slice(alloc, &[1, 2, 3, 4, 5, 6, 7, 8]).expect(rt, "memory"),
+        Manner::Garbage => copied(rt, alloc, &[1, 2, 3, 4, 5, 6, 7, 8]),
     }
 }
 
@@ -92,10 +87,13 @@ fn reply(rt: &impl Abort, alloc: Global, of: &mut Unit, request: &[u8]) -> Vec<u
     with_length(front(rt, alloc, request, 12))
 }
 
+pub(crate) fn copied(rt: &impl Abort, alloc: Global, bytes: &[u8]) -> Vec<u8> {
+    Vec::from_slice(alloc, bytes).expect(rt, "memory")
+}
+
 /// The first bytes of a request, so many.
 fn front(rt: &impl Abort, alloc: Global, request: &[u8], n: usize) -> Vec<u8> {
-    let (front, _) = request.split_at(n.min(request.len()));
-    Vec::from_slice(alloc, front).expect(rt, "memory")
+    copied(rt, alloc, request.get(..n).unwrap_or(request))
 }
 
 /// The frame says how long it is.
@@ -107,16 +105,16 @@ fn with_length(mut frame: Vec<u8>) -> Vec<u8> {
     frame
 }
 
+/// The registers that are asked for, or that there are none.
 fn reply_words(rt: &impl Abort, alloc: Global, of: &Unit, request: &[u8]) -> Vec<u8> {
-    let mut frame = front(rt, alloc, request, 8);
     match of.words_at(word(request, 8), word(request, 10)) {
-        Some(words) => add_words(rt, &mut frame, words),
-        None => refuse(rt, &mut frame),
+        Some(words) => with_length(frame_of_words(rt, alloc, request, words)),
+        None => with_length(refusal(rt, alloc, request)),
     }
-    with_length(frame)
 }
 
-fn add_words(rt: &impl Abort, frame: &mut Vec<u8>, words: &[u16]) {
+fn frame_of_words(rt: &impl Abort, alloc: Global, request: &[u8], words: &[u16]) -> Vec<u8> {
+    let mut frame = front(rt, alloc, request, 8);
     let bytes = u8::try_from(words.len().saturating_mul(2)).unwrap_or(0);
     frame.push(bytes).expect(rt, "memory");
     for word in words {
@@ -124,12 +122,12 @@ fn add_words(rt: &impl Abort, frame: &mut Vec<u8>, words: &[u16]) {
             .extend_from_slice(&word.to_be_bytes())
             .expect(rt, "memory");
     }
+    frame
 }
 
 /// There are no such registers.
-fn refuse(rt: &impl Abort, frame: &mut Vec<u8>) {
-    if let Some(function) = frame.get_mut(7) {
-        *function = 0x83;
-    }
-    frame.push(2).expect(rt, "memory");
+fn refusal(rt: &impl Abort, alloc: Global, request: &[u8]) -> Vec<u8> {
+    let mut frame = front(rt, alloc, request, 7);
+    frame.extend_from_slice(&[0x83, 2]).expect(rt, "memory");
+    frame
 }
