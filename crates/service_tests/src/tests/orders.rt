@@ -85,13 +85,6 @@ fn order_of(rt: &impl Abort, alloc: Global, number: usize) -> Vec<Input> {
 }
 
 impl Run {
-    fn take(&mut self, rt: &impl Abort, input: Input) {
-        match input {
-            Input::Client(place) => self.ask(rt, place),
-            Input::Link(link) => self.answer(rt, link),
-        }
-    }
-
     /// A client's request is answered at once.
     fn ask(&mut self, rt: &impl Abort, place: usize) {
         let request = REQUESTS.get(place).copied().unwrap_or(&[]);
@@ -212,7 +205,10 @@ fn assert_replayed(rt: &impl Abort, alloc: Global, number: usize, run: &Run) {
 fn run_of(rt: &impl Abort, alloc: Global, number: usize) -> Run {
     let mut run = asked(rt, alloc);
     for input in &order_of(rt, alloc, number) {
-        run.take(rt, *input);
+        match *input {
+            Input::Client(place) => run.ask(rt, place),
+            Input::Link(link) => run.answer(rt, link),
+        }
     }
     run
 }

@@ -109,7 +109,7 @@ pub(crate) struct Plant {
     pub(crate) units: Vec<Unit>,
     pub(crate) notes: Vec<Note>,
     /// A reply that is kept back.
-    late: Vec<u8>,
+    pub(crate) late: Vec<u8>,
     /// What came over each link and wasn't used yet.
     waiting: Vec<Vec<u8>>,
     pub(crate) now: u64,
@@ -222,18 +222,6 @@ impl Plant {
     /// Bytes come over a link.
     pub(crate) fn give(&mut self, rt: &impl Abort, link: usize, bytes: &[u8]) {
         add_waiting(rt, &mut self.waiting, link, bytes);
-        self.offer(rt, link);
-    }
-
-    /// The reply to a link's request is kept back.
-    pub(crate) fn keep_back(&mut self, rt: &impl Abort, link: usize) {
-        self.late = self.reply(rt, link);
-    }
-
-    /// The reply that was kept back comes.
-    pub(crate) fn give_back(&mut self, rt: &impl Abort, link: usize) {
-        add_waiting(rt, &mut self.waiting, link, &self.late);
-        self.late.clear();
         self.offer(rt, link);
     }
 

@@ -110,9 +110,8 @@ fn take(rt: &impl Abort, plant: &mut Plant, step: &Step) -> bool {
         || converses(plant, step)
         || is_so(&plant.service, step)
         || stands(&plant.service, step)
-        || is_heard(&plant.service, step)
         || is_told(&plant.notes, step)
-        || is_changed(rt, plant.alloc, &mut plant.units, step)
+        || is_taken(rt, plant.alloc, &mut plant.units, step)
 }
 
 /// What happens on links, and as time passes.
@@ -135,13 +134,18 @@ fn happens(rt: &impl Abort, plant: &mut Plant, step: &Step) -> bool {
 /// Replies come late or in part, and bytes unasked.
 fn comes_otherwise(rt: &impl Abort, plant: &mut Plant, step: &Step) -> bool {
     match *step {
-        Step::KeepBack(link) => plant.keep_back(rt, link),
-        Step::GiveBack(link) => plant.give_back(rt, link),
+        Step::KeepBack(link) => plant.late = plant.reply(rt, link),
+        Step::GiveBack(link) => give_back(rt, plant, link),
         Step::CutOff(link, n) => cut_off(rt, plant, link, n),
         Step::Floods(link, bytes, times) => flood(rt, plant, link, bytes, times),
         _ => return false,
     }
     true
+}
+
+fn give_back(rt: &impl Abort, plant: &mut Plant, link: usize) {
+    let late = std::mem::replace(&mut plant.late, Vec::new(plant.alloc));
+    plant.give(rt, link, &late);
 }
 
 fn cut_off(rt: &impl Abort, plant: &mut Plant, link: usize, n: usize) {
@@ -156,7 +160,7 @@ fn flood(rt: &impl Abort, plant: &mut Plant, link: usize, bytes: &[u8], times: u
 }
 
 /// A device is another from now on, or what was written to one is this, by address.
-fn is_changed(rt: &impl Abort, alloc: Global, units: &mut [Unit], step: &Step) -> bool {
+fn is_taken(rt: &impl Abort, alloc: Global, units: &mut [Unit], step: &Step) -> bool {
     match *step {
         Step::Becomes(device, manner) => become_so(units, device, manner),
         Step::Rebuilt(device, common) => rebuild(rt, alloc, units, device, common),
@@ -235,13 +239,16 @@ fn have_all_counts(notes: &[Note], counts: (usize, usize, usize)) -> bool {
     true
 }
 
-/// Whether this is so.
+/// Whether a link or a client's connection stands so, and so much was done.
 fn is_so(service: &Service<32>, step: &Step) -> bool {
     match *step {
         Step::Scans(count) => service.scans() == count,
         Step::Asks(link, function) => service.to_link(link).get(7).copied() == function,
         Step::Wakes(at) => service.wakes_at() == at,
         Step::HangsUp(link, does) => service.wants_hang_up(link) == does,
+        Step::Hears(place, bytes) => service.to_client(place) == bytes,
+        Step::Closes(place, does) => service.wants_close(place) == does,
+        Step::Answered(place, count) => service.client_requests(place) == count,
         _ => false,
     }
 }
@@ -268,16 +275,6 @@ fn standing(service: &Service<32>, device: usize) -> Option<((bool, bool, bool),
 fn counted(service: &Service<32>, device: usize) -> Option<(u64, u64)> {
     let counts = service.device_status(device)?.counts;
     Some((counts.requests, counts.silent))
-}
-
-/// Whether a client's connection stands so.
-fn is_heard(service: &Service<32>, step: &Step) -> bool {
-    match *step {
-        Step::Hears(place, bytes) => service.to_client(place) == bytes,
-        Step::Closes(place, does) => service.wants_close(place) == does,
-        Step::Answered(place, count) => service.client_requests(place) == count,
-        _ => false,
-    }
 }
 
 /// What a client does, or did before a restart; whether it gets this.
