@@ -241,7 +241,7 @@ fn serve_with<R: Net + Clock + Processes + Eprint + AllocGlobal + Files, W: Writ
     alloc: Global,
     run: &ServiceRun<'_, '_, '_, '_, '_>,
     addresses: &Addresses,
-    service: &mut Service<DEPTH>,
+    service: &mut Service,
     out: &mut W,
 ) -> u8 {
     match run.devices {
@@ -255,7 +255,7 @@ fn service_of(
     given: Accepted,
     addresses: &Addresses,
     limits: Limits,
-) -> Result<Service<DEPTH>, CoreFault> {
+) -> Result<Service, CoreFault> {
     let Accepted { site, verified } = given;
     let machine = match Machine::new(alloc, verified) {
         Ok(machine) => machine,
@@ -279,7 +279,7 @@ fn serve_over<R: Net + Clock + Eprint + AllocGlobal + Files, W: Write>(
     alloc: Global,
     run: &ServiceRun<'_, '_, '_, '_, '_>,
     addresses: &Addresses,
-    service: &mut Service<DEPTH>,
+    service: &mut Service,
     out: &mut W,
 ) -> u8 {
     match serve_site(
@@ -304,7 +304,7 @@ fn serve_plant<R: Net + Clock + Processes + Eprint + AllocGlobal + Files, W: Wri
     alloc: Global,
     run: &ServiceRun<'_, '_, '_, '_, '_>,
     plant: &str,
-    service: &mut Service<DEPTH>,
+    service: &mut Service,
     out: &mut W,
 ) -> u8 {
     match start_plant(rt, alloc, &run.notes, plant, run.exe) {
@@ -318,7 +318,7 @@ fn serve_started<R: Net + Clock + Processes + Eprint + AllocGlobal + Files, W: W
     alloc: Global,
     run: &ServiceRun<'_, '_, '_, '_, '_>,
     plant: Child<R::Started>,
-    service: &mut Service<DEPTH>,
+    service: &mut Service,
     out: &mut W,
 ) -> u8 {
     let mut plant = plant;
@@ -335,7 +335,7 @@ fn serve_told<R: Net + Clock + Eprint + AllocGlobal + Files, P: Read + Drop, W: 
     alloc: Global,
     run: &ServiceRun<'_, '_, '_, '_, '_>,
     lines: Option<P>,
-    service: &mut Service<DEPTH>,
+    service: &mut Service,
     out: &mut W,
 ) -> u8 {
     let Some(mut lines) = lines else {
@@ -353,7 +353,7 @@ fn serve_behind<R: Net + Clock + Eprint + AllocGlobal + Files, W: Write>(
     alloc: Global,
     run: &ServiceRun<'_, '_, '_, '_, '_>,
     line: &[u8],
-    service: &mut Service<DEPTH>,
+    service: &mut Service,
     out: &mut W,
 ) -> u8 {
     match port_in(line) {

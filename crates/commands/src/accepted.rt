@@ -12,6 +12,7 @@ ghost use Rattle.commands.specs.Told.{refused_with};
 use crate::definitions::definitions;
 use crate::outcome::Outcome;
 use crate::report::{no_site, undefined, unverified};
+pub use gateway::DEPTH;
 use il_assemble::assemble;
 use il_assemble::laws::texts_keep_the_limits;
 use il_reader::{Program, read};
@@ -22,9 +23,6 @@ use site_model::{Site, SiteFault};
 use std::alloc::{AllocError, Global};
 use verifier::verify::verify;
 use verifier::{RefusalKind, RefusedAt, Verified};
-
-/// The most values that a program may defer.
-pub const DEPTH: usize = 32;
 
 /// A site, and a program that was accepted for it.
 #[derive(Drop)]

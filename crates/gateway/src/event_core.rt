@@ -33,6 +33,9 @@ use site_model::{Site, Want, Words};
 use std::alloc::Global;
 use std::marker::Model;
 
+/// The most values that a program may defer where it runs as a command or a service.
+pub const DEPTH: usize = 32;
+
 /// The core of a gateway: its site, the program that runs, what is known of the devices, and what clients set. It goes
 /// from event to event, takes memory only when it is made, and never waits.
 pub struct Core<const DEPTH: usize> {

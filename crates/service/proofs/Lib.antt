@@ -2,10 +2,6 @@ pub mod Heard
 pub mod Marks
 pub mod Replayed
 pub mod Cuts
-pub mod Mapped
-pub mod Once
-pub mod Sent
-pub mod Stays
 pub mod Waiting
 pub mod Talking
 pub mod Turning

@@ -8,7 +8,6 @@ mod inbox;
 mod inquiry;
 pub mod laws;
 mod replay;
-mod round;
 mod search;
 mod session;
 mod task;
@@ -20,8 +19,8 @@ pub use fate::Fate;
 pub use inquiry::Inquiry;
 // the search for a device's map
 pub use search::{Search, Step};
-// one scan over all connections
-pub use round::{Round, Turn};
+// the requests of one scan, over all connections
+pub use task::{Mark, Task, Tasks};
 // clients
 pub use guard::{is_write, refusal};
 pub use session::{Session, Taken};

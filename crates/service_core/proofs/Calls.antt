@@ -8,13 +8,15 @@ use Rattle.point_writer.specs.declared.write.NoWrite.{NoWrite}
 use Rattle.gateway.specs.declared.poller.cycle.Call.{Call}
 use Rattle.gateway.specs.event_core.Core.{Gateway}
 use Rattle.gateway.specs.poller.Cycle.{read_of}
-use Rattle.service.specs.declared.round.Turn.{Turn}
-use Rattle.service.specs.declared.round.Turn.TheVariants as turn
+use Rattle.service_core.specs.declared.round.Turn.{Turn}
+use Rattle.service_core.specs.declared.round.Turn.TheVariants as turn
 use Rattle.service.specs.declared.task.Mark.{Mark}
 use Rattle.service.specs.declared.task.Mark.TheVariants as mark
 use Rattle.service.specs.declared.task.Task.{Task}
-use Rattle.service.specs.Rounds.{AsksRead, AsksWrite, IsRoundFor, Opens, OpensBy, OpensRead, OpensWrite, Progress, device_of, device_wanted, is_asked, is_due, is_due_by, next_place, write_to}
-use Rattle.service.proofs.Once.{at_place, next_is_due, some_task}
+use Rattle.service.specs.Tasks.{device_of, device_wanted, is_asked, is_due, is_due_by, next_place}
+use Rattle.service_parts.specs.Calls.{write_to}
+use Rattle.service_core.specs.Rounds.{AsksRead, AsksWrite, IsRoundFor, Opens, OpensBy, OpensRead, OpensWrite, Progress}
+use Rattle.service_core.proofs.Once.{at_place, next_is_due, some_task}
 use Rattle.service_parts.specs.Calls.{IsCallOf, IsRead, IsWrite}
 
 due_device : (m : Mark) (own device : ℕ) → is_due_by m own device ≡ true → own ≡ device

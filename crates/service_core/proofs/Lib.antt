@@ -5,3 +5,9 @@ pub mod Restored
 pub mod Told
 pub mod Opening
 pub mod Whole
+pub mod Once
+pub mod Sent
+pub mod Stays
+pub mod Mapped
+pub mod Planned
+pub mod Placed

@@ -16,7 +16,7 @@ use Rattle.gateway.specs.event_core.Core.{Gateway, IsSame, StepsOn, numbers_of}
 use Rattle.gateway.specs.event_core.Driving.{Drives, Happens}
 use Rattle.gateway.specs.event_core.SiteRun.{Runs, Standing, Steps}
 use Rattle.service.specs.Guarding.{AnswersUnless, Guards, is_write}
-use Rattle.service.specs.Rounds.{IsRoundFor, Progress}
+use Rattle.service_core.specs.Rounds.{IsRoundFor, Progress}
 use Rattle.service.specs.Searches.{Sought}
 use Rattle.service.specs.Sessions.{IsChain, Turn}
 use Rattle.service_parts.specs.declared.client_place.ClientPlace.{ClientPlace}

@@ -11,9 +11,11 @@ use Rattle.gateway.specs.event_core.Core.{Gateway}
 use Rattle.gateway.specs.poller.Cycle.{event_by, read_of}
 use Rattle.service.specs.declared.fate.Fate.{Fate}
 use Rattle.service.specs.declared.fate.Fate.TheVariants as fate
-use Rattle.service.specs.declared.round.Turn.{Turn}
-use Rattle.service.specs.declared.round.Turn.TheVariants as turn
-use Rattle.service.specs.Rounds.{AsksRead, AsksWrite, Closes, ClosesBy, ClosesRead, ClosesWrite, Opens, OpensBy, OpensRead, OpensWrite, Progress, event_of, is_asked, next_place, write_to}
+use Rattle.service_core.specs.declared.round.Turn.{Turn}
+use Rattle.service_core.specs.declared.round.Turn.TheVariants as turn
+use Rattle.service.specs.Tasks.{is_asked, next_place}
+use Rattle.service_parts.specs.Calls.{write_to}
+use Rattle.service_core.specs.Rounds.{AsksRead, AsksWrite, Closes, ClosesBy, ClosesRead, ClosesWrite, Opens, OpensBy, OpensRead, OpensWrite, Progress, event_of}
 use Rattle.service_parts.specs.Course.{IsOfRounds}
 
 same_told : {e f : Event} → turn.Tell e ≡ turn.Tell f → e ≡ f

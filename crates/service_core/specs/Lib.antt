@@ -1,3 +1,5 @@
+pub mod Counting
 pub mod Maps
-pub mod Whole
+pub mod Rounds
 pub mod Standing
+pub mod Whole

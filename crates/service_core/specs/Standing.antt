@@ -1,7 +1,7 @@
 -- How a device stands. No standard says what of it is told; it is this project's.
 use Rattle.std.specs.Prelude.{◌≡◌, ℕ}
 use Rattle.gateway.specs.event_core.Core.{Gateway}
-use Rattle.service_parts.specs.declared.device.Device.{Device}
+use Rattle.service_core.specs.declared.device.Device.{Device}
 use Rattle.service_core.specs.Maps.{has_map}
 use Rattle.service_core.specs.declared.status.DeviceStatus.{DeviceStatus}
 

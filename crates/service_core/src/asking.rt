@@ -28,7 +28,7 @@ enum Purpose {
     Search,
 }
 
-impl<const DEPTH: usize> Service<DEPTH> {
+impl Service {
     /// Begins requests on all connections that are free.
     pub(crate) fn ask_all(&mut self)
         ensures links { self.new.lines.links ≡ self.old.lines.links }

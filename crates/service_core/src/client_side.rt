@@ -1,5 +1,5 @@
 //! The clients' side.
-ghost use Rattle.std.specs.Prelude.{◌≡◌, ◌≤◌, ◌<◌, ◌↔◌, [], length, take, slice_get, Some, IfNone, IfSome, IsTrue, false};
+ghost use Rattle.std.specs.Prelude.{◌≡◌, ◌≤◌, ◌<◌, ◌↔◌, [], length, max, take, slice_get, Some, IfNone, IfSome, IsTrue, false};
 ghost use Rattle.service_parts.specs.Course.{IsOfClients, LeadsOnBy};
 ghost use Rattle.service_parts.specs.declared.client_place.ClientPlace.{ClientPlace as Place};
 ghost use Rattle.service_parts.specs.Clients.{DoesAt, Hears, IsDeaf, IsDone, IsOpen, OthersStay, Sends, ready_of};
@@ -10,13 +10,14 @@ use crate::service_state::Service;
 use modbus_frame::Responder;
 use service_parts::place_for;
 
-impl<const DEPTH: usize> Service<DEPTH> {
+impl Service {
     /// A client came: its place, or none where it is to be closed, since each place is taken and each client was heard of
     /// within half a minute. Where each is taken it may be the place of a client that was silent: that one's connection is
     /// to be closed.
     pub fn client_came(&mut self, may_write: bool, now: u64) -> Option<usize>
         ensures links { self.new.lines.links ≡ self.old.lines.links }
         ensures core { self.new.cycle.core.value ≡ self.old.cycle.core.value }
+        ensures time { self.new.side.now ≡ max self.old.side.now now }
         ensures given { result ≡ given_place self.new.side.now self.old.places.items }
         ensures refused { IfNone result (self.new.places.items ≡ self.old.places.items) }
         ensures open { IfSome result (λ place. (c : Place) × (slice_get self.new.places.items place ≡ Some c) × IsOpen may_write self.new.side.now c) }
@@ -45,10 +46,11 @@ impl<const DEPTH: usize> Service<DEPTH> {
     pub fn from_client(&mut self, place: usize, bytes: &[u8], now: u64) -> usize
         ensures links { self.new.lines.links ≡ self.old.lines.links }
         ensures goes { LeadsOnBy IsOfClients self.old.cycle.core.value self.new.cycle.core.value }
+        ensures time { self.new.side.now ≡ max self.old.side.now now }
         ensures used { result ≤ length bytes.now }
         ensures takes { (c : Place) → slice_get self.old.places.items place ≡ Some c → (IsDeaf c → ⊥) → ready_of c ≡ [] → 0 < length bytes.now → 0 < result }
         ensures deaf { DoesAt (λ c d. IsDeaf c → (d ≡ c) × (self.new.cycle.core.value ≡ self.old.cycle.core.value)) self.old.places.items place self.new.places.items }
-        ensures hears { DoesAt (λ c d. (IsDeaf c → ⊥) → Hears ⟦<ScanCycle<DEPTH> as Responder>⟧.answers self.new.side.now (record self.old.cycle { may_write = c.may_write })
+        ensures hears { DoesAt (λ c d. (IsDeaf c → ⊥) → Hears ⟦<ScanCycle as Responder>⟧.answers self.new.side.now (record self.old.cycle { may_write = c.may_write })
             c (take result bytes.now) self.new.cycle d) self.old.places.items place self.new.places.items }
     {
         self.side.turn_to(now);
@@ -64,7 +66,7 @@ impl<const DEPTH: usize> Service<DEPTH> {
 
     /// How many frames of the client at the place were answered; 0 where nobody was there yet.
     pub fn client_requests(&self, place: usize) -> u64
-        ensures { (c : Place) → slice_get self.entry.now.places.items place ≡ Some c → result ≡ c.requests }
+        ensures { (c : Place) → slice_get self.now.places.items place ≡ Some c → result ≡ c.requests }
     {
         match self.places.get(place) {
             Some(client) => client.requests(),
@@ -74,7 +76,7 @@ impl<const DEPTH: usize> Service<DEPTH> {
 
     /// What is to be written to a client.
     pub fn to_client(&self, place: usize) -> &[u8]
-        ensures { (c : Place) → slice_get self.entry.now.places.items place ≡ Some c → result.now ≡ ready_of c }
+        ensures { (c : Place) → slice_get self.now.places.items place ≡ Some c → result.now ≡ ready_of c }
     {
         match self.places.get(place) {
             Some(client) => client.out(),
@@ -95,7 +97,7 @@ impl<const DEPTH: usize> Service<DEPTH> {
 
     /// Whether a client's connection is to be closed: it was silent, or its stream is over and all answers are written.
     pub fn wants_close(&self, place: usize) -> bool
-        ensures { (c : Place) → slice_get self.entry.now.places.items place ≡ Some c → (IsTrue result ↔ IsDone c) }
+        ensures { (c : Place) → slice_get self.now.places.items place ≡ Some c → (IsTrue result ↔ IsDone c) }
     {
         match self.places.get(place) {
             Some(client) => client.wants_close(),

@@ -3,12 +3,14 @@ ghost use Rattle.std.specs.Prelude.{◌≡◌, ◌+◌, ◌<◌, ◌^◌, ℕ, S
 ghost use Rattle.service_parts.specs.Course.{LeadsOn};
 ghost use Rattle.service_parts.specs.Requests.{IsRightfulOn};
 
+use crate::note::{Loss, Unwritten};
+use crate::output::OutputState;
 use crate::service_state::Service;
 use gateway::Outcome;
 use service::Fate;
-use service_parts::{Aim, Asked, Loss, OutputState, Unwritten};
+use service_parts::{Aim, Asked};
 
-impl<const DEPTH: usize> Service<DEPTH> {
+impl Service {
     /// Whether a connection is to be made: it is down, no dial is under way, and its back-off is over.
     pub fn wants_dial(&self, link: usize) -> bool {
         self.side.wants_dial(link)
@@ -174,12 +176,12 @@ impl<const DEPTH: usize> Service<DEPTH> {
     {
         match fate {
             Fate::Lost => {
-                self.lose_write(asked.aim);
+                self.side.lose_write(asked.aim);
                 self.side.spoil(link);
                 self.lose_all(link, Loss::Frame);
             }
             Fate::Told(Outcome::Stale) => {
-                self.lose_write(asked.aim);
+                self.side.lose_write(asked.aim);
                 self.miss(link, asked.device, Loss::Stale);
             }
             Fate::Told(outcome) => {
@@ -187,17 +189,6 @@ impl<const DEPTH: usize> Service<DEPTH> {
                 self.side.hear(link, asked.device, is_mapped);
                 self.take(asked, outcome);
             }
-        }
-    }
-
-    /// A write that went out had no answer.
-    fn lose_write(&mut self, aim: Aim)
-        ensures links { self.new.lines.links ≡ self.old.lines.links }
-        ensures goes { LeadsOn self.old.cycle.core.value self.new.cycle.core.value }
-        ensures places { self.new.places.items ≡ self.old.places.items }
-    {
-        if let Aim::Output(_) = aim {
-            self.cycle.wrote(false);
         }
     }
 
@@ -244,7 +235,7 @@ impl<const DEPTH: usize> Service<DEPTH> {
         ensures places { self.new.places.items ≡ self.old.places.items }
     {
         let is_done = outcome == Outcome::Wrote;
-        self.cycle.wrote(is_done);
+        self.side.wrote(is_done);
         self.side.settle_output(output, state_by(is_done));
         self.cycle.close(device, Fate::Told(outcome));
     }
@@ -276,7 +267,7 @@ impl<const DEPTH: usize> Service<DEPTH> {
         ensures places { self.new.places.items ≡ self.old.places.items }
     {
         self.side.give_up(link, self.lines.is_sent(link));
-        self.lose_write(asked.aim);
+        self.side.lose_write(asked.aim);
         if self.side.had_time(asked.since) {
             self.miss(link, asked.device, Loss::Silent);
         } else if asked.aim != Aim::Map {

@@ -1,23 +1,29 @@
 //! A service is made.
-ghost use Rattle.std.specs.Prelude.{◌≡◌, ◌≤◌, replicate, IfErr, IfOk, OnOk};
+ghost use Rattle.std.specs.Prelude.{◌≡◌, ◌≤◌, [], map, replicate, IfErr, IfOk, OnOk};
 ghost use Rattle.verifier.specs.Verified.{HasLinks};
-ghost use Rattle.gateway.specs.declared.event_core.fault.CoreFault.TheVariants.{Foreign, OutOfMemory};
+ghost use Rattle.gateway.specs.declared.event_core.fault.CoreFault.TheVariants.{Foreign};
 ghost use Rattle.gateway.specs.event_core.Core.{Gateway, gateway_of};
 ghost use Rattle.gateway.specs.event_core.SiteRun.{none_of};
-ghost use Rattle.service_parts.specs.Course.{IsNew};
 ghost use Rattle.service_parts.specs.Requests.{AreRightfulBy};
+ghost use Rattle.service_parts.specs.Seeking.{AreOf};
+ghost use Rattle.service_core.specs.Rounds.{IsRoundFor};
 
-use crate::device_side::DeviceSide;
+use crate::device::Device;
+use crate::device_side::{DeviceSide, Phase};
+use crate::notes::Notes;
+use crate::output::Output;
+use crate::round::Round;
 use crate::scan_cycle::ScanCycle;
 use crate::service_state::Service;
-use gateway::{Core, CoreFault};
+use gateway::{Core, CoreFault, DEPTH};
 use register_map::Map;
 use scan_vm::Machine;
-use service_parts::{ClientPlace, Device, Limits, Lines, Notes, Output, Station, Wire};
+use service::Search;
+use service_parts::{ClientPlace, Limits, Lines, Station, Wire};
 use site_model::{Site, SiteDevice};
 use std::alloc::{AllocError, Global};
 
-impl<const DEPTH: usize> Service<DEPTH> {
+impl Service {
     /// A service for a site and the program that runs, over so many connections, all of them down; no device has a map
     /// yet. All memory is taken here. `stations` has an entry for each of the site's devices; one without is never asked.
     /// The first round begins a period from now. Foreign: the program was accepted for tags that the site doesn't have so;
@@ -30,44 +36,59 @@ impl<const DEPTH: usize> Service<DEPTH> {
         stations: &[Station],
         limits: Limits,
         now: u64,
-    ) -> Result<Service<DEPTH>, CoreFault>
-        requires { DEPTH ≤ 65536 }
-        ensures opened { IfOk result (λ service. service.cycle.core.value ≡ gateway_of site (none_of site.devices) machine.entry) }
-        ensures matched { OnOk result (HasLinks site.tags machine.entry.accepted.links) }
+    ) -> Result<Service, CoreFault>
+        ensures opened { IfOk result (λ service. service.cycle.core.value ≡ gateway_of site (none_of site.devices) machine) }
+        ensures matched { OnOk result (HasLinks site.tags machine.accepted.links) }
         ensures stations { IfOk result (λ service. service.lines.links.stations.items ≡ stations.now) }
         ensures numbers { IfOk result (λ service. service.lines.links.numbers.items ≡ replicate links 0) }
-        ensures foreign { IfErr result (λ e. e ≡ Foreign → HasLinks site.tags machine.entry.accepted.links → ⊥) }
+        ensures foreign { IfErr result (λ e. e ≡ Foreign → HasLinks site.tags machine.accepted.links → ⊥) }
     {
-        let maps = no_maps(alloc, site.devices())?;
-        let core = Core::new(alloc, site, machine, maps)?;
-        Service::over(alloc, core, links, stations, limits, now)
-    }
-
-    #[tactic(auto, using(crate::proofs::Runs::reached_opening))]
-    fn over(
-        alloc: Global,
-        core: Core<DEPTH>,
-        links: usize,
-        stations: &[Station],
-        limits: Limits,
-        now: u64,
-    ) -> Result<Service<DEPTH>, CoreFault>
-        requires small { DEPTH ≤ 65536 }
-        requires opened { IsNew core }
-        ensures opened { IfOk result (λ service. service.cycle.core.value ≡ core.entry) }
-        ensures memory { IfErr result (λ e. e ≡ OutOfMemory) }
-        ensures stations { IfOk result (λ service. service.lines.links.stations.items ≡ stations.now) }
-        ensures numbers { IfOk result (λ service. service.lines.links.numbers.items ≡ replicate links 0) }
-    {
-        let peers = peers_of(alloc, core.site(), links, stations, limits, now)?;
-        let cycle = ScanCycle::new(alloc, core)?;
+        let parts = parts_of(alloc, &site, links, stations, limits, now)?;
+        let core = Core::new(alloc, site, machine, parts.maps)?;
+        let cycle = ScanCycle::new(alloc, core, parts.round, parts.searches)?;
         Ok(Service {
             cycle,
-            lines: peers.lines,
-            side: peers.side,
-            places: peers.places,
+            lines: parts.peers.lines,
+            side: parts.peers.side,
+            places: parts.peers.places,
         })
     }
+}
+
+/// What a service is made of, beside its core.
+#[derive(Drop)]
+struct Parts {
+    maps: Vec<Option<Map>>,
+    round: Round,
+    searches: Vec<Search>,
+    peers: Peers,
+}
+
+fn parts_of(
+    alloc: Global,
+    site: &Site,
+    links: usize,
+    stations: &[Station],
+    limits: Limits,
+    now: u64,
+) -> Result<Parts, AllocError>
+    ensures maps { IfOk result (λ parts. parts.maps.items ≡ none_of site.now.devices) }
+    ensures round { IfOk result (λ parts. IsRoundFor site.now parts.round) }
+    ensures searches { IfOk result (λ parts. AreOf site.now parts.searches.items) }
+    ensures rightful { IfOk result (λ parts. (now : Gateway) → AreRightfulBy now parts.peers.lines) }
+    ensures stations { IfOk result (λ parts. parts.peers.lines.links.stations.items ≡ stations.now) }
+    ensures numbers { IfOk result (λ parts. parts.peers.lines.links.numbers.items ≡ replicate links 0) }
+{
+    let maps = no_maps(alloc, site.devices())?;
+    let round = Round::new(alloc, site)?;
+    let searches = searches_for(alloc, site.devices())?;
+    let peers = peers_of(alloc, site, links, stations, limits, now)?;
+    Ok(Parts {
+        maps,
+        round,
+        searches,
+        peers,
+    })
 }
 
 /// What a service keeps of its peers.
@@ -78,6 +99,7 @@ struct Peers {
     places: Vec<ClientPlace>,
 }
 
+/// What a service keeps of so many connections, all of them down, of a site's devices and outputs, and of its clients.
 fn peers_of(
     alloc: Global,
     site: &Site,
@@ -123,7 +145,20 @@ fn device_side(
         next_round: now.saturating_add(limits.period),
         deadline: now,
         scans: 0,
+        phase: Phase::Resting,
+        writes: 0,
+        refused: 0,
     })
+}
+
+/// A search for each device's map.
+fn searches_for(alloc: Global, devices: &[SiteDevice]) -> Result<Vec<Search>, AllocError>
+    ensures { IfOk result (λ searches. searches.items ≡ map (λ own. record { base = own.base; answers = [] }) devices.now) }
+{
+    devices
+        .iter()
+        .map(|own| Search::new(own.base))
+        .collect(alloc)
 }
 
 /// No map for each device.

@@ -1,15 +1,28 @@
 //! The devices' side of a service, apart from its core and from what goes out: connections, devices and outputs.
 ghost use Rattle.std.specs.Prelude.{◌≡◌, max};
 
-use gateway::{Core, Report};
+use crate::device::Device;
+use crate::note::{Loss, Note, Unwritten};
+use crate::notes::Notes;
+use crate::output::{Output, OutputState};
+use gateway::{Core, DEPTH, Report};
 use point_writer::{NoWrite, Write};
 use service::Fate;
-use service_parts::{
-    Aim, Asked, Device, Limits, Lines, Loss, Note, Notes, Output, OutputState, Unwritten, Wire,
-    sooner,
-};
+use service_parts::{Aim, Asked, Limits, Lines, Wire, sooner};
 
-/// How connections, devices and outputs stand, what is told of them, and when something is to be done about them.
+/// How far a round is.
+#[derive(Clone, Copy)]
+pub(crate) enum Phase {
+    /// Wanted blocks are asked for.
+    Reading,
+    /// The program ran, and outputs are written.
+    Writing,
+    /// The round is over.
+    Resting,
+}
+
+/// How connections, devices and outputs stand, what is told of them, how far the round is, and when something is to be done
+/// about all that.
 #[derive(Drop)]
 pub struct DeviceSide {
     pub(crate) wires: Vec<Wire>,
@@ -23,6 +36,11 @@ pub struct DeviceSide {
     /// Until when wanted blocks are waited for.
     pub(crate) deadline: u64,
     pub(crate) scans: u64,
+    pub(crate) phase: Phase,
+    /// How many writes of the round went out, and something came of them.
+    pub(crate) writes: usize,
+    /// How many of these weren't done.
+    pub(crate) refused: usize,
 }
 
 impl DeviceSide {
@@ -311,9 +329,22 @@ impl DeviceSide {
         self.now >= self.deadline
     }
 
+    /// Whether wanted blocks are asked for.
+    pub(crate) fn is_reading(&self) -> bool {
+        self.phase == Phase::Reading
+    }
+
+    /// Whether the program ran in this round, and outputs are written.
+    pub(crate) fn is_writing(&self) -> bool {
+        self.phase == Phase::Writing
+    }
+
     /// A round begins now: its deadline, and when the next one begins. A round that begins late is told, and the next one
     /// begins a period behind it.
     pub(crate) fn plan_round(&mut self) {
+        self.phase = Phase::Reading;
+        self.writes = 0;
+        self.refused = 0;
         if self.now > self.next_round.saturating_add(self.limits.period) {
             let late = self.now.saturating_sub(self.next_round);
             self.notes.add(Note::Late(late));
@@ -327,7 +358,8 @@ impl DeviceSide {
     }
 
     /// The program ran, and this is planned for each output.
-    pub(crate) fn count_scan<const DEPTH: usize>(&mut self, core: &Core<DEPTH>) {
+    pub(crate) fn count_scan(&mut self, core: &Core<DEPTH>) {
+        self.phase = Phase::Writing;
         self.scans = self.scans.saturating_add(1);
         for output in 0..core.site().outs().len() {
             self.await_output(output, &core.write(output));
@@ -363,8 +395,24 @@ impl DeviceSide {
         }
     }
 
+    /// A write went out, and this came of it.
+    pub(crate) fn wrote(&mut self, is_done: bool) {
+        self.writes = self.writes.saturating_add(1);
+        if !is_done {
+            self.refused = self.refused.saturating_add(1);
+        }
+    }
+
+    /// A request had no answer: where it wrote, that came to nothing.
+    pub(crate) fn lose_write(&mut self, aim: Aim) {
+        if let Aim::Output(_) = aim {
+            self.wrote(false);
+        }
+    }
+
     /// A round is over: what was still to be written isn't.
     pub(crate) fn finish(&mut self, report: Report) {
+        self.phase = Phase::Resting;
         for output in 0..self.outputs.len() {
             if self.is_awaited(output) {
                 let state = OutputState::Unwritten(Unwritten::Unanswered);

@@ -6,9 +6,15 @@ mod asking;
 mod client_side;
 mod connections;
 mod construction;
+mod counts;
+mod device;
 mod device_side;
 pub mod laws;
+mod note;
+mod notes;
+mod output;
 mod restoring;
+mod round;
 mod round_times;
 mod scan_cycle;
 mod service_state;
@@ -19,7 +25,8 @@ mod wakes;
 pub use service_parts::{Limits, Station};
 pub use service_state::Service;
 // what it tells
-pub use service_parts::{Loss, Note, Unwritten};
+pub use note::{Loss, Note, Unwritten};
 // how it stands
-pub use service_parts::{Counts, OutputState};
+pub use counts::Counts;
+pub use output::OutputState;
 pub use status::DeviceStatus;

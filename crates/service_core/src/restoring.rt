@@ -5,7 +5,7 @@ ghost use Rattle.service_parts.specs.Course.{IsOfClients, LeadsOnBy};
 
 use crate::service_state::Service;
 
-impl<const DEPTH: usize> Service<DEPTH> {
+impl Service {
     /// Sets the site's tag of this number, as a client's write does, to a number in the unit of the tag's exponent; whether
     /// some client's write does so. Where none does nothing changes: the site has no such `set` tag, or no words of its
     /// point read as the number, exactly and in its range.

@@ -3,11 +3,12 @@ ghost use Rattle.std.specs.Prelude.{◌≡◌, map, max};
 ghost use Rattle.service_parts.specs.Course.{LeadsOn};
 ghost use Rattle.service_parts.specs.Places.{closed_if_idle};
 
-use crate::scan_cycle::Phase;
+use crate::note::Loss;
 use crate::service_state::Service;
-use service_parts::{Loss, close_idle};
+use gateway::Report;
+use service_parts::close_idle;
 
-impl<const DEPTH: usize> Service<DEPTH> {
+impl Service {
     /// The time is this: ends waits, begins rounds. It is to be called behind each wait.
     pub fn tick(&mut self, now: u64)
         ensures links { self.new.lines.links ≡ self.old.lines.links }
@@ -17,7 +18,10 @@ impl<const DEPTH: usize> Service<DEPTH> {
         self.side.turn_to(now);
         close_idle(&mut self.places, self.side.now, self.side.limits.idle);
         self.end_waits();
-        self.end_reading();
+        // at its deadline a round waits for nothing more
+        if self.side.is_reading() && self.side.is_behind_deadline() {
+            self.cut_off_all();
+        }
         self.begin_round();
         self.go_on();
     }
@@ -29,30 +33,22 @@ impl<const DEPTH: usize> Service<DEPTH> {
         ensures places { self.new.places.items ≡ self.old.places.items }
     {
         self.ask_all();
-        if self.scan() {
+        if self.side.is_reading() && self.scan() {
             self.ask_all();
         }
-        self.end_if_complete();
-    }
-
-    fn end_if_complete(&mut self)
-        ensures links { self.new.lines.links ≡ self.old.lines.links }
-        ensures goes { LeadsOn self.old.cycle.core.value self.new.cycle.core.value }
-        ensures places { self.new.places.items ≡ self.old.places.items }
-    {
-        if let Some(report) = self.cycle.end() {
+        if self.side.is_writing() && self.cycle.is_complete() {
+            let report = self.report();
             self.side.finish(report);
         }
     }
 
-    /// At its deadline a round waits for nothing more.
-    fn end_reading(&mut self)
-        ensures links { self.new.lines.links ≡ self.old.lines.links }
-        ensures goes { LeadsOn self.old.cycle.core.value self.new.cycle.core.value }
-        ensures places { self.new.places.items ≡ self.old.places.items }
-    {
-        if self.cycle.phase() == Phase::Reading && self.side.is_behind_deadline() {
-            self.cut_off_all();
+    /// What the round did.
+    fn report(&self) -> Report {
+        Report {
+            steps: self.cycle.core().steps(),
+            writes: self.side.writes,
+            refused: self.side.refused,
+            lost: self.cycle.lost(),
         }
     }
 
@@ -89,17 +85,9 @@ impl<const DEPTH: usize> Service<DEPTH> {
         }
         self.end_round();
         self.side.plan_round();
-        self.begin_reading();
+        self.cycle.begin();
         self.leave_out_all();
         self.side.stir_all();
-    }
-
-    fn begin_reading(&mut self)
-        ensures links { self.new.lines.links ≡ self.old.lines.links }
-        ensures goes { LeadsOn self.old.cycle.core.value self.new.cycle.core.value }
-        ensures places { self.new.places.items ≡ self.old.places.items }
-    {
-        self.cycle.begin();
     }
 
     /// The last round is over, whatever is left of it.
@@ -109,23 +97,15 @@ impl<const DEPTH: usize> Service<DEPTH> {
         ensures places { self.new.places.items ≡ self.old.places.items }
     {
         // a round whose deadline is behind the next one's start
-        if self.cycle.phase() == Phase::Reading {
+        if self.side.is_reading() {
             self.cut_off_all();
             self.scan();
         }
-        if self.cycle.phase() == Phase::Writing {
-            self.cut_short();
+        if self.side.is_writing() {
+            let report = self.report();
+            self.side.finish(report);
         }
         self.side.outlive_all();
-    }
-
-    fn cut_short(&mut self)
-        ensures links { self.new.lines.links ≡ self.old.lines.links }
-        ensures goes { LeadsOn self.old.cycle.core.value self.new.cycle.core.value }
-        ensures places { self.new.places.items ≡ self.old.places.items }
-    {
-        let report = self.cycle.cut();
-        self.side.finish(report);
     }
 
     /// What can't be asked now isn't waited for.
@@ -144,13 +124,13 @@ impl<const DEPTH: usize> Service<DEPTH> {
         ensures goes { LeadsOn self.old.cycle.core.value self.new.cycle.core.value }
         ensures places { self.new.places.items ≡ self.old.places.items }
     {
-        if !self.is_there(device) {
+        if !self.may_be_asked(device) {
             self.cycle.give_up(device);
         }
     }
 
     /// Whether a device may be asked: its connection is well, it has a map, and its back-off is over.
-    fn is_there(&self, device: usize) -> bool {
+    fn may_be_asked(&self, device: usize) -> bool {
         match self.lines.station(device) {
             Some(station) => {
                 self.side.is_well(station.link)
@@ -167,23 +147,12 @@ impl<const DEPTH: usize> Service<DEPTH> {
         ensures goes { LeadsOn self.old.cycle.core.value self.new.cycle.core.value }
         ensures places { self.new.places.items ≡ self.old.places.items }
     {
-        if !self.run() {
+        if !self.cycle.scan() {
             return false;
         }
+        self.side.count_scan(self.cycle.core());
         self.leave_out_all();
         self.side.stir_all();
         true
-    }
-
-    fn run(&mut self) -> bool
-        ensures links { self.new.lines.links ≡ self.old.lines.links }
-        ensures goes { LeadsOn self.old.cycle.core.value self.new.cycle.core.value }
-        ensures places { self.new.places.items ≡ self.old.places.items }
-    {
-        let has_run = self.cycle.scan();
-        if has_run {
-            self.side.count_scan(self.cycle.core());
-        }
-        has_run
     }
 }

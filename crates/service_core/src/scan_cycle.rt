@@ -2,68 +2,59 @@
 ghost use Rattle.std.specs.Prelude.{◌≡◌, ◌<◌, ◌≤◌, [], length, map, set, slice_get, slice_set, IfOk, IfSome, IsTrue, None, Some, false};
 ghost use Rattle.modbus_frame.specs.Message.{HasQuantity, IsRequest};
 ghost use Rattle.gateway.specs.event_core.Restoring.{NothingSets, SetsAlone};
-ghost use Rattle.service.specs.Rounds.{IsRoundFor};
+ghost use Rattle.service_core.specs.Rounds.{IsRoundFor};
 ghost use Rattle.service.specs.Searches.{HasStepQuantity};
 ghost use Rattle.service_parts.specs.Calls.{IsCallOf};
-ghost use Rattle.service_parts.specs.Course.{IsOfClients, IsOfRounds, LeadsOn, LeadsOnBy, Reached};
+ghost use Rattle.service_parts.specs.Course.{IsNew, IsOfClients, IsOfRounds, LeadsOn, LeadsOnBy, Reached};
 ghost use Rattle.service_parts.specs.Requests.{IsOfRound};
 ghost use Rattle.service_parts.specs.Seeking.{AreOf, IsFound, IsSought};
 ghost use Rattle.service_core.specs.Maps.{has_map, is_there};
 
-use gateway::{Call, Core, Event, Outcome, Report};
+use crate::round::{Round, Turn};
+use gateway::{Call, Core, DEPTH, Event, Outcome};
 use modbus_frame::{Frame, FrameReply, Request, Responder, request_pdu};
 use register_map::Map;
-use service::{Fate, Round, Search, Step, Turn, is_write, refusal};
+use service::{Fate, Search, Step, is_write, refusal};
 use site_model::{Site, SiteDevice};
 use std::alloc::{AllocError, Global};
 
-/// How far a round is.
-#[derive(Clone, Copy)]
-pub enum Phase {
-    /// Wanted blocks are asked for.
-    Reading,
-    /// The program ran, and outputs are written.
-    Writing,
-    /// The round is over.
-    Resting,
-}
-
-/// The core, behind its guard, with the round that is under way, what that did, and the searches for its devices' maps.
+/// The core, behind its guard, with the round that is under way, how many blocks that lost, and the searches for its
+/// devices' maps.
 #[derive(Drop)]
-pub struct ScanCycle<const DEPTH: usize> {
+pub struct ScanCycle {
     core: Box<Core<DEPTH>>,
     round: Round,
     /// One for each device.
     searches: Vec<Search>,
-    phase: Phase,
     lost: usize,
-    writes: usize,
-    refused: usize,
     /// Whether the client whose turn it is may write.
     may_write: bool,
-    ghost small: { DEPTH ≤ 65536 },
     ghost reached: { ∥ Reached core.value ∥₁ },
     ghost fits: { IsRoundFor core.value.site round },
     ghost sought: { AreOf core.value.site searches.items },
 }
 
-impl<const DEPTH: usize> ScanCycle<DEPTH> {
-    pub fn new(alloc: Global, core: Core<DEPTH>) -> Result<ScanCycle<DEPTH>, AllocError>
-        requires small { DEPTH ≤ 65536 }
-        requires reached { ∥ Reached core ∥₁ }
-        ensures { IfOk result (λ cycle. cycle.core.value ≡ core.entry) }
+impl ScanCycle {
+    /// A round and a search for each device, none of which has begun, over a core that is at its opening.
+    #[tactic(auto, using(crate::proofs::Runs::reached_opening))]
+    pub fn new(
+        alloc: Global,
+        core: Core<DEPTH>,
+        round: Round,
+        searches: Vec<Search>,
+    ) -> Result<ScanCycle, AllocError>
+        requires opened { IsNew core }
+        requires fits { IsRoundFor core.site round }
+        requires sought { AreOf core.site searches.items }
+        ensures { IfOk result (λ cycle. cycle.core.value ≡ core) }
     {
-        let (round, searches) = begun(alloc, core.site())?;
         let core = Box::new(alloc, core)?;
         Ok(ScanCycle {
             core,
             round,
             searches,
-            may_write: false,
-            phase: Phase::Resting,
             lost: 0,
-            writes: 0,
-            refused: 0,
+            may_write: false,
         })
     }
 
@@ -71,10 +62,6 @@ impl<const DEPTH: usize> ScanCycle<DEPTH> {
         ensures { ∥ Reached result.now ∥₁ }
     {
         &self.core
-    }
-
-    pub fn phase(&self) -> Phase {
-        self.phase
     }
 
     /// How many wanted blocks were lost in this round.
@@ -173,10 +160,7 @@ impl<const DEPTH: usize> ScanCycle<DEPTH> {
         ensures goes { LeadsOn self.old.core.value self.new.core.value }
     {
         self.round.begin(self.core.site());
-        self.phase = Phase::Reading;
         self.lost = 0;
-        self.writes = 0;
-        self.refused = 0;
     }
 
     /// The next request to the device; wanted blocks that there is none for are lost.
@@ -195,7 +179,7 @@ impl<const DEPTH: usize> ScanCycle<DEPTH> {
         ensures called { IfSome result (IsCallOf self.new.core.value device) }
         ensures quantity { IfSome result (λ call. HasQuantity call.request) }
     {
-        for _ in 0..self.requests() {
+        for _ in 0..self.round.requests() {
             match self.round.open(&self.core, device) {
                 Turn::Ask(call) => return Some(call),
                 Turn::Tell(event) => self.tell(event),
@@ -224,7 +208,7 @@ impl<const DEPTH: usize> ScanCycle<DEPTH> {
         ensures goes { LeadsOn self.old.core.value self.new.core.value }
     {
         self.close(device, Fate::Lost);
-        for _ in 0..self.requests() {
+        for _ in 0..self.round.requests() {
             if !self.give_up_next(device) {
                 return;
             }
@@ -245,7 +229,7 @@ impl<const DEPTH: usize> ScanCycle<DEPTH> {
                 self.close(device, Fate::Lost);
                 true
             }
-            Turn::Rest => self.phase == Phase::Writing,
+            Turn::Rest => self.round.is_scanned() && !self.round.is_complete(),
         }
     }
 
@@ -303,21 +287,14 @@ impl<const DEPTH: usize> ScanCycle<DEPTH> {
         self.core.step(Event::Client(request_pdu(request)));
     }
 
-    // More than a device has.
-    fn requests(&self) -> usize {
-        let site = self.core.site();
-        site.wants().len().saturating_add(site.outs().len())
-    }
-
     /// Runs the program, where each wanted block was told; whether it did.
     pub fn scan(&mut self) -> bool
         ensures goes { LeadsOn self.old.core.value self.new.core.value }
     {
-        if self.phase != Phase::Reading || !self.round.is_read() {
+        if !self.round.is_read() {
             return false;
         }
         self.round.scan(&mut self.core);
-        self.phase = Phase::Writing;
         true
     }
 
@@ -326,41 +303,13 @@ impl<const DEPTH: usize> ScanCycle<DEPTH> {
         self.round.output(device)
     }
 
-    /// A write went out, and this came of it.
-    pub fn wrote(&mut self, is_done: bool)
-        ensures goes { LeadsOn self.old.core.value self.new.core.value }
-    {
-        self.writes = self.writes.saturating_add(1);
-        if !is_done {
-            self.refused = self.refused.saturating_add(1);
-        }
-    }
-
-    /// Ends the round, where nothing is left to be written, and tells what it did.
-    pub fn end(&mut self) -> Option<Report>
-        ensures goes { LeadsOn self.old.core.value self.new.core.value }
-    {
-        if self.phase != Phase::Writing || !self.round.is_complete() {
-            return None;
-        }
-        Some(self.cut())
-    }
-
-    /// Ends the round, and tells what it did.
-    pub fn cut(&mut self) -> Report
-        ensures goes { LeadsOn self.old.core.value self.new.core.value }
-    {
-        self.phase = Phase::Resting;
-        Report {
-            steps: self.core.steps(),
-            writes: self.writes,
-            refused: self.refused,
-            lost: self.lost,
-        }
+    /// Whether the program ran, and nothing is left to be written.
+    pub fn is_complete(&self) -> bool {
+        self.round.is_complete()
     }
 }
 
-impl<const DEPTH: usize> Responder for ScanCycle<DEPTH> {
+impl Responder for ScanCycle {
     ghost use Rattle.std.specs.Prelude.{◌≡◌};
     ghost use Rattle.gateway.specs.event_core.Control.{AnswersFrame};
     ghost use Rattle.service.specs.Guarding.{Guards};
@@ -374,26 +323,6 @@ impl<const DEPTH: usize> Responder for ScanCycle<DEPTH> {
         }
         self.core.answer(frame)
     }
-}
-
-/// The round and the searches of a site, as they begin.
-fn begun(alloc: Global, site: &Site) -> Result<(Round, Vec<Search>), AllocError>
-    ensures round { IfOk result (λ parts. IsRoundFor site.now parts.0) }
-    ensures searches { IfOk result (λ parts. AreOf site.now parts.1.items) }
-{
-    let round = Round::new(alloc, site)?;
-    let searches = searches_for(alloc, site.devices())?;
-    Ok((round, searches))
-}
-
-/// A search for each device's map.
-fn searches_for(alloc: Global, devices: &[SiteDevice]) -> Result<Vec<Search>, AllocError>
-    ensures { IfOk result (λ searches. searches.items ≡ map (λ own. record { base = own.base; answers = [] }) devices.now) }
-{
-    devices
-        .iter()
-        .map(|own| Search::new(own.base))
-        .collect(alloc)
 }
 
 /// Takes the outcome of a search's read, where it takes more.

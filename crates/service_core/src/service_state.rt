@@ -4,22 +4,23 @@ ghost use Rattle.service_parts.specs.Course.{Reached};
 ghost use Rattle.service_parts.specs.Requests.{AreRightfulBy};
 
 use crate::device_side::DeviceSide;
+use crate::note::Note;
 use crate::scan_cycle::ScanCycle;
-use gateway::Core;
-use service_parts::{ClientPlace, Lines, Note};
+use gateway::{Core, DEPTH};
+use service_parts::{ClientPlace, Lines};
 
 /// A service of a gateway: its core, connections to devices, clients, and what happened. It takes memory only
 /// when it is made.
 #[derive(Drop)]
-pub struct Service<const DEPTH: usize> {
-    pub(crate) cycle: ScanCycle<DEPTH>,
+pub struct Service {
+    pub(crate) cycle: ScanCycle,
     pub(crate) lines: Lines,
     pub(crate) side: DeviceSide,
     pub(crate) places: Vec<ClientPlace>,
     ghost rightful: { AreRightfulBy cycle.core.value lines },
 }
 
-impl<const DEPTH: usize> Service<DEPTH> {
+impl Service {
     /// What happened, the oldest first.
     pub fn next_note(&mut self) -> Option<Note>
         ensures links { self.new.lines.links ≡ self.old.lines.links }

@@ -1,10 +1,12 @@
 //! How a service stands, for whoever looks after it.
 ghost use Rattle.std.specs.Prelude.{◌≡◌, ◌≤◌, IfNone, IfSome, Some, length, slice_get};
-ghost use Rattle.service_parts.specs.declared.device.Device.{Device as Own};
+ghost use Rattle.service_core.specs.declared.device.Device.{Device as Own};
 ghost use Rattle.service_core.specs.Standing.{IsStatus};
 
+use crate::counts::Counts;
+use crate::note::Loss;
+use crate::output::OutputState;
 use crate::service_state::Service;
-use service_parts::{Counts, Loss, OutputState};
 
 /// How a device stands.
 #[derive(Clone, Copy, Debug, PartialEq, Eq)]
@@ -21,11 +23,11 @@ pub struct DeviceStatus {
     pub counts: Counts,
 }
 
-impl<const DEPTH: usize> Service<DEPTH> {
+impl Service {
     /// How a device stands, by its number; None where the site has no such device.
     pub fn device_status(&self, device: usize) -> Option<DeviceStatus>
-        ensures stands { IfSome result (λ status. (own : Own) → slice_get self.entry.now.side.devices.items device ≡ Some own → IsStatus self.entry.now.cycle.core.value device own status) }
-        ensures none { IfNone result (length self.entry.now.side.devices.items ≤ device) }
+        ensures stands { IfSome result (λ status. (own : Own) → slice_get self.now.side.devices.items device ≡ Some own → IsStatus self.now.cycle.core.value device own status) }
+        ensures none { IfNone result (length self.now.side.devices.items ≤ device) }
     {
         let found = self.side.devices.get(device)?;
         let is_up = match self.lines.station(device) {

@@ -1,14 +1,13 @@
 //! When something is to be done next.
-use crate::scan_cycle::Phase;
 use crate::service_state::Service;
 use service_parts::ClientPlace;
 
-impl<const DEPTH: usize> Service<DEPTH> {
+impl Service {
     /// Not later than at this time a tick is wanted. A time that is over asks for something at once: a connection is to be
     /// made, or to be closed.
     pub fn wakes_at(&self) -> u64 {
         let mut at = self.side.next_round;
-        if self.cycle.phase() == Phase::Reading {
+        if self.side.is_reading() {
             at = at.min(self.side.deadline);
         }
         at = self.side.wakes_at(&self.lines, at);

@@ -9,8 +9,7 @@ use Rattle.service.specs.Sessions.{AnsweredTo, Puts, Serving, Turn, frames_in, f
 use Rattle.service.proofs.Talking.{any_cut_is_answered}
 use Rattle.service.specs.Talk.{Talk}
 use Rattle.service_parts.specs.declared.client_place.ClientPlace.{ClientPlace}
-use Rattle.service_parts.specs.Counting.{more_by}
-use Rattle.service_parts.specs.Clients.{ClientsAreAnswered, DoesAt, Hears, IsOpen, IsSame, IsServed, OthersStay, Sends, ready_of}
+use Rattle.service_parts.specs.Clients.{ClientsAreAnswered, DoesAt, Hears, IsOpen, IsSame, IsServed, OthersStay, Sends, more_by, ready_of}
 
 pub counted : (k n r : ℕ) → n < 2 ^ 64 → r ≡ min (n + k) (2 ^ 64 - 1) → r ≡ more_by k n
 counted zero n r fits is = omega (arith, fits, is)

@@ -1,13 +1,18 @@
 -- What a round asks of a device (Modbus Application Protocol V1.1b3, sections 6.3, 6.6 and 6.12).
-use Rattle.std.specs.Prelude.{◌≡◌, ◌⊎◌, ℕ, Some, Result, slice_get}
+use Rattle.std.specs.Prelude.{◌≡◌, ◌⊎◌, ◌==◌, ℕ, List, Option, None, Some, Result, Ok, Err, slice_get, if◌then◌else◌}
+use Rattle.site_model.specs.declared.device.SiteDevice.{SiteDevice}
 use Rattle.site_model.specs.declared.want.Want.{Want}
 use Rattle.point_writer.specs.declared.write.Write.{Write}
 use Rattle.point_writer.specs.declared.write.NoWrite.{NoWrite}
 use Rattle.gateway.specs.declared.poller.cycle.Call.{Call}
 use Rattle.gateway.specs.event_core.Control.{IsPlanned}
 use Rattle.gateway.specs.event_core.Core.{Gateway}
-use Rattle.gateway.specs.poller.Cycle.{read_of}
-use Rattle.service.specs.Rounds.{write_to}
+use Rattle.gateway.specs.poller.Cycle.{read_of, write_of}
+
+-- what is to be written to the device by a plan
+abbrev pub write_to : ℕ → List SiteDevice → Result Write NoWrite → Option Call
+write_to device devices (Ok w) = if w.device == device then write_of devices (Ok w) else None
+write_to device devices (Err cause) = None
 
 -- It reads one of the blocks that are wanted of the device, by the map that this has now.
 pub record IsRead (g : Gateway) (device : ℕ) (call : Call) : Type 0 where

@@ -1,11 +1,15 @@
 -- What a client gets, over all calls: the answers to its frames, in order, each at its place in the run.
 -- MODBUS Messaging on TCP/IP Implementation Guide, section 4.4.2.
-use Rattle.std.specs.Prelude.{◌≡◌, ◌⊎◌, ◌≤◌, ◌-◌, ℕ, zero, suc, Bool, true, false, List, [], ◌++◌, length, take, drop, Some, slice_get}
+use Rattle.std.specs.Prelude.{◌≡◌, ◌⊎◌, ◌≤◌, ◌+◌, ◌-◌, ◌^◌, ℕ, zero, suc, min, Bool, true, false, List, [], ◌++◌, length, take, drop, Some, slice_get}
 use Rattle.modbus_frame.specs.declared.frame.Frame.{Frame}
 use Rattle.modbus_frame.specs.Framing.{IsRead}
 use Rattle.service.specs.Sessions.{AnsweredTo, IsChain, IsOver, Puts, Serving, Turn, frames_in, fresh}
 use Rattle.service_parts.specs.declared.client_place.ClientPlace.{ClientPlace}
-use Rattle.service_parts.specs.Counting.{more_by}
+
+-- how many frames were answered, where there are so many more of them; a count that is full stays
+abbrev pub more_by : ℕ → ℕ → ℕ
+more_by zero n = n
+more_by (suc k) n = min (n + suc k) (2 ^ 64 - 1)
 
 -- the bytes of answers that are to go out now
 abbrev pub ready_of : ClientPlace → List ℕ

@@ -2,6 +2,5 @@ pub mod Seeking
 pub mod Course
 pub mod Calls
 pub mod Requests
-pub mod Counting
 pub mod Clients
 pub mod Places

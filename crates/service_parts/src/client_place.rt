@@ -1,7 +1,6 @@
 //! A place for a client.
 ghost use Rattle.std.specs.Prelude.{◌≡◌, ◌≤◌, ◌<◌, ◌↔◌, [], length, take, IsTrue, true, false};
 ghost use Rattle.service.specs.Sessions.{IsFree, ServesOn};
-ghost use Rattle.service_parts.specs.Counting.{more_by};
 
 use crate::times::heard_at;
 use modbus_frame::Responder;
@@ -33,7 +32,7 @@ pub struct ClientPlace {
 }
 
 impl ClientPlace {
-    ghost use Rattle.service_parts.specs.Clients.{HasAnswered, Hears, IsDeaf, IsDone, IsOpen, IsSame, Sends, heard_at, ready_of};
+    ghost use Rattle.service_parts.specs.Clients.{HasAnswered, Hears, IsDeaf, IsDone, IsOpen, IsSame, Sends, heard_at, more_by, ready_of};
     ghost use Rattle.service_parts.specs.Places.{closed_if_idle, is_free, is_silent};
 
     pub fn new() -> ClientPlace {

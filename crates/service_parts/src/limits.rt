@@ -1,7 +1,7 @@
 //! What is asked of a service.
 
 /// Its times, in milliseconds, and its room.
-#[derive(Clone, Copy, Debug, PartialEq, Eq)]
+#[derive(Clone, Copy)]
 pub struct Limits {
     /// From the start of a round to that of the next one.
     pub period: u64,

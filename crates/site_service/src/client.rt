@@ -1,6 +1,5 @@
 //! A client's connection.
 use crate::connection::Connection;
-use commands::DEPTH;
 use mio::net::TcpStream;
 use mio::{Interest, Registry, Token};
 use service_core::Service;
@@ -45,7 +44,7 @@ impl Client {
     }
 
     /// Hands over what came.
-    pub(crate) fn receive(&mut self, service: &mut Service<DEPTH>, place: usize, now: u64) {
+    pub(crate) fn receive(&mut self, service: &mut Service, place: usize, now: u64) {
         for _ in 0..MOST_PIECES {
             self.connection.fill();
             if self.connection.rest().is_empty() {
@@ -60,7 +59,7 @@ impl Client {
     }
 
     /// Sends what waits.
-    pub(crate) fn send(&mut self, service: &mut Service<DEPTH>, place: usize) {
+    pub(crate) fn send(&mut self, service: &mut Service, place: usize) {
         let sent = self.connection.write(service.to_client(place));
         if sent > 0 {
             service.sent_to_client(place, sent);
@@ -68,7 +67,7 @@ impl Client {
     }
 
     /// Whether the connection is over, or is to be closed. What was still to be sent then had its last chance.
-    pub(crate) fn is_over(&self, service: &Service<DEPTH>, place: usize) -> bool {
+    pub(crate) fn is_over(&self, service: &Service, place: usize) -> bool {
         service.wants_close(place)
             || self.connection.is_broken()
             || self.connection.is_over() && service.to_client(place).is_empty()

@@ -2,7 +2,6 @@
 use crate::client::Client;
 use crate::door::Door;
 use crate::journal::Journal;
-use commands::DEPTH;
 use mio::net::TcpStream;
 use mio::{Registry, Token};
 use service_core::Service;
@@ -39,7 +38,7 @@ impl Clients {
     }
 
     /// Whether there is something to do without a wait.
-    pub(crate) fn is_busy(&self, service: &Service<DEPTH>) -> bool {
+    pub(crate) fn is_busy(&self, service: &Service) -> bool {
         for (place, client) in self.places.iter().enumerate() {
             if let Some(client) = client {
                 if client.is_busy(service.to_client(place).len()) {
@@ -56,7 +55,7 @@ impl Clients {
         registry: &Registry,
         door: &mut Door,
         writers: &[IpAddr],
-        service: &mut Service<DEPTH>,
+        service: &mut Service,
         journal: &mut Journal<'_, W>,
     ) {
         for _ in 0..MOST_TAKEN {
@@ -73,7 +72,7 @@ impl Clients {
         stream: TcpStream,
         address: SocketAddr,
         writers: &[IpAddr],
-        service: &mut Service<DEPTH>,
+        service: &mut Service,
         journal: &mut Journal<'_, W>,
     ) {
         let is_writer = may_write(writers, address.ip().to_canonical());
@@ -94,7 +93,7 @@ impl Clients {
         &mut self,
         place: usize,
         client: Option<Client>,
-        service: &mut Service<DEPTH>,
+        service: &mut Service,
         journal: &mut Journal<'_, W>,
     ) {
         match &client {
@@ -132,7 +131,7 @@ impl Clients {
     }
 
     /// Hands over what came.
-    pub(crate) fn receive(&mut self, service: &mut Service<DEPTH>, now: u64) {
+    pub(crate) fn receive(&mut self, service: &mut Service, now: u64) {
         for (place, client) in self.places.iter_mut().enumerate() {
             if let Some(client) = client {
                 client.receive(service, place, now);
@@ -141,7 +140,7 @@ impl Clients {
     }
 
     /// Sends what waits.
-    pub(crate) fn send(&mut self, service: &mut Service<DEPTH>) {
+    pub(crate) fn send(&mut self, service: &mut Service) {
         for (place, client) in self.places.iter_mut().enumerate() {
             if let Some(client) = client {
                 client.send(service, place);
@@ -150,11 +149,7 @@ impl Clients {
     }
 
     /// Closes the connections that are over, or are to be closed.
-    pub(crate) fn close<W: Write>(
-        &mut self,
-        service: &mut Service<DEPTH>,
-        journal: &mut Journal<'_, W>,
-    ) {
+    pub(crate) fn close<W: Write>(&mut self, service: &mut Service, journal: &mut Journal<'_, W>) {
         for place in 0..self.places.len() {
             if self.is_over(service, place) {
                 self.leave(place, journal);
@@ -163,7 +158,7 @@ impl Clients {
         }
     }
 
-    fn is_over(&self, service: &Service<DEPTH>, place: usize) -> bool {
+    fn is_over(&self, service: &Service, place: usize) -> bool {
         match self.places.get(place) {
             Some(Some(client)) => client.is_over(service, place),
             _ => false,

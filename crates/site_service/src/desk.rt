@@ -7,7 +7,6 @@ use crate::serving::{End, Serving};
 use crate::sockets::Sockets;
 use crate::status::status_text;
 use crate::telling::{tell, tell_scan};
-use commands::DEPTH;
 use service_core::{Note, Service};
 use service_texts::{Addresses, late_line, listening_line};
 use std::alloc::{AllocError, Global};
@@ -73,7 +72,7 @@ impl<'a, W: Write> Desk<'a, W> {
     pub(crate) fn restore<'k>(
         &mut self,
         keeping: &Keeping<'k, '_>,
-        service: &mut Service<DEPTH>,
+        service: &mut Service,
     ) -> Result<KeptFiles<'k>, End> {
         match KeptFiles::restored(self.alloc, keeping, service, &mut self.journal) {
             Ok(files) => Ok(files),
@@ -86,7 +85,7 @@ impl<'a, W: Write> Desk<'a, W> {
         &mut self,
         rt: &R,
         serving: &Serving<'_>,
-        service: &mut Service<DEPTH>,
+        service: &mut Service,
         files: &mut KeptFiles<'_>,
     ) -> Result<bool, End> {
         let now = self.now(rt)?;
@@ -113,7 +112,7 @@ impl<'a, W: Write> Desk<'a, W> {
     fn tell(
         &mut self,
         serving: &Serving<'_>,
-        service: &mut Service<DEPTH>,
+        service: &mut Service,
         files: &mut KeptFiles<'_>,
     ) -> bool {
         for _ in 0..u64::MAX {
@@ -130,7 +129,7 @@ impl<'a, W: Write> Desk<'a, W> {
         false
     }
 
-    fn tell_note(&mut self, serving: &Serving<'_>, service: &Service<DEPTH>, note: &Note) -> bool {
+    fn tell_note(&mut self, serving: &Serving<'_>, service: &Service, note: &Note) -> bool {
         match note {
             Note::Scanned(report) => {
                 let scans = service.scans();
@@ -152,12 +151,7 @@ impl<'a, W: Write> Desk<'a, W> {
     }
 
     // Says in a file how the service stands, where a scan is over.
-    fn keep_status<R: Files>(
-        &mut self,
-        rt: &R,
-        service: &Service<DEPTH>,
-        files: &mut KeptFiles<'_>,
-    ) {
+    fn keep_status<R: Files>(&mut self, rt: &R, service: &Service, files: &mut KeptFiles<'_>) {
         if files.wants_status() {
             let text = status_text(
                 self.alloc,
@@ -172,7 +166,7 @@ impl<'a, W: Write> Desk<'a, W> {
     }
 
     /// Waits until there is something to do.
-    pub(crate) fn wait<R: Clock>(&mut self, rt: &R, service: &Service<DEPTH>) -> Result<(), End> {
+    pub(crate) fn wait<R: Clock>(&mut self, rt: &R, service: &Service) -> Result<(), End> {
         let most = service.wakes_at().saturating_sub(self.now(rt)?);
         let most = self.sockets.longest_wait(service, most);
         match self.sockets.wait(most) {

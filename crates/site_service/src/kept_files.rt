@@ -25,7 +25,7 @@ impl<'a> KeptFiles<'a> {
     pub(crate) fn restored<W: Write>(
         alloc: Global,
         keeping: &Keeping<'a, '_>,
-        service: &mut Service<DEPTH>,
+        service: &mut Service,
         journal: &mut Journal<'_, W>,
     ) -> Result<KeptFiles<'a>, AllocError> {
         let state = match keeping.state {

@@ -1,6 +1,5 @@
 //! A connection to devices.
 use crate::connection::Connection;
-use commands::DEPTH;
 use mio::net::TcpStream;
 use mio::{Interest, Registry, Token};
 use service_core::Service;
@@ -64,7 +63,7 @@ impl Link {
         rt: &R,
         registry: &Registry,
         token: Token,
-        service: &mut Service<DEPTH>,
+        service: &mut Service,
         number: usize,
         now: u64,
     ) {
@@ -79,7 +78,7 @@ impl Link {
     }
 
     /// Hands over what came, and tells where the connection stands now, or ended.
-    pub(crate) fn receive(&mut self, service: &mut Service<DEPTH>, number: usize, now: u64) {
+    pub(crate) fn receive(&mut self, service: &mut Service, number: usize, now: u64) {
         if !self.is_up && self.is_told {
             self.meet(service, number, now);
         }
@@ -89,7 +88,7 @@ impl Link {
     }
 
     // Sees what became of a connection that was begun.
-    fn meet(&mut self, service: &mut Service<DEPTH>, number: usize, now: u64) {
+    fn meet(&mut self, service: &mut Service, number: usize, now: u64) {
         self.is_told = false;
         match self.fate() {
             Fate::Stands => {
@@ -109,7 +108,7 @@ impl Link {
     }
 
     // Hands over what came; whether the connection is over.
-    fn feed(&mut self, service: &mut Service<DEPTH>, number: usize, now: u64) -> bool {
+    fn feed(&mut self, service: &mut Service, number: usize, now: u64) -> bool {
         let Some(connection) = &mut self.connection else {
             return false;
         };
@@ -128,7 +127,7 @@ impl Link {
     }
 
     /// Sends what waits.
-    pub(crate) fn send(&mut self, service: &mut Service<DEPTH>, number: usize) {
+    pub(crate) fn send(&mut self, service: &mut Service, number: usize) {
         if !self.is_up {
             return;
         }
@@ -141,7 +140,7 @@ impl Link {
     }
 
     /// Closes it, and tells so.
-    pub(crate) fn close(&mut self, service: &mut Service<DEPTH>, number: usize, now: u64) {
+    pub(crate) fn close(&mut self, service: &mut Service, number: usize, now: u64) {
         self.connection = None;
         self.is_up = false;
         service.link_down(number, now);

@@ -1,6 +1,5 @@
 //! The connections to the devices.
 use crate::link::Link;
-use commands::DEPTH;
 use mio::{Registry, Token};
 use service_core::Service;
 use site_model::Text;
@@ -36,7 +35,7 @@ impl Links {
     }
 
     /// Whether there is something to do without a wait.
-    pub(crate) fn is_busy(&self, service: &Service<DEPTH>) -> bool {
+    pub(crate) fn is_busy(&self, service: &Service) -> bool {
         for (number, link) in self.links.iter().enumerate() {
             if link.is_busy(service.to_link(number).len()) {
                 return true;
@@ -46,14 +45,14 @@ impl Links {
     }
 
     /// Hands over what came, and tells of connections that stand now, or ended.
-    pub(crate) fn receive(&mut self, service: &mut Service<DEPTH>, now: u64) {
+    pub(crate) fn receive(&mut self, service: &mut Service, now: u64) {
         for (number, link) in self.links.iter_mut().enumerate() {
             link.receive(service, number, now);
         }
     }
 
     /// Closes those that are to be closed.
-    pub(crate) fn hang_up(&mut self, service: &mut Service<DEPTH>, now: u64) {
+    pub(crate) fn hang_up(&mut self, service: &mut Service, now: u64) {
         for (number, link) in self.links.iter_mut().enumerate() {
             if service.wants_hang_up(number) {
                 link.close(service, number, now);
@@ -66,7 +65,7 @@ impl Links {
         &mut self,
         rt: &R,
         registry: &Registry,
-        service: &mut Service<DEPTH>,
+        service: &mut Service,
         now: u64,
     ) {
         let first = self.first;
@@ -79,7 +78,7 @@ impl Links {
     }
 
     /// Sends what waits.
-    pub(crate) fn send(&mut self, service: &mut Service<DEPTH>) {
+    pub(crate) fn send(&mut self, service: &mut Service) {
         for (number, link) in self.links.iter_mut().enumerate() {
             link.send(service, number);
         }

@@ -1,6 +1,5 @@
 //! What is set at the start.
 use crate::journal::Journal;
-use commands::DEPTH;
 use service_core::Service;
 use service_texts::{left_out_setting_line, setting_in, tag_named};
 use std::alloc::{AllocError, Global};
@@ -13,7 +12,7 @@ const MOST_LETTERS: usize = 40;
 pub(crate) fn restore<W: Write>(
     alloc: Global,
     text: &str,
-    service: &mut Service<DEPTH>,
+    service: &mut Service,
     journal: &mut Journal<'_, W>,
 ) {
     for line in text.lines() {
@@ -24,7 +23,7 @@ pub(crate) fn restore<W: Write>(
 }
 
 /// Sets what a line says; whether that is something that a client could set.
-fn is_restored(service: &mut Service<DEPTH>, line: &str) -> bool {
+fn is_restored(service: &mut Service, line: &str) -> bool {
     let Some(setting) = setting_in(line) else {
         return false;
     };

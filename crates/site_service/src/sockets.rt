@@ -4,7 +4,6 @@ use crate::door::Door;
 use crate::journal::Journal;
 use crate::links::Links;
 use crate::serving::{End, Serving};
-use commands::DEPTH;
 use mio::{Events, Poll, Token};
 use service_core::Service;
 use site_model::Text;
@@ -84,7 +83,7 @@ impl Sockets {
         &mut self,
         rt: &R,
         serving: &Serving<'_>,
-        service: &mut Service<DEPTH>,
+        service: &mut Service,
         journal: &mut Journal<'_, W>,
     ) {
         let now = journal.now();
@@ -97,18 +96,14 @@ impl Sockets {
     }
 
     /// Sends what waits, and closes clients' connections that are over.
-    pub(crate) fn give<W: Write>(
-        &mut self,
-        service: &mut Service<DEPTH>,
-        journal: &mut Journal<'_, W>,
-    ) {
+    pub(crate) fn give<W: Write>(&mut self, service: &mut Service, journal: &mut Journal<'_, W>) {
         self.links.send(service);
         self.clients.send(service);
         self.clients.close(service, journal);
     }
 
     /// The longest wait, where there is something to do in so many milliseconds at the latest.
-    pub(crate) fn longest_wait(&self, service: &Service<DEPTH>, most: u64) -> u64 {
+    pub(crate) fn longest_wait(&self, service: &Service, most: u64) -> u64 {
         if self.door.is_busy() || self.links.is_busy(service) || self.clients.is_busy(service) {
             return 0;
         }

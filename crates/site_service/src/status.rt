@@ -3,7 +3,6 @@ use crate::clients::Clients;
 use crate::members::{put_list, put_number, put_text};
 use crate::status_devices::devices_value;
 use crate::status_tags::{outputs_value, set_value, tags_value, variables_value};
-use commands::DEPTH;
 use serde_json::{Map, Value, put};
 use service_core::Service;
 use service_texts::Addresses;
@@ -14,7 +13,7 @@ pub(crate) fn status_text(
     alloc: Global,
     seconds: u64,
     late: u64,
-    service: &Service<DEPTH>,
+    service: &Service,
     addresses: &Addresses,
     clients: &Clients,
 ) -> Result<String, AllocError> {
@@ -38,7 +37,7 @@ pub(crate) fn status_text(
 fn put_site(
     status: &mut Map<String, Value>,
     alloc: Global,
-    service: &Service<DEPTH>,
+    service: &Service,
     addresses: &Addresses,
 ) -> Result<(), AllocError> {
     let core = service.core();
@@ -56,7 +55,7 @@ fn put_site(
 
 fn clients_value(
     alloc: Global,
-    service: &Service<DEPTH>,
+    service: &Service,
     clients: &Clients,
 ) -> Result<Vec<Value>, AllocError> {
     let mut values = Vec::new(alloc);

@@ -11,7 +11,7 @@ use std::alloc::{AllocError, Global};
 /// Each device, in the order of the site file.
 pub(crate) fn devices_value(
     alloc: Global,
-    service: &Service<DEPTH>,
+    service: &Service,
     addresses: &Addresses,
 ) -> Result<Vec<Value>, AllocError> {
     let mut values = Vec::new(alloc);
@@ -23,7 +23,7 @@ pub(crate) fn devices_value(
 
 fn device_value(
     alloc: Global,
-    service: &Service<DEPTH>,
+    service: &Service,
     addresses: &Addresses,
     device: usize,
 ) -> Result<Value, AllocError> {

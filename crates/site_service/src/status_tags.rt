@@ -46,7 +46,7 @@ fn missing_word(cause: Cause) -> &'static str {
 }
 
 /// What the program stored in each `out` tag, and whether its device took it.
-pub(crate) fn outputs_value(alloc: Global, service: &Service<DEPTH>) -> Result<Value, AllocError> {
+pub(crate) fn outputs_value(alloc: Global, service: &Service) -> Result<Value, AllocError> {
     let core = service.core();
     let mut values = Map::new(alloc);
     for (output, place) in core.site().outs().iter().enumerate() {

@@ -2,7 +2,6 @@
 use crate::desk::Desk;
 use crate::keeping::Keeping;
 use crate::serving::{End, Serving};
-use commands::DEPTH;
 use service_core::Service;
 use service_texts::Addresses;
 use std::alloc::Global;
@@ -21,7 +20,7 @@ pub fn serve_site<R: Net + Clock + Files, W: Write>(
     serving: &Serving<'_>,
     keeping: &Keeping<'_, '_>,
     addresses: &Addresses,
-    service: &mut Service<DEPTH>,
+    service: &mut Service,
     out: &mut W,
 ) -> Result<(), End> {
     let mut desk = Desk::new(rt, alloc, serving, addresses, out)?;

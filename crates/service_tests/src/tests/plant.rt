@@ -78,7 +78,7 @@ fn machine(rt: &impl Abort, alloc: Global, site: &Site) -> Machine<32> {
 }
 
 /// The service of the site, with places for so many clients.
-fn service(rt: &impl Abort, alloc: Global, clients: usize) -> Service<32> {
+fn service(rt: &impl Abort, alloc: Global, clients: usize) -> Service {
     let site = site(rt, alloc);
     let machine = machine(rt, alloc, &site);
     let limits = Limits { clients, ..LIMITS };
@@ -105,7 +105,7 @@ fn no_maps(rt: &impl Abort, alloc: Global, devices: usize) -> Vec<Option<Map>> {
 /// A service, its devices, and what it told. Devices 0 and 1 are on link 0, device 2 is on link 1.
 #[derive(Drop)]
 pub(crate) struct Plant {
-    pub(crate) service: Service<32>,
+    pub(crate) service: Service,
     pub(crate) units: Vec<Unit>,
     pub(crate) notes: Vec<Note>,
     /// A reply that is kept back.

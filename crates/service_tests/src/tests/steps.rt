@@ -240,7 +240,7 @@ fn have_all_counts(notes: &[Note], counts: (usize, usize, usize)) -> bool {
 }
 
 /// Whether a link or a client's connection stands so, and so much was done.
-fn is_so(service: &Service<32>, step: &Step) -> bool {
+fn is_so(service: &Service, step: &Step) -> bool {
     match *step {
         Step::Scans(count) => service.scans() == count,
         Step::Asks(link, function) => service.to_link(link).get(7).copied() == function,
@@ -254,7 +254,7 @@ fn is_so(service: &Service<32>, step: &Step) -> bool {
 }
 
 /// Whether a device, an output or a tag stands so.
-fn stands(service: &Service<32>, step: &Step) -> bool {
+fn stands(service: &Service, step: &Step) -> bool {
     match *step {
         Step::Stands(device, how, loss) => standing(service, device) == Some((how, loss)),
         Step::Counted(device, counts) => counted(service, device) == Some(counts),
@@ -265,14 +265,14 @@ fn stands(service: &Service<32>, step: &Step) -> bool {
 }
 
 /// Whether a device is up, has a map, is lost; why it was lost last.
-fn standing(service: &Service<32>, device: usize) -> Option<((bool, bool, bool), Option<Loss>)> {
+fn standing(service: &Service, device: usize) -> Option<((bool, bool, bool), Option<Loss>)> {
     let status = service.device_status(device)?;
     let how = (status.is_up, status.is_mapped, status.is_lost);
     Some((how, status.last_loss))
 }
 
 /// How many requests a device got, and how often it was silent.
-fn counted(service: &Service<32>, device: usize) -> Option<(u64, u64)> {
+fn counted(service: &Service, device: usize) -> Option<(u64, u64)> {
     let counts = service.device_status(device)?.counts;
     Some((counts.requests, counts.silent))
 }

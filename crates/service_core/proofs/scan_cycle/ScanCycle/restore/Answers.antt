@@ -5,6 +5,6 @@ use Rattle.gateway.specs.event_core.Restoring.{NothingSets}
 use Rattle.service_core.proofs.scan_cycle.ScanCycle.restore.Goals as goal
 
 pub returns-in-None-clause-refused : goal.returns-in-None-clause-refused
-returns-in-None-clause-refused g c refused =
+returns-in-None-clause-refused c refused =
     let f : FitsSigned w64 c.args.number = search rules in
     (refl, subst (λ m. NothingSets c.args.self.now.core.value.site c.args.tag m) (to_z-of_z w64 c.args.number f) (c.request_to_set.ensures.none c.in-None.is))

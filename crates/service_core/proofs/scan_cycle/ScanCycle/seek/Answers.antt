@@ -5,7 +5,7 @@ use Rattle.service_core.proofs.Sought.{next_step}
 use Rattle.service_core.proofs.scan_cycle.ScanCycle.seek.Goals as goal
 
 pub returns-clause-sought : goal.returns-clause-sought
-returns-clause-sought g c =
+returns-clause-sought c =
     let found = c.in_ok-search.ensures.lookup in
     let at : slice_get c.args.self.now.searches.items c.args.device ≡ Some c.in_ok-search.search.now =
     ap (λ xs. slice_get xs c.args.device) (sym c.deref.ensures.value) ∙ slice_get_read _ _ c.args.device c.in_ok-search.search.now refl (ltb-true _ _ (sym found.0)) found.1 in

@@ -5,7 +5,7 @@ use Rattle.service_core.proofs.Sought.{with_new}
 use Rattle.service_core.proofs.scan_cycle.ScanCycle.seek_anew.Goals as goal
 
 pub invariant_of-self : goal.invariant_of-self
-invariant_of-self g c =
+invariant_of-self c =
     let within : c.args.device < length c.args.self.now.searches.items = search rules in
     let at : slice_get c.args.self.now.searches.items c.args.device ≡ Some c.in-Some-get_mut.search.now = slice_get_read _ _ c.args.device c.in-Some-get_mut.search.now refl within c.in-Some-get_mut.ensures.value in
     let same : c.devices.result.now ≡ c.args.self.now.core.value.site.devices = search rules in
@@ -13,7 +13,6 @@ invariant_of-self g c =
     let stands : slice_get c.args.self.now.core.value.site.devices c.args.device ≡ Some c.in-Some.own.now =
     ap (λ xs. slice_get xs c.args.device) (sym same) ∙ slice_get_read _ _ c.args.device c.in-Some.own.now refl (ltb-true _ _ (sym found.0)) found.1 in
     record {
-      small = c.args.self.now.small;
       reached = c.args.self.now.reached;
       fits = c.args.self.now.fits;
       sought = with_new c.args.self.now.core.value.site _ c.args.device c.in-Some-get_mut.search.now _ c.in-Some.own.now c.args.self.now.sought at stands c.new.ensures;

@@ -5,11 +5,11 @@ use Rattle.service_parts.proofs.Heard.{others_stay, stands_there}
 use Rattle.service_core.proofs.service_state.Service.client_came.Goals as goal
 
 pub returns-clause-open : goal.returns-clause-open
-returns-clause-open g c =
+returns-clause-open c =
     let places = c.args.self.now.places.items in
     let within : c.in_ok-place.place < length places = search rules in
     let at : slice_get places c.in_ok-place.place ≡ Some c.index_mut.result.now = slice_get_read places _ c.in_ok-place.place c.index_mut.result.now refl within c.index_mut.ensures.value in
     (c.open.new.self, stands_there places c.in_ok-place.place c.index_mut.result.now c.open.new.self at, c.open.ensures)
 
 pub returns-clause-others : goal.returns-clause-others
-returns-clause-others g c = others_stay c.args.self.now.places.items c.args.self.now.places.items c.in_ok-place.place c.open.new.self refl
+returns-clause-others c = others_stay c.args.self.now.places.items c.args.self.now.places.items c.in_ok-place.place c.open.new.self refl

@@ -10,7 +10,7 @@ use Rattle.service_core.proofs.Runs.{goes_chain, goes_guarded, hears_from}
 use Rattle.service_core.proofs.service_state.Service.from_client.Goals as goal
 
 pub returns-in-Some-clause-hears : goal.returns-in-Some-clause-hears
-returns-in-Some-clause-hears g c =
+returns-in-Some-clause-hears c =
     let places = c.args.self.now.places.items in
     let within : c.args.place < length places = search rules in
     let at : slice_get places c.args.place ≡ Some c.in-Some.client.now = slice_get_read places _ c.args.place c.in-Some.client.now refl within c.in-Some.ensures.value in
@@ -18,32 +18,32 @@ returns-in-Some-clause-hears g c =
     (λ heard. hears_from _ _ _ _ _ _ _ _ (c.turn_to-in-Some.ensures ∙ ap (λ b. record c.args.self.now.cycle { may_write = b }) c.may_write.ensures) (c.take.ensures.hears heard))
 
 pub returns-in-None-clause-hears : goal.returns-in-None-clause-hears
-returns-in-None-clause-hears g c =
+returns-in-None-clause-hears c =
     let places = c.args.self.now.places.items in
     let past : length places ≤ c.args.place = search rules in
     nobody_at _ places places c.args.place refl (slice_get_past places c.args.place past)
 
 pub returns-in-Some-clause-takes : goal.returns-in-Some-clause-takes
-returns-in-Some-clause-takes g c =
+returns-in-Some-clause-takes c =
     let places = c.args.self.now.places.items in
     let within : c.args.place < length places = search rules in
     let at : slice_get places c.args.place ≡ Some c.in-Some.client.now = slice_get_read places _ c.args.place c.in-Some.client.now refl within c.in-Some.ensures.value in
     that_one (λ (x : ClientPlace). (IsDeaf x → ⊥) → ready_of x ≡ [] → 0 < length c.args.bytes.now → 0 < c.take.result) places c.args.place c.in-Some.client.now at c.take.ensures.takes
 
 pub returns-in-Some-clause-goes : goal.returns-in-Some-clause-goes
-returns-in-Some-clause-goes g c =
+returns-in-Some-clause-goes c =
     let led = goes_chain _ (λ s. s.core.value) (λ s frame bytes goes_on t answers. goes_guarded s.may_write s.core.value frame bytes goes_on t.core.value answers.2) _ _ _ (c.take.ensures.chain).1 in
     let goes : LeadsOnBy IsOfClients c.args.self.now.cycle.core.value c.take.new.responder.core.value = subst (λ s. LeadsOnBy IsOfClients s.core.value c.take.new.responder.core.value) c.turn_to-in-Some.ensures led in
     goes
 
 pub invariant_of-self : goal.invariant_of-self
-invariant_of-self g c =
+invariant_of-self c =
     let led = goes_chain _ (λ s. s.core.value) (λ s frame bytes goes_on t answers. goes_guarded s.may_write s.core.value frame bytes goes_on t.core.value answers.2) _ _ _ (c.take.ensures.chain).1 in
     let goes : LeadsOnBy IsOfClients c.args.self.now.cycle.core.value c.take.new.responder.core.value = subst (λ s. LeadsOnBy IsOfClients s.core.value c.take.new.responder.core.value) c.turn_to-in-Some.ensures led in
     record { rightful = right_behind_clients _ _ c.args.self.now.lines goes c.args.self.now.rightful }
 
 pub returns-in-Some-clause-deaf : goal.returns-in-Some-clause-deaf
-returns-in-Some-clause-deaf g c =
+returns-in-Some-clause-deaf c =
     let places = c.args.self.now.places.items in
     let within : c.args.place < length places = search rules in
     let at : slice_get places c.args.place ≡ Some c.in-Some.client.now = slice_get_read places _ c.args.place c.in-Some.client.now refl within c.in-Some.ensures.value in

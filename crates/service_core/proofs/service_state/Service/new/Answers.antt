@@ -1,8 +1,10 @@
 use Rattle.std.proofs.Common.{rules}
-use Rattle.service_core.proofs.Opening.{is_new}
+use Rattle.service_core.proofs.Opening.{is_new, round_of, searches_of}
 use Rattle.service_core.proofs.service_state.Service.new.Goals as goal
 
-pub over-requires : goal.over-requires
-over-requires g c =
+pub new-requires-2 : goal.new-requires-2
+new-requires-2 c =
     let opened = is_new _ _ _ _ c.in_ok-core.ensures.opened in
-    search (rules, opened)
+    let fits = round_of _ _ _ _ _ c.in_ok-core.ensures.opened c.in_ok-parts.ensures.round in
+    let sought = searches_of _ _ _ _ _ c.in_ok-core.ensures.opened c.in_ok-parts.ensures.searches in
+    search (rules, opened, fits, sought)

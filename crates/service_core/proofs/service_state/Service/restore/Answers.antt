@@ -6,10 +6,10 @@ use Rattle.service_parts.proofs.Rightful.{right_behind_clients}
 use Rattle.service_core.proofs.service_state.Service.restore.Goals as goal
 
 pub invariant_of-self : goal.invariant_of-self
-invariant_of-self g c = record { rightful = right_behind_clients _ _ c.args.self.now.lines c.restore.ensures.goes c.args.self.now.rightful }
+invariant_of-self c = record { rightful = right_behind_clients _ _ c.args.self.now.lines c.restore.ensures.goes c.args.self.now.rightful }
 
 pub returns-clause-refused : goal.returns-clause-refused
-returns-clause-refused g c refused =
+returns-clause-refused c refused =
     let f : FitsSigned w64 c.args.number = search rules in
     let nothing = c.restore.ensures.refused refused in
     (nothing.0, subst (λ m. NothingSets c.args.self.now.cycle.core.value.site c.args.tag m) (to_z-of_z w64 c.args.number f) nothing.1)
