@@ -1,8 +1,11 @@
 //! What the words of a command line ask for on the texts of files.
+use crate::file_command::FileCommand;
+use crate::plant_server::PlantPort;
+use crate::probe_link::{ProbeAddress, ProbeRun};
+use crate::source::STANDARD_INPUT;
 use clap::ArgMatches;
-use file_commands::{FileCommand, PlantPort, ProbeAddress, ProbeRun, STANDARD_INPUT};
 
-/// What the words behind a command's name say, where it is one of those on the texts of files.
+/// What the words after a command's name say, where it is one of those on the texts of files.
 pub(crate) fn file_command<'a>(name: &str, matches: &ArgMatches<'a>) -> Option<FileCommand<'a>> {
     match name {
         "check" => Some(FileCommand::Check),

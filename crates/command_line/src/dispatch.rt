@@ -1,18 +1,16 @@
 //! The command line.
 use crate::arguments::command;
 use crate::command_words::{file_command, probe_address};
-use crate::serve_words::{
-    devices_of, keeping_misuse, keeping_of, listen_address, service_limits, serving_of, writers_of,
-};
+use crate::file_command::{obey_on, warn_of_site};
+use crate::serve_words::{Misuse, keeping_of, service_limits, service_words, serving_of};
 use crate::service_run::{Devices, ServiceRun, run_service};
 use crate::sources::{Refusal, Sources, read_sources, read_state};
 use crate::standard_input::misuse;
+use crate::trial_input::trial_of;
 use clap::error::ErrorKind;
 use clap::{ArgMatches, Error};
 use commands::tell_no_memory;
-use file_commands::{obey_on, trial_of, warn_of_site};
 use refusal_notes::{Notes, escaped, explain_unusable};
-use site_service::Serving;
 use std::alloc::{AllocError, Global};
 use std::io::Write;
 use std::net::Net;
@@ -28,34 +26,22 @@ const BAD_COMMAND_LINE: u8 = 2;
 const QUIET: &str = "--quiet";
 
 /// Does what the words of the program's own command line ask for, or without arguments a trial of the program on standard
-/// input. Gives the exit status.
+/// input. Gives the exit status. That standard input is read from its beginning, and by nobody else, no contract says.
 pub fn obey_command_line(
     rt: &(impl Input + Print + Eprint + AllocGlobal + Env + Files + Clock + Net + Processes),
 ) -> u8 {
     let mut out = io::writer(rt);
     match words(rt) {
-        Ok(words) => obey_words(rt, words.as_slice(), &mut out),
+        Ok(words) => match words.as_slice() {
+            [_, word] if word.as_str() == QUIET => trial_of(rt, rt.reader(), true, &mut out),
+            [_, _, ..] => obey(rt, words.as_slice(), &mut out),
+            _ => trial_of(rt, rt.reader(), false, &mut out),
+        },
         Err(fault) if fault.kind() == io::ErrorKind::InvalidData => {
-            tell_misuse(
-                rt,
-                rt.alloc(),
-                "a word of the command line isn't UTF-8",
-                &mut out,
-            )
+            let why = "a word of the command line isn't UTF-8";
+            tell_misuse(rt, rt.alloc(), why, &mut out)
         }
         Err(_) => tell_no_memory(&mut out),
-    }
-}
-
-fn obey_words<W: Write>(
-    rt: &(impl Input + Print + Eprint + AllocGlobal + Files + Clock + Net + Processes),
-    words: &[String],
-    out: &mut W,
-) -> u8 {
-    match words {
-        [_, word] if word.as_str() == QUIET => trial_of_input(rt, true, out),
-        [_, _, ..] => obey(rt, words, out),
-        _ => trial_of_input(rt, false, out),
     }
 }
 
@@ -63,15 +49,6 @@ fn obey_words<W: Write>(
 fn words(rt: &(impl AllocGlobal + Env)) -> io::Result<Vec<String>> {
     let words = env::args(rt)?.collect(rt.alloc())?;
     Ok(words)
-}
-
-/// A trial of standard input. That it is read from its beginning, and by nobody else, no contract says.
-fn trial_of_input<W: Write>(
-    rt: &(impl Input + Eprint + AllocGlobal),
-    quiet: bool,
-    out: &mut W,
-) -> u8 {
-    trial_of(rt, rt.reader(), quiet, out)
 }
 
 /// Obeys the words of a command line, of which the first is the program's path, and prints what the command prints to
@@ -172,7 +149,10 @@ fn obey_matches<W: Write>(
     if let Some(why) = misuse_of(name, matches) {
         return tell_misuse(rt, alloc, why, out);
     }
-    obey_on_files(rt, alloc, path_of(words), name, matches, out)
+    match read_sources(rt, alloc, matches) {
+        Ok(sources) => obey_on_texts(rt, alloc, path_of(words), name, matches, &sources, out),
+        Err(refusal) => unread(rt, alloc, matches, refusal, out),
+    }
 }
 
 /// Why the words, which have their form, ask for nothing that can be done.
@@ -193,22 +173,7 @@ fn path_of(words: &[String]) -> &str {
     }
 }
 
-/// Does what a command asks for on the files that are named; `itself` is this program's path.
-fn obey_on_files<W: Write>(
-    rt: &(impl Input + Print + Eprint + AllocGlobal + Files + Clock + Net + Processes),
-    alloc: Global,
-    itself: &str,
-    name: &str,
-    matches: &ArgMatches<'_>,
-    out: &mut W,
-) -> u8 {
-    match read_sources(rt, alloc, matches) {
-        Ok(sources) => obey_on_texts(rt, alloc, itself, name, matches, &sources, out),
-        Err(refusal) => unread(rt, alloc, matches, refusal, out),
-    }
-}
-
-/// The same on the files' texts.
+/// Does what a command asks for on the texts of its files; `itself` is this program's path.
 fn obey_on_texts<W: Write>(
     rt: &(impl Input + Print + Eprint + AllocGlobal + Files + Clock + Net + Processes),
     alloc: Global,
@@ -263,37 +228,12 @@ fn served<W: Write>(
     out: &mut W,
 ) -> u8 {
     match read_state(rt, alloc, matches) {
-        Ok(state) => served_on(rt, alloc, itself, matches, notes, state.as_str(), out),
+        Ok(state) => served_with(rt, alloc, itself, matches, notes, state.as_str(), out),
         Err(refusal) => unread(rt, alloc, matches, refusal, out),
     }
 }
 
 /// Runs `serve` on the texts of the files and of the set values.
-fn served_on<W: Write>(
-    rt: &(impl Print + Eprint + AllocGlobal + Files + Clock + Net + Processes),
-    alloc: Global,
-    itself: &str,
-    matches: &ArgMatches<'_>,
-    notes: &Notes<'_>,
-    state: &str,
-    out: &mut W,
-) -> u8 {
-    if let Some(why) = keeping_misuse(matches) {
-        return tell_misuse(rt, alloc, why, out);
-    }
-    let Some(listen) = listen_address(rt, matches) else {
-        return tell_misuse(rt, alloc, "'--listen' is no HOST:PORT that is known", out);
-    };
-    match writers_of(alloc, matches) {
-        Ok(Some(writers)) => {
-            let serving = serving_of(matches, listen, writers.as_slice());
-            served_with(rt, alloc, itself, matches, notes, state, serving, out)
-        }
-        Ok(None) => tell_misuse(rt, alloc, "'--write-from' is no IP address", out),
-        Err(AllocError) => tell_no_memory(out),
-    }
-}
-
 fn served_with<W: Write>(
     rt: &(impl Print + Eprint + AllocGlobal + Files + Clock + Net + Processes),
     alloc: Global,
@@ -301,26 +241,25 @@ fn served_with<W: Write>(
     matches: &ArgMatches<'_>,
     notes: &Notes<'_>,
     state: &str,
-    serving: Serving<'_>,
     out: &mut W,
 ) -> u8 {
-    match devices_of(matches) {
-        Ok(devices) => {
-            let exe = matches.get_str("exe").unwrap_or(itself);
+    match service_words(rt, alloc, matches) {
+        Ok(words) => {
             let run = ServiceRun {
                 notes: *notes,
-                devices,
-                exe,
+                devices: words.devices,
+                exe: matches.get_str("exe").unwrap_or(itself),
                 limits: service_limits(matches),
-                serving,
+                serving: serving_of(matches, words.listen, words.writers.as_slice()),
                 keeping: keeping_of(matches, state),
             };
-            match devices {
+            match words.devices {
                 Devices::Plant(_) => warn_of_site(rt, notes),
                 _ => notes.warn(rt),
             }
             run_service(rt, alloc, &run, out)
         }
-        Err(why) => tell_misuse(rt, alloc, why, out),
+        Err(Misuse::Words(why)) => tell_misuse(rt, alloc, why, out),
+        Err(Misuse::OutOfMemory) => tell_no_memory(out),
     }
 }

@@ -1,19 +1,49 @@
 //! The command line of the gateway's program: [`obey`] does what the words of a command line ask for, and
-//! [`obey_command_line`] is all that a program's `main` calls. What they ask for on the texts of files stands in the crate
-//! `file_commands`; `serve` is here, over the loop of `site_service`.
+//! [`obey_command_line`] is all that a program's `main` calls. What they ask for on the texts of their files stands in
+//! [`obey_on`], over sockets and second processes where it wants them, `serve` in [`run_service`], over the loop of
+//! `site_service`, and a trial of what a reader gives in [`trial_of`]. What a command is on texts and links alone stands in
+//! the crate `commands`.
 #![tactic(auto)]
 
 mod arguments;
 mod command_words;
 mod dispatch;
+mod failing;
+mod file_command;
 mod help;
+mod link_cause;
+mod plant_lines;
+mod plant_run;
+mod plant_server;
+mod probe_link;
+mod second_process;
 mod serve_words;
+mod service_places;
 mod service_run;
+mod socket;
+mod source;
 mod sources;
 mod standard_input;
+mod trial_input;
+mod unwritten;
+mod watched_link;
 
 // what a program's `main` calls, and its parts
 pub use arguments::command;
 pub use dispatch::{obey, obey_command_line};
+// a command on the texts of its files
+pub use file_command::{FileCommand, obey_on};
+// a trial of what a reader gives
+pub use trial_input::trial_of;
+// a plant of simulated inverters, on a port
+pub use plant_server::{PlantPort, simulate};
+// a plant, scans of it, and a probe of the gateway after them
+pub use plant_run::{PlantRun, run_plant};
+// a probe of a device
+pub use probe_link::{ProbeAddress, ProbeRun};
 // a service on a site
 pub use service_run::{Devices, ServiceRun, run_service};
+// what a run tells of outputs that it doesn't write, and why a link failed
+pub use link_cause::cause_of_link;
+pub use unwritten::UnwrittenWatch;
+pub use watched_link::WatchedLink;

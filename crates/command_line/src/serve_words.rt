@@ -7,11 +7,14 @@ use clap::{Arg, ArgAction, ArgMatches, Command};
 use service_core::Limits;
 use service_texts::{has_port, limits};
 use site_service::{Keeping, KeptState, Serving};
-use std::alloc::{AllocError, Global};
+use std::alloc::{AllocError, AllocFailed, Global};
 use std::net::{IpAddr, Ipv4Addr, Net, SocketAddr, ToSocketAddrs};
 
 /// Where clients come to, where no other address is asked for.
 const USUAL_DOOR: &str = "127.0.0.1:1502";
+
+/// What is wrong with another address.
+const UNKNOWN_LISTEN: Misuse = Misuse::Words("'--listen' is no HOST:PORT that is known");
 
 /// From one scan to the next, and the longest wait for a device's reply, where no other is asked for, in milliseconds.
 const USUAL: &str = "1000";
@@ -138,24 +141,57 @@ fn verbose_flag<'a>(alloc: Global) -> Arg<'a> {
         .help("prints a line for each scan")
 }
 
-/// Where the devices are, or why the words don't say it.
-pub(crate) fn devices_of<'a>(matches: &ArgMatches<'a>) -> Result<Devices<'a>, &'static str> {
+/// What the words say of where a service is, and for whom.
+#[derive(Drop)]
+pub(crate) struct ServiceWords<'a> {
+    /// The address that clients come to.
+    pub listen: SocketAddr,
+    /// The addresses whose clients may write.
+    pub writers: Vec<IpAddr>,
+    pub devices: Devices<'a>,
+}
+
+/// Why the words ask for nothing that can be done, or memory was refused.
+#[derive(Clone, Copy)]
+pub(crate) enum Misuse {
+    Words(&'static str),
+    OutOfMemory,
+}
+
+impl<T: Drop> From<AllocFailed<T>> for Misuse {
+    fn from(_refused: AllocFailed<T>) -> Self {
+        Misuse::OutOfMemory
+    }
+}
+
+/// What the words say, or the first of them that can't be meant.
+pub(crate) fn service_words<'a, R: Net>(
+    rt: &R,
+    alloc: Global,
+    matches: &ArgMatches<'a>,
+) -> Result<ServiceWords<'a>, Misuse> {
+    let (state, status) = (matches.get_str("state"), matches.get_str("status-file"));
+    if state.is_some() && state == status {
+        return Err(Misuse::Words("'--state' and '--status-file' are one file"));
+    }
+    let listen = listen_address(rt, matches)?;
+    let writers = writers_of(alloc, matches)?;
+    let devices = devices_of(matches)?;
+    Ok(ServiceWords {
+        listen,
+        writers,
+        devices,
+    })
+}
+
+/// Where the devices are.
+fn devices_of<'a>(matches: &ArgMatches<'a>) -> Result<Devices<'a>, Misuse> {
     match (matches.get_str("devices"), matches.get_str("plant")) {
         (None, None) => Ok(Devices::BySite),
         (None, Some(plant)) => Ok(Devices::Plant(plant)),
         (Some(address), None) if has_port(address) => Ok(Devices::Behind(address)),
-        (Some(_), None) => Err("'--devices' is no HOST:PORT"),
-        (Some(_), Some(_)) => Err("'--devices' and '--plant' don't go together"),
-    }
-}
-
-/// Why the files that the service is to keep can't be, where they can't.
-pub(crate) fn keeping_misuse(matches: &ArgMatches<'_>) -> Option<&'static str> {
-    match (matches.get_str("state"), matches.get_str("status-file")) {
-        (Some(state), Some(status)) if state == status => {
-            Some("'--state' and '--status-file' are one file")
-        }
-        _ => None,
+        (Some(_), None) => Err(Misuse::Words("'--devices' is no HOST:PORT")),
+        (Some(_), Some(_)) => Err(Misuse::Words("'--devices' and '--plant' don't go together")),
     }
 }
 
@@ -176,7 +212,7 @@ fn most_clients(matches: &ArgMatches<'_>) -> usize {
     matches.get_one("clients").unwrap_or(32)
 }
 
-/// What the service is to do, behind a socket for clients at this address.
+/// What the service is to do, for clients that come to this address.
 pub(crate) fn serving_of<'a>(
     matches: &ArgMatches<'_>,
     listen: SocketAddr,
@@ -191,35 +227,32 @@ pub(crate) fn serving_of<'a>(
     }
 }
 
-/// The address that clients come to; none where the word is none that is known.
-pub(crate) fn listen_address<R: Net>(rt: &R, matches: &ArgMatches<'_>) -> Option<SocketAddr> {
-    match matches
-        .get_str("listen")
-        .unwrap_or(USUAL_DOOR)
-        .to_socket_addrs(rt)
-    {
-        Ok(mut found) => found.next(),
-        Err(_) => None,
+/// The address that clients come to.
+fn listen_address<R: Net>(rt: &R, matches: &ArgMatches<'_>) -> Result<SocketAddr, Misuse> {
+    let word = matches.get_str("listen").unwrap_or(USUAL_DOOR);
+    match word.to_socket_addrs(rt) {
+        Ok(mut found) => match found.next() {
+            Some(address) => Ok(address),
+            None => Err(UNKNOWN_LISTEN),
+        },
+        Err(_) => Err(UNKNOWN_LISTEN),
     }
 }
 
-/// The addresses whose clients may write; none where one of the words is none.
-pub(crate) fn writers_of(
-    alloc: Global,
-    matches: &ArgMatches<'_>,
-) -> Result<Option<Vec<IpAddr>>, AllocError> {
+/// The addresses whose clients may write.
+fn writers_of(alloc: Global, matches: &ArgMatches<'_>) -> Result<Vec<IpAddr>, Misuse> {
     let words = matches.get_strs("write-from").unwrap_or(&[]);
     let mut writers = Vec::new(alloc);
     for word in words {
         match word.parse::<IpAddr>() {
             Ok(address) => writers.push(address.to_canonical())?,
-            Err(_) => return Ok(None),
+            Err(_) => return Err(Misuse::Words("'--write-from' is no IP address")),
         }
     }
     if words.is_empty() {
         writers.push(IpAddr::V4(Ipv4Addr::LOCALHOST))?;
     }
-    Ok(Some(writers))
+    Ok(writers)
 }
 
 /// The files that the service keeps; the one of set values has this text.

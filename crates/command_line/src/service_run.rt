@@ -1,27 +1,22 @@
 //! The command `serve`: a program on a site, scan by scan, by the clock.
-use crate::dispatch::tell_misuse;
-use commands::{Accepted, DEPTH, Outcome, accept, no_core, tell_no_memory, write_lines};
-use file_commands::{
-    no_start, plant_line, port_in, start_plant, tell_lost, tell_no_port, tell_unreached,
-    tell_unserved,
-};
+use crate::failing::{no_start, tell_lost, tell_unserved};
+use crate::plant_lines::told_port;
+use crate::second_process::{start_plant, tell_no_port};
+use crate::service_places::{addresses_of, plant_addresses, tell_unreachable};
+use commands::{Accepted, Outcome, accept, no_core, tell_no_memory, write_lines};
 use gateway::CoreFault;
 use modbus_frame::LinkFault;
-use refusal_notes::{Notes, escaped};
+use refusal_notes::Notes;
 use scan_vm::Machine;
 use service_core::{Limits, Service};
-use service_texts::{AddressFault, Addresses, has_port, read_places};
-use site_model::Site;
+use service_texts::Addresses;
 use site_service::{End, Keeping, Serving, serve_site};
 use std::alloc::{AllocError, Global};
-use std::io::{ErrorKind, Read, Write};
-use std::net::{Net, SocketAddr};
-use std::process::{Child, Processes};
+use std::io::{Read, Write};
+use std::net::Net;
+use std::process::Processes;
 use std::rt::Files;
 use std::time::Clock;
-
-/// Where the address of a plant stands before its port is known.
-const PLANT: &str = "127.0.0.1:0";
 
 /// What is told at the start where set values aren't kept.
 const UNKEPT: &str =
@@ -52,7 +47,7 @@ pub enum Devices<'a> {
     Plant(&'a str),
 }
 
-/// Serves a site, and gives the status: 0 behind the last scan that was asked for, 1 for a refusal or a failed write, 2
+/// Serves a site, and gives the status: 0 after the last scan that was asked for, 1 for a refusal or a failed write, 2
 /// where it isn't said where a device is, 3 where the clock or a socket can't be had.
 pub fn run_service<R: Net + Clock + Processes + Print + Eprint + AllocGlobal + Files, W: Write>(
     rt: &R,
@@ -80,10 +75,13 @@ fn serve_accepted<R: Net + Clock + Processes + Print + Eprint + AllocGlobal + Fi
     out: &mut W,
 ) -> u8 {
     match prepared(rt, alloc, run, &given, out) {
-        Ok(addresses) => {
-            tell_unkept(rt, run);
-            serve_at(rt, alloc, run, given, &addresses, out)
-        }
+        Ok(addresses) => match service_of(alloc, given, &addresses, run.limits) {
+            Ok(mut service) => match run.devices {
+                Devices::Plant(plant) => serve_plant(rt, alloc, run, plant, &mut service, out),
+                _ => serve_over(rt, alloc, run, &addresses, &mut service, out),
+            },
+            Err(fault) => tell_no_core(alloc, fault, out),
+        },
         Err(status) => status,
     }
 }
@@ -105,7 +103,10 @@ fn prepared<R: Print + Eprint + AllocGlobal, W: Write>(
 ) -> Result<Addresses, u8> {
     match addresses_of(alloc, run, &given.site) {
         Ok(addresses) => match tell_accepted(alloc, given.verified.budget(), out) {
-            0 => Ok(addresses),
+            0 => {
+                tell_unkept(rt, run);
+                Ok(addresses)
+            }
             status => Err(status),
         },
         Err(fault) => Err(tell_unreachable(rt, alloc, &given.site, fault, out)),
@@ -116,111 +117,6 @@ fn tell_accepted<W: Write>(alloc: Global, budget: u32, out: &mut W) -> u8 {
     match Outcome::accepted(alloc, budget) {
         Ok(outcome) => outcome.tell(out),
         Err(AllocError) => tell_no_memory(out),
-    }
-}
-
-/// Why it isn't known where a device is.
-#[derive(Clone, Copy)]
-enum Unreachable {
-    Read(AddressFault),
-    /// The address of this device is no HOST:PORT.
-    NoPort(usize),
-}
-
-impl From<AllocError> for Unreachable {
-    fn from(_refused: AllocError) -> Self {
-        Unreachable::Read(AddressFault::OutOfMemory)
-    }
-}
-
-fn addresses_of(
-    alloc: Global,
-    run: &ServiceRun<'_, '_, '_, '_, '_>,
-    site: &Site,
-) -> Result<Addresses, Unreachable> {
-    match run.devices {
-        Devices::BySite => addresses_in(alloc, run.notes.site),
-        Devices::Behind(address) => Ok(Addresses::behind(alloc, address, site.devices())?),
-        Devices::Plant(_) => Ok(Addresses::behind(alloc, PLANT, site.devices())?),
-    }
-}
-
-/// The addresses in the text of a site file.
-fn addresses_in(alloc: Global, site: &str) -> Result<Addresses, Unreachable> {
-    let places = match read_places(alloc, site) {
-        Ok(places) => places,
-        Err(fault) => return Err(Unreachable::Read(fault)),
-    };
-    for (device, place) in places.as_slice().iter().enumerate() {
-        if !has_port(place.address.as_str()) {
-            return Err(Unreachable::NoPort(device));
-        }
-    }
-    Ok(Addresses::of(alloc, places.as_slice())?)
-}
-
-/// Tells that it isn't known where a device is, and gives the status.
-fn tell_unreachable<R: Print + Eprint + AllocGlobal, W: Write>(
-    rt: &R,
-    alloc: Global,
-    site: &Site,
-    fault: Unreachable,
-    out: &mut W,
-) -> u8 {
-    let why = match fault {
-        Unreachable::NoPort(device) => {
-            device_fault(alloc, site, device, "has an 'address' that is no HOST:PORT")
-        }
-        Unreachable::Read(AddressFault::Missing(device)) => device_fault(
-            alloc,
-            site,
-            device,
-            "has no 'address' in the site file, and there is no '--devices'",
-        ),
-        Unreachable::Read(AddressFault::BadUnit(device)) => {
-            device_fault(
-                alloc,
-                site,
-                device,
-                "has a 'remote_unit' that isn't in 0..255",
-            )
-        }
-        Unreachable::Read(AddressFault::NotToml) => String::from_str(alloc, "the site is no TOML"),
-        Unreachable::Read(AddressFault::OutOfMemory) => Err(AllocError),
-    };
-    match why {
-        Ok(why) => tell_misuse(rt, alloc, why.as_str(), out),
-        Err(AllocError) => tell_no_memory(out),
-    }
-}
-
-fn device_fault(
-    alloc: Global,
-    site: &Site,
-    device: usize,
-    why: &str,
-) -> Result<String, AllocError> {
-    let name = match site.devices().get(device) {
-        Some(device) => device.name.as_str(),
-        None => "",
-    };
-    let name = escaped(alloc, name)?;
-    let text = format!(in alloc; "device '{name}' {why}")?;
-    Ok(text)
-}
-
-/// Serves a site whose devices are at these addresses, or in a plant.
-fn serve_at<R: Net + Clock + Processes + Eprint + AllocGlobal + Files, W: Write>(
-    rt: &R,
-    alloc: Global,
-    run: &ServiceRun<'_, '_, '_, '_, '_>,
-    given: Accepted,
-    addresses: &Addresses,
-    out: &mut W,
-) -> u8 {
-    match service_of(alloc, given, addresses, run.limits) {
-        Ok(mut service) => serve_with(rt, alloc, run, addresses, &mut service, out),
-        Err(fault) => tell_no_core(alloc, fault, out),
     }
 }
 
@@ -235,21 +131,7 @@ fn tell_no_core<W: Write>(alloc: Global, fault: CoreFault, out: &mut W) -> u8 {
     }
 }
 
-/// Serves the site by a service that is made for it.
-fn serve_with<R: Net + Clock + Processes + Eprint + AllocGlobal + Files, W: Write>(
-    rt: &R,
-    alloc: Global,
-    run: &ServiceRun<'_, '_, '_, '_, '_>,
-    addresses: &Addresses,
-    service: &mut Service,
-    out: &mut W,
-) -> u8 {
-    match run.devices {
-        Devices::Plant(plant) => serve_plant(rt, alloc, run, plant, service, out),
-        _ => serve_over(rt, alloc, run, addresses, service, out),
-    }
-}
-
+/// The service of an accepted program, whose devices are at these addresses.
 fn service_of(
     alloc: Global,
     given: Accepted,
@@ -308,64 +190,30 @@ fn serve_plant<R: Net + Clock + Processes + Eprint + AllocGlobal + Files, W: Wri
     out: &mut W,
 ) -> u8 {
     match start_plant(rt, alloc, &run.notes, plant, run.exe) {
-        Ok(plant) => serve_started(rt, alloc, run, plant, service, out),
+        Ok(mut plant) => {
+            let status = serve_started(rt, alloc, run, &mut plant.stdout, service, out);
+            let _ = plant.kill();
+            let _ = plant.wait();
+            status
+        }
         Err(fault) => no_start(rt, alloc, &run.notes, run.exe, &fault, out),
     }
 }
 
-fn serve_started<R: Net + Clock + Processes + Eprint + AllocGlobal + Files, W: Write>(
-    rt: &R,
-    alloc: Global,
-    run: &ServiceRun<'_, '_, '_, '_, '_>,
-    plant: Child<R::Started>,
-    service: &mut Service,
-    out: &mut W,
-) -> u8 {
-    let mut plant = plant;
-    let lines = plant.stdout.take();
-    let status = serve_told(rt, alloc, run, lines, service, out);
-    let _ = plant.kill();
-    let _ = plant.wait();
-    status
-}
-
 /// Serves the site over the plant that says its port in the first of these lines, which stay open to its end.
-fn serve_told<R: Net + Clock + Eprint + AllocGlobal + Files, P: Read + Drop, W: Write>(
+fn serve_started<R: Net + Clock + Eprint + AllocGlobal + Files, P: Read, W: Write>(
     rt: &R,
     alloc: Global,
     run: &ServiceRun<'_, '_, '_, '_, '_>,
-    lines: Option<P>,
+    lines: &mut Option<P>,
     service: &mut Service,
     out: &mut W,
 ) -> u8 {
-    let Some(mut lines) = lines else {
-        return tell_lost(rt, alloc, &run.notes, LinkFault::Read, out);
-    };
-    match plant_line(alloc, &mut lines) {
-        Ok(line) => serve_behind(rt, alloc, run, line.as_slice(), service, out),
-        Err(fault) => tell_unreached(rt, alloc, &run.notes, &fault, out),
-    }
-}
-
-/// Serves the site over the plant whose first line this is.
-fn serve_behind<R: Net + Clock + Eprint + AllocGlobal + Files, W: Write>(
-    rt: &R,
-    alloc: Global,
-    run: &ServiceRun<'_, '_, '_, '_, '_>,
-    line: &[u8],
-    service: &mut Service,
-    out: &mut W,
-) -> u8 {
-    match port_in(line) {
-        Some(port) => match plant_addresses(alloc, port, service.core().site()) {
+    match told_port(alloc, lines) {
+        Ok(port) => match plant_addresses(alloc, port, service.core().site()) {
             Ok(addresses) => serve_over(rt, alloc, run, &addresses, service, out),
             Err(AllocError) => tell_no_memory(out),
         },
-        None => tell_no_port(rt, alloc, &run.notes, run.exe, line, out),
+        Err(why) => tell_no_port(rt, alloc, &run.notes, run.exe, &why, out),
     }
-}
-
-fn plant_addresses(alloc: Global, port: u16, site: &Site) -> Result<Addresses, AllocError> {
-    let text = format!(in alloc; "127.0.0.1:{port}")?;
-    Addresses::behind(alloc, text.as_str(), site.devices())
 }

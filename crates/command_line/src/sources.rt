@@ -1,9 +1,10 @@
 //! The texts of the files that a command line names.
-ghost use Rattle.file_commands.specs.Printing.{Fails};
+ghost use Rattle.command_line.specs.Printing.{Fails};
 
+use crate::failing::tell_file;
+use crate::source::{SourceFault, read_file, read_kept};
 use clap::ArgMatches;
 use commands::tell_no_memory;
-use file_commands::{SourceFault, read_file, read_kept, tell_file};
 use refusal_notes::FileFault;
 use std::alloc::{AllocFailed, Global};
 use std::io::Write;

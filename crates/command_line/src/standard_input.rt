@@ -1,6 +1,6 @@
 //! Where a command line names standard input, PATH `-`, as a file.
+use crate::source::STANDARD_INPUT;
 use clap::ArgMatches;
-use file_commands::STANDARD_INPUT;
 
 /// Why the files that a command line names can't be had, where standard input is among them: it is read once, and a
 /// second process doesn't get it.

@@ -16,7 +16,8 @@ use Rattle.gateway.specs.declared.event_core.event.Event.{Event}
 use Rattle.gateway.specs.declared.event_core.event.Event.TheVariants as event
 use Rattle.gateway.proofs.Parts.{same_then, steps_same}
 use Rattle.commands.specs.Accepted.{most_deferred}
-use Rattle.commands.specs.Report.{no_memory_line, scan_line, scan_lines}
+use Rattle.commands.specs.Report.{no_memory_line, scan_lines}
+use Rattle.gateway.specs.poller.Telling.{scan_line}
 use Rattle.commands.specs.Printed.{IsUnlinked, IsUnprinted}
 use Rattle.commands.specs.Scans.{AreScans, DoesScans, End, IsBroken, IsLast, IsPrinted, IsWhole, LeavesOff}
 use Rattle.commands.specs.Series.{Moment}

@@ -5,7 +5,8 @@ use Rattle.std.specs.Io.KnownBytes.{Appends}
 use Rattle.modbus_frame.specs.Fault.{link_fault_word}
 use Rattle.modbus_frame.specs.declared.link.LinkFault.{LinkFault}
 use Rattle.gateway.specs.declared.poller.cycle.Report.{Report}
-use Rattle.commands.specs.Report.{link_line, no_memory_line, scan_line, scan_lines}
+use Rattle.commands.specs.Report.{link_line, no_memory_line, scan_lines}
+use Rattle.gateway.specs.poller.Telling.{scan_line}
 use Rattle.commands.specs.Series.{Moment, Series}
 use Rattle.commands.specs.Told.{IsCut, IsTold, Told, refused_with}
 

@@ -7,6 +7,7 @@ use Rattle.point_types.specs.declared.variable.Var.{Var}
 use Rattle.point_types.specs.Value.{is_bool, int_eq}
 use Rattle.scan_code.specs.declared.image.Tag.{Tag}
 use Rattle.gateway.specs.declared.poller.cycle.Report.{Report}
+use Rattle.gateway.specs.poller.Telling.{scan_line}
 
 -- a value: TRUE or FALSE for a BOOL, else a decimal
 abbrev pub shown : IlType → ℤ → List ℕ
@@ -101,10 +102,6 @@ link_line kind = line_of (codes "link: " ++ kind)
 -- refused: file PATH
 abbrev pub unusable_line : List ℕ → List ℕ
 unusable_line path = line_of (codes "refused: file " ++ path)
-
--- scan K steps S writes W refused R lost T
-abbrev pub scan_line : ℕ → Report → List ℕ
-scan_line k r = line_of (codes "scan " ++ decimal k ++ codes " steps " ++ decimal r.steps ++ codes " writes " ++ decimal r.writes ++ codes " refused " ++ decimal r.refused ++ codes " lost " ++ decimal r.lost)
 
 -- the lines of scans from the k-th on
 abbrev pub scan_lines : ℕ → List Report → List ℕ

@@ -24,7 +24,8 @@ use Rattle.commands.specs.Accepted.{Accepts, most_deferred}
 use Rattle.commands.specs.Headline.{IsAccepted, RunsProgram}
 use Rattle.commands.specs.Meant.{AdvancesAsMeant, RunsAsMeant}
 use Rattle.commands.specs.Printed.{AreAllDone, IsLineLost, IsUnlinked, IsUnprinted}
-use Rattle.commands.specs.Report.{scan_line, scan_lines}
+use Rattle.commands.specs.Report.{scan_lines}
+use Rattle.gateway.specs.poller.Telling.{scan_line}
 use Rattle.commands.specs.Series.{Series}
 use Rattle.commands.specs.Sources.{HasTexts}
 

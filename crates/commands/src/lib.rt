@@ -49,4 +49,4 @@ pub use obeyed_over::{LinkCommand, ObeyedOver, obey_over};
 pub use outcome::{
     FAILED_LINK, Outcome, tell_no_memory, tell_unlinked, tell_unusable, write_lines,
 };
-pub use report::{listening, no_core, scanned};
+pub use report::{listening, no_core};

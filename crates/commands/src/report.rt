@@ -3,10 +3,8 @@ ghost use Rattle.std.specs.Prelude.{◌≡◌, ◌++◌, OnOk, IfOk, codes, stri
 ghost use Rattle.std.specs.Fmt.{decimal};
 ghost use Rattle.commands.specs.Probe as probe;
 ghost use Rattle.commands.specs.Report as report;
-ghost use Rattle.commands.specs.Report.{scan_line};
 
 use escaped_text::escaped;
-use gateway::Report;
 use point_types::{IlType, Name};
 use register_map::Block;
 use std::alloc::{AllocError, Global};
@@ -195,37 +193,4 @@ pub fn no_core(alloc: Global, kind: &str) -> Result<String, AllocError>
     ensures ok { IfOk result (λ text. string_bytes text ≡ report.bad_core_line kind.now) }
 {
     with_word(alloc, "refused: core ", kind)
-}
-
-/// The line `scan K steps S writes W refused R lost T`.
-pub fn scanned(alloc: Global, k: u64, report: &Report) -> Result<String, AllocError>
-    ensures ok { IfOk result (λ text. string_bytes text ≡ scan_line k report.now) }
-{
-    let mut line = steps_of_scan(alloc, k, report.steps)?;
-    let writes = writes_of_scan(alloc, report.writes, report.refused)?;
-    let lost = lost_in_scan(alloc, report.lost)?;
-    line.push_str(writes.as_str())?;
-    line.push_str(lost.as_str())?;
-    Ok(line)
-}
-
-fn steps_of_scan(alloc: Global, k: u64, steps: u32) -> Result<String, AllocError>
-    ensures ok { IfOk result (λ text. string_bytes text ≡ codes "scan " ++ decimal k ++ codes " steps " ++ decimal steps) }
-{
-    let text = format!(in alloc; "scan {k} steps {steps}")?;
-    Ok(text)
-}
-
-fn writes_of_scan(alloc: Global, writes: usize, refused: usize) -> Result<String, AllocError>
-    ensures ok { IfOk result (λ text. string_bytes text ≡ codes " writes " ++ decimal writes ++ codes " refused " ++ decimal refused) }
-{
-    let text = format!(in alloc; " writes {writes} refused {refused}")?;
-    Ok(text)
-}
-
-fn lost_in_scan(alloc: Global, lost: usize) -> Result<String, AllocError>
-    ensures ok { IfOk result (λ text. string_bytes text ≡ codes " lost " ++ decimal lost ++ codes "\n") }
-{
-    let text = format!(in alloc; " lost {lost}\n")?;
-    Ok(text)
 }

@@ -16,7 +16,7 @@ ghost use Rattle.commands.specs.Told.{refused_with};
 pub use crate::accepted::DEPTH;
 use crate::accepted::{Accepted, accept};
 use crate::outcome::{Outcome, tell_no_memory, tell_unlinked, write_lines};
-use crate::report::{no_core, scanned};
+use crate::report::no_core;
 use crate::scan_watch::{ScanWatch, Unwatched};
 use gateway::{Core, CoreFault, Poller, run_scan};
 use modbus_frame::{Link, LinkFault};
@@ -122,7 +122,7 @@ fn scan_once<L: Link, W: Write>(
     ensures last { result ≢ 0 → IsLast k poller.old core.old poller.new core.new (W.contents out.old) (W.contents out.new) result }
 {
     match run_scan(core, poller) {
-        Ok(report) => match scanned(alloc, u64::from(k), &report) {
+        Ok(report) => match report.told(alloc, u64::from(k)) {
             Ok(line) => write_lines(out, line.as_bytes(), 0),
             Err(_) => tell_no_memory(out),
         },

@@ -5,3 +5,4 @@ pub mod Waiting
 pub mod Asking
 pub mod Finding
 pub mod Cycle
+pub mod Telling

@@ -12,6 +12,7 @@ mod finding;
 mod line;
 mod outcome;
 mod polled;
+mod telling;
 
 pub use cycle::{Call, Report, event_by, read_of, write_of};
 pub use exchange::{MOST_DROPPED, is_reply, request_frame};

@@ -2,8 +2,7 @@
 ghost use Rattle.std.specs.Prelude.{◌≡◌, length, IfOk};
 
 use crate::replacing::replace_for_good;
-use commands::DEPTH;
-use gateway::Core;
+use gateway::{Core, DEPTH};
 use service_texts::{WriteRecord, state_text};
 use std::alloc::{AllocError, Global};
 use std::io;

@@ -1,8 +1,7 @@
 //! How the devices of a service stand, as JSON.
 use crate::members::{put_list, put_number, put_text, put_truth};
 use crate::telling::{device_name, loss_word};
-use commands::DEPTH;
-use gateway::Core;
+use gateway::{Core, DEPTH};
 use serde_json::{Map, Value, put};
 use service_core::{Counts, DeviceStatus, Loss, Service};
 use service_texts::Addresses;

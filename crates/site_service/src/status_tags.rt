@@ -1,8 +1,7 @@
 //! The numbers of a service, as JSON.
 use crate::members::{put_signed, put_text};
 use crate::telling::cause_word;
-use commands::DEPTH;
-use gateway::Core;
+use gateway::{Core, DEPTH};
 use point_types::{Cause, Reading};
 use serde_json::{Map, Value, put};
 use service_core::{OutputState, Service};

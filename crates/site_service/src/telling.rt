@@ -1,12 +1,11 @@
 //! What a service tells, as lines.
 use crate::journal::Journal;
-use commands::{DEPTH, scanned};
-use gateway::{Core, Report};
+use escaped_text::escaped;
+use gateway::{Core, DEPTH, Report};
 use register_map::Map;
 use service_core::{Loss, Note, Unwritten};
 use service_texts::{device_line, lost_line, unwritten_line, written_line};
 use site_model::Site;
-use source_notes::escaped;
 use std::alloc::{AllocError, Global};
 use std::io::Write;
 
@@ -90,7 +89,7 @@ pub(crate) fn tell_scan<W: Write>(
     report: &Report,
     journal: &mut Journal<'_, W>,
 ) {
-    journal.tell_plain(scanned(alloc, scan, report));
+    journal.tell_plain(report.told(alloc, scan));
 }
 
 /// The word by which a loss is told.

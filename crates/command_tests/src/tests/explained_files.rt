@@ -3,8 +3,8 @@ use crate::tests::explained::assert_note;
 use crate::tests::files::{PROGRAM, SITE};
 use crate::tests::links::{PLANT, PlantLink};
 use crate::tests::{assert_same, edited_once, joined, printed, texts};
+use command_line::{WatchedLink, cause_of_link};
 use commands::{judge, plant_of, scans};
-use file_commands::{WatchedLink, cause_of_link};
 use gateway::Poller;
 use std::process::Abort;
 

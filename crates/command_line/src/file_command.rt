@@ -1,0 +1,110 @@
+//! What a command line asks for on the texts of its files, done by one call.
+ghost use Rattle.commands.specs.Obeyed.{Obeys};
+ghost use Rattle.command_line.specs.Asked.{ObeysFiles};
+
+use crate::plant_run::{PlantRun, run_plant};
+use crate::plant_server::{PlantPort, simulate};
+use crate::probe_link::{ProbeRun, probe_over};
+use commands::TextCommand;
+use refusal_notes::Notes;
+use std::alloc::Global;
+use std::io::Write;
+use std::net::Net;
+use std::process::Processes;
+
+/// What a command line asks for on the texts of its files, but for a service.
+#[derive(Clone, Copy)]
+pub enum FileCommand<'a> {
+    Check,
+    Explain {
+        listing: bool,
+    },
+    Simulate {
+        at: PlantPort,
+    },
+    Run {
+        plant: &'a str,
+        scans: u32,
+        /// The program that is started, where it isn't this one.
+        exe: Option<&'a str>,
+    },
+    Probe {
+        run: ProbeRun<'a>,
+    },
+}
+
+/// Does what a command asks for, on just the texts of its files; `itself` is this program's path.
+pub fn obey_on<W: Write>(
+    rt: &(impl Eprint + AllocGlobal + Net + Processes),
+    alloc: Global,
+    itself: &str,
+    command: FileCommand<'_>,
+    notes: &Notes<'_>,
+    out: &mut W,
+) -> u8
+    ensures { ObeysFiles command.entry notes.now (W.contents out.old) (W.contents out.new) result }
+{
+    let (site, program, defs) = (notes.site, notes.program, notes.defs);
+    match command {
+        FileCommand::Check => {
+            let check = TextCommand::Check {
+                site,
+                program,
+                defs,
+            };
+            told(rt, check, notes, out)
+        }
+        FileCommand::Explain { listing } => {
+            let explain = TextCommand::Explain {
+                site,
+                program,
+                defs,
+                listing,
+            };
+            told(rt, explain, notes, out)
+        }
+        FileCommand::Simulate { at } => {
+            notes.warn(rt);
+            simulate(rt, alloc, notes, at, out)
+        }
+        FileCommand::Run { plant, scans, exe } => {
+            let run = PlantRun {
+                notes: *notes,
+                plant,
+                scans,
+                exe: exe.unwrap_or(itself),
+            };
+            warn_of_site(rt, notes);
+            run_plant(rt, alloc, &run, out)
+        }
+        FileCommand::Probe { run } => {
+            notes.warn(rt);
+            probe_over(rt, alloc, run, notes, out)
+        }
+    }
+}
+
+/// Has a command obeyed on the texts of its files, warns on standard error of what nothing reads in them, and explains
+/// there why a text is refused.
+fn told<W: Write>(
+    rt: &(impl Eprint + AllocGlobal),
+    command: TextCommand<'_>,
+    notes: &Notes<'_>,
+    out: &mut W,
+) -> u8
+    ensures { Obeys command.entry (W.contents out.old) (W.contents out.new) result }
+{
+    let obeyed = commands::obey(rt.alloc(), command, out);
+    notes.warn(rt);
+    notes.explain(rt, &obeyed.cause);
+    obeyed.status
+}
+
+/// Warns of what nothing reads in the site file. The simulator that is started warns of the plant file and the definitions.
+pub fn warn_of_site(rt: &(impl Eprint + AllocGlobal), notes: &Notes<'_>) {
+    let of_site = Notes {
+        defs: &[],
+        ..*notes
+    };
+    of_site.warn(rt);
+}
