@@ -3,13 +3,13 @@ ghost use Rattle.std.specs.Prelude.{◌⊎◌, ℕ, List, Option, map, string_by
 ghost use Rattle.commands.specs.Report.{listening_line, no_memory_line};
 ghost use Rattle.commands.specs.Told.{IsTold, refused_with};
 ghost use Rattle.command_line.specs.Printing.{Fails};
-ghost use Rattle.command_line.specs.Simulated.{ServesMany, ServesOne, ServesOver, ServesStream, Simulates};
+ghost use Rattle.command_line.specs.Simulated.{ServesMany, ServesOne, ServesStream, Simulates};
 
 use crate::failing::tell_unserved;
 use crate::socket::{link_over, loopback};
 use commands::{listening, plant_told, tell_no_memory, tell_unlinked, write_lines};
 use inverter_sim::{Plant, serve_link};
-use modbus_frame::{Link, LinkFault};
+use modbus_frame::LinkFault;
 use refusal_notes::Notes;
 use site_service::PlantDoor;
 use std::alloc::Global;

@@ -1,13 +1,15 @@
 -- What a round opens for a device is a call of it.
-use Rattle.std.proofs.Common.{◌≡◌, inl, inr, ℕ, Bool, true, false, List, map, Option, Some, None, Result, option_map, slice_get, position, refl, sym, ap, ◌∙◌}
+use Rattle.std.proofs.Common.{◌≡◌, ◌<◌, length, subst, inl, inr, ℕ, Bool, true, false, List, map, Option, Some, None, Result, Ok, Err, option_map, slice_get, position, refl, sym, ap, ◌∙◌}
 use Rattle.std.proofs.lemmas.Bool.{eqb-true}
-use Rattle.std.proofs.lemmas.Option.{slice_get-map}
+use Rattle.std.proofs.lemmas.Option.{slice_get-map, slice_get_within}
 use Rattle.site_model.specs.declared.want.Want.{Want}
 use Rattle.point_writer.specs.declared.write.Write.{Write}
 use Rattle.point_writer.specs.declared.write.NoWrite.{NoWrite}
 use Rattle.gateway.specs.declared.poller.cycle.Call.{Call}
+use Rattle.gateway.specs.event_core.Control.{IsPlanned}
 use Rattle.gateway.specs.event_core.Core.{Gateway}
 use Rattle.gateway.specs.poller.Cycle.{read_of}
+use Rattle.gateway.proofs.Sized.{are_set_points}
 use Rattle.service_core.specs.declared.round.Turn.{Turn}
 use Rattle.service_core.specs.declared.round.Turn.TheVariants as turn
 use Rattle.service.specs.declared.task.Mark.{Mark}
@@ -70,21 +72,33 @@ module _ (g : Gateway) (device : ℕ) (old : Progress) (t : Turn) (new : Progres
       ask_same : {a b : Call} → turn.Ask a ≡ turn.Ask b → a ≡ b
       ask_same same = cc
 
-  writes : (o : Option ℕ) → OpensWrite g device o old t new → IsWrite g device call
-  writes None opens = absurd (rest_differs (sym opens.0 ∙ is))
+  inside_of : (i : ℕ) → next_place device old.writes ≡ Some i → i < length g.site.outs
+  inside_of i next =
+      let (task, at, due) = at_place (is_due device) old.writes i some_task (next_is_due device old.writes (position (is_asked device) old.writes) i refl next) in
+      subst (λ n. i < n) fits.writes (slice_get_within old.writes i task at)
+
+  sets_by : (i : ℕ) (plan : Result Write NoWrite) → i < length g.site.outs → IsPlanned g i plan → write_to device g.site.devices plan ≡ Some call → IsWrite g device call
+  sets_by i (Ok w) inside planned written = record {
+    output = i;
+    write = w;
+    sets = are_set_points g i w inside planned;
+    written = written;
+  }
+  sets_by i (Err cause) inside planned written = absurd (none_differs written)
+    where
+      none_differs : None ≡ Some call → ⊥
+      none_differs same = cc
+
+  writes : (o : Option ℕ) → next_place device old.writes ≡ o → OpensWrite g device o old t new → IsWrite g device call
+  writes None next opens = absurd (rest_differs (sym opens.0 ∙ is))
     where
       rest_differs : turn.Rest ≡ turn.Ask call → ⊥
       rest_differs same = cc
-  writes (Some i) (plan, planned, asks) = record {
-    output = i;
-    plan = plan;
-    planned = planned;
-    written = write_by i plan (write_to device g.site.devices plan) refl asks;
-  }
+  writes (Some i) next (plan, planned, asks) = sets_by i plan (inside_of i next) planned (write_by i plan (write_to device g.site.devices plan) refl asks)
 
   by_phase : (b : Bool) → OpensBy b g device old t new → IsCallOf g device call
   by_phase false opens = inl (reads (next_place device old.reads) refl opens)
-  by_phase true opens = inr (writes (next_place device old.writes) opens)
+  by_phase true opens = inr (writes (next_place device old.writes) refl opens)
 
 pub opened_call : (g : Gateway) (device : ℕ) (old : Progress) (t : Turn) (new : Progress) (call : Call) → IsRoundFor g.site old → Opens g device old t new → t ≡ turn.Ask call → IsCallOf g device call
 opened_call g device old t new call fits opens is = by_phase g device old t new call fits is old.scanned opens

@@ -52,6 +52,7 @@ impl Service {
     }
 
     fn forget_all(&mut self, link: usize)
+        ensures noted { self.new.lines.found_on ≡ self.old.lines.found_on }
         ensures links { self.new.lines.links ≡ self.old.lines.links }
         ensures goes { LeadsOn self.old.cycle.core.value self.new.cycle.core.value }
         ensures places { self.new.places.items ≡ self.old.places.items }
@@ -125,6 +126,7 @@ impl Service {
 
     /// A device's map is forgotten, and it is searched from now on.
     pub(crate) fn forget(&mut self, device: usize)
+        ensures noted { self.new.lines.found_on ≡ self.old.lines.found_on }
         ensures links { self.new.lines.links ≡ self.old.lines.links }
         ensures goes { LeadsOn self.old.cycle.core.value self.new.cycle.core.value }
         ensures places { self.new.places.items ≡ self.old.places.items }

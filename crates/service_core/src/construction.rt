@@ -1,5 +1,5 @@
 //! A service is made.
-ghost use Rattle.std.specs.Prelude.{◌≡◌, ◌≤◌, [], map, replicate, IfErr, IfOk, OnOk};
+ghost use Rattle.std.specs.Prelude.{◌≡◌, ◌≤◌, length, [], map, replicate, IfErr, IfOk, OnOk};
 ghost use Rattle.verifier.specs.Verified.{HasLinks};
 ghost use Rattle.gateway.specs.declared.event_core.fault.CoreFault.TheVariants.{Foreign};
 ghost use Rattle.gateway.specs.event_core.Core.{Gateway, gateway_of};
@@ -41,6 +41,8 @@ impl Service {
         ensures matched { OnOk result (HasLinks site.tags machine.accepted.links) }
         ensures stations { IfOk result (λ service. service.lines.links.stations.items ≡ stations.now) }
         ensures numbers { IfOk result (λ service. service.lines.links.numbers.items ≡ replicate links 0) }
+        ensures limits { IfOk result (λ service. service.side.limits ≡ limits) }
+        ensures places { IfOk result (λ service. length service.places.items ≡ limits.clients) }
         ensures foreign { IfErr result (λ e. e ≡ Foreign → HasLinks site.tags machine.accepted.links → ⊥) }
     {
         let parts = parts_of(alloc, &site, links, stations, limits, now)?;
@@ -78,6 +80,8 @@ fn parts_of(
     ensures rightful { IfOk result (λ parts. (now : Gateway) → AreRightfulBy now parts.peers.lines) }
     ensures stations { IfOk result (λ parts. parts.peers.lines.links.stations.items ≡ stations.now) }
     ensures numbers { IfOk result (λ parts. parts.peers.lines.links.numbers.items ≡ replicate links 0) }
+    ensures limits { IfOk result (λ parts. parts.peers.side.limits ≡ limits) }
+    ensures places { IfOk result (λ parts. length parts.peers.places.items ≡ limits.clients) }
 {
     let maps = no_maps(alloc, site.devices())?;
     let round = Round::new(alloc, site)?;
@@ -111,6 +115,8 @@ fn peers_of(
     ensures rightful { IfOk result (λ peers. (now : Gateway) → AreRightfulBy now peers.lines) }
     ensures stations { IfOk result (λ peers. peers.lines.links.stations.items ≡ stations.now) }
     ensures numbers { IfOk result (λ peers. peers.lines.links.numbers.items ≡ replicate links 0) }
+    ensures limits { IfOk result (λ peers. peers.side.limits ≡ limits) }
+    ensures places { IfOk result (λ peers. length peers.places.items ≡ limits.clients) }
 {
     let lines = Lines::new(alloc, links, stations)?;
     let side = device_side(alloc, site, links, stations, limits, now)?;
@@ -130,7 +136,9 @@ fn device_side(
     stations: &[Station],
     limits: Limits,
     now: u64,
-) -> Result<DeviceSide, AllocError> {
+) -> Result<DeviceSide, AllocError>
+    ensures { IfOk result (λ side. side.limits ≡ limits) }
+{
     let devices = devices_of(alloc, site.devices().len())?;
     let outputs = outputs_of(alloc, site.outs())?;
     let wires = wires_to(alloc, links, stations, devices.len())?;
@@ -220,7 +228,9 @@ fn devices_on(
     Ok(found)
 }
 
-fn places_for(alloc: Global, clients: usize) -> Result<Vec<ClientPlace>, AllocError> {
+fn places_for(alloc: Global, clients: usize) -> Result<Vec<ClientPlace>, AllocError>
+    ensures { IfOk result (λ places. length places.items ≡ clients) }
+{
     let mut places = Vec::new(alloc);
     for _ in 0..clients {
         places.push(ClientPlace::new())?;

@@ -206,6 +206,7 @@ impl Round {
     pub fn scan(&mut self, core: &mut Core<DEPTH>)
         requires round { IsRoundFor core.old.site self.old }
         requires read { All IsDone self.old.reads }
+        requires first { self.old.scanned ≡ false }
         ensures scanned { Happens core.old ScanEvent (WritesAnswer (length core.old.site.outs)) core.new }
         ensures planned { ArePlanned core.new self.new.writes }
         ensures same { self.new ≡ record self.old { writes = self.new.writes; scanned = true } }

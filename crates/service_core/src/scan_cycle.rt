@@ -291,7 +291,7 @@ impl ScanCycle {
     pub fn scan(&mut self) -> bool
         ensures goes { LeadsOn self.old.core.value self.new.core.value }
     {
-        if !self.round.is_read() {
+        if self.round.is_scanned() || !self.round.is_read() {
             return false;
         }
         self.round.scan(&mut self.core);

@@ -5,7 +5,7 @@ use Rattle.site_model.specs.declared.want.Want.{Want}
 use Rattle.point_writer.specs.declared.write.Write.{Write}
 use Rattle.point_writer.specs.declared.write.NoWrite.{NoWrite}
 use Rattle.gateway.specs.declared.poller.cycle.Call.{Call}
-use Rattle.gateway.specs.event_core.Control.{IsPlanned}
+use Rattle.gateway.specs.event_core.Control.{SetsItsTag}
 use Rattle.gateway.specs.event_core.Core.{Gateway}
 use Rattle.gateway.specs.poller.Cycle.{read_of, write_of}
 
@@ -22,12 +22,12 @@ pub record IsRead (g : Gateway) (device : ℕ) (call : Call) : Type 0 where
   pub own : want.device ≡ device
   pub read : read_of g.site g.maps want ≡ Some call
 
--- It writes what is planned for an output, to the device, by the maps of now.
+-- It writes to the device the set point of one of the site's outputs, for the number that the program stored in the last scan.
 pub record IsWrite (g : Gateway) (device : ℕ) (call : Call) : Type 0 where
   pub output : ℕ
-  pub plan : Result Write NoWrite
-  pub planned : IsPlanned g output plan
-  pub written : write_to device g.site.devices plan ≡ Some call
+  pub write : Write
+  pub sets : SetsItsTag g output write
+  pub written : write_to device g.site.devices (Ok write) ≡ Some call
 
 abbrev pub IsCallOf : Gateway → ℕ → Call → Type 0
 IsCallOf g device call = IsRead g device call ⊎ IsWrite g device call

@@ -1,5 +1,5 @@
 //! What goes out to devices.
-ghost use Rattle.std.specs.Prelude.{◌≡◌, ◌+◌, ◌<◌, ◌^◌, ℕ, All, slice_get, [], length, replicate, set, IfNone, IfOk, IfSome, IsTrue, Some};
+ghost use Rattle.std.specs.Prelude.{◌≡◌, ◌+◌, ◌<◌, ◌^◌, ℕ, All, drop, min, slice_get, [], length, replicate, set, IfNone, IfOk, IfSome, IsTrue, Some};
 ghost use Rattle.service_parts.specs.declared.line.Line.{Line as LineValue};
 ghost use Rattle.gateway.specs.event_core.Core.{Gateway};
 ghost use Rattle.service_parts.specs.Requests.{AreRightfulBy, IsFoundOn, IsRightfulOn, StayRightful};
@@ -140,6 +140,7 @@ impl Lines {
     /// So many bytes are written over a link.
     pub fn sent(&mut self, link: usize, n: usize)
         ensures rightful { StayRightful self.old self.new }
+        ensures gone { (line rest : LineValue) → slice_get self.old.lines.items link ≡ Some line → slice_get self.new.lines.items link ≡ Some rest → rest.out.items ≡ drop (min n (length line.out.items)) line.out.items }
         ensures links { self.new.links ≡ self.old.links }
     {
         if let Some(line) = self.lines.get_mut(link) {

@@ -1,5 +1,6 @@
 //! A connection to devices.
-ghost use Rattle.std.specs.Prelude.{◌≡◌, IfSome, IsSome, IsTrue, None};
+ghost use Rattle.std.specs.Prelude.{◌≡◌, IfSome, IsSome, None, Some, is_none, is_some, true, false, take, not, ◌&&◌};
+ghost use Rattle.service.specs.Hearing.{Takes, asking, fresh};
 ghost use Rattle.modbus_frame.specs.Frame.{frame_bytes};
 ghost use Rattle.modbus_frame.specs.Message.{HasQuantity};
 ghost use Rattle.gateway.specs.poller.LinkRun.{frame_of};
@@ -79,13 +80,15 @@ impl Wire {
     }
 
     /// Whether it is up, and nothing is wrong with it.
-    pub fn is_well(&self) -> bool {
+    pub fn is_well(&self) -> bool
+        ensures { result ≡ (self.now.is_up && not self.now.is_bad) }
+    {
         self.is_up && !self.is_bad
     }
 
     /// Whether it is well, and no request is under way.
     pub fn is_free(&self) -> bool
-        ensures { IsTrue result → self.now.asked ≡ None }
+        ensures { result ≡ (self.now.is_up && not self.now.is_bad && is_none self.now.asked) }
     {
         self.is_up && !self.is_bad && self.asked.is_none()
     }
@@ -157,7 +160,11 @@ impl Wire {
     }
 
     /// It is up from now on: a new stream.
-    pub fn come_up(&mut self) {
+    pub fn come_up(&mut self)
+        ensures begins { self.new.inquiry ≡ fresh }
+        ensures none { self.new.asked ≡ None }
+        ensures well { (self.new.is_up ≡ true) × (self.new.is_bad ≡ false) }
+    {
         self.inquiry = Inquiry::new();
         self.asked = None;
         self.is_up = true;
@@ -168,7 +175,11 @@ impl Wire {
     }
 
     /// It is down from now on, and isn't made again for a while.
-    pub fn go_down(&mut self, now: u64, limits: &Limits) {
+    pub fn go_down(&mut self, now: u64, limits: &Limits)
+        ensures ends { self.new.inquiry ≡ fresh }
+        ensures none { self.new.asked ≡ None }
+        ensures down { self.new.is_up ≡ false }
+    {
         self.inquiry = Inquiry::new();
         self.asked = None;
         self.is_up = false;
@@ -179,7 +190,9 @@ impl Wire {
     }
 
     /// It is to be hung up.
-    pub fn spoil(&mut self) {
+    pub fn spoil(&mut self)
+        ensures { self.new ≡ record self.old { is_bad = true } }
+    {
         self.is_bad = true;
     }
 
@@ -187,7 +200,10 @@ impl Wire {
     pub fn begin(&mut self, asked: Asked, unit: u8, request: Request) -> Option<ArrayVec<u8, 260>>
         requires quantity { HasQuantity request }
         ensures one { IsSome self.old.asked → self.new ≡ self.old }
+        ensures free { is_some result ≡ (self.old.is_up && not self.old.is_bad && is_none self.old.asked) }
         ensures frame { IfSome result (λ bytes. bytes.items ≡ frame_bytes (frame_of (record { id = self.old.id; unit = unit; request = request }))) }
+        ensures asked { IfSome result (λ _. self.new.asked ≡ Some asked) }
+        ensures asks { IfSome result (λ _. self.new.inquiry ≡ asking self.old.inquiry (record { id = self.old.id; unit = unit; request = request })) }
     {
         if !self.is_free() {
             return None;
@@ -205,7 +221,10 @@ impl Wire {
     }
 
     /// Takes bytes, as many as have room, and tells how many, and what became of the request.
-    pub fn take(&mut self, bytes: &[u8]) -> (usize, Option<Fate>) {
+    pub fn take(&mut self, bytes: &[u8]) -> (usize, Option<Fate>)
+        ensures hears { self.old.is_up ≡ true → self.old.is_bad ≡ false → Takes self.old.inquiry (take result.0 bytes.now) result.1 self.new.inquiry }
+        ensures same { self.new.asked ≡ self.old.asked }
+    {
         if !self.is_well() {
             return (bytes.len(), None);
         }
@@ -214,12 +233,18 @@ impl Wire {
     }
 
     /// The request is over.
-    pub fn end(&mut self) -> Option<Asked> {
+    pub fn end(&mut self) -> Option<Asked>
+        ensures asked { result ≡ self.old.asked }
+        ensures over { self.new ≡ record self.old { asked = None } }
+    {
         self.asked.take()
     }
 
     /// The request is given up. A part of its frame that wasn't written spoils the stream.
-    pub fn give_up(&mut self, is_sent: bool) {
+    pub fn give_up(&mut self, is_sent: bool)
+        ensures over { self.new.asked ≡ None }
+        ensures spoils { is_sent ≡ false → self.new.is_bad ≡ true }
+    {
         self.asked = None;
         let _ = self.inquiry.end();
         if !is_sent {

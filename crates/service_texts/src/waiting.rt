@@ -1,5 +1,5 @@
 //! How long the service waits.
-ghost use Rattle.std.specs.Prelude.{◌≡◌, ◌≤◌, ◌*◌};
+ghost use Rattle.std.specs.Prelude.{◌≡◌, ◌≤◌, ◌*◌, ◌/◌, min, max};
 
 use service_parts::Limits;
 
@@ -15,10 +15,7 @@ const IDLE: u64 = 120_000;
 /// The limits for a period, for the longest reply that is waited for, of which half a period is taken at most, both in
 /// milliseconds, and for so many clients.
 pub fn limits(period: u64, timeout: u64, clients: usize) -> Limits
-    ensures period { result.period ≡ period }
-    ensures half { result.timeout * 2 ≤ period }
-    ensures most { result.timeout ≤ timeout }
-    ensures clients { result.clients ≡ clients }
+    ensures exact { result ≡ record { period = period; timeout = min timeout (period / 2); clients = clients; idle = 120000; back_off_most = max 60000 period; search_again = 10000 } }
 {
     Limits {
         period,

@@ -3,4 +3,4 @@ use Rattle.service_parts.specs.Course.{LeadsOn}
 use Rattle.service_core.proofs.service_state.Service.forget_all.Given as goal
 
 abbrev pub invariant-loop-device : goal.invariant-loop-device
-invariant-loop-device l = (l.self.lines.links ≡ l.fn.self.lines.links) × (LeadsOn l.fn.self.cycle.core.value l.self.cycle.core.value) × (l.self.places.items ≡ l.fn.self.places.items)
+invariant-loop-device l = (l.self.lines.links ≡ l.fn.self.lines.links) × (LeadsOn l.fn.self.cycle.core.value l.self.cycle.core.value) × (l.self.places.items ≡ l.fn.self.places.items) × (l.self.lines.found_on ≡ l.fn.self.lines.found_on)
