@@ -1,5 +1,5 @@
 -- A product lies between those at the ends of either factor.
-use Rattle.std.proofs.Common.{◌≡◌, ◌⊎◌, inl, inr, zero, suc, ◌+◌, ◌≤◌, ℤ, pos, negsuc, ◌*ℤ◌, ◌≤ℤ◌, ◌^◌, unsigned_abs, FitsSigned, to_z, of_z, refl, ap, ◌∙◌, arith}
+use Rattle.std.proofs.Common.{◌≡◌, ◌⊎◌, inl, inr, zero, suc, ◌+◌, ◌≤◌, ℤ, pos, negsuc, ◌*ℤ◌, ◌≤ℤ◌, ◌^◌, unsigned_abs, FitsSigned, to_z, of_z, refl, arith}
 use Rattle.std.proofs.Math.Nat.{mul-le-mul_left}
 use Rattle.std.proofs.lemmas.Int.{ints, clamps, to_z-of_z, fits_signed_mul}
 use Rattle.std.specs.Int.{w128}
@@ -54,6 +54,3 @@ product_read a b p q =
     let l : FitsSigned w128 b = omega (arith, ints, q.0, q.1) in
     let f = fits_signed_mul w128 a b (2 ^ 63) (2 ^ 63) (size_in_lint a p) (size_in_lint b q) (omega arith) in
     rw (to_z-of_z w128 a k, to_z-of_z w128 b l, to_z-of_z w128 (a *ℤ b) f) refl
-
-pub product_handed_on : (n a b : ℤ) → IsIn lint a → IsIn lint b → n ≡ to_z w128 (of_z w128 a) *ℤ to_z w128 (of_z w128 b) → to_z w128 (of_z w128 n) ≡ a *ℤ b
-product_handed_on n a b p q e = ap (λ m. to_z w128 (of_z w128 m)) e ∙ product_read a b p q

@@ -11,7 +11,6 @@
 
 ghost use Rattle.std.specs.Prelude.{◌≡◌, ◌↔◌, ℤ, pos, ◌+ℤ◌, ◌-ℤ◌, ◌*ℤ◌, int_div, int_rem, IsTrue, IfSome};
 ghost use Rattle.std.specs.Int.{int_min, int_max};
-ghost use Rattle.intervals.specs.Members.{IsIn, lint};
 
 /// All numbers from `low` to `high`, both of them included; `low` is not over `high`.
 #[derive(Clone, Copy, Debug, PartialEq, Eq, Hash)]
@@ -73,10 +72,10 @@ impl Span {
         ensures reached { ReachesEnds (λ x y. x *ℤ y) self other result }
     {
         Span::over(
-            product(self.low, other.low),
-            product(self.low, other.high),
-            product(self.high, other.low),
-            product(self.high, other.high),
+            self.low * other.low,
+            self.low * other.high,
+            self.high * other.low,
+            self.high * other.high,
         )
     }
 
@@ -259,13 +258,4 @@ impl Span {
         }
         (low, high)
     }
-}
-
-/// The product of two numbers of LINT.
-fn product(one: i128, other: i128) -> i128
-    requires one_of_lint { IsIn lint one }
-    requires other_of_lint { IsIn lint other }
-    ensures { result ≡ one *ℤ other }
-{
-    one * other
 }
