@@ -1,13 +1,13 @@
 //! What the tests of devices and links share.
 mod faults;
 mod frames;
+mod fronts;
 mod links;
 mod maps;
 mod memory;
 mod messages;
 mod models;
 mod plans;
-mod plant_files;
 mod plants;
 mod point_tables;
 
