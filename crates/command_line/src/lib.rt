@@ -39,6 +39,8 @@ pub use trial_input::trial_of;
 pub use plant_server::{PlantPort, simulate};
 // a plant, scans of it, and a probe of the gateway after them
 pub use plant_run::{PlantRun, run_plant};
+// a plant that was started, in a second process
+pub use plant_lines::{NoPort, told_port};
 // a probe of a device
 pub use probe_link::{ProbeAddress, ProbeRun};
 // a service on a site

@@ -14,7 +14,7 @@ pub(crate) const REFUSED: &[u8] = b"refused: ";
 
 /// Why a plant that was started says no port.
 #[derive(Drop)]
-pub(crate) enum NoPort {
+pub enum NoPort {
     /// What it prints can't be read.
     Unread(ErrorKind),
     /// Its first line is this one.
@@ -22,7 +22,7 @@ pub(crate) enum NoPort {
 }
 
 /// The port that a plant says in the first line of what it prints.
-pub(crate) fn told_port<P: Read>(alloc: Global, lines: &mut Option<P>) -> Result<u16, NoPort> {
+pub fn told_port<P: Read>(alloc: Global, lines: &mut Option<P>) -> Result<u16, NoPort> {
     let Some(lines) = lines else {
         return Err(NoPort::Unread(ErrorKind::BrokenPipe));
     };

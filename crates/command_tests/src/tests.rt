@@ -1,25 +1,9 @@
-//! What the tests of the commands share: texts, words and what was printed.
-mod check;
-mod explained;
-mod explained_ends;
-mod explained_files;
-mod explained_inputs;
-mod explained_limits;
-mod explained_mistakes;
-mod explained_verdicts;
-mod explained_words;
-mod files;
-mod gateways;
+//! What the tests of the commands share.
 mod links;
-mod obeyed_words;
+mod memory;
 mod probe;
-mod scans;
-mod simulate;
 mod standard_error;
-mod text_commands;
-mod trial;
-mod unwritten;
-mod warnings;
+mod words;
 
 use std::fmt::Debug;
 use std::process::Abort;
@@ -38,41 +22,10 @@ pub(crate) fn assert_true(rt: &impl Abort, found: bool) {
 fn texts(rt: &(impl AllocGlobal + Abort), parts: &[&str]) -> Vec<String> {
     let mut texts = Vec::new(rt.alloc());
     for part in parts {
-        texts.push(text(rt, part)).expect(rt, "memory");
+        let text = part.to_string(rt.alloc()).expect(rt, "memory");
+        texts.push(text).expect(rt, "memory");
     }
     texts
-}
-
-fn text(rt: &(impl AllocGlobal + Abort), part: &str) -> String {
-    part.to_string(rt.alloc()).expect(rt, "memory")
-}
-
-/// These texts, one behind the other.
-fn joined(rt: &(impl AllocGlobal + Abort), parts: &[&str]) -> String {
-    let mut text = String::new(rt.alloc());
-    for part in parts {
-        text.push_str(part).expect(rt, "memory");
-    }
-    text
-}
-
-/// A text with its first `old` replaced.
-fn edited_once(rt: &(impl AllocGlobal + Abort), text: &str, old: &str, new: &str) -> String {
-    let (before, behind) = text.split_once(old).expect(rt, "what is replaced");
-    joined(rt, &[before, new, behind])
-}
-
-/// A text with each `old` replaced.
-fn edited(rt: &(impl AllocGlobal + Abort), text: &str, old: &str, new: &str) -> String {
-    text.replace(rt.alloc(), old, new).expect(rt, "memory")
-}
-
-/// What was printed, and the status.
-type Told = (String, u8);
-
-fn assert_told(rt: &impl Abort, told: &Told, lines: &str, status: u8) {
-    assert_same(rt, &told.0.as_str(), &lines);
-    assert_same(rt, &told.1, &status);
 }
 
 /// What was printed.

@@ -102,6 +102,16 @@ impl<'a> Finding<'a> {
         Finding::by(key, stands_at(entry, key), Rule::Words(words))
     }
 
+    /// The same, with words of what to do.
+    pub fn advised(
+        entry: &'a Value,
+        key: &'static str,
+        words: &'static str,
+        help: &'static str,
+    ) -> Finding<'a> {
+        Finding::at(entry, key, words).helped(help)
+    }
+
     /// A rule in words for a key at which nothing is shown.
     pub fn of(key: &'static str, words: &'static str) -> Finding<'a> {
         Finding::by(key, Stands::Nothing, Rule::Words(words))

@@ -5,6 +5,16 @@ use crate::finding::{
 use file_keys::{has_over, number_at, section_at};
 use toml::Value;
 
+/// The entry of a section with that number, from 0, and those before it.
+pub fn entry_in<'a>(
+    file: &'a Value,
+    section: &str,
+    number: usize,
+) -> Option<(&'a Value, &'a [Value])> {
+    let entries = section_at(file, section)?;
+    Some((entries.get(number)?, entries.get(..number)?))
+}
+
 /// The first of the needed keys that is missing or of another kind, or else of those that may be missing.
 pub fn first_broken<'a>(
     entry: &'a Value,

@@ -3,11 +3,10 @@ mod device;
 mod entries;
 
 use crate::finding::{EntryName, Finding, named_entry};
-use crate::looking::{first_long, first_unlisted, no_table_in};
+use crate::looking::{entry_in, first_long, first_unlisted, no_table_in};
 use crate::place::FilePlace;
 use device::{EACH_VALUE, device_finding};
 use entries::{fault_finding, value_finding, value_name};
-use file_keys::section_at;
 use inverter_sim::rules::{MOST_DEVICES, MOST_FAULTS, MOST_MODELS, MOST_WATTS};
 use inverter_sim::{PlantFault, PlantPart};
 use model_defs::ModelDef;
@@ -54,7 +53,7 @@ fn no_table_at(file: &Value, part: PlantPart) -> Option<(EntryName<'_>, Finding<
         PlantPart::Device(number) => Some((whole, no_table_in(file, "device", number)?)),
         PlantPart::Fault(number) => Some((whole, no_table_in(file, "fault", number)?)),
         PlantPart::Value(device, number) => {
-            let entry = section_at(file, "device")?.get(device)?;
+            let (entry, _) = entry_in(file, "device", device)?;
             let finding = no_table_in(entry, "value", number)?.helped(EACH_VALUE);
             Some((named_entry("[[device]]", entry, device), finding))
         }
@@ -66,7 +65,7 @@ fn name_of<'a>(file: &'a Value, part: PlantPart) -> Option<EntryName<'a>> {
     match part {
         PlantPart::File => Some(EntryName::Alone("the file")),
         PlantPart::Device(number) => {
-            let entry = section_at(file, "device")?.get(number)?;
+            let (entry, _) = entry_in(file, "device", number)?;
             Some(named_entry("[[device]]", entry, number))
         }
         PlantPart::Value(number, value) => Some(value_name(number, value)),
@@ -86,16 +85,25 @@ fn found_at<'a>(
 ) -> Option<Finding<'a>> {
     match part {
         PlantPart::File => in_file(file, fault),
-        PlantPart::Device(number) => in_device(section_at(file, "device")?, defs, number, fault),
-        PlantPart::Value(number, value) => {
-            let values = section_at(section_at(file, "device")?.get(number)?, "value")?;
-            value_finding(values, defs, number, value, fault)
+        PlantPart::Device(number) => {
+            let (entry, before) = entry_in(file, "device", number)?;
+            in_device(before, entry, defs, fault)
+        }
+        PlantPart::Value(device, number) => {
+            let (entry, before) = value_in(file, device, number)?;
+            value_finding(before, entry, defs, device, fault)
         }
         PlantPart::Fault(number) => {
-            let entries = section_at(file, "fault")?;
-            fault_finding(entries.get(..number)?, entries.get(number)?, fault)
+            let (entry, before) = entry_in(file, "fault", number)?;
+            fault_finding(before, entry, fault)
         }
     }
+}
+
+/// The value of a device with that number, and those before it.
+fn value_in(file: &Value, device: usize, number: usize) -> Option<(&Value, &[Value])> {
+    let (entry, _) = entry_in(file, "device", device)?;
+    entry_in(entry, "value", number)
 }
 
 /// The section that is too long, or no list.
@@ -109,16 +117,15 @@ fn in_file(file: &Value, fault: PlantFault) -> Option<Finding<'_>> {
 }
 
 fn in_device<'a>(
-    entries: &'a [Value],
+    before: &'a [Value],
+    entry: &'a Value,
     defs: &[ModelDef],
-    number: usize,
     fault: PlantFault,
 ) -> Option<Finding<'a>> {
-    let entry = entries.get(number)?;
     match fault {
         PlantFault::TooMany => {
             first_long(entry, &[("models", MOST_MODELS), ("available", MOST_WATTS)])
         }
-        fault => device_finding(entries.get(..number)?, entry, defs, fault),
+        fault => device_finding(before, entry, defs, fault),
     }
 }

@@ -6,9 +6,8 @@ mod tag_words;
 mod tags;
 
 use crate::finding::{EntryName, Finding, named_entry};
-use crate::looking::{first_long, first_unlisted, no_table, no_table_in};
+use crate::looking::{entry_in, first_long, first_unlisted, no_table, no_table_in};
 use crate::place::FilePlace;
-use file_keys::section_at;
 use gateway::{device_finding, gateway_finding};
 use model_defs::ModelDef;
 use served::served_finding;
@@ -69,21 +68,19 @@ fn name_of<'a>(file: &'a Value, part: SitePart) -> Option<EntryName<'a>> {
             Some(_) => EntryName::Alone("[gateway]"),
             None => EntryName::Alone("the file"),
         }),
-        SitePart::Device(number) => named_in(section_at(file, "device")?, "[[device]]", number),
-        SitePart::Tag(number) => named_in(section_at(file, "tag")?, "[[tag]]", number),
+        SitePart::Device(number) => {
+            let (entry, _) = entry_in(file, "device", number)?;
+            Some(named_entry("[[device]]", entry, number))
+        }
+        SitePart::Tag(number) => {
+            let (entry, _) = entry_in(file, "tag", number)?;
+            Some(named_entry("[[tag]]", entry, number))
+        }
         SitePart::Served(number) => Some(EntryName::Numbered(
             "[[served]]",
             number.saturating_add(1),
         )),
     }
-}
-
-fn named_in<'a>(
-    entries: &'a [Value],
-    section: &'static str,
-    number: usize,
-) -> Option<EntryName<'a>> {
-    Some(named_entry(section, entries.get(number)?, number))
 }
 
 /// What breaks the rule in a part of the file.
@@ -96,14 +93,17 @@ fn found_at<'a>(
     match part {
         SitePart::File => in_file(file, fault),
         SitePart::Gateway => in_gateway(file, defs, fault),
-        SitePart::Device(number) => in_device(section_at(file, "device")?, number, fault),
+        SitePart::Device(number) => {
+            let (entry, before) = entry_in(file, "device", number)?;
+            device_finding(before, entry, fault)
+        }
         SitePart::Tag(number) => {
-            let entry = section_at(file, "tag")?.get(number)?;
-            tag_finding(file, defs, number, entry, fault)
+            let (entry, before) = entry_in(file, "tag", number)?;
+            tag_finding(file, defs, before, entry, fault)
         }
         SitePart::Served(number) => {
-            let entry = section_at(file, "served")?.get(number)?;
-            served_finding(file, defs, number, entry, fault)
+            let (entry, before) = entry_in(file, "served", number)?;
+            served_finding(file, defs, before, entry, fault)
         }
     }
 }
@@ -131,9 +131,4 @@ fn in_gateway<'a>(file: &'a Value, defs: &[ModelDef], fault: SiteFault) -> Optio
         SiteFault::TooMany => first_long(gateway, &[("models", MOST_MODELS)]),
         fault => gateway_finding(gateway, defs, fault),
     }
-}
-
-fn in_device<'a>(entries: &'a [Value], number: usize, fault: SiteFault) -> Option<Finding<'a>> {
-    let entry = entries.get(number)?;
-    device_finding(entries.get(..number)?, entry, fault)
 }

@@ -3,6 +3,7 @@ use Rattle.std.proofs.Common.{◌≡◌, ℕ, Bool, true, false, not, ◌&&◌, 
 use Rattle.std.proofs.lemmas.List.{length-map}
 use Rattle.std.proofs.lemmas.List.Folds.{list_any-append}
 use Rattle.point_types.specs.Name.{is_name}
+use Rattle.point_types.specs.Value.{◌>>=◌}
 use Rattle.point_types.specs.declared.variable.Var.{Var}
 use Rattle.scan_code.specs.declared.image.Tag.{Tag}
 use Rattle.std.specs.List.{list_all}
@@ -15,14 +16,14 @@ use Rattle.il_assemble.specs.declared.fault.AsmFault.{AsmFault}
 use Rattle.il_assemble.specs.declared.fault.AsmFaultKind.TheVariants as kind
 use Rattle.il_assemble.specs.Meaning.{Program}
 use Rattle.il_assemble.specs.Assembled.{ImagesAreProper, IsAssembled, NamesStayDifferent, declared_name, external_name}
-use Rattle.il_assemble.specs.Code.{code_of_program, image_of, lines_code, version_of}
-use Rattle.il_assemble.specs.Kept.{address_in, addresses_of}
+use Rattle.il_assemble.specs.Code.{code_of_program, image_of, version_of}
+use Rattle.il_assemble.specs.Kept.{written_code}
 use Rattle.il_reader.specs.Limit.{most_names}
-use Rattle.il_assemble.specs.Names.{Scope, tags_of, uses_of}
+use Rattle.il_assemble.specs.Names.{Scope, tags_of}
 use Rattle.il_assemble.specs.StaticFault.{checked_lines}
-use Rattle.il_assemble.specs.Elaboration.{declared_var, first_line, limits_of, measured, named_apart, names_seen, nested, program_of, resolved_lines, scope_of, too_long, undivided, unless_external, unless_variable}
+use Rattle.il_assemble.specs.Elaboration.{counted, declared_var, first_line, limits_of, measured, named_apart, names_seen, nested, program_of, scope_of, too_long, undivided, unless_external, unless_variable}
 use Rattle.il_assemble.proofs.Bytes.{code_is_of_bytes}
-use Rattle.il_assemble.proofs.Sound.{negated}
+use Rattle.il_assemble.proofs.Sound.{first_ok, negated}
 use Rattle.il_assemble.proofs.Elaborating.{IsElaborated, code_same, few_externals, few_variables, fewer_tags, parts, passes_assemble, well}
 use Rattle.point_types.proofs.Truths.{both}
 use Rattle.point_types.proofs.Truths.{and_both}
@@ -104,32 +105,27 @@ names_stay_different t h =
 
 -- The passes.
 
--- what a program's lines see, by the uses that were found
-abbrev pub seen_with : Tree → List (Option Bool) → Scope
-seen_with t uses = record { variables = t.variables; externals = t.externals; uses = uses; statements = t.statements }
-
 pub record IsMade (t : Tree) (image : Image) : Type 0 where
   pub assembled : IsAssembled t image
   pub proper : IsProper image
 
--- what the passes make from the uses of externals and the addresses of lines
-abbrev Made : Tree → List (Option Bool) → Type 0
-Made t uses =
-    checked_lines (seen_with t uses) 0 None t.statements ≡ Ok tt → measured (seen_with t uses) t.end_line 0 0 None t.statements ≡ Ok tt
-    → (addresses : List ℕ) → addresses ≡ addresses_of (seen_with t uses) 0 0 None t.statements
-    → (version : ℕ) (vars : List Var) (tags : List Tag) (code : List ℕ) → version ≡ version_of (limits_of t.statements) → vars ≡ map declared_var t.variables → tags ≡ tags_of t.externals uses
-    → code ≡ spelled_all (lines_code (address_in addresses) (resolved_lines (seen_with t uses) 0 0 None t.statements))
-    → named_apart t.variables t.externals (names_of vars tags) ≡ Ok tt
+-- what the passes make of what the lines see
+abbrev Made : Tree → Scope → Type 0
+Made t g =
+    checked_lines g 0 None g.statements ≡ Ok tt → measured g t.end_line 0 0 None g.statements ≡ Ok tt
+    → (version : ℕ) (vars : List Var) (tags : List Tag) (code : List ℕ) → version ≡ version_of (limits_of g.statements) → vars ≡ map declared_var g.variables → tags ≡ tags_of g.externals g.uses
+    → code ≡ written_code g → named_apart g.variables g.externals (names_of vars tags) ≡ Ok tt
     → IsMade t (record { version = version; vars = vars; tags = tags; code = code })
 
-pub made : (t : Tree) (uses : List (Option Bool)) → uses ≡ uses_of t.variables t.externals t.statements
-    → unless_variable (slice_get t.variables most_names) ≡ Ok tt → unless_external (slice_get t.externals most_names) ≡ Ok tt → nested t.statements ≡ Ok tt → undivided t.variables ≡ Ok tt → Made t uses
-made t uses e variables externals shallow whole =
-    subst (Made t) (sym e) (λ checked short addresses found version vars tags code v w x y named.
-    let bytes : code ≡ spelled_all (code_of_program (program_of (scope_of t))) = y ∙ ap (λ ns. spelled_all (lines_code (address_in ns) (resolved_lines (scope_of t) 0 0 None t.statements))) found ∙ ap spelled_all (code_same (scope_of t) checked) in
+pub made : (t : Tree) (g : Scope) → g ≡ scope_of t → counted t.variables t.externals t.statements ≡ Ok tt → undivided t.variables ≡ Ok tt → Made t g
+made t g e few whole =
+    subst (Made t) (sym e) (λ checked short version vars tags code v w x y named.
+    let bytes : code ≡ spelled_all (code_of_program (program_of (scope_of t))) = y ∙ ap spelled_all (code_same (scope_of t) checked) in
     let apart : named_apart t.variables t.externals (names_seen (scope_of t)) ≡ Ok tt =
     ap (λ (vs : List Var). named_apart t.variables t.externals (names_of vs (tags_of t.externals (scope_of t).uses))) (sym w) ∙ ap (λ (ts : List Tag). named_apart t.variables t.externals (names_of vars ts)) (sym x) ∙ named in
-    let sound : IsElaborated t = record { variables = variables; externals = externals; shallow = shallow; whole = whole; apart = apart; checked = checked; short = short } in
+    let variables = first_ok (unless_variable (slice_get t.variables most_names)) (unless_external (slice_get t.externals most_names) >>= λ _. nested t.statements) few in
+    let externals = first_ok (unless_external (slice_get t.externals most_names)) (nested t.statements) variables.1 in
+    let sound : IsElaborated t = record { variables = variables.0; externals = externals.0; shallow = externals.1; whole = whole; apart = apart; checked = checked; short = short } in
     let image : Image = record { version = version; vars = vars; tags = tags; code = code } in
     let same : image ≡ image_of (program_of (scope_of t)) = λ i. record { version = v i; vars = w i; tags = x i; code = bytes i } in
     record {

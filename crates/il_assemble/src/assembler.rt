@@ -1,11 +1,13 @@
 //! From a program's tree to its image.
-ghost use Rattle.std.specs.Prelude.{◌≡◌, ◌≤◌, length, IfOk, IfErr, map};
+ghost use Rattle.std.specs.Prelude.{◌≡◌, ◌≤◌, ◌⊎◌, Ok, Err, None, length, IfOk, IfErr, map};
 ghost use Rattle.il_assemble.specs.Assembled.{IsAssembled, IsRefused};
 ghost use Rattle.il_assemble.specs.Code.{version_of};
-ghost use Rattle.il_assemble.specs.Elaboration.{declared_var, first_line, limits_of, named_apart};
+ghost use Rattle.il_assemble.specs.Elaboration.{counted, declared_var, first_line, limits_of, measured, named_apart, scope_of, undivided};
+ghost use Rattle.il_assemble.specs.Kept.{passed, seen, written_code};
 ghost use Rattle.il_reader.specs.Limit.{most_names};
 ghost use Rattle.il_assemble.specs.Names.{is_called, is_external, unused, uses_of};
-ghost use Rattle.il_assemble.specs.StaticFault.{is_labelled};
+ghost use Rattle.il_assemble.specs.StaticFault.{checked_lines, is_labelled};
+ghost use Rattle.il_assemble.specs.Word.{out_of_memory};
 ghost use Rattle.name_places.specs.Places.{IsPlaced};
 ghost use Rattle.scan_code.specs.Image.{names_of};
 
@@ -71,19 +73,47 @@ fn assemble_with<'a>(
         statements,
         tables,
     };
-    let vars = declared(alloc, variables)?;
-    let tags = tags(alloc, externals, uses.as_slice())?;
-    tell_apart(variables, externals, vars.as_slice(), tags.as_slice())?;
-    check_lines(scope, statements)?;
-    let addresses = measure(alloc, scope, statements, program.end_line)?;
-    let mut code = Vec::new(alloc);
-    emit_lines(&mut code, scope, addresses.as_slice(), statements)?;
+    image_of(alloc, program, scope)
+}
+
+/// The image of a program that keeps the limits of its names, by what its lines see.
+fn image_of(alloc: Global, program: &Program, scope: Scope<'_, '_, '_>) -> Result<Image, AsmFault>
+    requires seen { seen scope ≡ scope_of program.now }
+    requires counted { counted program.now.variables program.now.externals program.now.statements ≡ Ok tt }
+    requires undivided { undivided program.now.variables ≡ Ok tt }
+    ensures assembled { IfOk result (IsAssembled program.now) }
+    ensures refused { IfErr result (IsRefused program.now) }
+{
+    let vars = declared(alloc, scope.variables)?;
+    let tags = tags(alloc, scope.externals, scope.uses)?;
+    tell_apart(
+        scope.variables,
+        scope.externals,
+        vars.as_slice(),
+        tags.as_slice(),
+    )?;
+    let code = code_of(alloc, scope, program.end_line)?;
     Ok(Image {
-        version: version(statements),
+        version: version(scope.statements),
         vars: Items::from_vec(vars),
         tags: Items::from_vec(tags),
         code: Items::from_vec(code),
     })
+}
+
+/// The code of all lines, or the first fault in them.
+fn code_of(alloc: Global, scope: Scope<'_, '_, '_>, end_line: u32) -> Result<Vec<u8>, AsmFault>
+    ensures checked { IfOk result (λ _. checked_lines (seen scope.entry) 0 None scope.entry.statements.now ≡ Ok tt) }
+    ensures short { IfOk result (λ _. measured (seen scope.entry) end_line 0 0 None scope.entry.statements.now ≡ Ok tt) }
+    ensures coded { IfOk result (λ code. code.items ≡ written_code (seen scope.entry)) }
+    ensures refused { IfErr result (λ fault. (passed (seen scope.entry) end_line ≡ Err fault) ⊎ (fault ≡ out_of_memory)) }
+{
+    let statements = scope.statements;
+    check_lines(scope, statements)?;
+    let addresses = measure(alloc, scope, statements, end_line)?;
+    let mut code = Vec::new(alloc);
+    emit_lines(&mut code, scope, addresses.as_slice(), statements)?;
+    Ok(code)
 }
 
 /// Whether each external is stored by its first use; none where it isn't used.

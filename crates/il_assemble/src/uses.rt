@@ -1,5 +1,6 @@
 //! Which externals are loaded, and which are stored.
-ghost use Rattle.std.specs.Prelude.{◌≡◌, OnOk, IfOk, ◌≤◌, ◌++◌, length, slice_get};
+ghost use Rattle.std.specs.Prelude.{◌≡◌, OnOk, IfOk, ◌≤◌, ◌++◌, ◌∷◌, Bool, List, Option, length, slice_get};
+ghost use Rattle.il_reader.specs.declared.tree.External.{External};
 ghost use Rattle.il_assemble.specs.Kept.{seen};
 ghost use Rattle.il_assemble.specs.Names.{is_loaded, is_stored, known_as, noted, noted_load, noted_store, tag_place, tags_of, uses_after, uses_of_action, uses_of_first, uses_of_inner, uses_of_operand, uses_of_simple};
 ghost use Rattle.il_assemble.specs.Written.{written, written_inner};
@@ -131,16 +132,29 @@ pub(crate) fn tags(
         let [stored, after @ ..] = others else {
             return Ok(tags);
         };
-        if let Some(output) = stored {
-            tags.push(Tag {
-                name: external.name,
-                output: *output,
-                kind: external.kind,
-            })?;
-        }
+        push_tag(&mut tags, external, *stored)?;
         others = after;
     }
     Ok(tags)
+}
+
+/// Appends the tag of an external, where it is used.
+fn push_tag(
+    tags: &mut Vec<Tag>,
+    external: &External,
+    stored: Option<bool>,
+) -> Result<(), AllocError>
+    ensures { OnOk result ((es : List External) (us : List (Option Bool)) → tags.new.items ++ tags_of es us ≡ tags.old.items ++ tags_of (external.now ∷ es) (stored ∷ us)) }
+{
+    let Some(output) = stored else {
+        return Ok(());
+    };
+    tags.push(Tag {
+        name: external.name,
+        output,
+        kind: external.kind,
+    })?;
+    Ok(())
 }
 
 /// How many externals before one are used: its tag's place.

@@ -3,9 +3,8 @@ use crate::met::Met;
 use crate::told::Hint;
 use il_reader::ReadFaultKind;
 
-/// A mistake: the kind by which it is refused, the words or the marks that show it, and what is told.
+/// A mistake: the words or the marks that show it, and what is told.
 struct Mistake {
-    kind: ReadFaultKind,
     signs: &'static [&'static str],
     hint: Hint,
 }
@@ -15,9 +14,9 @@ const SEMICOLON: Hint = Hint {
     help: "leave the semicolon out; it stands behind declarations alone",
 };
 
-static MISTAKES: [Mistake; 35] = [
+/// Where a word or a mark is met that nothing begins with.
+static WORDS: [Mistake; 12] = [
     Mistake {
-        kind: ReadFaultKind::Word,
         signs: &["\u{feff}"],
         hint: Hint {
             meaning: "a byte order mark stands in front of the text",
@@ -25,7 +24,6 @@ static MISTAKES: [Mistake; 35] = [
         },
     },
     Mistake {
-        kind: ReadFaultKind::Word,
         signs: &[
             "\u{a0}", "\u{2002}", "\u{2003}", "\u{2007}", "\u{2009}", "\u{202f}", "\u{3000}",
         ],
@@ -35,7 +33,6 @@ static MISTAKES: [Mistake; 35] = [
         },
     },
     Mistake {
-        kind: ReadFaultKind::Word,
         signs: &["\u{ad}", "\u{200b}", "\u{200c}", "\u{200d}", "\u{2060}"],
         hint: Hint {
             meaning: "a character without a shape stands here",
@@ -43,7 +40,6 @@ static MISTAKES: [Mistake; 35] = [
         },
     },
     Mistake {
-        kind: ReadFaultKind::Word,
         signs: &[
             "\u{2010}", "\u{2011}", "\u{2012}", "\u{2013}", "\u{2014}", "\u{2212}",
         ],
@@ -53,7 +49,6 @@ static MISTAKES: [Mistake; 35] = [
         },
     },
     Mistake {
-        kind: ReadFaultKind::Word,
         signs: &["//"],
         hint: Hint {
             meaning: "// begins no comment",
@@ -61,7 +56,6 @@ static MISTAKES: [Mistake; 35] = [
         },
     },
     Mistake {
-        kind: ReadFaultKind::Word,
         signs: &["/*"],
         hint: Hint {
             meaning: "/* begins no comment",
@@ -69,7 +63,6 @@ static MISTAKES: [Mistake; 35] = [
         },
     },
     Mistake {
-        kind: ReadFaultKind::Word,
         signs: &["#"],
         hint: Hint {
             meaning: "# begins no comment",
@@ -77,7 +70,6 @@ static MISTAKES: [Mistake; 35] = [
         },
     },
     Mistake {
-        kind: ReadFaultKind::Word,
         signs: &["%"],
         hint: Hint {
             meaning: "there are no addresses as %IX0.0",
@@ -85,7 +77,6 @@ static MISTAKES: [Mistake; 35] = [
         },
     },
     Mistake {
-        kind: ReadFaultKind::Word,
         signs: &["'", "\"", "\u{2018}", "\u{2019}", "\u{201c}", "\u{201d}"],
         hint: Hint {
             meaning: "there are no texts in quotes",
@@ -93,7 +84,6 @@ static MISTAKES: [Mistake; 35] = [
         },
     },
     Mistake {
-        kind: ReadFaultKind::Word,
         signs: &["["],
         hint: Hint {
             meaning: "there are no arrays",
@@ -101,7 +91,6 @@ static MISTAKES: [Mistake; 35] = [
         },
     },
     Mistake {
-        kind: ReadFaultKind::Word,
         signs: &["<", ">"],
         hint: Hint {
             meaning: "a comparison is an operator on a line of its own",
@@ -109,44 +98,21 @@ static MISTAKES: [Mistake; 35] = [
         },
     },
     Mistake {
-        kind: ReadFaultKind::Word,
         signs: &["+", "*", "/"],
         hint: Hint {
             meaning: "an operation is an operator on a line of its own",
             help: "write ADD, SUB, MUL, DIV or MOD with its second operand",
         },
     },
+];
+
+/// Where an operator must stand.
+static OPERATORS: [Mistake; 18] = [
     Mistake {
-        kind: ReadFaultKind::Operand,
         signs: &[";"],
         hint: SEMICOLON,
     },
     Mistake {
-        kind: ReadFaultKind::Operator,
-        signs: &[";"],
-        hint: SEMICOLON,
-    },
-    Mistake {
-        kind: ReadFaultKind::Header,
-        signs: &[";"],
-        hint: SEMICOLON,
-    },
-    Mistake {
-        kind: ReadFaultKind::Header,
-        signs: &[
-            "FUNCTION_BLOCK",
-            "FUNCTION",
-            "CONFIGURATION",
-            "TYPE",
-            "RESOURCE",
-        ],
-        hint: Hint {
-            meaning: "a text has one program and nothing else",
-            help: "write PROGRAM and a name in front of the declarations, and END_PROGRAM behind the instructions",
-        },
-    },
-    Mistake {
-        kind: ReadFaultKind::Operator,
         signs: &["VAR", "VAR_EXTERNAL"],
         hint: Hint {
             meaning: "declarations stand before the instructions",
@@ -154,7 +120,6 @@ static MISTAKES: [Mistake; 35] = [
         },
     },
     Mistake {
-        kind: ReadFaultKind::Operator,
         signs: &[
             "VAR_INPUT",
             "VAR_OUTPUT",
@@ -171,7 +136,6 @@ static MISTAKES: [Mistake; 35] = [
         },
     },
     Mistake {
-        kind: ReadFaultKind::Operator,
         signs: &["END_VAR"],
         hint: Hint {
             meaning: "no block of declarations is open",
@@ -179,7 +143,6 @@ static MISTAKES: [Mistake; 35] = [
         },
     },
     Mistake {
-        kind: ReadFaultKind::Operator,
         signs: &["TYPE", "STRUCT", "PROGRAM", "FUNCTION", "FUNCTION_BLOCK"],
         hint: Hint {
             meaning: "a text has one program, and types of its own aren't there",
@@ -187,7 +150,6 @@ static MISTAKES: [Mistake; 35] = [
         },
     },
     Mistake {
-        kind: ReadFaultKind::Operator,
         signs: &[
             "CAL", "CALC", "CALCN", "R_TRIG", "F_TRIG", "TON", "TOF", "CTU",
         ],
@@ -197,7 +159,6 @@ static MISTAKES: [Mistake; 35] = [
         },
     },
     Mistake {
-        kind: ReadFaultKind::Operator,
         signs: &["RETURN"],
         hint: Hint {
             meaning: "{} is no operator",
@@ -205,7 +166,6 @@ static MISTAKES: [Mistake; 35] = [
         },
     },
     Mistake {
-        kind: ReadFaultKind::Operator,
         signs: &["LOAD"],
         hint: Hint {
             meaning: "{} is no operator",
@@ -213,7 +173,6 @@ static MISTAKES: [Mistake; 35] = [
         },
     },
     Mistake {
-        kind: ReadFaultKind::Operator,
         signs: &["STORE"],
         hint: Hint {
             meaning: "{} is no operator",
@@ -221,7 +180,6 @@ static MISTAKES: [Mistake; 35] = [
         },
     },
     Mistake {
-        kind: ReadFaultKind::Operator,
         signs: &["GTE"],
         hint: Hint {
             meaning: "{} is no operator",
@@ -229,7 +187,6 @@ static MISTAKES: [Mistake; 35] = [
         },
     },
     Mistake {
-        kind: ReadFaultKind::Operator,
         signs: &["LTE"],
         hint: Hint {
             meaning: "{} is no operator",
@@ -237,7 +194,6 @@ static MISTAKES: [Mistake; 35] = [
         },
     },
     Mistake {
-        kind: ReadFaultKind::Operator,
         signs: &["NOP"],
         hint: Hint {
             meaning: "{} is no operator",
@@ -245,7 +201,6 @@ static MISTAKES: [Mistake; 35] = [
         },
     },
     Mistake {
-        kind: ReadFaultKind::Operator,
         signs: &["MUX"],
         hint: Hint {
             meaning: "{} is no operator",
@@ -253,7 +208,6 @@ static MISTAKES: [Mistake; 35] = [
         },
     },
     Mistake {
-        kind: ReadFaultKind::Operator,
         signs: &["NEG"],
         hint: Hint {
             meaning: "{} is no operator",
@@ -261,7 +215,6 @@ static MISTAKES: [Mistake; 35] = [
         },
     },
     Mistake {
-        kind: ReadFaultKind::Operator,
         signs: &["SHL", "SHR", "ROL", "ROR"],
         hint: Hint {
             meaning: "there are no shifts of bits",
@@ -269,7 +222,6 @@ static MISTAKES: [Mistake; 35] = [
         },
     },
     Mistake {
-        kind: ReadFaultKind::Operator,
         signs: &["JMPNC", "RETNC"],
         hint: Hint {
             meaning: "{} is no operator",
@@ -277,7 +229,6 @@ static MISTAKES: [Mistake; 35] = [
         },
     },
     Mistake {
-        kind: ReadFaultKind::Operator,
         signs: &["LOOP"],
         hint: Hint {
             meaning: "LOOP stands in braces",
@@ -285,7 +236,6 @@ static MISTAKES: [Mistake; 35] = [
         },
     },
     Mistake {
-        kind: ReadFaultKind::Operator,
         signs: &[
             "IF",
             "ELSIF",
@@ -304,20 +254,43 @@ static MISTAKES: [Mistake; 35] = [
         ],
         hint: STRUCTURED,
     },
+];
+
+/// Where the program must begin or end.
+static HEADERS: [Mistake; 2] = [
     Mistake {
-        kind: ReadFaultKind::Declaration,
-        signs: &["AT"],
-        hint: Hint {
-            meaning: "a declaration has no address behind AT",
-            help: "declare the tag by its name in VAR_EXTERNAL; the site file says which point of which device it is",
-        },
-    },
-    Mistake {
-        kind: ReadFaultKind::Label,
         signs: &[";"],
         hint: SEMICOLON,
     },
+    Mistake {
+        signs: &[
+            "FUNCTION_BLOCK",
+            "FUNCTION",
+            "CONFIGURATION",
+            "TYPE",
+            "RESOURCE",
+        ],
+        hint: Hint {
+            meaning: "a text has one program and nothing else",
+            help: "write PROGRAM and a name in front of the declarations, and END_PROGRAM behind the instructions",
+        },
+    },
 ];
+
+/// In a declaration.
+static DECLARATIONS: [Mistake; 1] = [Mistake {
+    signs: &["AT"],
+    hint: Hint {
+        meaning: "a declaration has no address behind AT",
+        help: "declare the tag by its name in VAR_EXTERNAL; the site file says which point of which device it is",
+    },
+}];
+
+/// Where an operand must stand, or what is behind a label.
+static ENDS: [Mistake; 1] = [Mistake {
+    signs: &[";"],
+    hint: SEMICOLON,
+}];
 
 /// An assignment, or another statement of Structured Text.
 pub(crate) const STRUCTURED: Hint = Hint {
@@ -327,8 +300,20 @@ pub(crate) const STRUCTURED: Hint = Hint {
 
 /// What is told of the mistake that is met.
 pub(crate) fn mistake_met(met: &Met<'_, '_>) -> Option<Hint> {
-    for mistake in MISTAKES.iter() {
-        if mistake.kind == met.kind && shows(met, mistake.signs) {
+    match met.kind {
+        ReadFaultKind::Word => first_shown(met, &WORDS),
+        ReadFaultKind::Operator => first_shown(met, &OPERATORS),
+        ReadFaultKind::Header => first_shown(met, &HEADERS),
+        ReadFaultKind::Declaration => first_shown(met, &DECLARATIONS),
+        ReadFaultKind::Operand | ReadFaultKind::Label => first_shown(met, &ENDS),
+        _ => None,
+    }
+}
+
+/// The hint on the first of some mistakes that is met.
+fn first_shown(met: &Met<'_, '_>, mistakes: &[Mistake]) -> Option<Hint> {
+    for mistake in mistakes {
+        if shows(met, mistake.signs) {
             return Some(mistake.hint);
         }
     }

@@ -1,7 +1,8 @@
 //! From bytes to instructions.
-ghost use Rattle.std.specs.Prelude.{◌≡◌, ◌+◌, ◌*◌, ◌≤◌, length, IfSome};
+ghost use Rattle.std.specs.Prelude.{◌≡◌, ◌+◌, ◌*◌, ◌≤◌, ◌<◌, ◌∷◌, ℕ, length, IfSome, option_map};
+ghost use Rattle.scan_code.specs.declared.op.Op.{Op};
 ghost use Rattle.scan_code.specs.declared.op.Op.TheVariants as does;
-ghost use Rattle.scan_code.specs.Instruction.{WithNumber, WithTypes, completed, decoded, decoded_at, signed_from, whole_type};
+ghost use Rattle.scan_code.specs.Instruction.{WithCount, WithNumber, WithPlace, WithTruth, WithTypes, completed, decoded, decoded_at, signed_from, whole_type};
 ghost use Rattle.scan_code.specs.Spelling.{FitsBytes};
 
 use crate::image_rules::is_within;
@@ -14,44 +15,22 @@ macro_rules! complete {
     (bare $name:ident $arguments:ident) => { Some((Op::$name, 0)) };
     (operator $name:ident $arguments:ident) => { Some((Op::Apply(Operator::$name), 0)) };
     (leave $name:ident $arguments:ident) => { Some((Op::Return(Condition::$name), 0)) };
-    (variable $name:ident $arguments:ident) => {
-        match $arguments {
-            [high, low, ..] => Some((Op::$name(place_from(*high, *low)), 2)),
-            _ => None,
-        }
-    };
-    (input $name:ident $arguments:ident) => {
-        match $arguments {
-            [high, low, ..] => Some((Op::$name(place_from(*high, *low)), 2)),
-            _ => None,
-        }
-    };
-    (output $name:ident $arguments:ident) => {
-        match $arguments {
-            [high, low, ..] => Some((Op::$name(place_from(*high, *low)), 2)),
-            _ => None,
-        }
-    };
-    (truth $name:ident $arguments:ident) => {
-        match $arguments {
-            [0, ..] => Some((Op::$name(false), 1)),
-            [1, ..] => Some((Op::$name(true), 1)),
-            _ => None,
-        }
-    };
+    (variable $name:ident $arguments:ident) => { placed!($name $arguments) };
+    (input $name:ident $arguments:ident) => { placed!($name $arguments) };
+    (output $name:ident $arguments:ident) => { placed!($name $arguments) };
+    (truth $name:ident $arguments:ident) => { truth_at($arguments) };
     (number $name:ident $arguments:ident) => { number_at($arguments) };
     (types $name:ident $arguments:ident) => { types_at($arguments) };
-    (jump $name:ident $arguments:ident) => {
-        match $arguments {
-            [high, low, ..] => Some((Op::Jump(Condition::$name, place_from(*high, *low)), 2)),
-            _ => None,
-        }
-    };
-    (repeat $name:ident $arguments:ident) => {
-        match $arguments {
-            [_, 0, ..] => None,
-            [counter, limit, high, low, ..] => Some((Op::Repeat(Condition::$name, *counter, *limit, place_from(*high, *low)), 4)),
-            _ => None,
+    (jump $name:ident $arguments:ident) => { jump_at(Condition::$name, $arguments) };
+    (repeat $name:ident $arguments:ident) => { repeat_at(Condition::$name, $arguments) };
+}
+
+/// An instruction with the place that its arguments begin with.
+macro_rules! placed {
+    ($name:ident $arguments:ident) => {
+        match place_at($arguments) {
+            Some(place) => Some((Op::$name(place), 2)),
+            None => None,
         }
     };
 }
@@ -87,9 +66,18 @@ fn first(bytes: &[u8]) -> Option<(Op, usize)>
     ensures fits { IfSome result (λ found. FitsBytes found.0) }
 {
     match bytes {
-        [byte, arguments @ ..] => instructions!(complete_by(*byte, arguments)),
+        [byte, arguments @ ..] => coded(*byte, arguments),
         [] => None,
     }
+}
+
+/// The instruction of a code byte and its arguments, and how many bytes of arguments it has.
+fn coded(byte: u8, arguments: &[u8]) -> Option<(Op, usize)>
+    ensures value { result ≡ decoded (byte ∷ arguments.now) }
+    ensures within { IfSome result (λ found. found.1 ≤ length arguments.now) }
+    ensures fits { IfSome result (λ found. FitsBytes found.0) }
+{
+    instructions!(complete_by(byte, arguments))
 }
 
 /// The number of a place, or an address: big-endian.
@@ -98,6 +86,56 @@ pub fn place_from(high: u8, low: u8) -> u16
     ensures { result ≡ high * 256 + low }
 {
     u16::from_be_bytes([high, low])
+}
+
+/// The number of a place that the arguments begin with.
+fn place_at(arguments: &[u8]) -> Option<u16>
+    ensures value { (made : ℕ → Op) → option_map (λ place. (made place, 2)) result ≡ completed (WithPlace made) arguments.now }
+    ensures within { IfSome result (λ place. (place < 65536) × (2 ≤ length arguments.now)) }
+{
+    match arguments {
+        [high, low, ..] => Some(place_from(*high, *low)),
+        _ => None,
+    }
+}
+
+/// A jump: its address.
+fn jump_at(condition: Condition, arguments: &[u8]) -> Option<(Op, usize)>
+    ensures value { result ≡ completed (WithPlace (does.Jump condition)) arguments.now }
+    ensures within { IfSome result (λ found. found.1 ≤ length arguments.now) }
+    ensures fits { IfSome result (λ found. FitsBytes found.0) }
+{
+    let to = place_at(arguments)?;
+    Some((Op::Jump(condition, to), 2))
+}
+
+/// A counted jump: its counter, how often it is taken at most, and its address.
+fn repeat_at(condition: Condition, arguments: &[u8]) -> Option<(Op, usize)>
+    ensures value { result ≡ completed (WithCount (does.Repeat condition)) arguments.now }
+    ensures within { IfSome result (λ found. found.1 ≤ length arguments.now) }
+    ensures fits { IfSome result (λ found. FitsBytes found.0) }
+{
+    match arguments {
+        [_, 0, ..] => None,
+        [counter, limit, high, low, ..] => {
+            let to = place_from(*high, *low);
+            Some((Op::Repeat(condition, *counter, *limit, to), 4))
+        }
+        _ => None,
+    }
+}
+
+/// LDB: 0 or 1.
+fn truth_at(arguments: &[u8]) -> Option<(Op, usize)>
+    ensures value { result ≡ completed (WithTruth does.LoadBool) arguments.now }
+    ensures within { IfSome result (λ found. found.1 ≤ length arguments.now) }
+    ensures fits { IfSome result (λ found. FitsBytes found.0) }
+{
+    match arguments {
+        [0, ..] => Some((Op::LoadBool(false), 1)),
+        [1, ..] => Some((Op::LoadBool(true), 1)),
+        _ => None,
+    }
 }
 
 /// LDC: the number of a whole-number type, and a number of that type.

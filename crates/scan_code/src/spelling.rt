@@ -1,7 +1,7 @@
 //! From instructions to bytes.
 ghost use Rattle.std.specs.Prelude.{◌≡◌, ℕ, [], ◌∷◌, ◌++◌, OnOk, OnErr};
 ghost use Rattle.point_types.specs.Value.{code_of};
-ghost use Rattle.scan_code.specs.Spelling.{place_bytes, bytes_of, unsigned};
+ghost use Rattle.scan_code.specs.Spelling.{place_bytes, byte_of, bytes_of, unsigned};
 
 use crate::op::Op;
 use crate::{instruction, instructions};
@@ -10,15 +10,15 @@ use std::alloc::AllocError;
 
 /// Appends an instruction's code byte and arguments, by its shape.
 macro_rules! append {
-    (bare $code:ident $byte:literal $a:ident $b:ident $c:ident) => { $code.extend_from_slice(&[$byte]) };
-    (operator $code:ident $byte:literal $a:ident $b:ident $c:ident) => { $code.extend_from_slice(&[$byte]) };
-    (leave $code:ident $byte:literal $a:ident $b:ident $c:ident) => { $code.extend_from_slice(&[$byte]) };
+    (bare $code:ident $byte:literal $a:ident $b:ident $c:ident) => { append_byte($code, $byte) };
+    (operator $code:ident $byte:literal $a:ident $b:ident $c:ident) => { append_byte($code, $byte) };
+    (leave $code:ident $byte:literal $a:ident $b:ident $c:ident) => { append_byte($code, $byte) };
     (variable $code:ident $byte:literal $a:ident $b:ident $c:ident) => { append_place($code, $byte, $a) };
     (input $code:ident $byte:literal $a:ident $b:ident $c:ident) => { append_place($code, $byte, $a) };
     (output $code:ident $byte:literal $a:ident $b:ident $c:ident) => { append_place($code, $byte, $a) };
-    (truth $code:ident $byte:literal $a:ident $b:ident $c:ident) => { $code.extend_from_slice(&[$byte, $a as u8]) };
+    (truth $code:ident $byte:literal $a:ident $b:ident $c:ident) => { append_truth($code, $byte, $a) };
     (number $code:ident $byte:literal $a:ident $b:ident $c:ident) => { append_number($code, $byte, $a, $b) };
-    (types $code:ident $byte:literal $a:ident $b:ident $c:ident) => { $code.extend_from_slice(&[$byte, number_of($a), number_of($b)]) };
+    (types $code:ident $byte:literal $a:ident $b:ident $c:ident) => { append_types($code, $byte, $a, $b) };
     (jump $code:ident $byte:literal $a:ident $b:ident $c:ident) => { append_place($code, $byte, $a) };
     (repeat $code:ident $byte:literal $a:ident $b:ident $c:ident) => { append_count($code, $byte, $a, $b, $c) };
 }
@@ -28,7 +28,7 @@ macro_rules! append_by {
         match $op {
             $(instruction!($shape $name a b c) => append!($shape $code $byte a b c),)*
             // A return that always acts is an end.
-            Op::Return(Condition::Always) => $code.extend_from_slice(&[0x00]),
+            Op::Return(Condition::Always) => append_byte($code, 0x00),
         }
     };
 }
@@ -44,6 +44,14 @@ impl Op {
     {
         instructions!(append_by(self, code))
     }
+}
+
+/// A code byte alone.
+fn append_byte(code: &mut Vec<u8>, byte: u8) -> Result<(), AllocError>
+    ensures ok { OnOk result (code.new.items ≡ code.old.items ++ byte ∷ []) }
+    ensures err { OnErr result (code.new.items ≡ code.old.items) }
+{
+    code.extend_from_slice(&[byte])
 }
 
 /// A code byte, and the number of a variable or a tag, or an address.
@@ -68,6 +76,22 @@ fn append_count(
 {
     let [high, low] = to.to_be_bytes();
     code.extend_from_slice(&[byte, counter, limit, high, low])
+}
+
+/// A code byte, and 1 for TRUE or 0 for FALSE.
+fn append_truth(code: &mut Vec<u8>, byte: u8, truth: bool) -> Result<(), AllocError>
+    ensures ok { OnOk result (code.new.items ≡ code.old.items ++ byte ∷ byte_of truth ∷ []) }
+    ensures err { OnErr result (code.new.items ≡ code.old.items) }
+{
+    code.extend_from_slice(&[byte, truth as u8])
+}
+
+/// A code byte, and the numbers of two types.
+fn append_types(code: &mut Vec<u8>, byte: u8, from: IlType, to: IlType) -> Result<(), AllocError>
+    ensures ok { OnOk result (code.new.items ≡ code.old.items ++ byte ∷ code_of from ∷ code_of to ∷ []) }
+    ensures err { OnErr result (code.new.items ≡ code.old.items) }
+{
+    code.extend_from_slice(&[byte, number_of(from), number_of(to)])
 }
 
 /// A code byte, the number of a type, and a number in two's complement.

@@ -67,6 +67,15 @@ impl Deferred {
         Some(self.values[self.count])
     }
 
+    /// Takes the last two off, the last one first.
+    pub(crate) fn pop_two(&mut self) -> Option<(Value, Value)>
+        ensures { MatchOption result (length self.old < 2) (λ both. self.old ≡ both.0 ∷ both.1 ∷ self.new) }
+    {
+        let last = self.pop()?;
+        let before = self.pop()?;
+        Some((last, before))
+    }
+
     /// A value that was taken off since the last one was put on: 0 for the one that was taken last.
     pub(crate) fn taken(&self, number: usize) -> Option<Value> {
         let place = self.count.checked_add(number)?;

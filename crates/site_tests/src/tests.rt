@@ -1,16 +1,13 @@
 //! What the tests of sites share.
-mod fault_places;
-mod faults;
 mod files;
 mod memory;
-mod order;
 mod parts;
 mod raws;
 mod readings;
 mod wants;
 
 use model_defs::{ModelDef, read, shipped};
-use site_model::{Site, SiteFault};
+use site_model::Site;
 use std::alloc::Global;
 use std::fmt::{Debug, Display};
 use std::process::Abort;
@@ -62,9 +59,4 @@ pub(crate) fn edited(rt: &impl Abort, alloc: Global, text: &str, old: &str, new:
 
 pub(crate) fn site_of(rt: &impl Abort, alloc: Global, defs: &[ModelDef], text: &str) -> Site {
     Site::read(alloc, text, defs).expect(rt, "a site")
-}
-
-/// Why the text is no site file.
-pub(crate) fn fault_of(rt: &impl Abort, alloc: Global, defs: &[ModelDef], text: &str) -> SiteFault {
-    Site::read(alloc, text, defs).err().expect(rt, "a fault")
 }

@@ -5,7 +5,6 @@ mod full;
 mod images;
 mod listings;
 mod memory;
-mod notes;
 mod rows;
 mod site_links;
 mod values;

@@ -1,7 +1,7 @@
-//! Links in memory: to a plant or a gateway, and one that fails.
+//! Links in memory: to a plant, and one that fails.
 use commands::plant_of;
 use inverter_sim::{Plant, serve_link};
-use modbus_frame::{Down, Frame, Link, LinkFault, MemLink};
+use modbus_frame::{Down, Frame, Link, MemLink};
 use std::alloc::Global;
 use std::process::Abort;
 
@@ -9,45 +9,24 @@ use std::process::Abort;
 pub static PLANT: &str =
     "[[device]]\nunit = 1\nmodels = [1, 103, 123]\nwmax = 5000\navailable = [4000]\n[[device.value]]\nmodel = 103\npoint = \"W_SF\"\nraw = 0\n[[device.value]]\nmodel = 123\npoint = \"WMaxLimPct_SF\"\nraw = -1\n[[device]]\nunit = 2\nmodels = [1, 103, 123]\nwmax = 5000\navailable = [2500]\n[[device.value]]\nmodel = 103\npoint = \"W_SF\"\nraw = 0\n";
 
-/// What answers the frames of a link, to its end.
-pub trait Answers {
-    fn answer(&mut self, link: &mut MemLink) -> Result<u32, LinkFault>;
-}
-
-impl Answers for Plant {
-    fn answer(&mut self, link: &mut MemLink) -> Result<u32, LinkFault> {
-        serve_link(link, self)
-    }
-}
-
-/// A link in memory: each frame that is written is answered at once.
+/// A link to a plant in memory: each frame that is written is answered at once.
 #[derive(Drop)]
-pub struct AnsweredLink<A: Answers> {
+pub struct PlantLink {
     alloc: Global,
-    answers: A,
+    plant: Plant,
     replies: Vec<u8>,
     /// How many bytes of the replies were read.
     position: usize,
 }
 
-/// A link to a plant in memory.
-pub type PlantLink = AnsweredLink<Plant>;
-
-impl AnsweredLink<Plant> {
-    /// A link to the plant of a file, by definitions that are handed in.
-    pub fn new(rt: &(impl AllocGlobal + Abort), plant: &str, defs: &[String]) -> PlantLink {
-        let plant = plant_of(rt.alloc(), plant, defs).expect(rt, "memory");
-        AnsweredLink::to(rt.alloc(), plant.ok().expect(rt, "a plant"))
-    }
-}
-
-impl<A: Answers> AnsweredLink<A> {
-    /// A link to what answers.
-    pub fn to(alloc: Global, answers: A) -> AnsweredLink<A> {
-        AnsweredLink {
-            alloc,
-            answers,
-            replies: Vec::new(alloc),
+impl PlantLink {
+    /// A link to the plant of a file.
+    pub fn new(rt: &(impl AllocGlobal + Abort), plant: &str) -> PlantLink {
+        let plant = plant_of(rt.alloc(), plant, &[]).expect(rt, "memory");
+        PlantLink {
+            alloc: rt.alloc(),
+            plant: plant.ok().expect(rt, "a plant"),
+            replies: Vec::new(rt.alloc()),
             position: 0,
         }
     }
@@ -55,12 +34,12 @@ impl<A: Answers> AnsweredLink<A> {
     /// Has a frame answered.
     fn answer(&mut self, frame: &[u8]) -> Option<()> {
         let mut link = MemLink::new(self.alloc, frame, Frame::MAX_LEN, None).ok()?;
-        self.answers.answer(&mut link).ok()?;
+        serve_link(&mut link, &mut self.plant).ok()?;
         self.replies.extend_from_slice(link.sent()).ok()
     }
 }
 
-impl<A: Answers> Link for AnsweredLink<A> {
+impl Link for PlantLink {
     ghost use Rattle.std.specs.Prelude.{None};
     ghost use Rattle.modbus_frame.specs.Link.{untold};
 

@@ -1,9 +1,6 @@
 //! What goes to standard error, and that nothing comes of it where that fails.
-use crate::tests::files::SITE;
 use crate::tests::{assert_same, printed, texts};
 use command_line::obey;
-use commands::judge;
-use refusal_notes::Notes;
 use std::alloc::{Allocator, Global};
 use std::cell::Cell;
 use std::fmt::Display;
@@ -21,7 +18,7 @@ const LATIN: &[u8] = b"abc\xe9d";
 /// A runtime whose standard error keeps what is printed on it and counts the calls, and takes it or fails. Its standard
 /// input gives bytes that are no UTF-8.
 #[derive(Drop)]
-pub(crate) struct Screen {
+struct Screen {
     rt: HostRuntime,
     lines: Cell<u32>,
     shown: Cell<String>,
@@ -29,7 +26,7 @@ pub(crate) struct Screen {
 }
 
 impl Screen {
-    pub(crate) fn new(rt: &HostRuntime, broken: bool) -> Screen {
+    fn new(rt: &HostRuntime, broken: bool) -> Screen {
         Screen {
             rt: *rt,
             lines: Cell::new(0),
@@ -39,7 +36,7 @@ impl Screen {
     }
 
     /// What was printed so far.
-    pub(crate) fn shown(&self) -> String {
+    fn shown(&self) -> String {
         self.shown.replace(String::new(self.rt.alloc()))
     }
 }
@@ -184,51 +181,18 @@ impl Processes for Screen {
 const QUIET: &[(&[&str], u32)] = &[
     (&["sunsite", "check", "no/site.toml", "p"], 1),
     (&["sunsite", "check", "--quiet", "no/site.toml", "p"], 0),
-    (&["sunsite", "explain", "no/site.toml", "p"], 1),
-    (&["sunsite", "explain", "no/site.toml", "p", "--quiet"], 0),
-    (&["sunsite", "simulate", "no/plant.toml"], 1),
-    (&["sunsite", "simulate", "no/plant.toml", "--quiet"], 0),
-    (
-        &[
-            "sunsite",
-            "run",
-            "no/site.toml",
-            "p",
-            "--plant",
-            "q",
-            "--scans",
-            "1",
-        ],
-        1,
-    ),
-    (
-        &[
-            "sunsite",
-            "run",
-            "no/site.toml",
-            "p",
-            "--plant",
-            "q",
-            "--scans",
-            "1",
-            "--quiet",
-        ],
-        0,
-    ),
 ];
 
 #[test]
-fn a_quiet_command_explains_nothing(rt: HostRuntime) {
+fn nothing_comes_of_it_where_standard_error_fails(rt: HostRuntime) {
     for (words, times) in QUIET.iter() {
-        for broken in [false, true] {
-            let screen = Screen::new(&rt, broken);
-            let words = texts(&rt, words);
-            let (lines, status) = told(&screen, rt.alloc(), words.as_slice());
-            let lines = printed(&rt, lines);
-            assert_same(&rt, &status, &1);
-            assert_same(&rt, &lines.as_str().starts_with("refused: file no/"), &true);
-            assert_same(&rt, &screen.lines.get(), times);
-        }
+        let screen = Screen::new(&rt, true);
+        let words = texts(&rt, words);
+        let (lines, status) = told(&screen, rt.alloc(), words.as_slice());
+        let lines = printed(&rt, lines);
+        assert_same(&rt, &status, &1);
+        assert_same(&rt, &lines.as_str(), &"refused: file no/site.toml\n");
+        assert_same(&rt, &screen.lines.get(), times);
     }
 }
 
@@ -239,40 +203,8 @@ fn told(screen: &Screen, alloc: Global, words: &[String]) -> (Vec<u8>, u8) {
     (out, status)
 }
 
-/// Whether a command is quiet, and how often its refusal is explained.
-const NOTES: &[(bool, u32)] = &[(true, 0), (false, 1)];
-
-#[test]
-fn a_refusal_is_explained_once_unless_quiet(rt: HostRuntime) {
-    for (quiet, times) in NOTES.iter() {
-        let screen = Screen::new(&rt, true);
-        let mut out = Vec::new(rt.alloc());
-        let text = "PROGRAM p\nLD q\nEND_PROGRAM\n";
-        let (status, cause) = judge(rt.alloc(), SITE, text, &[], &mut out);
-        let notes = Notes::on_program(*quiet, "p.il", text);
-        notes.explain(&(&screen, rt.alloc()), &cause);
-        assert_same(&rt, &status, &1);
-        assert_same(&rt, &screen.lines.get(), times);
-    }
-}
-
 /// A file that can't be used, what is printed, and what is told on standard error.
 const UNUSABLE: &[(&str, &str, &str)] = &[
-    (
-        "no/site.toml",
-        "refused: file no/site.toml\n",
-        "no/site.toml: file: there is no such file\n  help: look for a slip in the path, which begins at the folder where you are\n",
-    ),
-    (
-        "/dev/null/site.toml",
-        "refused: file /dev/null/site.toml\n",
-        "/dev/null/site.toml: file: a part of its path is no folder\n  help: look for a slip in the path: what stands before a / has to be a folder\n",
-    ),
-    (
-        ".",
-        "refused: file .\n",
-        ".: file: it is a folder\n  help: name a file in it\n",
-    ),
     (
         "locked.toml",
         "refused: file locked.toml\n",
@@ -284,19 +216,9 @@ const UNUSABLE: &[(&str, &str, &str)] = &[
         "broken.toml: file: it can't be read to its end\n  help: look whether its disk or its connection works\n",
     ),
     (
-        "/dev/zero",
-        "refused: file /dev/zero\n",
-        "/dev/zero: file: it has more than 16,777,216 bytes\n  help: look whether the path is that of another file\n",
-    ),
-    (
         "-",
         "refused: file -\n",
         "-: file: the text isn't UTF-8\n  byte 4 of it isn't\n  help: save it as UTF-8\n",
-    ),
-    (
-        "no/a\nb",
-        "refused: file no/a\\u{a}b\n",
-        "no/a\\u{a}b: file: there is no such file\n  help: look for a slip in the path, which begins at the folder where you are\n",
     ),
 ];
 

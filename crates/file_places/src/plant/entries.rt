@@ -26,15 +26,14 @@ pub(super) fn value_name(device: usize, value: usize) -> EntryName<'static> {
     EntryName::Inner("[[device.value]]", value, "[[device]]", device)
 }
 
-/// What breaks the rule in one of the values of a device.
+/// What breaks the rule in a value of a device behind those before it.
 pub(super) fn value_finding<'a>(
-    values: &'a [Value],
+    before: &[Value],
+    entry: &'a Value,
     defs: &'a [ModelDef],
     device: usize,
-    number: usize,
     fault: PlantFault,
 ) -> Option<Finding<'a>> {
-    let entry = values.get(number)?;
     match fault {
         PlantFault::MissingKey => first_broken(entry, &VALUE_KEYS, &[]),
         PlantFault::UnknownModel => Some(Finding::at(
@@ -47,7 +46,7 @@ pub(super) fn value_finding<'a>(
             Some(finding.meaning(nearest_point(entry, defs)))
         }
         PlantFault::BadRange => Some(unfit_raw(entry, defs)),
-        PlantFault::Duplicate => Some(known_value(values.get(..number)?, device, entry)),
+        PlantFault::Duplicate => Some(known_value(before, device, entry)),
         _ => None,
     }
 }

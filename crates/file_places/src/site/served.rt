@@ -17,11 +17,11 @@ static GIVEN: [KeyRule; 3] = [
     ("sum", Kind::Texts),
 ];
 
-/// What breaks the rule in the entry of a number.
+/// What breaks the rule in an entry behind those before it.
 pub(super) fn served_finding<'a>(
     file: &'a Value,
     defs: &'a [ModelDef],
-    number: usize,
+    before: &[Value],
     entry: &'a Value,
     fault: SiteFault,
 ) -> Option<Finding<'a>> {
@@ -38,7 +38,7 @@ pub(super) fn served_finding<'a>(
         }
         SiteFault::BadRange => Some(unfit(entry, point_at(entry, defs))),
         SiteFault::BadType => Some(unlike_point(file, entry)),
-        SiteFault::Duplicate => Some(known_point(file, number, entry)),
+        SiteFault::Duplicate => Some(known_point(file, before, entry)),
         _ => None,
     }
 }
@@ -99,12 +99,20 @@ fn unlike_point<'a>(file: &'a Value, entry: &'a Value) -> Finding<'a> {
         return finding.helped("keep one of the three");
     }
     if has(entry, "value") {
-        let finding = Finding::at(entry, "value", "is for points that have a number");
-        return finding.helped("write a text for a point of kind string; a pad has nothing");
+        return Finding::advised(
+            entry,
+            "value",
+            "is for points that have a number",
+            "write a text for a point of kind string; a pad has nothing",
+        );
     }
     if has(entry, "text") {
-        let finding = Finding::at(entry, "text", "is for points of kind string");
-        return finding.helped("write a value, or a sum of tags");
+        return Finding::advised(
+            entry,
+            "text",
+            "is for points of kind string",
+            "write a value, or a sum of tags",
+        );
     }
     match unlike_part(file, entry) {
         Some(finding) => finding,
@@ -182,21 +190,23 @@ fn input_name(tag: &Value) -> Option<&str> {
 }
 
 /// The point that has a value already, or that the gateway has itself.
-fn known_point<'a>(file: &'a Value, number: usize, entry: &'a Value) -> Finding<'a> {
-    match user_of(file, number, entry) {
+fn known_point<'a>(file: &'a Value, before: &[Value], entry: &'a Value) -> Finding<'a> {
+    match user_of(file, before, entry) {
         Some(other) => {
             let rule = Rule::Repeats("is the point of", other);
             Finding::by("point", stands_at(entry, "point"), rule)
         }
-        None => Finding::at(entry, "point", "is the ID or the length of a model").helped(
+        None => Finding::advised(
+            entry,
+            "point",
+            "is the ID or the length of a model",
             "take the entry away: the gateway has these two itself",
         ),
     }
 }
 
 /// The entry before, or the tag, that gives the point its value.
-fn user_of<'a>(file: &'a Value, number: usize, entry: &Value) -> Option<EntryName<'a>> {
-    let before = section_at(file, "served")?.get(..number)?;
+fn user_of<'a>(file: &'a Value, before: &[Value], entry: &Value) -> Option<EntryName<'a>> {
     for (place, other) in before.iter().enumerate() {
         if is_on_point(other, entry) {
             return Some(EntryName::Numbered("[[served]]", place.saturating_add(1)));

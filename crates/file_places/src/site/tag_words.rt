@@ -17,7 +17,10 @@ const TYPES: &[&str] = &[
 /// The word that isn't allowed, or the key that doesn't go with the others.
 pub(super) fn bad_word(entry: &Value) -> Finding<'_> {
     if !is_name(entry) {
-        return Finding::at(entry, "name", "is no name of a tag").helped(
+        return Finding::advised(
+            entry,
+            "name",
+            "is no name of a tag",
             "write it in lower case, with letters, digits and single underscores, 32 at most; it is no word of Instruction List and doesn't end in _ok",
         );
     }
@@ -47,24 +50,50 @@ fn meant(entry: &Value, key: &str, words: &[&'static str]) -> Option<&'static st
 
 /// The key that doesn't go with the others.
 fn unlike_others(entry: &Value) -> Finding<'_> {
-    let is_input = matches!(access(entry), Some(Access::Input));
-    if !is_of_device(entry) && entry.get("device").is_some() {
-        let finding = Finding::at(entry, "device", "is for tags on devices, in and out");
-        return finding.helped("take the key away: a tag set or site is on the gateway");
+    if has(entry, "device") && !is_of_device(entry) {
+        return Finding::advised(
+            entry,
+            "device",
+            "is for tags on devices, in and out",
+            "take the key away: a tag set or site is on the gateway",
+        );
     }
-    if entry.get("bit").is_some() && !(is_input && matches!(kind(entry), Some(IlType::Bool))) {
-        let finding = Finding::at(entry, "bit", "is for tags in of type BOOL");
-        return finding.helped("take the key away, or write access in and type BOOL");
+    if has(entry, "bit") && !may_have_bit(entry) {
+        return Finding::advised(
+            entry,
+            "bit",
+            "is for tags in of type BOOL",
+            "take the key away, or write access in and type BOOL",
+        );
     }
-    if entry.get("round").is_some() && !is_rounding(entry, is_input) {
-        let finding = Finding::at(entry, "round", "may be down, for tags in without a bit");
-        return finding.helped("write \"down\", or take the key away");
+    if has(entry, "round") && !is_rounding(entry) {
+        return Finding::advised(
+            entry,
+            "round",
+            "may be down, for tags in without a bit",
+            "write \"down\", or take the key away",
+        );
     }
-    Finding::at(entry, "point", "is of a kind that such a tag can't have").helped(
+    Finding::advised(
+        entry,
+        "point",
+        "is of a kind that such a tag can't have",
         "take a point that has a number; a scale factor is for in and out, and a bit for bitfields",
     )
 }
 
-fn is_rounding(entry: &Value, is_input: bool) -> bool {
-    is_input && entry.get("bit").is_none() && text_at(entry, "round") == Some("down")
+fn has(entry: &Value, key: &str) -> bool {
+    entry.get(key).is_some()
+}
+
+fn may_have_bit(entry: &Value) -> bool {
+    is_input(entry) && matches!(kind(entry), Some(IlType::Bool))
+}
+
+fn is_input(entry: &Value) -> bool {
+    matches!(access(entry), Some(Access::Input))
+}
+
+fn is_rounding(entry: &Value) -> bool {
+    is_input(entry) && !has(entry, "bit") && text_at(entry, "round") == Some("down")
 }

@@ -3,7 +3,7 @@ use super::named::{nearest_entry, nearest_point, point_at};
 use super::tag_words::bad_word;
 use crate::finding::{EntryName, Finding, KeyRule, Kind, Rule, Stands, named_entry, stands_at};
 use crate::looking::{first_alike, first_broken, first_outside, is_alike};
-use file_keys::{number_at, section_at, text_at};
+use file_keys::{number_at, text_at};
 use model_defs::ModelDef;
 use point_types::IlType;
 use site_model::rules::{access_of, is_polled, is_same_side, last_bit, type_of};
@@ -30,11 +30,11 @@ static OPTIONAL: [KeyRule; 4] = [
 
 static EXPONENT: [(&str, i64, i64); 1] = [("exponent", -10, 10)];
 
-/// What breaks the rule in the tag of a number.
+/// What breaks the rule in a tag behind those before it.
 pub(super) fn tag_finding<'a>(
     file: &'a Value,
     defs: &'a [ModelDef],
-    number: usize,
+    before: &'a [Value],
     entry: &'a Value,
     fault: SiteFault,
 ) -> Option<Finding<'a>> {
@@ -49,7 +49,7 @@ pub(super) fn tag_finding<'a>(
         SiteFault::NotWritable => Some(Finding::at(entry, "point", "can't be written")),
         SiteFault::BadRange => Some(outside(entry, defs)),
         SiteFault::BadType => Some(bad_word(entry)),
-        SiteFault::Duplicate => { Some(known_tag(section_at(file, "tag")?.get(..number)?, entry)) }
+        SiteFault::Duplicate => Some(known_tag(before, entry)),
         _ => None,
     }
 }
@@ -166,7 +166,10 @@ fn known_tag<'a>(before: &'a [Value], entry: &'a Value) -> Finding<'a> {
             let rule = Rule::Repeats("is the point of", other);
             Finding::by("point", stands_at(entry, "point"), rule)
         }
-        None => Finding::at(entry, "point", "is the ID or the length of a model").helped(
+        None => Finding::advised(
+            entry,
+            "point",
+            "is the ID or the length of a model",
             "take another point: the gateway has these two itself",
         ),
     }

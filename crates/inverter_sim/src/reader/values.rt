@@ -57,6 +57,7 @@ pub(super) fn give_values(
     Ok(())
 }
 
+/// Gives a point the value that an entry names.
 fn give_value(
     models: &[&ModelDef],
     registers: &mut Vec<u16>,
@@ -71,9 +72,27 @@ fn give_value(
     ensures len { length registers.new.items ≡ length registers.old.items }
     ensures more { OnOk result (length seen.new.items ≡ length seen.old.items + 1) }
 {
-    let Some(keys) = value_keys(entry) else {
-        return Err(PlantFault::MissingKey);
-    };
+    match value_keys(entry) {
+        Some(keys) => give_by(models, registers, seen, keys),
+        None => Err(PlantFault::MissingKey),
+    }
+}
+
+/// Gives a point the value that the keys of an entry name.
+fn give_by(
+    models: &[&ModelDef],
+    registers: &mut Vec<u16>,
+    seen: &mut Vec<usize>,
+    keys: ValueKeys<'_>,
+) -> Result<(), PlantFault>
+    requires { map_length (models_view models.now) ≤ 65536 }
+    ensures value { MatchResult result
+        (λ _. valued_by (models_view models.now) (record { registers = registers.old.items; seen = seen.old.items }) (value_keys_view keys.entry)
+        ≡ Ok (record { registers = registers.new.items; seen = seen.new.items }))
+        (λ e. e ≢ fault.OutOfMemory → valued_by (models_view models.now) (record { registers = registers.old.items; seen = seen.old.items }) (value_keys_view keys.entry) ≡ Err e) }
+    ensures len { length registers.new.items ≡ length registers.old.items }
+    ensures more { OnOk result (length seen.new.items ≡ length seen.old.items + 1) }
+{
     let Some(found) = locate(models, keys.model, keys.model) else {
         return Err(PlantFault::UnknownModel);
     };
@@ -84,11 +103,31 @@ fn give_value(
         return Err(PlantFault::BadRange);
     };
     let at = found.at as usize + point.offset as usize;
+    give_at(registers, seen, at, point.kind.size(), number)
+}
+
+/// Stores a number in the registers from a place on, where none was given before.
+fn give_at(
+    registers: &mut Vec<u16>,
+    seen: &mut Vec<usize>,
+    at: usize,
+    size: usize,
+    number: u64,
+) -> Result<(), PlantFault>
+    requires at { at + 4 < 2 ^ 64 }
+    requires size { (size ≡ 1) ⊎ (size ≡ 2) ⊎ (size ≡ 4) }
+    ensures value { MatchResult result
+        (λ _. valued_at (record { registers = registers.old.items; seen = seen.old.items }) at (split size number)
+        ≡ Ok (record { registers = registers.new.items; seen = seen.new.items }))
+        (λ e. e ≢ fault.OutOfMemory → valued_at (record { registers = registers.old.items; seen = seen.old.items }) at (split size number) ≡ Err e) }
+    ensures len { length registers.new.items ≡ length registers.old.items }
+    ensures more { OnOk result (length seen.new.items ≡ length seen.old.items + 1) }
+{
     if is_seen(seen, at) {
         return Err(PlantFault::Duplicate);
     }
     seen.push(at)?;
-    store_number(registers, at, point.kind.size(), number);
+    store_number(registers, at, size, number);
     Ok(())
 }
 

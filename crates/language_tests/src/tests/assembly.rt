@@ -1,8 +1,6 @@
 //! Programs and their images.
 
-use crate::tests::{
-    assert_prints, assert_same, assert_same_at, assert_true_at, joined, program_of,
-};
+use crate::tests::{assert_prints, assert_same, assert_true_at, program_of};
 use il_assemble::{AsmFault, AsmFaultKind, assemble};
 use il_reader::Program;
 use scan_code::Image;
@@ -79,12 +77,6 @@ pub(crate) fn outcome_of(alloc: Global, tree: &Program) -> Result<usize, (u32, A
     }
 }
 
-/// The same of a text.
-fn outcome_in(rt: &impl Abort, alloc: Global, text: &str) -> Result<usize, (u32, AsmFaultKind)> {
-    let tree = program_of(rt, alloc, text);
-    outcome_of(alloc, &tree)
-}
-
 fn is_image(image: &Image, version: u8, tags: usize, code: &[u8]) -> bool {
     image.version == version && image.tags.len() == tags && image.code.as_slice() == code
 }
@@ -124,108 +116,6 @@ fn images_have_their_sizes(rt: HostRuntime) {
     for (text, version, size) in &SIZES {
         let found = size_of(&rt, rt.alloc(), text);
         assert_same(&rt, &found, &(*size, Some(*version)));
-    }
-}
-
-/// Lines, and the first static fault of the program with them from line 2 on.
-static FAULTS: [(&str, u32, AsmFaultKind); 11] = [
-    ("LD q", 2, AsmFaultKind::UnknownName),
-    ("ST w_ok", 2, AsmFaultKind::UnknownName),
-    ("JMP q", 2, AsmFaultKind::UnknownLabel),
-    ("l:\nJMP l", 3, AsmFaultKind::BackwardJump),
-    ("{LOOP 2} JMP f\nf:", 2, AsmFaultKind::ForwardLoop),
-    ("LD w\nST w", 3, AsmFaultKind::LoadAndStore),
-    ("LD 1\nST w\nLD w", 4, AsmFaultKind::LoadAndStore),
-    ("LD 1\nST w\nLD w_ok", 4, AsmFaultKind::LoadAndStore),
-    ("LIMIT 4000000000, q", 2, AsmFaultKind::UnknownName),
-    ("LD b\nAND 1", 3, AsmFaultKind::LiteralType),
-    ("LD 32768\nST a", 2, AsmFaultKind::LiteralType),
-];
-
-const HEAD: &str = "PROGRAM p VAR b : BOOL; a : INT; END_VAR VAR_EXTERNAL w : INT; END_VAR\n";
-
-#[test]
-fn static_faults_have_their_lines(rt: HostRuntime) {
-    for (lines, line, kind) in &FAULTS {
-        let text = joined(&rt, rt.alloc(), HEAD, lines);
-        let text = joined(&rt, rt.alloc(), text.as_str(), "\nEND_PROGRAM");
-        let found = outcome_in(&rt, rt.alloc(), text.as_str());
-        assert_same_at(&rt, &found, &Err((*line, *kind)), lines);
-    }
-}
-
-/// A text with this line so many times behind it.
-fn repeated(rt: &impl Abort, mut text: String, count: u32, line: &str) -> String {
-    for _ in 0..count {
-        text.push_str(line).expect(rt, "memory");
-    }
-    text
-}
-
-/// The head and a line, then another line so many times, and the end's line.
-fn lines_of(rt: &impl Abort, alloc: Global, first: &str, line: &str, count: u32) -> String {
-    let text = joined(rt, alloc, HEAD, first);
-    let text = repeated(rt, text, count, line);
-    joined(rt, alloc, text.as_str(), "END_PROGRAM")
-}
-
-/// A line that stands behind another one so many times, and how many bytes of code that is, or its fault.
-type Repeated = (
-    &'static str,
-    &'static str,
-    u32,
-    Result<usize, (u32, AsmFaultKind)>,
-);
-
-/// As much code as there can be, and as many counted jumps.
-static REPEATED: [Repeated; 4] = [
-    ("", "LD a\n", 21844, Ok(65533)),
-    ("", "LD a\n", 21845, Err((21847, AsmFaultKind::TooLong))),
-    ("l:\n", "{LOOP 1} JMP l\n", 256, Ok(1281)),
-    (
-        "l:\n",
-        "{LOOP 1} JMP l\n",
-        257,
-        Err((259, AsmFaultKind::TooLong)),
-    ),
-];
-
-#[test]
-fn code_and_counted_jumps_have_their_limits(rt: HostRuntime) {
-    for (first, line, count, wanted) in &REPEATED {
-        let text = lines_of(&rt, rt.alloc(), first, line, *count);
-        let found = outcome_in(&rt, rt.alloc(), text.as_str());
-        assert_same(&rt, &found, wanted);
-    }
-}
-
-/// So many lines of 24 bytes of code, so many of 3, what stands behind them, and the line whose code passes the limit:
-/// inside parentheses that of the inner instruction, and for the operator behind them that of their beginning.
-static PASSING: [(u32, u32, &str, u32); 7] = [
-    (0, 21840, "ADD( a\nLD a\nLD a\nLD a\nLD a\n)\n", 21847),
-    (0, 21842, "ADD( a\nLD a\nLD a\nLD a\nLD a\n)\n", 21847),
-    (2730, 4, "ADD( a\nLD a\n)\n", 2737),
-    (2730, 4, "ADD(\nLD a\n)\n", 2738),
-    (2730, 2, "ADD( a\nLD a\nNOT\nNOT\n)\n", 2735),
-    (2730, 0, "ADD( a\nSUB( a\nLD a\nLD a\n)\nLD a\n)\n", 2738),
-    (2730, 0, "ADD( a\nSUB( a\nLD a\nLD a\nNOT\n)\n)\n", 2734),
-];
-
-/// PROGRAM and VAR in lines 1 and 2, from line 3 on so many LIMITs and so many loads, and these lines.
-fn filled(rt: &impl Abort, alloc: Global, limits: u32, loads: u32, lines: &str) -> String {
-    let text = joined(rt, alloc, "PROGRAM p\nVAR a : INT; END_VAR\n", "");
-    let text = repeated(rt, text, limits, "LIMIT 1, 2\n");
-    let text = repeated(rt, text, loads, "LD a\n");
-    let text = joined(rt, alloc, text.as_str(), lines);
-    joined(rt, alloc, text.as_str(), "END_PROGRAM")
-}
-
-#[test]
-fn the_line_that_passes_the_limit(rt: HostRuntime) {
-    for (limits, loads, lines, line) in &PASSING {
-        let text = filled(&rt, rt.alloc(), *limits, *loads, lines);
-        let found = outcome_in(&rt, rt.alloc(), text.as_str());
-        assert_same_at(&rt, &found, &Err((*line, AsmFaultKind::TooLong)), lines);
     }
 }
 

@@ -3,9 +3,8 @@
 use crate::tests::seen::{
     Line, Spelled, Want, action_at, has_lines, inner_of, simple_operands, simple_spelling,
 };
-use crate::tests::{assert_same, assert_true, fault_of, joined, program_of};
-use il_reader::{Action, InnerLine, Program, ReadFaultKind, Simple};
-use std::alloc::Global;
+use crate::tests::{assert_same, assert_true, program_of};
+use il_reader::{Action, InnerLine, Program, Simple};
 use std::process::Abort;
 
 const NESTED: &str =
@@ -84,51 +83,4 @@ fn assert_inner(rt: &impl Abort, inner: &[InnerLine]) {
 fn reads_inner_parentheses(rt: HostRuntime) {
     let program = program_of(&rt, rt.alloc(), NESTED);
     assert_inner(&rt, inner_of(simple_at(&rt, &program, 1)));
-}
-
-/// LD 1 in line 2, and this many parentheses that stand open.
-fn opened(rt: &impl Abort, alloc: Global, depth: u32) -> String {
-    let mut text = joined(rt, alloc, "PROGRAM p\n", "LD 1\n");
-    for _ in 0..depth {
-        text.push_str("ADD( 1\n").expect(rt, "memory");
-    }
-    text
-}
-
-/// The same, closed again, and ST y.
-fn closed(rt: &impl Abort, alloc: Global, depth: u32) -> String {
-    let mut text = opened(rt, alloc, depth);
-    for _ in 0..depth {
-        text.push_str(")\n").expect(rt, "memory");
-    }
-    joined(rt, alloc, text.as_str(), "ST y\nEND_PROGRAM\n")
-}
-
-static CLOSED: [Line; 3] = [
-    (2, "", ("LD", "")),
-    (3, "", ("ADD", "(")),
-    (203, "", ("ST", "")),
-];
-
-#[test]
-fn keeps_to_the_depth_of_parentheses(rt: HostRuntime) {
-    for (depth, kind, line) in [
-        (101, ReadFaultKind::TooLong, 103),
-        (100, ReadFaultKind::Parenthesis, 102),
-    ] {
-        let text = opened(&rt, rt.alloc(), depth);
-        assert_same(
-            &rt,
-            &fault_of(rt.alloc(), text.as_str()),
-            &Some((kind, line)),
-        );
-    }
-}
-
-#[test]
-fn reads_a_hundred_parentheses(rt: HostRuntime) {
-    let text = closed(&rt, rt.alloc(), 100);
-    let program = program_of(&rt, rt.alloc(), text.as_str());
-    assert_same(&rt, &program.end_line, &204);
-    has_lines(&rt, &program, &CLOSED);
 }

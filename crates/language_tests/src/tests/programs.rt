@@ -2,10 +2,9 @@
 
 use crate::tests::seen::{Instruction, Line, Want, action_at, has_lines, instructs, turns};
 use crate::tests::{
-    assert_prints, assert_same, assert_same_at, assert_true, assert_true_at, fault_of, joined,
-    program_of, refuses,
+    assert_prints, assert_same, assert_same_at, assert_true, assert_true_at, program_of,
 };
-use il_reader::{Program, ReadFault, ReadFaultKind, Variable as Declared};
+use il_reader::{Program, ReadFault, ReadFaultKind, Variable as Declared, read};
 use point_types::IlType;
 use std::alloc::Global;
 use std::process::Abort;
@@ -299,6 +298,14 @@ hold:
 END_PROGRAM
 "#;
 
+/// Why a text is no program, and its line.
+fn fault_of(alloc: Global, text: &str) -> Option<(ReadFaultKind, u32)> {
+    match read(alloc, text) {
+        Ok(_) => None,
+        Err(fault) => Some((fault.kind, fault.line)),
+    }
+}
+
 /// A text is refused for what it says.
 fn assert_refused(rt: &impl Abort, fault: Option<(ReadFaultKind, u32)>) {
     let (kind, _) = fault.expect(rt, "a fault");
@@ -318,26 +325,6 @@ fn refuses_each_front_of_a_program_that_lacks_its_last_letter(rt: HostRuntime) {
     assert_same(&rt, &longest, &Some((ReadFaultKind::Header, 23)));
 }
 
-/// A program, and blanks behind it up to this size.
-fn sized(rt: &impl Abort, alloc: Global, size: usize) -> String {
-    let mut text = joined(rt, alloc, "PROGRAM p END_PROGRAM", "\n");
-    for _ in 22..size {
-        text.push_str(" ").expect(rt, "memory");
-    }
-    text
-}
-
-#[test]
-fn keeps_to_the_size_of_a_text(rt: HostRuntime) {
-    for (size, wanted) in [
-        (1_048_576, None),
-        (1_048_577, Some((ReadFaultKind::TooLong, 1))),
-    ] {
-        let text = sized(&rt, rt.alloc(), size);
-        assert_same(&rt, &fault_of(rt.alloc(), text.as_str()), &wanted);
-    }
-}
-
 #[test]
 fn prints_faults(rt: HostRuntime) {
     let fault = ReadFault {
@@ -345,58 +332,4 @@ fn prints_faults(rt: HostRuntime) {
         kind: ReadFaultKind::TooLong,
     };
     assert_prints(&rt, rt.alloc(), &fault, "TooLong line 1");
-}
-
-/// The text, and behind it 1,023 names that begin with this word.
-fn named(rt: &impl Abort, alloc: Global, text: &str, word: &str) -> String {
-    let mut text = joined(rt, alloc, text, "");
-    for i in 1..1024 {
-        let name = format!(in alloc; "{word}{i}").expect(rt, "memory");
-        text.push_str(name.as_str()).expect(rt, "memory");
-    }
-    text
-}
-
-/// A program's text with 1,024 variables, that goes on in their declaration.
-fn of_variables(rt: &impl Abort, alloc: Global) -> String {
-    named(rt, alloc, "PROGRAM p VAR v", ",\nv")
-}
-
-/// A program's text with as many externals as well, that goes on in their declaration.
-fn of_externals(rt: &impl Abort, alloc: Global) -> String {
-    let text = of_variables(rt, alloc);
-    let text = joined(rt, alloc, text.as_str(), ": INT; END_VAR VAR_EXTERNAL e");
-    named(rt, alloc, text.as_str(), ",e")
-}
-
-static MANY_VARIABLES: [(&str, &str, u32); 3] = [
-    (",\nb : INT;", "TooLong", 1024),
-    (": INT; b : INT;", "TooLong", 1024),
-    (": INT;\n\nv1 : INT;", "TooLong", 1026),
-];
-
-static MANY_EXTERNALS: [(&str, &str, u32); 1] = [(",\nb : INT;", "TooLong", 1024)];
-
-#[test]
-fn keeps_to_the_number_of_variables(rt: HostRuntime) {
-    let text = of_variables(&rt, rt.alloc());
-    refuses(&rt, rt.alloc(), text.as_str(), &MANY_VARIABLES);
-}
-
-#[test]
-fn keeps_to_the_number_of_externals(rt: HostRuntime) {
-    let text = of_externals(&rt, rt.alloc());
-    refuses(&rt, rt.alloc(), text.as_str(), &MANY_EXTERNALS);
-}
-
-#[test]
-fn reads_as_many_names_as_there_may_be(rt: HostRuntime) {
-    let text = of_externals(&rt, rt.alloc());
-    let text = joined(&rt, rt.alloc(), text.as_str(), ": INT; END_VAR END_PROGRAM");
-    let program = program_of(&rt, rt.alloc(), text.as_str());
-    assert_same(
-        &rt,
-        &(program.variables.len(), program.externals.len()),
-        &(1024, 1024),
-    );
 }

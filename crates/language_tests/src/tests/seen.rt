@@ -1,6 +1,6 @@
 //! What these tests look at in the tree of a program.
 
-use crate::tests::{assert_same, assert_true_at, joined, program_of};
+use crate::tests::{assert_same, assert_true_at, program_of};
 use il_reader::{Action, InnerLine, Operand, Program, Simple, Statement};
 use point_types::{Condition, IlType, Operator};
 use std::alloc::Global;
@@ -174,8 +174,7 @@ pub(crate) type Instruction = (&'static str, Spelled, Want, Want);
 pub(crate) fn instructs(rt: &impl Abort, alloc: Global, wanted: &[Instruction]) {
     for row in wanted {
         let text = row.0;
-        let head = joined(rt, alloc, "PROGRAM p\n", text);
-        let whole = joined(rt, alloc, head.as_str(), "\nEND_PROGRAM");
+        let whole = format!(in alloc; "PROGRAM p\n{text}\nEND_PROGRAM").expect(rt, "memory");
         let program = program_of(rt, alloc, whole.as_str());
         let is_wanted = is_instruction(action_at(rt, &program, 0), row);
         assert_true_at(rt, is_wanted, &text);

@@ -1,7 +1,8 @@
 //! What a trial's instructions load from and store to.
-ghost use Rattle.std.specs.Prelude.{◌≡◌, slice_get};
+ghost use Rattle.std.specs.Prelude.{◌≡◌, Some, slice_get};
 ghost use Rattle.point_types.specs.Value.{is_within};
-ghost use Rattle.scan_code.specs.Table.{input_kind, output_kind};
+ghost use Rattle.scan_code.specs.Table.{input_kind, output_kind, read_value};
+ghost use Rattle.scan_vm.specs.Outcome.{told};
 
 use super::{Execution, Flow};
 use crate::trap::TrapKind;
@@ -58,13 +59,7 @@ impl Execution {
         let Some(kind) = input_kind(image, t) else {
             return Err(TrapKind::Code);
         };
-        match inputs.get(t as usize) {
-            Some(Reading::Value(n)) | Some(Reading::Default(n, _)) => {
-                Ok(self.advance(next, Value::new(kind, *n)))
-            }
-            Some(Reading::Absent(_)) => Err(TrapKind::MissingPoint),
-            None => Err(TrapKind::WrongType),
-        }
+        self.advance_by(next, read_value(kind, inputs, t))
     }
 
     /// LDP: whether the input has a value of its own.
@@ -255,11 +250,18 @@ impl Execution {
         if value.kind() != kind {
             return Err(TrapKind::WrongType);
         }
+        self.write_output(t, value.number(), next);
+        Ok(Flow::Next)
+    }
+
+    /// The next instruction follows, with this number in an output.
+    fn write_output(&mut self, t: u16, number: i64, next: usize)
+        ensures { self.new ≡ record self.old { address = next; outputs = slice_set self.old.outputs t (Some number) } }
+    {
         if let Some(place) = self.outputs.get_mut(t as usize) {
-            *place = Some(value.number());
+            *place = Some(number);
         }
         self.address = next;
-        Ok(Flow::Next)
     }
 
     /// Whether S or R acts on a place of this type: where the result is TRUE, both being BOOL.
@@ -281,6 +283,17 @@ fn declaration(image: &Image, v: u16) -> Option<Var>
     ensures { result ≡ slice_get image.now.vars v }
 {
     image.vars.as_slice().get(v as usize).copied()
+}
+
+/// What an input gives a program: its reading, as a value of the input's type.
+fn read_value(kind: IlType, inputs: &[Reading], t: u16) -> Result<Value, TrapKind>
+    ensures { result ≡ told (read_value (Some kind) (slice_get inputs.now t)) }
+{
+    match inputs.get(t as usize) {
+        Some(Reading::Value(n)) | Some(Reading::Default(n, _)) => Ok(Value::new(kind, *n)),
+        Some(Reading::Absent(_)) => Err(TrapKind::MissingPoint),
+        None => Err(TrapKind::WrongType),
+    }
 }
 
 /// Whether a number lies in a variable's declared range.

@@ -30,3 +30,16 @@ fn a_site_reads(rt: HostRuntime) {
         assert_reads(&rt, rt.alloc(), &defs);
     }
 }
+
+/// A place that gets no memory is none; the fault stays.
+#[test]
+fn a_site_is_refused(rt: HostRuntime) {
+    let Some(defs) = given_definitions(rt.alloc()) else {
+        return;
+    };
+    let text = "[gateway]\nunit = 300\nmodels = [1]\n";
+    if let Some(refused) = Site::read_placed(rt.alloc(), text, &defs).err() {
+        let is_memory = refused.fault == SiteFault::OutOfMemory;
+        assert_true(&rt, is_memory || refused.fault == SiteFault::BadRange);
+    }
+}

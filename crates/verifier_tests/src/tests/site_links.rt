@@ -6,7 +6,6 @@ use scan_code::Tag;
 use site_model::{Access, SiteTag};
 use std::alloc::Global;
 use std::process::Abort;
-use verifier::refusal::{Refusal, RefusalKind, RefusedAt};
 use verifier::tag_link::{TagLink, links};
 use worked_texts::images::tags;
 use worked_texts::programs::DeclaredTag;
@@ -56,44 +55,4 @@ fn finds_the_tags_of_a_site(rt: HostRuntime) {
     let tags = image_tags(&rt, rt.alloc(), LINKED);
     let found = links(rt.alloc(), &site, tags.as_slice()).expect(&rt, "links");
     assert_numbers(&rt, found.as_slice());
-}
-
-const UNKNOWN: DeclaredTag = ("nope", false, IlType::Int);
-
-const LIMIT: DeclaredTag = ("lim1", true, IlType::Dint);
-
-/// Two tags, and which of them is refused for what.
-static REFUSED: [(&[DeclaredTag], usize, RefusalKind); 4] = [
-    (&[LIMIT, UNKNOWN], 1, RefusalKind::TagUnknown),
-    // a narrower type than the site's
-    (
-        &[("target", false, IlType::Int), UNKNOWN],
-        0,
-        RefusalKind::TagType,
-    ),
-    // an input that is stored, and a tag that is shown and loaded
-    (
-        &[("inv1_w", true, IlType::Dint), UNKNOWN],
-        0,
-        RefusalKind::TagAccess,
-    ),
-    (
-        &[LIMIT, ("shown", false, IlType::Dint)],
-        1,
-        RefusalKind::TagAccess,
-    ),
-];
-
-#[test]
-fn refuses_tags_that_are_not_the_sites(rt: HostRuntime) {
-    let site = site_tags(&rt, rt.alloc());
-    for (rows, at, kind) in &REFUSED {
-        let tags = image_tags(&rt, rt.alloc(), rows);
-        let refusal = links(rt.alloc(), &site, tags.as_slice()).err();
-        let wanted = Refusal {
-            at: RefusedAt::Tag(*at),
-            kind: *kind,
-        };
-        assert_same(&rt, &refusal, &Some(wanted));
-    }
 }

@@ -15,7 +15,7 @@ use verifier::refusal::{Refusal, RefusalKind};
 use verifier::tag_link::{links, ranges};
 use verifier::verified::Verified;
 use verifier::verify::verify;
-use worked_texts::images::{image, image_of_code, variable};
+use worked_texts::images::{image, variable};
 use worked_texts::programs::Program;
 use worked_texts::sites::{SITE, site_of};
 
@@ -157,71 +157,6 @@ fn judge_programs(rt: &impl Abort, alloc: Global, site: &Site) {
 #[test]
 fn judges_programs_by_both_kinds_of_facts(rt: HostRuntime) {
     judge_programs(&rt, rt.alloc(), &site(&rt, rt.alloc()));
-}
-
-/// So many jumps back to themselves, each at most 255 times.
-fn loops(rt: &impl Abort, alloc: Global, count: u16) -> Image {
-    let mut code = Vec::new(alloc);
-    for k in 0..count {
-        let [_, counter] = k.to_be_bytes();
-        let [high, low] = k.wrapping_mul(5).to_be_bytes();
-        let jump = [0x26, counter, 255, high, low];
-        code.extend_from_slice(&jump).expect(rt, "memory");
-    }
-    code.push(0).expect(rt, "memory");
-    image_of_code(alloc, 2, code).expect(rt, "an image")
-}
-
-static LOOPS: [(u16, Verdict); 2] = [(62, Ok(996_093)), (63, Err((RefusalKind::OverBudget, 0)))];
-
-fn judge_loops(rt: &impl Abort, alloc: Global, site: &Site) {
-    for (count, wanted) in &LOOPS {
-        assert_verdict::<32>(rt, alloc, loops(rt, alloc, *count), site, wanted);
-    }
-}
-
-#[test]
-fn bounds_steps(rt: HostRuntime) {
-    judge_loops(&rt, rt.alloc(), &site(&rt, rt.alloc()));
-}
-
-/// These bytes, so many times.
-fn repeat(rt: &impl Abort, code: &mut Vec<u8>, bytes: &[u8], count: u16) {
-    for _ in 0..count {
-        code.extend_from_slice(bytes).expect(rt, "memory");
-    }
-}
-
-/// LD 1, so many ADD( 1, as many ), ST.
-fn nested(rt: &impl Abort, alloc: Global, count: u16) -> Image {
-    let mut code = Vec::new(alloc);
-    repeat(rt, &mut code, &[5, 2, 0, 0, 0, 0, 0, 0, 0, 1], 1);
-    repeat(rt, &mut code, &[0x0C, 5, 2, 0, 0, 0, 0, 0, 0, 0, 1], count);
-    repeat(rt, &mut code, &[0x11], count);
-    repeat(rt, &mut code, &[6, 0, 0, 0], 1);
-    image_of_int(rt, alloc, code)
-}
-
-/// The image of code with one INT variable.
-fn image_of_int(rt: &impl Abort, alloc: Global, code: Vec<u8>) -> Image {
-    let var = variable(name(rt, "a"), IlType::Int, -32_768, 32_767, -32_768);
-    let mut vars = Items::new(alloc);
-    vars.push(var.expect(rt, "a variable")).expect(rt, "memory");
-    let image = Image::new(1, vars, Items::new(alloc), Items::from_vec(code));
-    image.expect(rt, "an image")
-}
-
-static NESTED: [(u16, Verdict); 2] = [(32, Ok(99)), (33, Err((RefusalKind::Stack, 65)))];
-
-fn judge_nested(rt: &impl Abort, alloc: Global, site: &Site) {
-    for (count, wanted) in &NESTED {
-        assert_verdict::<32>(rt, alloc, nested(rt, alloc, *count), site, wanted);
-    }
-}
-
-#[test]
-fn bounds_deferred_values(rt: HostRuntime) {
-    judge_nested(&rt, rt.alloc(), &site(&rt, rt.alloc()));
 }
 
 /// So many variables: the names are v0, v1 and so on.
