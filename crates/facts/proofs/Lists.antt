@@ -47,11 +47,6 @@ get_within [] i x e = grind arith
 get_within (y ∷ ys) zero x e = omega arith
 get_within (y ∷ ys) (suc i) x e = let h = get_within ys i x e in omega arith
 
--- with another element behind so many, or none any more
-abbrev pub written : {A : Type 0} → Option ℕ → List A → A → List A
-written None xs x = xs
-written (Some n) xs x = slice_set xs n x
-
 pub map_one : {A B : Type 0} (xs : List A) (x : B) → map (λ _. x) xs ≡ replicate (length xs) x
 map_one [] x = refl
 map_one (y ∷ ys) x = ap (λ rest. x ∷ rest) (map_one ys x)

@@ -1,6 +1,6 @@
 -- inner: lists of which most places are empty, by those that aren't.
 -- IEC 61131-3 edition 2, 2.4.3 (variables); how lists are kept is this project's.
-use Rattle.std.specs.Prelude.{ℕ, suc, ◌≡◌, Bool, true, false, List, [], ◌∷◌, ◌++◌, replicate, Option, Some, None}
+use Rattle.std.specs.Prelude.{ℕ, suc, ◌≡◌, Bool, true, false, List, [], ◌∷◌, ◌++◌, replicate, Option, Some, None, slice_set}
 
 -- each kept item behind so many empty places, and then those at the end
 abbrev pub places : {A : Type 0} → List (ℕ × A) → ℕ → List (Option A)
@@ -44,3 +44,8 @@ places_left left ks at_end = replicate left None ++ from_kept ks at_end
 abbrev pub IsNext : {A : Type 0} → List A → List A → Option A → Type 0
 IsNext before after None = (before ≡ []) × (after ≡ [])
 IsNext before after (Some first) = before ≡ first ∷ after
+
+-- inner: with another element after so many, or none any more
+abbrev pub written : {A : Type 0} → Option ℕ → List A → A → List A
+written None xs x = xs
+written (Some n) xs x = slice_set xs n x

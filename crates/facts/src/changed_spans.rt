@@ -5,7 +5,7 @@ ghost use Rattle.facts.specs.Places.{IsNext};
 ghost use Rattle.facts.specs.Span.{joined};
 
 use crate::span::Span;
-use crate::sparse_list::{Rest, SparseList, number_behind};
+use crate::sparse_list::{Rest, SparseList, next_with, number_behind};
 use point_types::Items;
 use std::alloc::{AllocError, Global};
 use std::marker::Model;
@@ -115,17 +115,9 @@ impl ChangedSpans {
         let mut changes = self.begun(alloc)?;
         let (mut spans, mut before) = (self.spans(), Some(number));
         while let Some(old) = spans.next() {
-            match before {
-                Some(0) => {
-                    changes.push(span)?;
-                    before = None;
-                }
-                Some(more) => {
-                    changes.push(old)?;
-                    before = Some(more - 1);
-                }
-                None => changes.push(old)?,
-            }
+            let (next, left) = next_with(before, old, span);
+            changes.push(next)?;
+            before = left;
         }
         Ok(changes)
     }

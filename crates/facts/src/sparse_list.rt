@@ -1,6 +1,6 @@
 //! A list of which few places hold something.
-ghost use Rattle.std.specs.Prelude.{◌≡◌, ◌+◌, ◌∷◌, [], ◌++◌, length, None, OnErr, OnOk, IfOk, replicate, slice_get, slice_set};
-ghost use Rattle.facts.specs.Places.{IsNext, empty_before, filled};
+ghost use Rattle.std.specs.Prelude.{◌≡◌, ◌+◌, ◌∷◌, [], ◌++◌, List, length, None, OnErr, OnOk, IfOk, replicate, slice_get, slice_set};
+ghost use Rattle.facts.specs.Places.{IsNext, empty_before, filled, written};
 
 use std::alloc::{AllocError, Global};
 use std::marker::Model;
@@ -125,17 +125,9 @@ impl<T: Copy> SparseList<T> {
         let mut changed = SparseList::empty(alloc, 0);
         let (mut places, mut before) = (self.rest(), Some(number));
         while let Some(old) = places.next() {
-            match before {
-                Some(0) => {
-                    changed.push(place)?;
-                    before = None;
-                }
-                Some(more) => {
-                    changed.push(old)?;
-                    before = Some(more - 1);
-                }
-                None => changed.push(old)?,
-            }
+            let (next, left) = next_with(before, old, place);
+            changed.push(next)?;
+            before = left;
         }
         Ok(changed)
     }
@@ -150,6 +142,18 @@ impl<T: Copy> SparseList<T> {
             empty: empty_before(kept, self.empty_at_end),
             empty_at_end: self.empty_at_end,
         }
+    }
+}
+
+/// What stands at the next place of a list in which the place after `before` others gets a new value, or none does; and the
+/// `before` of the place after it.
+pub(crate) fn next_with<P: Copy>(before: Option<usize>, old: P, new: P) -> (P, Option<usize>)
+    ensures { (rest : List P) → written before (old ∷ rest) new ≡ result.0 ∷ written result.1 rest new }
+{
+    match before {
+        Some(0) => (new, None),
+        Some(more) => (old, Some(more - 1)),
+        None => (old, None),
     }
 }
 

@@ -286,7 +286,7 @@ static DECLARATIONS: [Mistake; 1] = [Mistake {
     },
 }];
 
-/// Where an operand must stand, or what is behind a label.
+/// Where an operand or a label must stand.
 static ENDS: [Mistake; 1] = [Mistake {
     signs: &[";"],
     hint: SEMICOLON,

@@ -26,7 +26,7 @@ pub(super) fn value_name(device: usize, value: usize) -> EntryName<'static> {
     EntryName::Inner("[[device.value]]", value, "[[device]]", device)
 }
 
-/// What breaks the rule in a value of a device behind those before it.
+/// What breaks the rule in a value of a device, where those before it are these.
 pub(super) fn value_finding<'a>(
     before: &[Value],
     entry: &'a Value,

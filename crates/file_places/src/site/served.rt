@@ -17,7 +17,7 @@ static GIVEN: [KeyRule; 3] = [
     ("sum", Kind::Texts),
 ];
 
-/// What breaks the rule in an entry behind those before it.
+/// What breaks the rule in an entry, where those before it are these.
 pub(super) fn served_finding<'a>(
     file: &'a Value,
     defs: &'a [ModelDef],

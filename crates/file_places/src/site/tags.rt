@@ -30,7 +30,7 @@ static OPTIONAL: [KeyRule; 4] = [
 
 static EXPONENT: [(&str, i64, i64); 1] = [("exponent", -10, 10)];
 
-/// What breaks the rule in a tag behind those before it.
+/// What breaks the rule in a tag, where those before it are these.
 pub(super) fn tag_finding<'a>(
     file: &'a Value,
     defs: &'a [ModelDef],

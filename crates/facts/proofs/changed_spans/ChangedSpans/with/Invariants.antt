@@ -1,5 +1,5 @@
 use Rattle.std.proofs.Common.{◌≡◌, ◌++◌, length, slice_set}
-use Rattle.facts.proofs.Lists.{written}
+use Rattle.facts.specs.Places.{written}
 use Rattle.facts.proofs.changed_spans.ChangedSpans.with.Given as goal
 
 abbrev pub invariant-loop-old : goal.invariant-loop-old
