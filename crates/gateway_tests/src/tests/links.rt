@@ -1,4 +1,4 @@
-//! Links that go on without end.
+//! Links that take nothing, and links over the halves of a stream.
 
 use crate::tests::assert_same;
 use gateway::{Outcome, Poller};
@@ -10,54 +10,6 @@ const W: Request = Request::Read {
     addr: 40084,
     qty: 1,
 };
-
-/// Gives frames of transaction 6 without end, one in each read, and takes what is written.
-#[derive(Drop)]
-struct Repeating {
-    reads: u64,
-    written: u64,
-}
-
-impl Link for Repeating {
-    ghost use Rattle.std.specs.Prelude.{None};
-    ghost use Rattle.modbus_frame.specs.Link.{untold};
-
-    ghost calls = { λ _. None };
-
-    ghost failures = { λ _. untold };
-
-    ghost coming = { λ _. None };
-
-    ghost sent = { λ _. None };
-
-    fn read(&mut self, into: &mut [u8]) -> Result<usize, Down> {
-        let frame = [0, 6, 0, 0, 0, 5, 1, 3, 2, 9, 0xC4];
-        if into.len() < frame.len() {
-            return Ok(0);
-        }
-        into[..11].copy_from_slice(&frame);
-        self.reads = self.reads.saturating_add(1);
-        Ok(11)
-    }
-
-    fn write(&mut self, from: &[u8]) -> Result<usize, Down> {
-        self.written = self.written.saturating_add(1);
-        Ok(from.len())
-    }
-}
-
-#[test]
-fn frames_of_another_request_without_end(rt: HostRuntime) {
-    let mut poller = Poller::new(Repeating {
-        reads: 0,
-        written: 0,
-    });
-    for reads in [17, 34] {
-        assert_same(&rt, &poller.ask(1, &W), &Ok(Outcome::Stale));
-        assert_same(&rt, &poller.link().reads, &reads);
-    }
-    assert_same(&rt, &poller.link().written, &2);
-}
 
 /// Gives nothing, and takes nothing.
 #[derive(Drop)]

@@ -1,9 +1,10 @@
 //! Where memory is refused, a call says so and nothing else. Each test holds whichever of its allocations is refused: it
 //! ends where it gets no memory for what it begins with.
 
-use crate::devices::plants::{PLANT, READ_POWER};
-use crate::devices::{assert_same, given_definitions, pdu};
+use crate::devices::plant_files::PLANT;
+use crate::devices::{assert_same, given_definitions};
 use inverter_sim::{Plant, PlantFault};
+use modbus_frame::Pdu;
 use model_defs::{DefFault, read, shipped};
 use std::process::Abort;
 
@@ -19,7 +20,8 @@ fn a_definition_reads(rt: HostRuntime) {
 /// The second unit shows its 2500 watts behind a tick.
 fn assert_worked(rt: &impl Abort, mut plant: Plant) {
     plant.tick();
-    let reply = plant.serve(2, &pdu(rt, READ_POWER));
+    let request = Pdu::from_bytes(&[0x03, 0x9C, 0x94, 0x00, 0x01]).expect(rt, "a PDU");
+    let reply = plant.serve(2, &request);
     assert_same(rt, &reply.bytes(), &&[0x03, 0x02, 0x09, 0xC4][..]);
 }
 

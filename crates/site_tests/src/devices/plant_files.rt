@@ -1,11 +1,43 @@
 //! Plant files, and the rules that they break.
 
-use crate::devices::plants::PLANT;
 use crate::devices::{assert_same_at, assert_true, definitions};
 use inverter_sim::{Plant, PlantFault};
 use model_defs::ModelDef;
 use std::alloc::Global;
 use std::process::Abort;
+
+/// A plant of two inverters; W stands at 40084.
+pub(crate) const PLANT: &str =
+    "# Two three-phase inverters (SunSpec models 1, 103 and 123) of 5 kW. The first has 4 kW available at each tick,
+# the second 2.5 kW. Their watts are shown in whole watts (W_SF 0); the first takes its limit in tenths of a percent.
+
+[[device]]
+unit = 1
+models = [1, 103, 123]
+wmax = 5000
+available = [4000]
+
+[[device.value]]
+model = 103
+point = \"W_SF\"
+raw = 0
+
+[[device.value]]
+model = 123
+point = \"WMaxLimPct_SF\"
+raw = -1
+
+[[device]]
+unit = 2
+models = [1, 103, 123]
+wmax = 5000
+available = [2500]
+
+[[device.value]]
+model = 103
+point = \"W_SF\"
+raw = 0
+";
 
 /// The file is refused with this fault.
 fn assert_refused(

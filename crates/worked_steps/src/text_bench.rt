@@ -1,0 +1,142 @@
+//! What a service reads and writes as text, and what it is told.
+use crate::bytes::{needed, number};
+use crate::page::Page;
+use crate::sites::site;
+use crate::texts::Texts;
+use service_texts::{
+    AddressFault, Addresses, has_port, limits, may_write, read_places, setting_in, state_text,
+    tag_named,
+};
+use std::alloc::Global;
+use std::net::IpAddr;
+use std::{io, str};
+
+/// A step of the texts of a service.
+#[derive(Clone, Copy)]
+pub(crate) enum TextStep<'a> {
+    /// Whether the lines of a text have the form `HOST:PORT`.
+    Ports(&'a str),
+    /// What the lines of a text set.
+    Settings(&'a str),
+    /// The lines of the tags of a site that are set to these, `-` where one isn't.
+    State(&'a str, &'a [&'a str]),
+    /// The number of the tag of a site that has this name.
+    TagNamed(&'a str, &'a str),
+    /// Where a site says that its devices are.
+    Places(&'a str),
+    /// Where they are behind one address.
+    Behind(&'a str, &'a str),
+    /// Whether a client at the first address may write, where those at the others may.
+    MayWrite(&'a str, &'a [&'a str]),
+    /// How long an answer is waited for, by a period and the longest time.
+    Timeout(u64, u64),
+}
+
+impl<'a> TextStep<'a> {
+    /// The step that words say; None where it is none of texts.
+    pub(crate) fn read(name: &str, words: &'a [&'a str]) -> Option<TextStep<'a>> {
+        match (name, words) {
+            ("ports", [text]) => Some(Self::Ports(*text)),
+            ("settings", [text]) => Some(Self::Settings(*text)),
+            ("state", [site, numbers @ ..]) => Some(Self::State(*site, numbers)),
+            ("tag-named", [site]) => Some(Self::TagNamed(*site, "")),
+            ("tag-named", [site, tag]) => Some(Self::TagNamed(*site, *tag)),
+            ("places", [site]) => Some(Self::Places(*site)),
+            ("behind", [address, site]) => Some(Self::Behind(*address, *site)),
+            ("may-write", [address, writers @ ..]) => Some(Self::MayWrite(*address, writers)),
+            ("timeout", [period, longest]) => Some(Self::Timeout(
+                number(period)?,
+                number(longest)?,
+            )),
+            _ => None,
+        }
+    }
+
+    /// Tells what comes of it.
+    pub(crate) fn tell(self, alloc: Global, texts: &Texts<'_>, page: &mut Page) -> io::Result<()> {
+        match self {
+            TextStep::Ports(name) => tell_ports(page, texts.get(name)?),
+            TextStep::Settings(name) => tell_settings(page, texts.get(name)?),
+            TextStep::State(name, numbers) => tell_state(alloc, texts, page, name, numbers),
+            TextStep::TagNamed(name, tag) => {
+                let found = tag_named(site(alloc, texts, name)?.tags(), tag);
+                page.tell(format_args!("{found:?}"))
+            }
+            TextStep::Places(name) => tell_places(alloc, page, texts.get(name)?),
+            TextStep::Behind(address, name) => {
+                let site = site(alloc, texts, name)?;
+                tell_addresses(page, &Addresses::behind(alloc, address, site.devices())?)
+            }
+            TextStep::MayWrite(address, writers) => tell_writer(alloc, page, address, writers),
+            TextStep::Timeout(period, longest) => page.tell(limits(period, longest, 1).timeout),
+        }
+    }
+}
+
+fn tell_ports(page: &mut Page, text: &str) -> io::Result<()> {
+    for line in text.lines() {
+        let is_one = has_port(line);
+        page.tell(format_args!("{line:?} {is_one}"))?;
+    }
+    Ok(())
+}
+
+fn tell_settings(page: &mut Page, text: &str) -> io::Result<()> {
+    for line in text.lines() {
+        match setting_in(line) {
+            Some(set) => page.tell(format_args!("{:?} is set to {}", set.name, set.number))?,
+            None => page.tell(format_args!("{line:?} sets nothing"))?,
+        }
+    }
+    Ok(())
+}
+
+fn tell_state(
+    alloc: Global,
+    texts: &Texts<'_>,
+    page: &mut Page,
+    name: &str,
+    numbers: &[&str],
+) -> io::Result<()> {
+    let mut settings = Vec::new(alloc);
+    for number in numbers {
+        settings.push(number.parse::<i64>().ok())?;
+    }
+    let text = state_text(alloc, site(alloc, texts, name)?.tags(), &settings)?;
+    for line in needed(str::from_utf8(&text).ok())?.lines() {
+        page.tell(line)?;
+    }
+    Ok(())
+}
+
+fn tell_places(alloc: Global, page: &mut Page, text: &str) -> io::Result<()> {
+    match read_places(alloc, text) {
+        Ok(places) => tell_addresses(page, &Addresses::of(alloc, places.as_slice())?),
+        Err(AddressFault::NotToml) => page.tell("no site file"),
+        Err(AddressFault::Missing(device)) => page.tell(format_args!("no address of {device}")),
+        Err(AddressFault::BadUnit(device)) => page.tell(format_args!("no unit of {device}")),
+        Err(AddressFault::OutOfMemory) => page.tell("no memory"),
+    }
+}
+
+fn tell_addresses(page: &mut Page, found: &Addresses) -> io::Result<()> {
+    for link in found.links.as_slice() {
+        page.tell(link.as_str())?;
+    }
+    for station in found.stations.as_slice() {
+        page.tell(format_args!("{station:?}"))?;
+    }
+    Ok(())
+}
+
+fn tell_writer(alloc: Global, page: &mut Page, address: &str, writers: &[&str]) -> io::Result<()> {
+    let mut addresses = Vec::new(alloc);
+    for writer in writers {
+        addresses.push(address_of(*writer)?)?;
+    }
+    page.tell(may_write(&addresses, address_of(address)?))
+}
+
+fn address_of(word: &str) -> io::Result<IpAddr> {
+    needed(word.parse::<IpAddr>().ok())
+}
