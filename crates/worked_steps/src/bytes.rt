@@ -64,7 +64,10 @@ pub(crate) fn registers_of(alloc: Global, words: &[&str]) -> io::Result<Vec<u16>
 pub(crate) fn registers_in(alloc: Global, bytes: &[u8]) -> io::Result<Vec<u16>> {
     let mut registers = Vec::new(alloc);
     let mut rest = bytes;
-    while let [high, low, more @ ..] = rest {
+    for _ in 0..bytes.len() {
+        let [high, low, more @ ..] = rest else {
+            break;
+        };
         registers.push(u16::from_be_bytes([*high, *low]))?;
         rest = more;
     }

@@ -219,6 +219,9 @@ impl LinkBench {
 
     fn write(&mut self, page: &mut Page, bytes: &[&str]) -> io::Result<()> {
         let bytes = bytes_of(self.alloc, bytes)?;
+        if bytes.is_empty() {
+            return needed(None);
+        }
         match self.link()?.write(&bytes) {
             Ok(n) => page.tell(format_args!("{n} of {} bytes", bytes.len())),
             Err(down) => page.tell(down),
@@ -261,7 +264,9 @@ impl LinkBench {
     }
 
     fn poll(&mut self, page: &mut Page, unit: u8, pdu: &[&str]) -> io::Result<()> {
-        let request = needed(parse_request(&pdu_of(self.alloc, pdu)?).ok())?;
+        let Ok(request) = parse_request(&pdu_of(self.alloc, pdu)?) else {
+            return needed(None);
+        };
         match self.poller()?.ask(unit, &request) {
             Ok(outcome) => page.tell(format_args!("{outcome:?}")),
             Err(fault) => {

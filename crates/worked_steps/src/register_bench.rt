@@ -23,6 +23,8 @@ pub(crate) enum RegisterStep<'a> {
     Search(Option<u16>),
     /// Whether both ways find the same at the usual bases.
     Both,
+    /// Where its map has a model.
+    Model(u16),
     /// Its registers as a list are read as a map.
     Chain,
 }
@@ -38,6 +40,7 @@ impl<'a> RegisterStep<'a> {
             ("search", []) => Some(Self::Search(None)),
             ("search", [base]) => Some(Self::Search(Some(number(base)?))),
             ("search-both-ways", []) => Some(Self::Both),
+            ("model", [id]) => Some(Self::Model(number(id)?)),
             ("chain", []) => Some(Self::Chain),
             _ => None,
         }
@@ -78,6 +81,7 @@ impl RegisterBench {
             RegisterStep::Discover(bases) => self.tell_discovered(page, bases),
             RegisterStep::Search(base) => self.tell_search(page, base),
             RegisterStep::Both => self.tell_both(page),
+            RegisterStep::Model(id) => self.tell_model(page, id),
             RegisterStep::Chain => self.tell_map(page, &chain(&self.words)),
         }
     }
@@ -121,6 +125,11 @@ impl RegisterBench {
             Ok(map) => page.tell(map_text(self.alloc, map)?),
             Err(fault) => page.tell(*fault),
         }
+    }
+
+    fn tell_model(&mut self, page: &mut Page, id: u16) -> io::Result<()> {
+        let block = needed(self.map()?)?.block(id);
+        page.tell(format_args!("{block:?}"))
     }
 
     fn tell_search(&mut self, page: &mut Page, base: Option<u16>) -> io::Result<()> {

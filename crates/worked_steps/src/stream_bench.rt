@@ -136,14 +136,20 @@ impl StreamBench {
 /// A request under way.
 impl StreamBench {
     fn ask(&mut self, page: &mut Page, id: u16, unit: u8, pdu: &[&str]) -> io::Result<()> {
-        let request = needed(parse_request(&pdu_of(self.alloc, pdu)?).ok())?;
+        let Ok(request) = parse_request(&pdu_of(self.alloc, pdu)?) else {
+            return needed(None);
+        };
         let frame = self.inquiry.begin(id, unit, request);
         page.tell(hex_of(self.alloc, frame.as_slice())?)
     }
 
     fn hear(&mut self, page: &mut Page, bytes: &[&str]) -> io::Result<()> {
         let fate = heard(&mut self.inquiry, &bytes_of(self.alloc, bytes)?);
-        page.tell(format_args!("{fate:?}"))
+        page.tell(format_args!("{fate:?}"))?;
+        if self.inquiry.is_open() {
+            page.tell("still under way")?;
+        }
+        Ok(())
     }
 
     fn hear_cut(&mut self, page: &mut Page, bytes: &[&str]) -> io::Result<()> {
