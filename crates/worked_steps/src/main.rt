@@ -39,8 +39,13 @@ fn main(rt: HostRuntime) -> ExitCode {
 fn show_files(rt: &HostRuntime) -> io::Result<()> {
     let words: Vec<String> = env::args(rt)?.collect(rt.alloc())?;
     for file in words.iter().skip(1) {
-        let text = fs::read_to_string(rt, file.as_str())?;
-        show_file(rt, file.as_str(), text.as_str())?;
+        match fs::read_to_string(rt, file.as_str()) {
+            Ok(text) => show_file(rt, file.as_str(), text.as_str())?,
+            Err(fault) => {
+                eprintln!(rt; "{file}: {fault}")?;
+                return Err(fault);
+            }
+        }
     }
     Ok(())
 }
