@@ -7,6 +7,7 @@ use crate::texts::Texts;
 use gateway::{Answer, Core, CoreFault, DEPTH, Event, run_scan, serve_client};
 use modbus_frame::{Words, request_pdu};
 use register_map::Map;
+use scan_vm::Machine;
 use site_model::Want;
 use std::alloc::Global;
 use std::io;
@@ -75,8 +76,7 @@ impl CoreBench {
         maps: Vec<Option<Map>>,
     ) -> io::Result<Result<CoreBench, CoreFault>> {
         let (name, program, accepted) = names;
-        let accepted = site(alloc, texts, accepted)?;
-        let machine = machine(alloc, &accepted, texts.get(program)?)?;
+        let machine = machine_for(alloc, texts, accepted, program)?;
         let site = site(alloc, texts, name)?;
         if maps.len() != site.devices().len() {
             return needed(None);
@@ -176,4 +176,16 @@ impl CoreBench {
             }
         }
     }
+}
+
+/// A machine for a program that is accepted for the site of a text.
+fn machine_for(
+    alloc: Global,
+    texts: &Texts<'_>,
+    site_name: &str,
+    program: &str,
+) -> io::Result<Machine<DEPTH>> {
+    let program = texts.get(program)?;
+    let accepted = site(alloc, texts, site_name)?;
+    machine(alloc, &accepted, program)
 }
