@@ -3,6 +3,9 @@ pub mod Runs
 pub mod Calls
 pub mod Restored
 pub mod Told
+pub mod Courses
+pub mod Known
+pub mod OneRound
 pub mod Opening
 pub mod Whole
 pub mod Once

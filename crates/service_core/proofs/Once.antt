@@ -141,16 +141,16 @@ length-due : (wants : List Want) → length {A = Task} (map (λ (want : Want). r
 length-due [] = refl
 length-due (w ∷ ws) = ap suc (length-due ws)
 
-all_calls : (site : Site) (maps : List (Option Layout)) (old : Progress) (told : List (ℕ × Event)) (new : Progress) → Asking site maps old told new → Fits old.reads [] → length old.reads ≡ length site.wants → Holds (length site.wants) new told
-all_calls site maps old told new (start p) fits all = (fits, all)
-all_calls site maps old told new (opened {q} {told = before} run device t r opens) fits all =
-    opens_read site maps (length site.wants) device q r before t (next_place device q.reads) refl (all_calls site maps old before q run fits all) opens
-all_calls site maps old told new (closed {q} {told = before} run device f happens r closes) fits all =
-    closes_read site (length site.wants) device q r before f happens (position (is_asked device) q.reads) refl (all_calls site maps old before q run fits all) closes
+pub all_calls : (site : Site) (old : Progress) (told : List (ℕ × Event)) (new : Progress) → Asking site old told new → Fits old.reads [] → length old.reads ≡ length site.wants → Holds (length site.wants) new told
+all_calls site old told new (start p) fits all = (fits, all)
+all_calls site old told new (opened {q} {told = before} run maps device t r opens) fits all =
+    opens_read site maps (length site.wants) device q r before t (next_place device q.reads) refl (all_calls site old before q run fits all) opens
+all_calls site old told new (closed {q} {told = before} run device f happens r closes) fits all =
+    closes_read site (length site.wants) device q r before f happens (position (is_asked device) q.reads) refl (all_calls site old before q run fits all) closes
 
 pub each_want_once : EachWantIsToldOnce
-each_want_once site maps old told new run done i within =
-    let holds = all_calls site maps (begun site old) told new run (λ j t at. due_fits site.wants j t at) (length-due site.wants) in
+each_want_once site old told new run done i within =
+    let holds = all_calls site (begun site old) told new run (λ j t at. due_fits site.wants j t at) (length-due site.wants) in
     let inside : i < length new.reads = omega (arith, within, holds.1) in
     let t = get_or new.reads i some_task in
     holds.0 i t (slice_get-get_or new.reads i some_task inside) ∙ ap done_count (done i some_task inside)

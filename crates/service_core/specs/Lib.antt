@@ -1,5 +1,10 @@
+pub mod Connections
 pub mod Counting
+pub mod Cycle
 pub mod Maps
+pub mod OneRound
 pub mod Rounds
+pub mod Stages
 pub mod Standing
+pub mod Telling
 pub mod Whole

@@ -18,10 +18,11 @@ use Rattle.gateway.specs.poller.Cycle.{read_of, event_by}
 use Rattle.service.specs.declared.fate.Fate.{Fate}
 use Rattle.service.specs.declared.fate.Fate.TheVariants as fate
 use Rattle.service.specs.Tasks.{IsDone, device_of, device_wanted, is_asked, next_place, with_mark}
+use Rattle.service_parts.specs.declared.wire.Aim.{Aim}
+use Rattle.service_parts.specs.declared.wire.Aim.TheVariants as aim
 use Rattle.service_parts.specs.Calls.{write_to}
 use Rattle.service_core.specs.declared.round.Turn.{Turn}
 use Rattle.service_core.specs.declared.round.Turn.TheVariants as turn
-use Rattle.service.specs.declared.task.Mark.{Mark}
 use Rattle.service.specs.declared.task.Mark.TheVariants as mark
 use Rattle.service.specs.declared.task.Task.{Task}
 
@@ -46,8 +47,8 @@ begun site p = record p { reads = map (λ (want : Want). record { device = want.
 
 -- The request for a wanted block goes out; without one the block is lost.
 abbrev pub AsksRead : ℕ → Want → Option Call → Progress → Turn → Progress → Type 0
-AsksRead i want (Some call) old t new = (t ≡ turn.Ask call) × (new ≡ record old { reads = with_mark i mark.Asked old.reads })
-AsksRead i want None old t new = (t ≡ turn.Tell (event.Lost want)) × (new ≡ record old { reads = with_mark i mark.Done old.reads })
+AsksRead i want (Some call) old t new = (t ≡ turn.Ask (aim.Block i) call) × (new ≡ record old { reads = with_mark i mark.Asked old.reads })
+AsksRead i want None old t new = (t ≡ turn.Lack want) × (new ≡ record old { reads = with_mark i mark.Done old.reads })
 
 abbrev pub OpensRead : Site → List (Option Layout) → Option ℕ → Progress → Turn → Progress → Type 0
 OpensRead site maps None old t new = (t ≡ turn.Rest) × (new ≡ old)
@@ -55,7 +56,7 @@ OpensRead site maps (Some i) old t new = (want : Want) × (slice_get site.wants 
 
 -- The write goes out.
 abbrev pub AsksWrite : ℕ → Option Call → Progress → Turn → Progress → Type 0
-AsksWrite i (Some call) old t new = (t ≡ turn.Ask call) × (new ≡ record old { writes = with_mark i mark.Asked old.writes })
+AsksWrite i (Some call) old t new = (t ≡ turn.Ask (aim.Output i) call) × (new ≡ record old { writes = with_mark i mark.Asked old.writes })
 AsksWrite i None old t new = (t ≡ turn.Rest) × (new ≡ record old { writes = with_mark i mark.Done old.writes })
 
 abbrev pub OpensWrite : Gateway → ℕ → Option ℕ → Progress → Turn → Progress → Type 0
@@ -64,11 +65,11 @@ OpensWrite g device (Some i) old t new = (plan : Result Write NoWrite) × IsPlan
 
 -- A request has a number of registers that may be asked for.
 abbrev pub IsSendable : Turn → Type 0
-IsSendable (turn.Ask call) = HasQuantity call.request
-IsSendable (turn.Tell happens) = ⊤
+IsSendable (turn.Ask made_for call) = HasQuantity call.request
+IsSendable (turn.Lack want) = ⊤
 IsSendable turn.Rest = ⊤
 
--- Before the scan wanted blocks are asked for, and behind it outputs are written.
+-- Before the scan wanted blocks are asked for, and after it outputs are written.
 abbrev pub OpensBy : Bool → Gateway → ℕ → Progress → Turn → Progress → Type 0
 OpensBy false g device old t new = OpensRead g.site g.maps (next_place device old.reads) old t new
 OpensBy true g device old t new = OpensWrite g device (next_place device old.writes) old t new
@@ -99,6 +100,13 @@ ClosesBy true site device f old happens new = ClosesWrite (position (is_asked de
 abbrev pub Closes : Site → ℕ → Fate → Progress → Option Event → Progress → Type 0
 Closes site device f old happens new = ClosesBy old.scanned site device f old happens new
 
+-- The device's request that is under way is that for this wanted block, before the scan, or for this output, after it.
+abbrev pub IsUnderWay : Aim → ℕ → Progress → Type 0
+IsUnderWay (aim.Block want) device p = (p.scanned ≡ false) × (position (is_asked device) p.reads ≡ Some want)
+IsUnderWay (aim.Output output) device p = (p.scanned ≡ true) × (position (is_asked device) p.writes ≡ Some output)
+IsUnderWay aim.Map device p = ⊥
+IsUnderWay aim.Past device p = ⊥
+
 -- ---- the scan
 
 -- a request to the device of what is to be written, where there is one
@@ -113,8 +121,8 @@ ArePlanned g tasks = (i : ℕ) (t : Task) → slice_get tasks i ≡ Some t → (
 -- ---- all calls of a round before its scan
 
 abbrev pub event_told : Turn → Option Event
-event_told (turn.Tell happens) = Some happens
-event_told (turn.Ask call) = None
+event_told (turn.Lack want) = Some (event.Lost want)
+event_told (turn.Ask made_for call) = None
 event_told turn.Rest = None
 
 -- an event of the want with this number
@@ -123,12 +131,12 @@ told_of (Some i) (Some happens) = (i, happens) ∷ []
 told_of (Some i) None = []
 told_of None happens = []
 
--- Calls of `open` and `take` for any devices, in any order: the events that they gave, each with the number of its want,
+-- Requests of any devices, in any order, with any maps, are opened and closed: the events that they gave, each with the number of its want,
 -- the last one first.
-pub data Asking : Site → List (Option Layout) → Progress → List (ℕ × Event) → Progress → Type 0 where
-  start : {site : Site} {maps : List (Option Layout)} (p : Progress) → Asking site maps p [] p
-  opened : {site : Site} {maps : List (Option Layout)} {p q : Progress} {told : List (ℕ × Event)} → Asking site maps p told q → (device : ℕ) (t : Turn) (r : Progress) → OpensRead site maps (next_place device q.reads) q t r → Asking site maps p (told_of (next_place device q.reads) (event_told t) ++ told) r
-  closed : {site : Site} {maps : List (Option Layout)} {p q : Progress} {told : List (ℕ × Event)} → Asking site maps p told q → (device : ℕ) (f : Fate) (happens : Option Event) (r : Progress) → ClosesRead site (position (is_asked device) q.reads) f q happens r → Asking site maps p (told_of (position (is_asked device) q.reads) happens ++ told) r
+pub data Asking : Site → Progress → List (ℕ × Event) → Progress → Type 0 where
+  start : {site : Site} (p : Progress) → Asking site p [] p
+  opened : {site : Site} {p q : Progress} {told : List (ℕ × Event)} → Asking site p told q → (maps : List (Option Layout)) (device : ℕ) (t : Turn) (r : Progress) → OpensRead site maps (next_place device q.reads) q t r → Asking site p (told_of (next_place device q.reads) (event_told t) ++ told) r
+  closed : {site : Site} {p q : Progress} {told : List (ℕ × Event)} → Asking site p told q → (device : ℕ) (f : Fate) (happens : Option Event) (r : Progress) → ClosesRead site (position (is_asked device) q.reads) f q happens r → Asking site p (told_of (position (is_asked device) q.reads) happens ++ told) r
 
 -- how many events of a want were given
 abbrev pub times : ℕ → List (ℕ × Event) → ℕ
@@ -137,19 +145,19 @@ times i (x ∷ told) = (if x.0 == i then 1 else 0) + times i told
 
 -- Of each want there is just one event, once all are read.
 abbrev pub EachWantIsToldOnce : Type 0
-EachWantIsToldOnce = (site : Site) (maps : List (Option Layout)) (old : Progress) (told : List (ℕ × Event)) (new : Progress)
-    → Asking site maps (begun site old) told new → All IsDone new.reads → (i : ℕ) → i < length site.wants → times i told ≡ 1
+EachWantIsToldOnce = (site : Site) (old : Progress) (told : List (ℕ × Event)) (new : Progress)
+    → Asking site (begun site old) told new → All IsDone new.reads → (i : ℕ) → i < length site.wants → times i told ≡ 1
 
--- ---- all calls of a round behind its scan
+-- ---- all calls of a round after its scan
 
 -- a request for the output with this number
 abbrev pub asked_of : Option ℕ → Turn → List ℕ
 asked_of None t = []
-asked_of (Some i) (turn.Ask call) = i ∷ []
-asked_of (Some i) (turn.Tell happens) = []
+asked_of (Some i) (turn.Ask made_for call) = i ∷ []
+asked_of (Some i) (turn.Lack want) = []
 asked_of (Some i) turn.Rest = []
 
--- Calls of `open` and `take` for any devices, in any order, on a core at any state: the numbers of the outputs whose
+-- Requests to any devices, in any order, on a core at any state, are opened and closed: the numbers of the outputs whose
 -- requests went out, the last one first.
 pub data Writing : Progress → List ℕ → Progress → Type 0 where
   begin : (p : Progress) → Writing p [] p

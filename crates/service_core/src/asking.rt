@@ -2,22 +2,16 @@
 ghost use Rattle.std.specs.Prelude.{◌≡◌, ◌<◌, ℕ, IfSome, Some, length, set, slice_get};
 ghost use Rattle.modbus_frame.specs.Message.{HasQuantity};
 ghost use Rattle.service.specs.declared.search.Step.TheVariants.{Found};
-ghost use Rattle.service_parts.specs.Course.{LeadsOn};
+ghost use Rattle.service_core.specs.Cycle.{LeadsOn};
 ghost use Rattle.service_parts.specs.Requests.{MayGoOver};
 ghost use Rattle.service_parts.specs.Seeking.{IsSought};
 
 use crate::service_state::Service;
+use crate::wish::Wish;
 use modbus_frame::Request;
 use register_map::Map;
-use service::{Fate, Step};
+use service::Step;
 use service_parts::{Aim, Asked};
-
-/// A request that may begin.
-#[derive(Drop)]
-pub(crate) struct Wish {
-    aim: Aim,
-    request: Request,
-}
 
 /// What devices are asked for.
 #[derive(Clone, Copy)]
@@ -32,8 +26,9 @@ impl Service {
     /// Begins requests on all connections that are free.
     pub(crate) fn ask_all(&mut self)
         ensures links { self.new.lines.links ≡ self.old.lines.links }
-        ensures goes { LeadsOn self.old.cycle.core.value self.new.cycle.core.value }
+        ensures goes { LeadsOn self.old.cycle self.new.cycle }
         ensures places { self.new.places.items ≡ self.old.places.items }
+        ensures time { self.new.side.now ≡ self.old.side.now }
     {
         for link in 0..self.side.wires.len() {
             self.ask(link);
@@ -43,8 +38,9 @@ impl Service {
     /// Begins requests on a connection until one is under way, or none is left to begin.
     fn ask(&mut self, link: usize)
         ensures links { self.new.lines.links ≡ self.old.lines.links }
-        ensures goes { LeadsOn self.old.cycle.core.value self.new.cycle.core.value }
+        ensures goes { LeadsOn self.old.cycle self.new.cycle }
         ensures places { self.new.places.items ≡ self.old.places.items }
+        ensures time { self.new.side.now ≡ self.old.side.now }
     {
         for _ in 0..self.cycle.devices().saturating_add(64) {
             if !self.may_ask(link) {
@@ -65,8 +61,9 @@ impl Service {
     /// Asks the next device in turn that there is something to ask of; whether there is one.
     fn ask_for(&mut self, link: usize, purpose: Purpose) -> bool
         ensures links { self.new.lines.links ≡ self.old.lines.links }
-        ensures goes { LeadsOn self.old.cycle.core.value self.new.cycle.core.value }
+        ensures goes { LeadsOn self.old.cycle self.new.cycle }
         ensures places { self.new.places.items ≡ self.old.places.items }
+        ensures time { self.new.side.now ≡ self.old.side.now }
     {
         let Some(turn) = self.side.turn(link) else {
             return false;
@@ -78,8 +75,9 @@ impl Service {
     /// The same among the devices with these numbers.
     fn ask_between(&mut self, link: usize, purpose: Purpose, first: usize, end: usize) -> bool
         ensures links { self.new.lines.links ≡ self.old.lines.links }
-        ensures goes { LeadsOn self.old.cycle.core.value self.new.cycle.core.value }
+        ensures goes { LeadsOn self.old.cycle self.new.cycle }
         ensures places { self.new.places.items ≡ self.old.places.items }
+        ensures time { self.new.side.now ≡ self.old.side.now }
     {
         for i in 0..self.side.devices_on(link) {
             if let Some(device) = self.side.device_at(link, i) {
@@ -93,8 +91,9 @@ impl Service {
 
     fn ask_device(&mut self, link: usize, device: usize, purpose: Purpose) -> bool
         ensures links { self.new.lines.links ≡ self.old.lines.links }
-        ensures goes { LeadsOn self.old.cycle.core.value self.new.cycle.core.value }
+        ensures goes { LeadsOn self.old.cycle self.new.cycle }
         ensures places { self.new.places.items ≡ self.old.places.items }
+        ensures time { self.new.side.now ≡ self.old.side.now }
     {
         if !self.side.is_rested(device) {
             return false;
@@ -110,10 +109,11 @@ impl Service {
 
     fn wish_of(&mut self, link: usize, device: usize, purpose: Purpose) -> Option<Wish>
         ensures quantity { IfSome result (λ wish. HasQuantity wish.request) }
-        ensures asked { IfSome result (λ wish. MayGoOver self.new.cycle.core.value self.new.lines.links.numbers.items self.new.lines.found_on.items link device wish.request) }
+        ensures asked { IfSome result (λ wish. MayGoOver self.new.cycle.core.value self.new.lines.links.numbers.items self.new.lines.found_on.items link wish.aim device wish.request) }
         ensures links { self.new.lines.links ≡ self.old.lines.links }
-        ensures goes { LeadsOn self.old.cycle.core.value self.new.cycle.core.value }
+        ensures goes { LeadsOn self.old.cycle self.new.cycle }
         ensures places { self.new.places.items ≡ self.old.places.items }
+        ensures time { self.new.side.now ≡ self.old.side.now }
     {
         match (self.cycle.is_mapped(device), purpose) {
             (true, Purpose::Round) => self.wish_of_round(link, device),
@@ -126,36 +126,26 @@ impl Service {
     #[tactic(auto, using(service_parts::proofs::Rightful::round_over))]
     fn wish_of_round(&mut self, link: usize, device: usize) -> Option<Wish>
         ensures quantity { IfSome result (λ wish. HasQuantity wish.request) }
-        ensures asked { IfSome result (λ wish. MayGoOver self.new.cycle.core.value self.new.lines.links.numbers.items self.new.lines.found_on.items link device wish.request) }
+        ensures asked { IfSome result (λ wish. MayGoOver self.new.cycle.core.value self.new.lines.links.numbers.items self.new.lines.found_on.items link wish.aim device wish.request) }
         ensures links { self.new.lines.links ≡ self.old.lines.links }
-        ensures goes { LeadsOn self.old.cycle.core.value self.new.cycle.core.value }
+        ensures goes { LeadsOn self.old.cycle self.new.cycle }
         ensures places { self.new.places.items ≡ self.old.places.items }
+        ensures time { self.new.side.now ≡ self.old.side.now }
     {
         if !self.lines.is_found(link, device) {
             return None;
         }
-        let call = self.cycle.next(device)?;
-        let aim = self.aim_of(device);
-        Some(Wish {
-            aim,
-            request: call.request,
-        })
-    }
-
-    fn aim_of(&self, device: usize) -> Aim {
-        match self.cycle.output(device) {
-            Some(output) => Aim::Output(output),
-            None => Aim::Block,
-        }
+        self.cycle.next(device)
     }
 
     #[tactic(auto, using(service_parts::proofs::Rightful::search_over))]
     fn wish_of_search(&mut self, link: usize, device: usize) -> Option<Wish>
         ensures quantity { IfSome result (λ wish. HasQuantity wish.request) }
-        ensures asked { IfSome result (λ wish. MayGoOver self.new.cycle.core.value self.new.lines.links.numbers.items self.new.lines.found_on.items link device wish.request) }
+        ensures asked { IfSome result (λ wish. MayGoOver self.new.cycle.core.value self.new.lines.links.numbers.items self.new.lines.found_on.items link wish.aim device wish.request) }
         ensures links { self.new.lines.links ≡ self.old.lines.links }
-        ensures goes { LeadsOn self.old.cycle.core.value self.new.cycle.core.value }
+        ensures goes { LeadsOn self.old.cycle self.new.cycle }
         ensures places { self.new.places.items ≡ self.old.places.items }
+        ensures time { self.new.side.now ≡ self.old.side.now }
     {
         if !self.side.is_sought(device) {
             return None;
@@ -182,8 +172,9 @@ impl Service {
         ensures found { (number : ℕ) (unit : ℕ) → slice_get self.old.lines.links.numbers.items link ≡ Some number → slice_get self.old.lines.links.stations.items device ≡ Some (record { link = link; unit = unit })
             → device < length self.old.lines.found_on.items → self.new.lines.found_on.items ≡ set self.old.lines.found_on.items device (Some number) }
         ensures links { self.new.lines.links ≡ self.old.lines.links }
-        ensures goes { LeadsOn self.old.cycle.core.value self.new.cycle.core.value }
+        ensures goes { LeadsOn self.old.cycle self.new.cycle }
         ensures places { self.new.places.items ≡ self.old.places.items }
+        ensures time { self.new.side.now ≡ self.old.side.now }
     {
         self.cycle.learn(device, Some(map));
         self.lines.find(link, device);
@@ -192,8 +183,9 @@ impl Service {
 
     fn find_none(&mut self, device: usize)
         ensures links { self.new.lines.links ≡ self.old.lines.links }
-        ensures goes { LeadsOn self.old.cycle.core.value self.new.cycle.core.value }
+        ensures goes { LeadsOn self.old.cycle self.new.cycle }
         ensures places { self.new.places.items ≡ self.old.places.items }
+        ensures time { self.new.side.now ≡ self.old.side.now }
     {
         self.cycle.seek_anew(device);
         self.side.find_none(device);
@@ -201,10 +193,11 @@ impl Service {
 
     fn begin(&mut self, link: usize, device: usize, wish: Wish)
         requires quantity { HasQuantity wish.request }
-        requires asked { MayGoOver self.old.cycle.core.value self.old.lines.links.numbers.items self.old.lines.found_on.items link device wish.request }
+        requires asked { MayGoOver self.old.cycle.core.value self.old.lines.links.numbers.items self.old.lines.found_on.items link wish.aim device wish.request }
         ensures links { self.new.lines.links ≡ self.old.lines.links }
-        ensures goes { LeadsOn self.old.cycle.core.value self.new.cycle.core.value }
+        ensures goes { LeadsOn self.old.cycle self.new.cycle }
         ensures places { self.new.places.items ≡ self.old.places.items }
+        ensures time { self.new.side.now ≡ self.old.side.now }
     {
         let asked = Asked {
             device,
@@ -212,29 +205,31 @@ impl Service {
             since: self.side.now,
             until: self.side.until(wish.aim),
         };
-        let fate = self.start(link, asked, wish.request);
+        self.start(link, asked, wish.request);
         self.side.count(device);
-        if let Some(fate) = fate {
-            self.settle(link, fate);
-        }
     }
 
-    /// Begins a request, where the connection is free. What becomes of it may stand in the bytes that came before.
+    /// Begins a request, where the connection is free. Bytes that came before it are looked at with those that come next.
     #[tactic(auto, using(service_parts::proofs::Rightful::whole_frame))]
-    fn start(&mut self, link: usize, asked: Asked, request: Request) -> Option<Fate>
+    fn start(&mut self, link: usize, asked: Asked, request: Request)
         requires quantity { HasQuantity request }
-        requires asked { MayGoOver self.old.cycle.core.value self.old.lines.links.numbers.items self.old.lines.found_on.items link asked.device request }
+        requires asked { MayGoOver self.old.cycle.core.value self.old.lines.links.numbers.items self.old.lines.found_on.items link asked.aim asked.device request }
         ensures links { self.new.lines.links ≡ self.old.lines.links }
-        ensures goes { LeadsOn self.old.cycle.core.value self.new.cycle.core.value }
+        ensures goes { LeadsOn self.old.cycle self.new.cycle }
         ensures places { self.new.places.items ≡ self.old.places.items }
+        ensures time { self.new.side.now ≡ self.old.side.now }
     {
-        let unit = self.lines.unit_at(asked.device, link)?;
+        let Some(unit) = self.lines.unit_at(asked.device, link) else {
+            return;
+        };
         if !self.lines.is_sent(link) {
-            return None;
+            return;
         }
-        let wire = self.side.wires.get_mut(link)?;
-        let bytes = wire.begin(asked, unit, request)?;
-        self.lines.put(link, bytes);
-        wire.fate()
+        let Some(wire) = self.side.wires.get_mut(link) else {
+            return;
+        };
+        if let Some(bytes) = wire.begin(asked, unit, request) {
+            self.lines.put(link, bytes);
+        }
     }
 }

@@ -1,6 +1,6 @@
 //! The clients' side.
 ghost use Rattle.std.specs.Prelude.{◌≡◌, ◌≤◌, ◌<◌, ◌↔◌, [], length, max, take, slice_get, Some, IfNone, IfSome, IsTrue, false};
-ghost use Rattle.service_parts.specs.Course.{IsOfClients, LeadsOnBy};
+ghost use Rattle.service_core.specs.Cycle.{ClientsLeadOn};
 ghost use Rattle.service_parts.specs.declared.client_place.ClientPlace.{ClientPlace as Place};
 ghost use Rattle.service_parts.specs.Clients.{DoesAt, Hears, IsDeaf, IsDone, IsOpen, OthersStay, Sends, ready_of};
 ghost use Rattle.service_parts.specs.Places.{given_place};
@@ -35,6 +35,7 @@ impl Service {
         ensures links { self.new.lines.links ≡ self.old.lines.links }
         ensures core { self.new.cycle.core.value ≡ self.old.cycle.core.value }
         ensures gone { DoesAt (λ c d. d.is_taken ≡ false) self.old.places.items place self.new.places.items }
+        ensures time { self.new.side.now ≡ self.old.side.now }
     {
         if let Some(client) = self.places.get_mut(place) {
             client.leave();
@@ -45,7 +46,7 @@ impl Service {
     /// given again.
     pub fn from_client(&mut self, place: usize, bytes: &[u8], now: u64) -> usize
         ensures links { self.new.lines.links ≡ self.old.lines.links }
-        ensures goes { LeadsOnBy IsOfClients self.old.cycle.core.value self.new.cycle.core.value }
+        ensures goes { ClientsLeadOn self.old.cycle self.new.cycle }
         ensures time { self.new.side.now ≡ max self.old.side.now now }
         ensures used { result ≤ length bytes.now }
         ensures takes { (c : Place) → slice_get self.old.places.items place ≡ Some c → (IsDeaf c → ⊥) → ready_of c ≡ [] → 0 < length bytes.now → 0 < result }
@@ -89,6 +90,7 @@ impl Service {
         ensures links { self.new.lines.links ≡ self.old.lines.links }
         ensures core { self.new.cycle.core.value ≡ self.old.cycle.core.value }
         ensures sends { DoesAt (λ c d. Sends c n d) self.old.places.items place self.new.places.items }
+        ensures time { self.new.side.now ≡ self.old.side.now }
     {
         if let Some(client) = self.places.get_mut(place) {
             client.sent(n);

@@ -1,6 +1,9 @@
 //! Connections to devices, and what comes over them.
-ghost use Rattle.std.specs.Prelude.{◌≡◌, ◌+◌, ◌<◌, ◌^◌, ℕ, Some, set, slice_get};
-ghost use Rattle.service_parts.specs.Course.{LeadsOn};
+ghost use Rattle.std.specs.Prelude.{◌≡◌, ◌+◌, ◌<◌, ◌^◌, ℕ, Some, max, set, slice_get, take, length, true, false};
+ghost use Rattle.service_parts.specs.declared.wire.Aim.TheVariants.{Output as OutputAim};
+ghost use Rattle.service_parts.specs.declared.wire.Wire.{Wire as WireValue};
+ghost use Rattle.service_core.specs.Cycle.{Answers, AnswersIf, DevicesLeadOn, EndsOwn, Hears, LeadsOn, Settles, SettlesIf, is_answer, stage_of};
+ghost use Rattle.service_core.specs.Telling.{state_by, told_at};
 ghost use Rattle.service_parts.specs.Requests.{IsRightfulOn};
 
 use crate::note::{Loss, Unwritten};
@@ -21,6 +24,7 @@ impl Service {
         ensures links { self.new.lines.links ≡ self.old.lines.links }
         ensures core { self.new.cycle.core.value ≡ self.old.cycle.core.value }
         ensures places { self.new.places.items ≡ self.old.places.items }
+        ensures time { self.new.side.now ≡ max self.old.side.now now }
     {
         self.side.turn_to(now);
         self.side.dial(link);
@@ -29,10 +33,11 @@ impl Service {
     /// A connection is up: its devices have no map, until a search finds one. It has the next number of its link.
     pub fn link_up(&mut self, link: usize, now: u64)
         ensures stations { self.new.lines.links.stations ≡ self.old.lines.links.stations }
-        ensures goes { LeadsOn self.old.cycle.core.value self.new.cycle.core.value }
+        ensures goes { LeadsOn self.old.cycle self.new.cycle }
         ensures next { (number : ℕ) → slice_get self.old.lines.links.numbers.items link ≡ Some number → number + 1 < 2 ^ 64
             → self.new.lines.links.numbers.items ≡ set self.old.lines.links.numbers.items link (number + 1) }
         ensures places { self.new.places.items ≡ self.old.places.items }
+        ensures time { self.new.side.now ≡ max self.old.side.now now }
     {
         self.side.turn_to(now);
         if self.lines.come_up(link) {
@@ -43,8 +48,9 @@ impl Service {
     /// A link has a new connection: what was known of its devices isn't known any more.
     fn begin_anew(&mut self, link: usize)
         ensures links { self.new.lines.links ≡ self.old.lines.links }
-        ensures goes { LeadsOn self.old.cycle.core.value self.new.cycle.core.value }
+        ensures goes { LeadsOn self.old.cycle self.new.cycle }
         ensures places { self.new.places.items ≡ self.old.places.items }
+        ensures time { self.new.side.now ≡ self.old.side.now }
     {
         self.side.come_up(link);
         self.forget_all(link);
@@ -54,8 +60,9 @@ impl Service {
     fn forget_all(&mut self, link: usize)
         ensures noted { self.new.lines.found_on ≡ self.old.lines.found_on }
         ensures links { self.new.lines.links ≡ self.old.lines.links }
-        ensures goes { LeadsOn self.old.cycle.core.value self.new.cycle.core.value }
+        ensures goes { LeadsOn self.old.cycle self.new.cycle }
         ensures places { self.new.places.items ≡ self.old.places.items }
+        ensures time { self.new.side.now ≡ self.old.side.now }
     {
         for device in 0..self.cycle.devices() {
             if self.lines.is_at(device, link) {
@@ -67,8 +74,9 @@ impl Service {
     /// A connection is down: a dial failed, the peer ended it, or there was an error.
     pub fn link_down(&mut self, link: usize, now: u64)
         ensures links { self.new.lines.links ≡ self.old.lines.links }
-        ensures goes { LeadsOn self.old.cycle.core.value self.new.cycle.core.value }
+        ensures goes { LeadsOn self.old.cycle self.new.cycle }
         ensures places { self.new.places.items ≡ self.old.places.items }
+        ensures time { self.new.side.now ≡ max self.old.side.now now }
     {
         self.side.turn_to(now);
         self.lines.go_down(link);
@@ -82,17 +90,19 @@ impl Service {
         self.side.wants_hang_up(link)
     }
 
-    /// Bytes of a connection; how many of them were used. The rest is to be given again.
+    /// Bytes of a connection; how many of them were used. The rest is to be given again. Of what they answer the core is told
+    /// as of the request that is under way there, and of no other.
     pub fn from_link(&mut self, link: usize, bytes: &[u8], now: u64) -> usize
+        ensures hears { (wire : WireValue) → slice_get self.old.side.wires.items link ≡ Some wire → wire.is_up ≡ true → wire.is_bad ≡ false → Hears wire (take result bytes.now) self.old.cycle self.new.cycle }
         ensures links { self.new.lines.links ≡ self.old.lines.links }
-        ensures goes { LeadsOn self.old.cycle.core.value self.new.cycle.core.value }
+        ensures goes { DevicesLeadOn self.old.cycle self.new.cycle }
         ensures places { self.new.places.items ≡ self.old.places.items }
+        ensures time { self.new.side.now ≡ max self.old.side.now now }
     {
         self.side.turn_to(now);
         let (used, fate) = self.side.take(link, bytes);
         if let Some(fate) = fate {
             self.settle(link, fate);
-            self.go_on();
         }
         used
     }
@@ -109,8 +119,9 @@ impl Service {
     /// So many bytes are written to a connection.
     pub fn sent_to_link(&mut self, link: usize, n: usize)
         ensures links { self.new.lines.links ≡ self.old.lines.links }
-        ensures goes { LeadsOn self.old.cycle.core.value self.new.cycle.core.value }
+        ensures goes { LeadsOn self.old.cycle self.new.cycle }
         ensures places { self.new.places.items ≡ self.old.places.items }
+        ensures time { self.new.side.now ≡ self.old.side.now }
     {
         self.lines.sent(link, n);
         // a request that was given up before all of it was written
@@ -128,8 +139,9 @@ impl Service {
     pub(crate) fn forget(&mut self, device: usize)
         ensures noted { self.new.lines.found_on ≡ self.old.lines.found_on }
         ensures links { self.new.lines.links ≡ self.old.lines.links }
-        ensures goes { LeadsOn self.old.cycle.core.value self.new.cycle.core.value }
+        ensures goes { LeadsOn self.old.cycle self.new.cycle }
         ensures places { self.new.places.items ≡ self.old.places.items }
+        ensures time { self.new.side.now ≡ self.old.side.now }
     {
         self.cycle.forget(device);
         self.cycle.give_up(device);
@@ -140,8 +152,9 @@ impl Service {
     /// All devices of a connection are lost.
     pub(crate) fn lose_all(&mut self, link: usize, loss: Loss)
         ensures links { self.new.lines.links ≡ self.old.lines.links }
-        ensures goes { LeadsOn self.old.cycle.core.value self.new.cycle.core.value }
+        ensures goes { LeadsOn self.old.cycle self.new.cycle }
         ensures places { self.new.places.items ≡ self.old.places.items }
+        ensures time { self.new.side.now ≡ self.old.side.now }
     {
         for device in 0..self.cycle.devices() {
             if self.lines.is_at(device, link) {
@@ -153,52 +166,109 @@ impl Service {
     /// A device is lost: it is asked nothing more in this round.
     pub(crate) fn lose(&mut self, device: usize, loss: Loss)
         ensures links { self.new.lines.links ≡ self.old.lines.links }
-        ensures goes { LeadsOn self.old.cycle.core.value self.new.cycle.core.value }
+        ensures goes { LeadsOn self.old.cycle self.new.cycle }
         ensures places { self.new.places.items ≡ self.old.places.items }
+        ensures time { self.new.side.now ≡ self.old.side.now }
     {
         self.cycle.give_up(device);
         self.side.lose(device, loss);
     }
 
-    /// This became of the request that is under way on a connection.
-    pub(crate) fn settle(&mut self, link: usize, fate: Fate)
+    /// This became of the request that is under way on a connection; then the service goes on.
+    fn settle(&mut self, link: usize, fate: Fate)
+        ensures settles { (wire : WireValue) → slice_get self.old.side.wires.items link ≡ Some wire → SettlesIf wire.asked fate self.old.cycle self.new.cycle }
+        ensures goes { DevicesLeadOn self.old.cycle self.new.cycle }
         ensures links { self.new.lines.links ≡ self.old.lines.links }
-        ensures goes { LeadsOn self.old.cycle.core.value self.new.cycle.core.value }
         ensures places { self.new.places.items ≡ self.old.places.items }
+        ensures time { self.new.side.now ≡ self.old.side.now }
     {
-        if let Some(asked) = self.side.end(link) {
-            self.settle_asked(link, asked, fate);
+        match self.side.end(link) {
+            Some(asked) => self.settle_asked(link, asked, fate),
+            None => self.go_on(),
         }
     }
 
     fn settle_asked(&mut self, link: usize, asked: Asked, fate: Fate)
+        ensures settles { Settles fate asked self.old.cycle self.new.cycle }
         ensures links { self.new.lines.links ≡ self.old.lines.links }
-        ensures goes { LeadsOn self.old.cycle.core.value self.new.cycle.core.value }
         ensures places { self.new.places.items ≡ self.old.places.items }
+        ensures time { self.new.side.now ≡ self.old.side.now }
     {
         match fate {
-            Fate::Lost => {
-                self.side.lose_write(asked.aim);
-                self.side.spoil(link);
-                self.lose_all(link, Loss::Frame);
-            }
-            Fate::Told(Outcome::Stale) => {
-                self.side.lose_write(asked.aim);
-                self.miss(link, asked.device, Loss::Stale);
-            }
-            Fate::Told(outcome) => {
-                let is_mapped = self.cycle.is_mapped(asked.device);
-                self.side.hear(link, asked.device, is_mapped);
-                self.take(asked, outcome);
-            }
+            Fate::Lost => self.lose_stream(link, asked),
+            Fate::Told(outcome) => self.settle_told(link, asked, outcome),
+        }
+    }
+
+    /// What came over a connection is no frame.
+    fn lose_stream(&mut self, link: usize, asked: Asked)
+        ensures links { self.new.lines.links ≡ self.old.lines.links }
+        ensures goes { LeadsOn self.old.cycle self.new.cycle }
+        ensures places { self.new.places.items ≡ self.old.places.items }
+        ensures time { self.new.side.now ≡ self.old.side.now }
+    {
+        self.side.lose_write(asked.aim);
+        self.side.spoil(link);
+        self.lose_all(link, Loss::Frame);
+        self.go_on();
+    }
+
+    fn settle_told(&mut self, link: usize, asked: Asked, outcome: Outcome)
+        ensures settles { AnswersIf (is_answer outcome) asked outcome self.old.cycle self.new.cycle }
+        ensures links { self.new.lines.links ≡ self.old.lines.links }
+        ensures places { self.new.places.items ≡ self.old.places.items }
+        ensures time { self.new.side.now ≡ self.old.side.now }
+    {
+        if is_answer(&outcome) {
+            self.take_answer(link, asked, outcome);
+        } else {
+            self.lose_answer(link, asked);
+        }
+    }
+
+    /// Too many frames came that answer something else.
+    fn lose_answer(&mut self, link: usize, asked: Asked)
+        ensures links { self.new.lines.links ≡ self.old.lines.links }
+        ensures goes { LeadsOn self.old.cycle self.new.cycle }
+        ensures places { self.new.places.items ≡ self.old.places.items }
+        ensures time { self.new.side.now ≡ self.old.side.now }
+    {
+        self.side.lose_write(asked.aim);
+        self.miss(link, asked.device, Loss::Stale);
+        self.go_on();
+    }
+
+    fn take_answer(&mut self, link: usize, asked: Asked, outcome: Outcome)
+        ensures answers { Answers asked outcome self.old.cycle self.new.cycle }
+        ensures links { self.new.lines.links ≡ self.old.lines.links }
+        ensures places { self.new.places.items ≡ self.old.places.items }
+        ensures time { self.new.side.now ≡ self.old.side.now }
+    {
+        let is_mapped = self.cycle.is_mapped(asked.device);
+        self.side.hear(link, asked.device, is_mapped);
+        let foreign = self.take(asked, outcome);
+        self.forget_if(foreign, asked.device);
+        self.go_on();
+    }
+
+    /// A device whose words are no block of the model that was asked for has other registers than its map says.
+    fn forget_if(&mut self, foreign: bool, device: usize)
+        ensures links { self.new.lines.links ≡ self.old.lines.links }
+        ensures goes { LeadsOn self.old.cycle self.new.cycle }
+        ensures places { self.new.places.items ≡ self.old.places.items }
+        ensures time { self.new.side.now ≡ self.old.side.now }
+    {
+        if foreign {
+            self.forget(device);
         }
     }
 
     /// A device didn't answer: it isn't asked for a while.
     fn miss(&mut self, link: usize, device: usize, loss: Loss)
         ensures links { self.new.lines.links ≡ self.old.lines.links }
-        ensures goes { LeadsOn self.old.cycle.core.value self.new.cycle.core.value }
+        ensures goes { LeadsOn self.old.cycle self.new.cycle }
         ensures places { self.new.places.items ≡ self.old.places.items }
+        ensures time { self.new.side.now ≡ self.old.side.now }
     {
         self.side.miss(link, device);
         self.cycle.seek_anew(device);
@@ -208,45 +278,46 @@ impl Service {
         }
     }
 
-    fn take(&mut self, asked: Asked, outcome: Outcome)
+    /// The outcome ends the request; whether the words that came are no block of its model.
+    fn take(&mut self, asked: Asked, outcome: Outcome) -> bool
+        ensures ends { EndsOwn asked.aim asked.device outcome (stage_of self.old.cycle) (stage_of self.new.cycle) }
         ensures links { self.new.lines.links ≡ self.old.lines.links }
-        ensures goes { LeadsOn self.old.cycle.core.value self.new.cycle.core.value }
         ensures places { self.new.places.items ≡ self.old.places.items }
+        ensures time { self.new.side.now ≡ self.old.side.now }
     {
         match asked.aim {
-            Aim::Map => self.cycle.answered(asked.device, &outcome),
-            Aim::Block => self.take_block(asked.device, outcome),
-            Aim::Output(output) => self.take_write(asked.device, output, outcome),
-            Aim::Past => {}
-        }
-    }
-
-    fn take_block(&mut self, device: usize, outcome: Outcome)
-        ensures links { self.new.lines.links ≡ self.old.lines.links }
-        ensures goes { LeadsOn self.old.cycle.core.value self.new.cycle.core.value }
-        ensures places { self.new.places.items ≡ self.old.places.items }
-    {
-        if self.cycle.close(device, Fate::Told(outcome)) {
-            self.forget(device);
+            Aim::Map => {
+                self.cycle.answered(asked.device, &outcome);
+                false
+            }
+            Aim::Block(want) => self.cycle.close_block(asked.device, want, outcome),
+            Aim::Output(output) => {
+                self.take_write(asked.device, output, outcome);
+                false
+            }
+            Aim::Past => false,
         }
     }
 
     fn take_write(&mut self, device: usize, output: usize, outcome: Outcome)
+        ensures told { output < length self.old.side.outputs.items → told_at self.new.side.outputs.items output ≡ Some (state_by outcome) }
+        ensures ends { EndsOwn (OutputAim output) device outcome (stage_of self.old.cycle) (stage_of self.new.cycle) }
         ensures links { self.new.lines.links ≡ self.old.lines.links }
-        ensures goes { LeadsOn self.old.cycle.core.value self.new.cycle.core.value }
         ensures places { self.new.places.items ≡ self.old.places.items }
+        ensures time { self.new.side.now ≡ self.old.side.now }
     {
-        let is_done = outcome == Outcome::Wrote;
-        self.side.wrote(is_done);
-        self.side.settle_output(output, state_by(is_done));
-        self.cycle.close(device, Fate::Told(outcome));
+        let state = state_by(&outcome);
+        self.side.wrote(state == OutputState::Written);
+        self.side.settle_output(output, state);
+        self.cycle.close_write(device, output, outcome);
     }
 
     /// The time of each request that is over ends its wait.
     pub(crate) fn end_waits(&mut self)
         ensures links { self.new.lines.links ≡ self.old.lines.links }
-        ensures goes { LeadsOn self.old.cycle.core.value self.new.cycle.core.value }
+        ensures goes { LeadsOn self.old.cycle self.new.cycle }
         ensures places { self.new.places.items ≡ self.old.places.items }
+        ensures time { self.new.side.now ≡ self.old.side.now }
     {
         for link in 0..self.side.wires.len() {
             self.end_wait(link);
@@ -255,8 +326,9 @@ impl Service {
 
     fn end_wait(&mut self, link: usize)
         ensures links { self.new.lines.links ≡ self.old.lines.links }
-        ensures goes { LeadsOn self.old.cycle.core.value self.new.cycle.core.value }
+        ensures goes { LeadsOn self.old.cycle self.new.cycle }
         ensures places { self.new.places.items ≡ self.old.places.items }
+        ensures time { self.new.side.now ≡ self.old.side.now }
     {
         if let Some(asked) = self.side.overdue(link) {
             self.give_up(link, asked);
@@ -265,8 +337,9 @@ impl Service {
 
     fn give_up(&mut self, link: usize, asked: Asked)
         ensures links { self.new.lines.links ≡ self.old.lines.links }
-        ensures goes { LeadsOn self.old.cycle.core.value self.new.cycle.core.value }
+        ensures goes { LeadsOn self.old.cycle self.new.cycle }
         ensures places { self.new.places.items ≡ self.old.places.items }
+        ensures time { self.new.side.now ≡ self.old.side.now }
     {
         self.side.give_up(link, self.lines.is_sent(link));
         self.side.lose_write(asked.aim);
@@ -281,11 +354,24 @@ impl Service {
     }
 }
 
-/// What became of an output whose write was answered.
-fn state_by(is_done: bool) -> OutputState {
-    if is_done {
-        OutputState::Written
-    } else {
-        OutputState::Unwritten(Unwritten::Refused)
+/// Whether it is an answer: after too many frames that answer something else there is none.
+fn is_answer(outcome: &Outcome) -> bool
+    ensures { result ≡ is_answer outcome.now }
+{
+    match outcome {
+        Outcome::Stale => false,
+        Outcome::Words(_) | Outcome::Wrote | Outcome::Exception(_) | Outcome::Mismatch => true,
+    }
+}
+
+/// What became of an output whose write was answered so.
+fn state_by(outcome: &Outcome) -> OutputState
+    ensures { result ≡ state_by outcome.now }
+{
+    match outcome {
+        Outcome::Wrote => OutputState::Written,
+        Outcome::Words(_) | Outcome::Exception(_) | Outcome::Mismatch | Outcome::Stale => {
+            OutputState::Unwritten(Unwritten::Refused)
+        }
     }
 }

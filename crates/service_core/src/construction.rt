@@ -1,5 +1,5 @@
 //! A service is made.
-ghost use Rattle.std.specs.Prelude.{◌≡◌, ◌≤◌, length, [], map, replicate, IfErr, IfOk, OnOk};
+ghost use Rattle.std.specs.Prelude.{◌≡◌, ◌≤◌, length, [], map, replicate, true, IfErr, IfOk, OnOk};
 ghost use Rattle.verifier.specs.Verified.{HasLinks};
 ghost use Rattle.gateway.specs.declared.event_core.fault.CoreFault.TheVariants.{Foreign};
 ghost use Rattle.gateway.specs.event_core.Core.{Gateway, gateway_of};
@@ -42,6 +42,7 @@ impl Service {
         ensures stations { IfOk result (λ service. service.lines.links.stations.items ≡ stations.now) }
         ensures numbers { IfOk result (λ service. service.lines.links.numbers.items ≡ replicate links 0) }
         ensures limits { IfOk result (λ service. service.side.limits ≡ limits) }
+        ensures time { IfOk result (λ service. service.side.now ≡ now) }
         ensures places { IfOk result (λ service. length service.places.items ≡ limits.clients) }
         ensures foreign { IfErr result (λ e. e ≡ Foreign → HasLinks site.tags machine.accepted.links → ⊥) }
     {
@@ -76,11 +77,13 @@ fn parts_of(
 ) -> Result<Parts, AllocError>
     ensures maps { IfOk result (λ parts. parts.maps.items ≡ none_of site.now.devices) }
     ensures round { IfOk result (λ parts. IsRoundFor site.now parts.round) }
+    ensures over { IfOk result (λ parts. parts.round.scanned ≡ true) }
     ensures searches { IfOk result (λ parts. AreOf site.now parts.searches.items) }
     ensures rightful { IfOk result (λ parts. (now : Gateway) → AreRightfulBy now parts.peers.lines) }
     ensures stations { IfOk result (λ parts. parts.peers.lines.links.stations.items ≡ stations.now) }
     ensures numbers { IfOk result (λ parts. parts.peers.lines.links.numbers.items ≡ replicate links 0) }
     ensures limits { IfOk result (λ parts. parts.peers.side.limits ≡ limits) }
+    ensures time { IfOk result (λ parts. parts.peers.side.now ≡ now) }
     ensures places { IfOk result (λ parts. length parts.peers.places.items ≡ limits.clients) }
 {
     let maps = no_maps(alloc, site.devices())?;
@@ -116,6 +119,7 @@ fn peers_of(
     ensures stations { IfOk result (λ peers. peers.lines.links.stations.items ≡ stations.now) }
     ensures numbers { IfOk result (λ peers. peers.lines.links.numbers.items ≡ replicate links 0) }
     ensures limits { IfOk result (λ peers. peers.side.limits ≡ limits) }
+    ensures time { IfOk result (λ peers. peers.side.now ≡ now) }
     ensures places { IfOk result (λ peers. length peers.places.items ≡ limits.clients) }
 {
     let lines = Lines::new(alloc, links, stations)?;
@@ -137,7 +141,8 @@ fn device_side(
     limits: Limits,
     now: u64,
 ) -> Result<DeviceSide, AllocError>
-    ensures { IfOk result (λ side. side.limits ≡ limits) }
+    ensures limits { IfOk result (λ side. side.limits ≡ limits) }
+    ensures time { IfOk result (λ side. side.now ≡ now) }
 {
     let devices = devices_of(alloc, site.devices().len())?;
     let outputs = outputs_of(alloc, site.outs())?;

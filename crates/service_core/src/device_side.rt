@@ -1,5 +1,8 @@
 //! The devices' side of a service, apart from its core and from what goes out: connections, devices and outputs.
-ghost use Rattle.std.specs.Prelude.{◌≡◌, max};
+ghost use Rattle.std.specs.Prelude.{◌≡◌, ◌<◌, Some, length, max, slice_get, take};
+ghost use Rattle.service_parts.specs.declared.wire.Wire.{Wire as WireValue};
+ghost use Rattle.service_core.specs.Connections.{HearsThere};
+ghost use Rattle.service_core.specs.Telling.{told_at};
 
 use crate::device::Device;
 use crate::note::{Loss, Note, Unwritten};
@@ -60,27 +63,35 @@ impl DeviceSide {
     }
 
     /// A dial begins, which may take as long as a device may take to answer.
-    pub(crate) fn dial(&mut self, link: usize) {
+    pub(crate) fn dial(&mut self, link: usize)
+        ensures now { self.new.now ≡ self.old.now }
+    {
         let until = self.now.saturating_add(self.limits.timeout);
         if let Some(wire) = self.wires.get_mut(link) {
             wire.dial(until);
         }
     }
 
-    pub(crate) fn come_up(&mut self, link: usize) {
+    pub(crate) fn come_up(&mut self, link: usize)
+        ensures now { self.new.now ≡ self.old.now }
+    {
         if let Some(wire) = self.wires.get_mut(link) {
             wire.come_up();
         }
     }
 
-    pub(crate) fn go_down(&mut self, link: usize) {
+    pub(crate) fn go_down(&mut self, link: usize)
+        ensures now { self.new.now ≡ self.old.now }
+    {
         if let Some(wire) = self.wires.get_mut(link) {
             wire.go_down(self.now, &self.limits);
         }
     }
 
     /// What came over a connection is no frame.
-    pub(crate) fn spoil(&mut self, link: usize) {
+    pub(crate) fn spoil(&mut self, link: usize)
+        ensures now { self.new.now ≡ self.old.now }
+    {
         if let Some(wire) = self.wires.get_mut(link) {
             wire.spoil();
         }
@@ -132,14 +143,18 @@ impl DeviceSide {
     }
 
     /// There may be something to ask over each connection.
-    pub(crate) fn stir_all(&mut self) {
+    pub(crate) fn stir_all(&mut self)
+        ensures now { self.new.now ≡ self.old.now }
+    {
         for wire in self.wires.iter_mut() {
             wire.stir();
         }
     }
 
     /// There is nothing to ask over the connection before one of its devices may be asked again, or something happens.
-    pub(crate) fn rest_link(&mut self, link: usize) {
+    pub(crate) fn rest_link(&mut self, link: usize)
+        ensures now { self.new.now ≡ self.old.now }
+    {
         let mut until = u64::MAX;
         for i in 0..self.devices_on(link) {
             until = self.asked_again_by(link, i, until);
@@ -179,7 +194,10 @@ impl DeviceSide {
     }
 
     /// Takes bytes of a connection, and tells how many, and what became of the request that is under way.
-    pub(crate) fn take(&mut self, link: usize, bytes: &[u8]) -> (usize, Option<Fate>) {
+    pub(crate) fn take(&mut self, link: usize, bytes: &[u8]) -> (usize, Option<Fate>)
+        ensures hears { (wire : WireValue) → slice_get self.old.wires.items link ≡ Some wire → HearsThere wire (take result.0 bytes.now) result.1 (slice_get self.new.wires.items link) }
+        ensures now { self.new.now ≡ self.old.now }
+    {
         match self.wires.get_mut(link) {
             Some(wire) => wire.take(bytes),
             None => (bytes.len(), None),
@@ -187,7 +205,10 @@ impl DeviceSide {
     }
 
     /// The request that is under way on a connection is over.
-    pub(crate) fn end(&mut self, link: usize) -> Option<Asked> {
+    pub(crate) fn end(&mut self, link: usize) -> Option<Asked>
+        ensures asked { (wire : WireValue) → slice_get self.old.wires.items link ≡ Some wire → result ≡ wire.asked }
+        ensures now { self.new.now ≡ self.old.now }
+    {
         let wire = self.wires.get_mut(link)?;
         wire.stir();
         wire.end()
@@ -203,7 +224,9 @@ impl DeviceSide {
     }
 
     /// A request is given up, of which all was sent, or a part.
-    pub(crate) fn give_up(&mut self, link: usize, is_sent: bool) {
+    pub(crate) fn give_up(&mut self, link: usize, is_sent: bool)
+        ensures now { self.new.now ≡ self.old.now }
+    {
         if let Some(wire) = self.wires.get_mut(link) {
             wire.stir();
             wire.give_up(is_sent);
@@ -214,7 +237,7 @@ impl DeviceSide {
     pub(crate) fn until(&self, aim: Aim) -> u64 {
         let until = self.now.saturating_add(self.limits.timeout);
         match aim {
-            Aim::Block => until.min(self.deadline),
+            Aim::Block(_) => until.min(self.deadline),
             Aim::Map => until.min(self.next_round),
             Aim::Output(_) | Aim::Past => until,
         }
@@ -254,14 +277,18 @@ impl DeviceSide {
     }
 
     /// A device is searched from now on.
-    pub(crate) fn seek(&mut self, device: usize) {
+    pub(crate) fn seek(&mut self, device: usize)
+        ensures now { self.new.now ≡ self.old.now }
+    {
         if let Some(found) = self.devices.get_mut(device) {
             found.seek_from(self.now);
         }
     }
 
     /// A device's map is found.
-    pub(crate) fn find(&mut self, device: usize) {
+    pub(crate) fn find(&mut self, device: usize)
+        ensures now { self.new.now ≡ self.old.now }
+    {
         if let Some(found) = self.devices.get_mut(device) {
             found.is_lost = false;
         }
@@ -269,7 +296,9 @@ impl DeviceSide {
     }
 
     /// A search found no map: the next one begins later.
-    pub(crate) fn find_none(&mut self, device: usize) {
+    pub(crate) fn find_none(&mut self, device: usize)
+        ensures now { self.new.now ≡ self.old.now }
+    {
         let again = self.now.saturating_add(self.limits.search_again);
         if let Some(found) = self.devices.get_mut(device) {
             found.seek_from(again);
@@ -278,14 +307,18 @@ impl DeviceSide {
     }
 
     /// A request to a device is counted.
-    pub(crate) fn count(&mut self, device: usize) {
+    pub(crate) fn count(&mut self, device: usize)
+        ensures now { self.new.now ≡ self.old.now }
+    {
         if let Some(found) = self.devices.get_mut(device) {
             found.counts.ask();
         }
     }
 
     /// A device is lost; it is told where it wasn't before.
-    pub(crate) fn lose(&mut self, device: usize, loss: Loss) {
+    pub(crate) fn lose(&mut self, device: usize, loss: Loss)
+        ensures now { self.new.now ≡ self.old.now }
+    {
         if let Some(found) = self.devices.get_mut(device) {
             if found.lose(loss) {
                 self.notes.add(Note::Lost(device, loss));
@@ -294,7 +327,9 @@ impl DeviceSide {
     }
 
     /// A device answered, one that has a map or not.
-    pub(crate) fn hear(&mut self, link: usize, device: usize, is_mapped: bool) {
+    pub(crate) fn hear(&mut self, link: usize, device: usize, is_mapped: bool)
+        ensures now { self.new.now ≡ self.old.now }
+    {
         if let Some(wire) = self.wires.get_mut(link) {
             wire.heard();
         }
@@ -308,7 +343,9 @@ impl DeviceSide {
     }
 
     /// A device didn't answer: it isn't asked for a while.
-    pub(crate) fn miss(&mut self, link: usize, device: usize) {
+    pub(crate) fn miss(&mut self, link: usize, device: usize)
+        ensures now { self.new.now ≡ self.old.now }
+    {
         if let Some(found) = self.devices.get_mut(device) {
             found.rest(self.now, &self.limits);
         }
@@ -341,7 +378,9 @@ impl DeviceSide {
 
     /// A round begins now: its deadline, and when the next one begins. A round that begins late is told, and the next one
     /// begins a period behind it.
-    pub(crate) fn plan_round(&mut self) {
+    pub(crate) fn plan_round(&mut self)
+        ensures now { self.new.now ≡ self.old.now }
+    {
         self.phase = Phase::Reading;
         self.writes = 0;
         self.refused = 0;
@@ -358,7 +397,9 @@ impl DeviceSide {
     }
 
     /// The program ran, and this is planned for each output.
-    pub(crate) fn count_scan(&mut self, core: &Core<DEPTH>) {
+    pub(crate) fn count_scan(&mut self, core: &Core<DEPTH>)
+        ensures now { self.new.now ≡ self.old.now }
+    {
         self.phase = Phase::Writing;
         self.scans = self.scans.saturating_add(1);
         for output in 0..core.site().outs().len() {
@@ -367,7 +408,9 @@ impl DeviceSide {
     }
 
     /// An output's write is waited for from now on, where there is one.
-    fn await_output(&mut self, output: usize, plan: &Result<Write, NoWrite>) {
+    fn await_output(&mut self, output: usize, plan: &Result<Write, NoWrite>)
+        ensures now { self.new.now ≡ self.old.now }
+    {
         match plan {
             Ok(_) => {
                 if let Some(found) = self.outputs.get_mut(output) {
@@ -382,7 +425,10 @@ impl DeviceSide {
     }
 
     /// This became of an output; it is told where it is new.
-    pub(crate) fn settle_output(&mut self, output: usize, state: OutputState) {
+    pub(crate) fn settle_output(&mut self, output: usize, state: OutputState)
+        ensures told { output < length self.old.outputs.items → told_at self.new.outputs.items output ≡ Some state }
+        ensures now { self.new.now ≡ self.old.now }
+    {
         let is_new = match self.outputs.get_mut(output) {
             Some(found) => found.settle(state),
             None => false,
@@ -396,7 +442,9 @@ impl DeviceSide {
     }
 
     /// A write went out, and this came of it.
-    pub(crate) fn wrote(&mut self, is_done: bool) {
+    pub(crate) fn wrote(&mut self, is_done: bool)
+        ensures { self.new ≡ record self.old { writes = self.new.writes; refused = self.new.refused } }
+    {
         self.writes = self.writes.saturating_add(1);
         if !is_done {
             self.refused = self.refused.saturating_add(1);
@@ -404,14 +452,18 @@ impl DeviceSide {
     }
 
     /// A request had no answer: where it wrote, that came to nothing.
-    pub(crate) fn lose_write(&mut self, aim: Aim) {
+    pub(crate) fn lose_write(&mut self, aim: Aim)
+        ensures now { self.new.now ≡ self.old.now }
+    {
         if let Aim::Output(_) = aim {
             self.wrote(false);
         }
     }
 
     /// A round is over: what was still to be written isn't.
-    pub(crate) fn finish(&mut self, report: Report) {
+    pub(crate) fn finish(&mut self, report: Report)
+        ensures now { self.new.now ≡ self.old.now }
+    {
         self.phase = Phase::Resting;
         for output in 0..self.outputs.len() {
             if self.is_awaited(output) {
@@ -430,7 +482,9 @@ impl DeviceSide {
     }
 
     /// The requests that are under way are those of a round that is over.
-    pub(crate) fn outlive_all(&mut self) {
+    pub(crate) fn outlive_all(&mut self)
+        ensures now { self.new.now ≡ self.old.now }
+    {
         for wire in self.wires.iter_mut() {
             wire.outlive();
         }

@@ -19,7 +19,9 @@ mod round_times;
 mod scan_cycle;
 mod service_state;
 mod status;
+mod steps;
 mod wakes;
+mod wish;
 
 // a service, and what is asked of it
 pub use service_parts::{Limits, Station};

@@ -1,4 +1,6 @@
 //! What was told of an output.
+ghost use Rattle.std.specs.Prelude.{◌≡◌, Some, false};
+
 use crate::note::Unwritten;
 
 /// What became of an output.
@@ -32,7 +34,9 @@ impl Output {
     }
 
     /// This became of it in this round; whether that is to be told.
-    pub fn settle(&mut self, state: OutputState) -> bool {
+    pub fn settle(&mut self, state: OutputState) -> bool
+        ensures { self.new ≡ record self.old { told = Some state; is_awaited = false } }
+    {
         self.is_awaited = false;
         let is_new = self.told != Some(state);
         self.told = Some(state);

@@ -1,7 +1,7 @@
 //! What clients set is set again behind a restart.
 ghost use Rattle.std.specs.Prelude.{◌≡◌, IsTrue, Some, false, slice_set};
 ghost use Rattle.gateway.specs.event_core.Restoring.{NothingSets};
-ghost use Rattle.service_parts.specs.Course.{IsOfClients, LeadsOnBy};
+ghost use Rattle.service_core.specs.Cycle.{ClientsLeadOn};
 
 use crate::service_state::Service;
 
@@ -11,11 +11,12 @@ impl Service {
     /// point read as the number, exactly and in its range.
     pub fn restore(&mut self, tag: usize, number: i64) -> bool
         ensures links { self.new.lines.links ≡ self.old.lines.links }
-        ensures goes { LeadsOnBy IsOfClients self.old.cycle.core.value self.new.cycle.core.value }
+        ensures goes { ClientsLeadOn self.old.cycle self.new.cycle }
         ensures sets { IsTrue result → self.new.cycle.core.value.standing
             ≡ record self.old.cycle.core.value.standing { sets = slice_set self.old.cycle.core.value.standing.sets tag (Some number) } }
         ensures refused { result ≡ false → (self.new.cycle.core.value ≡ self.old.cycle.core.value) × NothingSets self.old.cycle.core.value.site tag number }
         ensures places { self.new.places.items ≡ self.old.places.items }
+        ensures time { self.new.side.now ≡ self.old.side.now }
     {
         self.cycle.restore(tag, number)
     }

@@ -8,12 +8,14 @@ ghost use Rattle.gateway.specs.event_core.Control.{IsPlanned};
 ghost use Rattle.gateway.specs.event_core.Driving.{Happens};
 ghost use Rattle.service.specs.Tasks.{IsDone, is_asked, next_place};
 ghost use Rattle.service_parts.specs.Calls.{write_to};
-ghost use Rattle.service_core.specs.Rounds.{ArePlanned, Closes, ClosesRead, ClosesWrite, IsRoundFor, IsSendable, Opens, OpensRead, OpensWrite, begun, event_of, task_of};
+ghost use Rattle.service_parts.specs.declared.wire.Aim.TheVariants.{Block as BlockAim, Output as OutputAim};
+ghost use Rattle.service_core.specs.Rounds.{ArePlanned, Closes, ClosesRead, IsUnderWay, ClosesWrite, IsRoundFor, IsSendable, Opens, OpensRead, OpensWrite, begun, event_of, task_of};
 
 use gateway::{Call, Core, DEPTH, Event, event_by, read_of, write_of};
 use point_writer::{NoWrite, Write};
 use register_map::Map;
 use service::{Fate, Mark, Task, Tasks};
+use service_parts::Aim;
 use site_model::{Site, SiteDevice, Want};
 use std::alloc::{AllocError, Global};
 use std::marker::Model;
@@ -39,12 +41,12 @@ impl Model for Round {
 }
 
 /// What comes next for a device.
-#[derive(Debug, PartialEq, Eq, Drop)]
+#[derive(Drop)]
 pub enum Turn {
-    /// This request goes out to it.
-    Ask(Call),
-    /// This goes to the core: there is no request for a wanted block.
-    Tell(Event),
+    /// This request goes out to it, for this wanted block or output.
+    Ask(Aim, Call),
+    /// There is no request for this wanted block of it: it is lost.
+    Lack(Want),
     /// Nothing, now: a request is under way, or there is none to be made.
     Rest,
 }
@@ -54,7 +56,8 @@ impl Round {
     /// refused.
     #[tactic(auto, using(service::proofs::Marks::devices_when_due))]
     pub fn new(alloc: Global, site: &Site) -> Result<Round, AllocError>
-        ensures { IfOk result (IsRoundFor site.now) }
+        ensures round { IfOk result (IsRoundFor site.now) }
+        ensures over { IfOk result (λ r. r.scanned ≡ true) }
     {
         let mut reads = Tasks::new(alloc, site.wants().len())?;
         reads.restart(site.wants());
@@ -78,7 +81,7 @@ impl Round {
         self.scanned = false;
     }
 
-    /// The next request to the device: before the scan for its next wanted block, behind it for its next output, by what
+    /// The next request to the device: before the scan for its next wanted block, after it for its next output, by what
     /// the core plans. None while one is under way.
     pub fn open(&mut self, core: &Core<DEPTH>, device: usize) -> Turn
         requires { IsRoundFor core.now.site self.old }
@@ -106,11 +109,11 @@ impl Round {
         match read_of(site, maps, want) {
             Some(call) => {
                 self.reads.mark(i, Mark::Asked);
-                Turn::Ask(call)
+                Turn::Ask(Aim::Block(i), call)
             }
             None => {
                 self.reads.mark(i, Mark::Done);
-                Turn::Tell(Event::Lost(want))
+                Turn::Lack(want)
             }
         }
     }
@@ -127,7 +130,7 @@ impl Round {
         match write_to(device, core.site().devices(), &core.write(i)) {
             Some(call) => {
                 self.writes.mark(i, Mark::Asked);
-                Turn::Ask(call)
+                Turn::Ask(Aim::Output(i), call)
             }
             None => {
                 self.writes.mark(i, Mark::Done);
@@ -169,11 +172,18 @@ impl Round {
         }
     }
 
-    /// The number of the output whose write to the device is under way.
-    pub fn output(&self, device: usize) -> Option<usize>
-        ensures { result ≡ position (is_asked device) self.now.writes }
+    /// Whether before the scan the device's request that is under way is that for the wanted block of this number.
+    pub fn is_reading(&self, device: usize, want: usize) -> bool
+        ensures { IsTrue result ↔ IsUnderWay (BlockAim want) device self.now }
     {
-        self.writes.asked(device)
+        !self.scanned && self.reads.asked(device) == Some(want)
+    }
+
+    /// Whether after the scan the device's request that is under way is that which writes the output of this number.
+    pub fn is_writing(&self, device: usize, output: usize) -> bool
+        ensures { IsTrue result ↔ IsUnderWay (OutputAim output) device self.now }
+    {
+        self.scanned && self.writes.asked(device) == Some(output)
     }
 
     /// Whether each wanted block was told, so that the program may run.

@@ -1,6 +1,6 @@
 //! Rounds, by the time.
 ghost use Rattle.std.specs.Prelude.{◌≡◌, map, max};
-ghost use Rattle.service_parts.specs.Course.{LeadsOn};
+ghost use Rattle.service_core.specs.Cycle.{LeadsOn};
 ghost use Rattle.service_parts.specs.Places.{closed_if_idle};
 
 use crate::note::Loss;
@@ -12,8 +12,9 @@ impl Service {
     /// The time is this: ends waits, begins rounds. It is to be called behind each wait.
     pub fn tick(&mut self, now: u64)
         ensures links { self.new.lines.links ≡ self.old.lines.links }
-        ensures goes { LeadsOn self.old.cycle.core.value self.new.cycle.core.value }
+        ensures goes { LeadsOn self.old.cycle self.new.cycle }
         ensures places { self.new.places.items ≡ map (closed_if_idle (max self.old.side.now now) self.old.side.limits.idle) self.old.places.items }
+        ensures time { self.new.side.now ≡ max self.old.side.now now }
     {
         self.side.turn_to(now);
         close_idle(&mut self.places, self.side.now, self.side.limits.idle);
@@ -29,8 +30,9 @@ impl Service {
     /// Asks what can be asked, runs the program once all is read, and ends the round once all is written.
     pub(crate) fn go_on(&mut self)
         ensures links { self.new.lines.links ≡ self.old.lines.links }
-        ensures goes { LeadsOn self.old.cycle.core.value self.new.cycle.core.value }
+        ensures goes { LeadsOn self.old.cycle self.new.cycle }
         ensures places { self.new.places.items ≡ self.old.places.items }
+        ensures time { self.new.side.now ≡ self.old.side.now }
     {
         self.ask_all();
         if self.side.is_reading() && self.scan() {
@@ -54,8 +56,9 @@ impl Service {
 
     fn cut_off_all(&mut self)
         ensures links { self.new.lines.links ≡ self.old.lines.links }
-        ensures goes { LeadsOn self.old.cycle.core.value self.new.cycle.core.value }
+        ensures goes { LeadsOn self.old.cycle self.new.cycle }
         ensures places { self.new.places.items ≡ self.old.places.items }
+        ensures time { self.new.side.now ≡ self.old.side.now }
     {
         for device in 0..self.cycle.devices() {
             self.cut_off(device);
@@ -64,8 +67,9 @@ impl Service {
 
     fn cut_off(&mut self, device: usize)
         ensures links { self.new.lines.links ≡ self.old.lines.links }
-        ensures goes { LeadsOn self.old.cycle.core.value self.new.cycle.core.value }
+        ensures goes { LeadsOn self.old.cycle self.new.cycle }
         ensures places { self.new.places.items ≡ self.old.places.items }
+        ensures time { self.new.side.now ≡ self.old.side.now }
     {
         let lost = self.cycle.lost();
         self.cycle.give_up(device);
@@ -77,8 +81,9 @@ impl Service {
     /// Begins the next round at its time.
     fn begin_round(&mut self)
         ensures links { self.new.lines.links ≡ self.old.lines.links }
-        ensures goes { LeadsOn self.old.cycle.core.value self.new.cycle.core.value }
+        ensures goes { LeadsOn self.old.cycle self.new.cycle }
         ensures places { self.new.places.items ≡ self.old.places.items }
+        ensures time { self.new.side.now ≡ self.old.side.now }
     {
         if !self.side.is_due() {
             return;
@@ -93,8 +98,9 @@ impl Service {
     /// The last round is over, whatever is left of it.
     fn end_round(&mut self)
         ensures links { self.new.lines.links ≡ self.old.lines.links }
-        ensures goes { LeadsOn self.old.cycle.core.value self.new.cycle.core.value }
+        ensures goes { LeadsOn self.old.cycle self.new.cycle }
         ensures places { self.new.places.items ≡ self.old.places.items }
+        ensures time { self.new.side.now ≡ self.old.side.now }
     {
         // a round whose deadline is behind the next one's start
         if self.side.is_reading() {
@@ -111,8 +117,9 @@ impl Service {
     /// What can't be asked now isn't waited for.
     fn leave_out_all(&mut self)
         ensures links { self.new.lines.links ≡ self.old.lines.links }
-        ensures goes { LeadsOn self.old.cycle.core.value self.new.cycle.core.value }
+        ensures goes { LeadsOn self.old.cycle self.new.cycle }
         ensures places { self.new.places.items ≡ self.old.places.items }
+        ensures time { self.new.side.now ≡ self.old.side.now }
     {
         for device in 0..self.cycle.devices() {
             self.leave_out(device);
@@ -121,8 +128,9 @@ impl Service {
 
     fn leave_out(&mut self, device: usize)
         ensures links { self.new.lines.links ≡ self.old.lines.links }
-        ensures goes { LeadsOn self.old.cycle.core.value self.new.cycle.core.value }
+        ensures goes { LeadsOn self.old.cycle self.new.cycle }
         ensures places { self.new.places.items ≡ self.old.places.items }
+        ensures time { self.new.side.now ≡ self.old.side.now }
     {
         if !self.may_be_asked(device) {
             self.cycle.give_up(device);
@@ -144,8 +152,9 @@ impl Service {
     /// Runs the program, where all is read; whether it did.
     fn scan(&mut self) -> bool
         ensures links { self.new.lines.links ≡ self.old.lines.links }
-        ensures goes { LeadsOn self.old.cycle.core.value self.new.cycle.core.value }
+        ensures goes { LeadsOn self.old.cycle self.new.cycle }
         ensures places { self.new.places.items ≡ self.old.places.items }
+        ensures time { self.new.side.now ≡ self.old.side.now }
     {
         if !self.cycle.scan() {
             return false;

@@ -1,6 +1,7 @@
 //! A service of a gateway.
 ghost use Rattle.std.specs.Prelude.{◌≡◌};
-ghost use Rattle.service_parts.specs.Course.{Reached};
+ghost use Rattle.service_core.specs.Cycle.{stage_of};
+ghost use Rattle.service_core.specs.Stages.{IsReached};
 ghost use Rattle.service_parts.specs.Requests.{AreRightfulBy};
 
 use crate::device_side::DeviceSide;
@@ -26,14 +27,16 @@ impl Service {
         ensures links { self.new.lines.links ≡ self.old.lines.links }
         ensures core { self.new.cycle.core.value ≡ self.old.cycle.core.value }
         ensures places { self.new.places.items ≡ self.old.places.items }
+        ensures time { self.new.side.now ≡ self.old.side.now }
     {
         self.side.notes.next()
     }
 
-    /// The core. Events and learned maps alone brought it to where it stands, whatever came from clients, devices and the
-    /// clock.
+    /// The core. Rounds and clients alone brought it to where it stands, step by step, whatever came from clients, devices and
+    /// the clock.
     pub fn core(&self) -> &Core<DEPTH>
-        ensures { ∥ Reached result.now ∥₁ }
+        ensures now { result.now ≡ self.now.cycle.core.value }
+        ensures reached { ∥ IsReached (stage_of self.now.cycle) ∥₁ }
     {
         self.cycle.core()
     }

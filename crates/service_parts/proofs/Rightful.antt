@@ -1,5 +1,5 @@
 -- What goes out is a request that may be asked.
-use Rattle.std.proofs.Common.{◌≡◌, ◌≢◌, ◌⊎◌, inl, inr, ℕ, true, false, eqb, zero, suc, List, [], ◌∷◌, ◌++◌, take, drop, set, All, get_or, Option, None, Some, IfSome, slice_get, refl, sym, ap, subst, ◌∙◌, append_assoc}
+use Rattle.std.proofs.Common.{◌≡◌, ◌≢◌, ◌⊎◌, inl, inr, ℕ, true, false, eqb, zero, suc, List, [], ◌∷◌, ◌++◌, take, drop, set, All, get_or, Option, Some, slice_get, refl, sym, ap, subst, ◌∙◌, append_assoc}
 use Rattle.std.proofs.Math.Logic.{∥∥₁_elim, ∥∥₁_prop}
 use Rattle.std.proofs.lemmas.Bool.Decides.{eqb_tells}
 use Rattle.std.proofs.lemmas.List.{take-append-drop}
@@ -18,7 +18,9 @@ use Rattle.service.specs.declared.search.Step.TheVariants as step
 use Rattle.service_parts.specs.declared.limits.Station.{Station}
 use Rattle.service_parts.specs.declared.line.Line.{Line}
 use Rattle.service_parts.specs.declared.lines.Lines.{Lines}
-use Rattle.service_parts.specs.Calls.{IsCallOf}
+use Rattle.service_parts.specs.declared.wire.Aim.{Aim}
+use Rattle.service_parts.specs.declared.wire.Aim.TheVariants as aim
+use Rattle.service_parts.specs.Calls.{IsCallFor}
 use Rattle.service_parts.specs.Course.{Goes, GoesBy, IsOfClients, IsOfRounds, LeadsOnBy, Reached, stays, steps, learns}
 use Rattle.service_parts.specs.Requests.{AreRightful, AreRightfulBy, IsFoundOn, IsOfRound, IsRightful, MayBeAsked, MayGoOver}
 use Rattle.service_parts.specs.Seeking.{IsSought}
@@ -40,26 +42,25 @@ goes_behind Kinds f old new before goes = ∥∥₁_elim (goes old ∣ stays old
 
 -- ---- what may be asked
 
-pub of_round : (g : Gateway) (device : ℕ) (asked : Option Call) → IfSome asked (IsCallOf g device) → IfSome asked (λ call. IsOfRound g device call.request)
-of_round g device None is = is
-of_round g device (Some call) is = record { unit = call.unit; call = is }
+pub of_round : (g : Gateway) (made_for : Aim) (device : ℕ) (call : Call) → IsCallFor g made_for device call → IsOfRound g made_for device call.request
+of_round g made_for device call is = record { unit = call.unit; call = is }
 
-pub round_over : (g : Gateway) (numbers : List ℕ) (found_on : List (Option ℕ)) (link device : ℕ) (request : Request) → IsOfRound g device request
-    → ((number : ℕ) → slice_get numbers link ≡ Some number → IsFoundOn found_on number device) → MayGoOver g numbers found_on link device request
-round_over g numbers found_on link device request round found number at = ∣ inl (round, found number at) ∣₁
+pub round_over : (g : Gateway) (numbers : List ℕ) (found_on : List (Option ℕ)) (link : ℕ) (made_for : Aim) (device : ℕ) (request : Request) → IsOfRound g made_for device request
+    → ((number : ℕ) → slice_get numbers link ≡ Some number → IsFoundOn found_on number device) → MayGoOver g numbers found_on link made_for device request
+round_over g numbers found_on link made_for device request round found number at = ∣ inl (round, found number at) ∣₁
 
 pub search_over : (g : Gateway) (numbers : List ℕ) (found_on : List (Option ℕ)) (link device : ℕ) (next : Step) (request : Request) → ∥ IsSought g.site device next ∥₁ → next ≡ step.Ask request
-    → MayGoOver g numbers found_on link device request
-search_over g numbers found_on link device next request sought is number at = ∥∥₁_elim sought ∥∥₁_prop (λ s. ∣ inr (subst (IsSought g.site device) is s) ∣₁)
+    → MayGoOver g numbers found_on link aim.Map device request
+search_over g numbers found_on link device next request sought is number at = ∥∥₁_elim sought ∥∥₁_prop (λ s. ∣ inr (refl, subst (IsSought g.site device) is s) ∣₁)
 
 -- ---- the bytes of its frame, by the state of now
 
 module _ (now : Gateway) where
   module _ (stations : List Station) (found_on : List (Option ℕ)) where
-    whole_of : (link number device unit id : ℕ) (request : Request) (bytes : List ℕ)
-        → slice_get stations device ≡ Some (record { link = link; unit = unit }) → ∥ Reached now ∥₁ → ∥ MayBeAsked now found_on number device request ∥₁
+    whole_of : (link number device unit id : ℕ) (made_for : Aim) (request : Request) (bytes : List ℕ)
+        → slice_get stations device ≡ Some (record { link = link; unit = unit }) → ∥ Reached now ∥₁ → ∥ MayBeAsked now found_on number made_for device request ∥₁
         → bytes ≡ frame_bytes (frame_of (record { id = id; unit = unit; request = request })) → ∥ IsRightful now stations found_on link number bytes ∥₁
-    whole_of link number device unit id request bytes station reached asked is = ∥∥₁_elim reached ∥∥₁_prop (λ r. ∥∥₁_elim asked ∥∥₁_prop (λ a. ∣ inr (record {
+    whole_of link number device unit id made_for request bytes station reached asked is = ∥∥₁_elim reached ∥∥₁_prop (λ r. ∥∥₁_elim asked ∥∥₁_prop (λ a. ∣ inr (record {
       device = device;
       unit = unit;
       station = station;
@@ -67,6 +68,7 @@ module _ (now : Gateway) where
       reached = r;
       since = stays now;
       request = request;
+      made_for = made_for;
       asked = a;
       id = id;
       gone = [];
@@ -83,6 +85,7 @@ module _ (now : Gateway) where
       reached = rest.reached;
       since = rest.since;
       request = rest.request;
+      made_for = rest.made_for;
       asked = rest.asked;
       id = rest.id;
       gone = rest.gone ++ take n bytes;
@@ -94,10 +97,10 @@ module _ (now : Gateway) where
 
   -- ---- the same of all links
 
-  pub whole_frame : (stations : List Station) (numbers : List ℕ) (found_on : List (Option ℕ)) (link device unit id : ℕ) (request : Request) (bytes : List ℕ)
-      → slice_get stations device ≡ Some (record { link = link; unit = unit }) → ∥ Reached now ∥₁ → MayGoOver now numbers found_on link device request
+  pub whole_frame : (stations : List Station) (numbers : List ℕ) (found_on : List (Option ℕ)) (link device unit id : ℕ) (made_for : Aim) (request : Request) (bytes : List ℕ)
+      → slice_get stations device ≡ Some (record { link = link; unit = unit }) → ∥ Reached now ∥₁ → MayGoOver now numbers found_on link made_for device request
       → bytes ≡ frame_bytes (frame_of (record { id = id; unit = unit; request = request })) → (number : ℕ) → slice_get numbers link ≡ Some number → ∥ IsRightful now stations found_on link number bytes ∥₁
-  whole_frame stations numbers found_on link device unit id request bytes station reached asked is number at = whole_of stations found_on link number device unit id request bytes station reached (asked number at) is
+  whole_frame stations numbers found_on link device unit id made_for request bytes station reached asked is number at = whole_of stations found_on link number device unit id made_for request bytes station reached (asked number at) is
 
   pub all_quiet : (stations : List Station) (numbers : List ℕ) (found_on : List (Option ℕ)) (lines : List Line) → All (λ (line : Line). line.out.items ≡ []) lines → AreRightful now stations numbers found_on lines
   all_quiet stations numbers found_on lines quiet link number line has at =
@@ -165,6 +168,7 @@ module _ (now : Gateway) where
         reached = rest.reached;
         since = rest.since;
         request = rest.request;
+        made_for = rest.made_for;
         asked = asked rest.asked;
         id = rest.id;
         gone = rest.gone;
@@ -180,7 +184,7 @@ module _ (now : Gateway) where
               ap (slice_get (set found_on device (Some number))) same.1
               ∙ (some_within found_on device (Some other) (Some number) (ap (slice_get found_on) (sym same.1) ∙ found) ∙ ap (λ x. Some (Some x)) (sym is))
 
-          asked : MayBeAsked rest.core found_on other rest.device rest.request → MayBeAsked rest.core (set found_on device (Some number)) other rest.device rest.request
+          asked : MayBeAsked rest.core found_on other rest.made_for rest.device rest.request → MayBeAsked rest.core (set found_on device (Some number)) other rest.made_for rest.device rest.request
           asked (inl (round, found)) = inl (round, still found (eqb_tells rest.device device))
           asked (inr sought) = inr sought
 
@@ -197,6 +201,7 @@ right_since Kinds old new stations found_on link number bytes goes (inr rest) = 
   reached = rest.reached;
   since = since;
   request = rest.request;
+  made_for = rest.made_for;
   asked = rest.asked;
   id = rest.id;
   gone = rest.gone;

@@ -9,14 +9,16 @@ use Rattle.service.specs.declared.search.Step.TheVariants as step
 use Rattle.service_parts.specs.declared.limits.Station.{Station}
 use Rattle.service_parts.specs.declared.line.Line.{Line}
 use Rattle.service_parts.specs.declared.lines.Lines.{Lines}
-use Rattle.service_parts.specs.Calls.{IsCallOf}
+use Rattle.service_parts.specs.declared.wire.Aim.{Aim}
+use Rattle.service_parts.specs.declared.wire.Aim.TheVariants as aim
+use Rattle.service_parts.specs.Calls.{IsCallFor}
 use Rattle.service_parts.specs.Course.{Goes, Reached}
 use Rattle.service_parts.specs.Seeking.{IsSought}
 
--- It reads a block that is wanted of the device, or writes what is planned for it, by this state of the core.
-pub record IsOfRound (core : Gateway) (device : ℕ) (request : Request) : Type 0 where
+-- It reads that wanted block of the device, or writes the set point of that output to it, by this state of the core.
+pub record IsOfRound (core : Gateway) (made_for : Aim) (device : ℕ) (request : Request) : Type 0 where
   pub unit : ℕ
-  pub call : IsCallOf core device (record { unit = unit; request = request })
+  pub call : IsCallFor core made_for device (record { unit = unit; request = request })
 
 -- The device's map was found over the connection with this number.
 abbrev pub IsFoundOn : List (Option ℕ) → ℕ → ℕ → Type 0
@@ -24,8 +26,8 @@ IsFoundOn found_on number device = slice_get found_on device ≡ Some (Some numb
 
 -- Over the connection with this number: a request of a round, where the device's map was found over this very connection,
 -- or the next read of a search for the device's map.
-abbrev pub MayBeAsked : Gateway → List (Option ℕ) → ℕ → ℕ → Request → Type 0
-MayBeAsked core found_on number device request = (IsOfRound core device request × IsFoundOn found_on number device) ⊎ IsSought core.site device (step.Ask request)
+abbrev pub MayBeAsked : Gateway → List (Option ℕ) → ℕ → Aim → ℕ → Request → Type 0
+MayBeAsked core found_on number made_for device request = (IsOfRound core made_for device request × IsFoundOn found_on number device) ⊎ ((made_for ≡ aim.Map) × IsSought core.site device (step.Ask request))
 
 -- These bytes are the rest of the frame of a request that the device may be asked over the connection with this number, by
 -- a state of the core from which events and learned maps led to the one of now. The device's station is on this link, and
@@ -38,7 +40,8 @@ pub record IsRest (now : Gateway) (stations : List Station) (found_on : List (Op
   pub reached : Reached core
   pub since : Goes core now
   pub request : Request
-  pub asked : MayBeAsked core found_on number device request
+  pub made_for : Aim
+  pub asked : MayBeAsked core found_on number made_for device request
   pub id : ℕ
   pub gone : List ℕ
   pub whole : gone ++ bytes ≡ frame_bytes (frame_of (record { id = id; unit = unit; request = request }))
@@ -63,5 +66,5 @@ abbrev pub StayRightful : Lines → Lines → Type 0
 StayRightful old new = (now : Gateway) → AreRightfulBy now old → AreRightfulBy now new
 
 -- It may be asked over the connection that a link has now.
-abbrev pub MayGoOver : Gateway → List ℕ → List (Option ℕ) → ℕ → ℕ → Request → Type 0
-MayGoOver core numbers found_on link device request = (number : ℕ) → slice_get numbers link ≡ Some number → ∥ MayBeAsked core found_on number device request ∥₁
+abbrev pub MayGoOver : Gateway → List ℕ → List (Option ℕ) → ℕ → Aim → ℕ → Request → Type 0
+MayGoOver core numbers found_on link made_for device request = (number : ℕ) → slice_get numbers link ≡ Some number → ∥ MayBeAsked core found_on number made_for device request ∥₁

@@ -16,8 +16,8 @@ use service::{Fate, Inquiry};
 pub enum Aim {
     /// A map.
     Map,
-    /// A wanted block.
-    Block,
+    /// The wanted block of this number.
+    Block(usize),
     /// The output of this number.
     Output(usize),
     /// A round that is over.
@@ -122,7 +122,9 @@ impl Wire {
     }
 
     /// Something happened: there may be something to ask.
-    pub fn stir(&mut self) {
+    pub fn stir(&mut self)
+        ensures { self.new ≡ record self.old { rest_until = 0 } }
+    {
         self.rest_until = 0;
     }
 
@@ -215,11 +217,6 @@ impl Wire {
         Some(self.inquiry.begin(id, unit, request))
     }
 
-    /// What became of the request that is under way, where the bytes that came before it tell.
-    pub fn fate(&mut self) -> Option<Fate> {
-        self.inquiry.take(&[])
-    }
-
     /// Takes bytes, as many as have room, and tells how many, and what became of the request.
     pub fn take(&mut self, bytes: &[u8]) -> (usize, Option<Fate>)
         ensures hears { self.old.is_up ≡ true → self.old.is_bad ≡ false → Takes self.old.inquiry (take result.0 bytes.now) result.1 self.new.inquiry }
@@ -267,7 +264,7 @@ impl Wire {
         }
     }
 
-    /// A write of a round that is over.
+    /// A request of a round that is over ends nothing any more.
     pub fn outlive(&mut self) {
         if let Some(asked) = self.asked {
             self.asked = Some(Asked {

@@ -1,5 +1,5 @@
-use Rattle.service_parts.specs.Course.{LeadsOn}
+use Rattle.service_core.specs.Cycle.{LeadsOn}
 use Rattle.service_core.proofs.scan_cycle.ScanCycle.forget.Given as goal
 
 abbrev pub invariant-loop-i : goal.invariant-loop-i
-invariant-loop-i l = LeadsOn l.fn.self.core.value l.self.core.value
+invariant-loop-i l = LeadsOn l.fn.self l.self

@@ -1,18 +1,39 @@
-use Rattle.std.proofs.Common.{rules, ◌≡◌, length}
+use Rattle.std.proofs.Common.{rules, ◌≡◌, false, length, Some, All}
 use Rattle.gateway.specs.declared.event_core.event.Event.TheVariants as event
 use Rattle.gateway.specs.declared.event_core.event.Answer.TheVariants as answer
-use Rattle.service_parts.specs.Course.{IsOfRounds}
-use Rattle.service_core.proofs.Runs.{goes_after, reached_after, sought_after}
+use Rattle.service.specs.Tasks.{IsDone}
+use Rattle.service_core.specs.Cycle.{stage_of}
+use Rattle.service_core.specs.Stages.{Scans}
+use Rattle.service_core.proofs.Courses.{goes_scans, reached_rounds, sought_for, taken_site, takes_from}
 use Rattle.service_core.proofs.scan_cycle.ScanCycle.scan.Goals as goal
 
-pub invariant_of-self-2 : goal.invariant_of-self-2
-invariant_of-self-2 c =
-    let same : c.deref_mut.result.now ≡ c.args.self.now.core.value = search rules in
-    record {
-      reached = reached_after _ _ event.Scan (answer.Writes (length c.deref_mut.result.now.site.outs)) _ c.args.self.now.reached same c.scan.ensures.scanned;
-      fits = c.scan.ensures.round;
-      sought = sought_after _ _ event.Scan (answer.Writes (length c.deref_mut.result.now.site.outs)) _ _ c.args.self.now.sought same c.scan.ensures.scanned;
-    }
+pub invariant_of-self-2-clause-reached : goal.invariant_of-self-2-clause-reached
+invariant_of-self-2-clause-reached c =
+    let first : c.args.self.now.round.scanned ≡ false = search rules in
+    let read : All IsDone c.args.self.now.round.reads = search rules in
+    let scans : Scans (stage_of c.args.self.now) (record { core = c.scan.new.core; round = c.scan.new.self }) = record {
+      first = first;
+      read = read;
+      runs = takes_from _ _ (Some event.Scan) _ c.deref_mut.ensures.value (answer.Writes (length c.deref_mut.result.now.site.outs), c.scan.ensures.scanned);
+      planned = c.scan.ensures.planned;
+      same = c.scan.ensures.same;
+    } in
+    reached_rounds _ _ c.args.self.now.reached (goes_scans _ _ scans)
 
 pub returns : goal.returns
-returns c = record { goes = goes_after IsOfRounds _ _ event.Scan (answer.Writes (length c.deref_mut.result.now.site.outs)) _ tt c.deref_mut.ensures.value c.scan.ensures.scanned }
+returns c =
+    let first : c.args.self.now.round.scanned ≡ false = search rules in
+    let read : All IsDone c.args.self.now.round.reads = search rules in
+    let scans : Scans (stage_of c.args.self.now) (record { core = c.scan.new.core; round = c.scan.new.self }) = record {
+      first = first;
+      read = read;
+      runs = takes_from _ _ (Some event.Scan) _ c.deref_mut.ensures.value (answer.Writes (length c.deref_mut.result.now.site.outs), c.scan.ensures.scanned);
+      planned = c.scan.ensures.planned;
+      same = c.scan.ensures.same;
+    } in
+    record { goes = goes_scans _ _ scans }
+
+pub invariant_of-self-2-clause-sought : goal.invariant_of-self-2-clause-sought
+invariant_of-self-2-clause-sought c =
+    let runs = takes_from c.args.self.now.core.value _ (Some event.Scan) c.scan.new.core c.deref_mut.ensures.value (answer.Writes (length c.deref_mut.result.now.site.outs), c.scan.ensures.scanned) in
+    sought_for c.args.self.now.core.value c.scan.new.core c.args.self.now.searches.items (taken_site (Some event.Scan) c.args.self.now.core.value c.scan.new.core runs) c.args.self.now.sought

@@ -1,21 +1,31 @@
-use Rattle.std.proofs.Common.{subst, sym, ◌∙◌, ap}
-use Rattle.site_model.specs.declared.site.Site.{Site}
+use Rattle.std.proofs.Common.{refl, ◌∙◌, ap, Some}
 use Rattle.gateway.specs.event_core.Core.{Gateway}
 use Rattle.gateway.specs.declared.event_core.event.Event.TheVariants as event
-use Rattle.service_core.specs.Rounds.{IsRoundFor}
-use Rattle.service_parts.specs.Course.{IsOfClients}
-use Rattle.service_core.proofs.Runs.{goes_after, reached_after, sought_after}
+use Rattle.service_core.specs.Cycle.{stage_of}
+use Rattle.service_core.specs.Stages.{Asks}
+use Rattle.service_core.proofs.Courses.{goes_asks, reached_clients, round_for, sought_for, takes_from}
 use Rattle.service_core.proofs.scan_cycle.ScanCycle.set.Goals as goal
 
 pub invariant_of-self : goal.invariant_of-self
 invariant_of-self c =
     let step = c.step.ensures in
     let same = c.deref_mut.ensures.value in
+    let site = (step.same).site ∙ ap (λ (x : Gateway). x.site) same in
+    let asks : Asks c.request_pdu.result (stage_of c.args.self.now) (record { core = c.step.new.self; round = c.args.self.now.round }) = record {
+      told = takes_from _ _ (Some (event.Client c.request_pdu.result)) _ same (c.step.result, (32, ((step.run, step.same), step.machine)));
+      round = refl;
+    } in
     record {
-      reached = reached_after _ _ (event.Client c.request_pdu.result) c.step.result _ c.args.self.now.reached same (32, ((step.run, step.same), step.machine));
-      fits = subst (λ (s : Site). IsRoundFor s c.args.self.now.round) (sym ((step.same).site ∙ ap (λ (x : Gateway). x.site) same)) c.args.self.now.fits;
-      sought = sought_after _ _ (event.Client c.request_pdu.result) c.step.result _ _ c.args.self.now.sought same (32, ((step.run, step.same), step.machine));
+      reached = reached_clients _ _ c.args.self.now.reached (goes_asks _ _ c.request_pdu.result asks);
+      fits = round_for c.args.self.now.core.value c.step.new.self c.args.self.now.round site c.args.self.now.fits;
+      sought = sought_for c.args.self.now.core.value c.step.new.self c.args.self.now.searches.items site c.args.self.now.sought;
     }
 
 pub returns-clause-goes : goal.returns-clause-goes
-returns-clause-goes c = goes_after IsOfClients _ _ (event.Client c.request_pdu.result) c.step.result _ tt c.deref_mut.ensures.value (32, ((c.step.ensures.run, c.step.ensures.same), c.step.ensures.machine))
+returns-clause-goes c =
+    let step = c.step.ensures in
+    let asks : Asks c.request_pdu.result (stage_of c.args.self.now) (record { core = c.step.new.self; round = c.args.self.now.round }) = record {
+      told = takes_from _ _ (Some (event.Client c.request_pdu.result)) _ c.deref_mut.ensures.value (c.step.result, (32, ((step.run, step.same), step.machine)));
+      round = refl;
+    } in
+    goes_asks _ _ c.request_pdu.result asks

@@ -4,9 +4,8 @@ use Rattle.std.proofs.lemmas.Option.{slice_get_past, slice_get_read}
 use Rattle.service_parts.proofs.Heard.{done_at, nobody_at, that_one}
 use Rattle.service_parts.specs.declared.client_place.ClientPlace.{ClientPlace}
 use Rattle.service_parts.specs.Clients.{IsDeaf, ready_of}
-use Rattle.service_parts.specs.Course.{IsOfClients, LeadsOnBy}
-use Rattle.service_parts.proofs.Rightful.{right_behind_clients}
-use Rattle.service_core.proofs.Runs.{goes_chain, goes_guarded, hears_from}
+use Rattle.service_core.specs.Cycle.{ClientsLeadOn, stage_of}
+use Rattle.service_core.proofs.Courses.{clients_chain, clients_guarded, hears_from, right_clients}
 use Rattle.service_core.proofs.service_state.Service.from_client.Goals as goal
 
 pub returns-in-Some-clause-hears : goal.returns-in-Some-clause-hears
@@ -32,15 +31,15 @@ returns-in-Some-clause-takes c =
 
 pub returns-in-Some-clause-goes : goal.returns-in-Some-clause-goes
 returns-in-Some-clause-goes c =
-    let led = goes_chain _ (λ s. s.core.value) (λ s frame bytes goes_on t answers. goes_guarded s.may_write s.core.value frame bytes goes_on t.core.value answers.2) _ _ _ (c.take.ensures.chain).1 in
-    let goes : LeadsOnBy IsOfClients c.args.self.now.cycle.core.value c.take.new.responder.core.value = subst (λ s. LeadsOnBy IsOfClients s.core.value c.take.new.responder.core.value) c.turn_to-in-Some.ensures led in
+    let led = clients_chain _ (λ s. stage_of s) (λ s frame bytes goes_on t answers. clients_guarded s.may_write (stage_of s) (stage_of t) frame bytes goes_on answers.1 answers.2) _ _ _ (c.take.ensures.chain).1 in
+    let goes : ClientsLeadOn c.args.self.now.cycle c.take.new.responder = subst (λ s. ClientsLeadOn s c.take.new.responder) c.turn_to-in-Some.ensures led in
     goes
 
 pub invariant_of-self : goal.invariant_of-self
 invariant_of-self c =
-    let led = goes_chain _ (λ s. s.core.value) (λ s frame bytes goes_on t answers. goes_guarded s.may_write s.core.value frame bytes goes_on t.core.value answers.2) _ _ _ (c.take.ensures.chain).1 in
-    let goes : LeadsOnBy IsOfClients c.args.self.now.cycle.core.value c.take.new.responder.core.value = subst (λ s. LeadsOnBy IsOfClients s.core.value c.take.new.responder.core.value) c.turn_to-in-Some.ensures led in
-    record { rightful = right_behind_clients _ _ c.args.self.now.lines goes c.args.self.now.rightful }
+    let led = clients_chain _ (λ s. stage_of s) (λ s frame bytes goes_on t answers. clients_guarded s.may_write (stage_of s) (stage_of t) frame bytes goes_on answers.1 answers.2) _ _ _ (c.take.ensures.chain).1 in
+    let goes : ClientsLeadOn c.args.self.now.cycle c.take.new.responder = subst (λ s. ClientsLeadOn s c.take.new.responder) c.turn_to-in-Some.ensures led in
+    record { rightful = right_clients _ _ c.args.self.now.lines goes c.args.self.now.rightful }
 
 pub returns-in-Some-clause-deaf : goal.returns-in-Some-clause-deaf
 returns-in-Some-clause-deaf c =

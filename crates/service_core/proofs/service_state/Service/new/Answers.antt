@@ -7,4 +7,4 @@ new-requires-2 c =
     let opened = is_new _ _ _ _ c.in_ok-core.ensures.opened in
     let fits = round_of _ _ _ _ _ c.in_ok-core.ensures.opened c.in_ok-parts.ensures.round in
     let sought = searches_of _ _ _ _ _ c.in_ok-core.ensures.opened c.in_ok-parts.ensures.searches in
-    search (rules, opened, fits, sought)
+    search (rules, opened, fits, c.in_ok-parts.ensures.over, sought)

@@ -2,11 +2,11 @@ use Rattle.std.proofs.Common.{rules, FitsSigned, subst}
 use Rattle.std.specs.Int.{w64}
 use Rattle.std.proofs.lemmas.Int.{to_z-of_z}
 use Rattle.gateway.specs.event_core.Restoring.{NothingSets}
-use Rattle.service_parts.proofs.Rightful.{right_behind_clients}
+use Rattle.service_core.proofs.Courses.{right_clients}
 use Rattle.service_core.proofs.service_state.Service.restore.Goals as goal
 
 pub invariant_of-self : goal.invariant_of-self
-invariant_of-self c = record { rightful = right_behind_clients _ _ c.args.self.now.lines c.restore.ensures.goes c.args.self.now.rightful }
+invariant_of-self c = record { rightful = right_clients _ _ c.args.self.now.lines c.restore.ensures.goes c.args.self.now.rightful }
 
 pub returns-clause-refused : goal.returns-clause-refused
 returns-clause-refused c refused =

@@ -1,5 +1,9 @@
-use Rattle.service_parts.proofs.Rightful.{right_on}
+use Rattle.service_parts.specs.declared.wire.Aim.TheVariants as aim
+use Rattle.service_core.specs.Cycle.{stage_of}
+use Rattle.service_core.proofs.Courses.{own_of_ends, right_own}
 use Rattle.service_core.proofs.service_state.Service.take.Goals as goal
 
-pub invariant_of-self : goal.invariant_of-self
-invariant_of-self c = record { rightful = right_on _ _ c.args.self.now.lines c.answered.ensures.goes c.args.self.now.rightful }
+pub invariant_of-self-in-Block : goal.invariant_of-self-in-Block
+invariant_of-self-in-Block c =
+    let led = own_of_ends (aim.Block c.in-Block.want) c.args.asked.device c.args.outcome (stage_of c.args.self.now.cycle) (stage_of c.close_block.new.self) c.close_block.ensures in
+    record { rightful = right_own _ _ c.args.self.now.lines led c.args.self.now.rightful }

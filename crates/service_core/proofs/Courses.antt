@@ -1,0 +1,272 @@
+-- Steps of a service lead its core and its round on.
+use Rattle.std.proofs.Common.{◌≡◌, ◌≢◌, ◌⊎◌, inl, inr, ℕ, Bool, true, false, eqb, not, ◌&&◌, List, [], ◌∷◌, Option, None, Some, set, refl, sym, ap, subst, ◌∙◌}
+use Rattle.std.proofs.lemmas.Bool.Decides.{eqb_tells}
+use Rattle.std.proofs.Math.Logic.{∥∥₁_elim, ∥∥₁_prop}
+use Rattle.register_map.specs.Layout.{Layout}
+use Rattle.site_model.specs.declared.site.Site.{Site}
+use Rattle.site_model.specs.declared.want.Want.{Want}
+use Rattle.modbus_frame.specs.declared.frame.Frame.{Frame}
+use Rattle.gateway.specs.declared.event_core.event.Event.{Event}
+use Rattle.gateway.specs.declared.event_core.event.Event.TheVariants as event
+use Rattle.gateway.specs.declared.event_core.event.Answer.{Answer}
+use Rattle.gateway.specs.declared.event_core.event.Answer.TheVariants as answer
+use Rattle.gateway.specs.declared.poller.outcome.Outcome.{Outcome}
+use Rattle.gateway.specs.event_core.Control.{AnswersFrame}
+use Rattle.gateway.specs.event_core.Core.{Gateway, IsSame, StepsOn}
+use Rattle.gateway.specs.event_core.Driving.{Drives, Happens}
+use Rattle.service.specs.declared.fate.Fate.{Fate}
+use Rattle.service.specs.declared.fate.Fate.TheVariants as fate
+use Rattle.service.specs.Guarding.{AnswersUnless, Guards, is_write}
+use Rattle.service.specs.Sessions.{IsChain, Turn}
+use Rattle.service_parts.specs.declared.client_place.ClientPlace.{ClientPlace}
+use Rattle.service_parts.specs.Clients.{Hears}
+use Rattle.service_parts.specs.declared.wire.Aim.{Aim}
+use Rattle.service_parts.specs.declared.wire.Asked.{Asked}
+use Rattle.service_parts.specs.Course as core
+use Rattle.service_parts.specs.Course.{Goes, GoesBy, IsAny, IsNew, IsOfClients, IsOfRounds, Reached}
+use Rattle.service.specs.Searches.{Sought}
+use Rattle.service_parts.specs.Seeking.{AreOf, IsFound}
+use Rattle.service_parts.specs.declared.lines.Lines.{Lines}
+use Rattle.service_parts.specs.Requests.{AreRightfulBy}
+use Rattle.service_parts.proofs.Rightful.{right_behind_clients, right_on}
+use Rattle.service_core.specs.declared.round.Turn as Turns
+use Rattle.service_core.specs.declared.scan_cycle.ScanCycle.{ScanCycle}
+use Rattle.service_core.specs.Cycle.{Answers, AnswersIf, DevicesLeadOn, EndsOwn, Settles, is_answer, stage_of}
+use Rattle.service_core.specs.Rounds.{IsRoundFor, Progress, begun, event_told}
+use Rattle.service_core.specs.Stages.{AnyStep, Asks, Begins, ClientStep, CourseBy, Ends, Forgets, IsFirst, IsReached, LeadsOnBy, OpensNext, OwnStep, RoundStep, Scans, Stage, TakesEvent, begins, opens, gives_up, scans, learns, forgets, stays, goes}
+use Rattle.service_core.proofs.Told.{closed_of_rounds, turn_of_rounds}
+
+-- ---- one step
+
+pub one_step : (Step : Stage → Stage → Type 0) (s t : Stage) → Step s t → LeadsOnBy Step s t
+one_step Step s t step from before = ∥∥₁_elim before ∥∥₁_prop (λ course. ∣ goes course t step ∣₁)
+
+pub no_step : (Step : Stage → Stage → Type 0) (s t : Stage) → t ≡ s → LeadsOnBy Step s t
+no_step Step s t same from before = subst (λ x. ∥ CourseBy Step from x ∥₁) (sym same) before
+
+-- ---- what a step does to the core
+
+some_event : {e f : Event} → Some e ≡ Some f → e ≡ f
+some_event same = cc
+
+-- an event of this kind, or none
+moved : (Kinds : Event → Type 0) (f g h : Gateway) (o : Option Event) → ((e : Event) → o ≡ Some e → Kinds e) → TakesEvent o g h → GoesBy Kinds f g → GoesBy Kinds f h
+moved Kinds f g h None kind same before = subst (GoesBy Kinds f) (sym same) before
+moved Kinds f g h (Some e) kind (a, one) before = core.steps before e (kind e refl) a h one
+
+one_kind : (Kinds : Event → Type 0) (e : Event) → Kinds e → (f : Event) → Some e ≡ Some f → Kinds f
+one_kind Kinds e kind f same = subst Kinds (some_event same) kind
+
+module _ (Kinds : Event → Type 0) (all : (e : Event) → IsOfRounds e → Kinds e) where
+  ends_core : (f : Gateway) (s t : Stage) (device : ℕ) (o : Fate) → Ends device o s t → GoesBy Kinds f s.core → GoesBy Kinds f t.core
+  ends_core f s t device o is before =
+      moved Kinds f s.core t.core is.happens (λ e same. all e (closed_of_rounds s.core.site device o s.round is.happens t.round e is.closes same)) is.told before
+
+  round_core : (f : Gateway) (s t : Stage) → RoundStep s t → GoesBy Kinds f s.core → GoesBy Kinds f t.core
+  round_core f s t (begins is) before = subst (λ (x : Stage). GoesBy Kinds f x.core) (sym is) before
+  round_core f s t (opens device turn is) before = moved Kinds f s.core t.core (event_told turn) (λ e same. all e (turn_of_rounds turn e same)) is.told before
+  round_core f s t (gives_up device is) before = ends_core f s t device fate.Lost is before
+  round_core f s t (scans is) before = moved Kinds f s.core t.core (Some event.Scan) (one_kind Kinds event.Scan (all event.Scan tt)) is.runs before
+  round_core f s t (learns device found is) before = subst (λ (x : Stage). GoesBy Kinds f x.core) (sym is.same) (core.learns before device found is.own)
+  round_core f s t (forgets want is) before = moved Kinds f s.core t.core (Some (event.Lost want)) (one_kind Kinds (event.Lost want) (all (event.Lost want) tt)) is.told before
+
+  own_core : (f : Gateway) (s t : Stage) → OwnStep s t → GoesBy Kinds f s.core → GoesBy Kinds f t.core
+  own_core f s t (inl step) before = round_core f s t step before
+  own_core f s t (inr (device, o, is)) before = ends_core f s t device (fate.Told o) is before
+
+client_core : (Kinds : Event → Type 0) → ((pdu : List ℕ) → Kinds (event.Client pdu)) → (f : Gateway) (s t : Stage) → ClientStep s t → GoesBy Kinds f s.core → GoesBy Kinds f t.core
+client_core Kinds kind f s t (pdu, is) before = moved Kinds f s.core t.core (Some (event.Client pdu)) (one_kind Kinds (event.Client pdu) (kind pdu)) is.told before
+
+any_core : (f : Gateway) (s t : Stage) → AnyStep s t → Goes f s.core → Goes f t.core
+any_core f s t (inl step) before = own_core IsAny (λ e is. tt) f s t step before
+any_core f s t (inr step) before = client_core IsAny (λ pdu. tt) f s t step before
+
+-- steps of a kind, one after another
+module _ (Step : Stage → Stage → Type 0) (Kinds : Event → Type 0) (each : (f : Gateway) (s t : Stage) → Step s t → GoesBy Kinds f s.core → GoesBy Kinds f t.core) where
+  course_core : (f : Gateway) (s t : Stage) → CourseBy Step s t → GoesBy Kinds f s.core → GoesBy Kinds f t.core
+  course_core f s t (stays x) before = before
+  course_core f s t (goes {t = middle} course u step) before = each f middle t step (course_core f s middle course before)
+
+  leads_core : (s t : Stage) → LeadsOnBy Step s t → core.LeadsOnBy Kinds s.core t.core
+  leads_core s t led from before = ∥∥₁_elim before ∥∥₁_prop (λ b. ∥∥₁_elim (led s ∣ stays s ∣₁) ∥∥₁_prop (λ course. ∣ course_core from s t course b ∣₁))
+
+of_rounds : (e : Event) → IsOfRounds e → IsOfRounds e
+of_rounds e is = is
+
+-- whatever a service's steps are, its core's course is one of events and learned maps
+pub any_goes : (s t : Stage) → CourseBy AnyStep s t → Goes s.core t.core
+any_goes s t course = course_core AnyStep IsAny any_core s.core s t course (core.stays s.core)
+
+pub core_reached : (s : Stage) → ∥ IsReached s ∥₁ → ∥ Reached s.core ∥₁
+core_reached s reached = ∥∥₁_elim reached ∥∥₁_prop (λ r. ∣ record { first = (r.first).core; opening = (r.opening).core; goes = any_goes r.first s r.course } ∣₁)
+
+-- ---- what goes out stays rightful
+
+pub right_rounds : (s t : Stage) (lines : Lines) → LeadsOnBy RoundStep s t → AreRightfulBy s.core lines → AreRightfulBy t.core lines
+right_rounds s t lines led before = right_on s.core t.core lines (leads_core RoundStep IsOfRounds (round_core IsOfRounds of_rounds) s t led) before
+
+pub right_own : (s t : Stage) (lines : Lines) → LeadsOnBy OwnStep s t → AreRightfulBy s.core lines → AreRightfulBy t.core lines
+right_own s t lines led before = right_on s.core t.core lines (leads_core OwnStep IsOfRounds (own_core IsOfRounds of_rounds) s t led) before
+
+pub right_clients : (s t : Stage) (lines : Lines) → LeadsOnBy ClientStep s t → AreRightfulBy s.core lines → AreRightfulBy t.core lines
+right_clients s t lines led before = right_behind_clients s.core t.core lines (leads_core ClientStep IsOfClients (client_core IsOfClients (λ pdu. tt)) s t led) before
+
+pub right_same : (s t : Stage) (lines : Lines) → t ≡ s → AreRightfulBy s.core lines → AreRightfulBy t.core lines
+right_same s t lines same before = subst (λ (x : Stage). AreRightfulBy x.core lines) (sym same) before
+
+-- ---- how a service stands was reached by its steps
+
+pub reached_first : (s : Stage) → IsFirst s → ∥ IsReached s ∥₁
+reached_first s opening = ∣ record { first = s; opening = opening; course = stays s } ∣₁
+
+module _ (Step : Stage → Stage → Type 0) (each : (s t : Stage) → Step s t → AnyStep s t) where
+  and_then : (f s t : Stage) → CourseBy AnyStep f s → CourseBy Step s t → CourseBy AnyStep f t
+  and_then f s t first (stays x) = first
+  and_then f s t first (goes {t = middle} course u step) = goes (and_then f s middle first course) t (each middle t step)
+
+  reached_by : (s t : Stage) → ∥ IsReached s ∥₁ → LeadsOnBy Step s t → ∥ IsReached t ∥₁
+  reached_by s t reached led = ∥∥₁_elim reached ∥∥₁_prop (λ r. ∥∥₁_elim (led s ∣ stays s ∣₁) ∥∥₁_prop (λ course. ∣ record { first = r.first; opening = r.opening; course = and_then r.first s t r.course course } ∣₁))
+
+pub reached_rounds : (s t : Stage) → ∥ IsReached s ∥₁ → LeadsOnBy RoundStep s t → ∥ IsReached t ∥₁
+reached_rounds s t reached led = reached_by RoundStep (λ x y step. inl (inl step)) s t reached led
+
+pub reached_own : (s t : Stage) → ∥ IsReached s ∥₁ → LeadsOnBy OwnStep s t → ∥ IsReached t ∥₁
+reached_own s t reached led = reached_by OwnStep (λ x y step. inl step) s t reached led
+
+pub reached_clients : (s t : Stage) → ∥ IsReached s ∥₁ → LeadsOnBy ClientStep s t → ∥ IsReached t ∥₁
+reached_clients s t reached led = reached_by ClientStep (λ x y step. inr step) s t reached led
+
+-- an outcome, or none, ends a request
+pub reached_ends : (s t : Stage) (device : ℕ) (f : Fate) → ∥ IsReached s ∥₁ → Ends device f s t → ∥ IsReached t ∥₁
+reached_ends s t device (fate.Told o) reached ends = reached_own s t reached (one_step OwnStep s t (inr (device, o, ends)))
+reached_ends s t device fate.Lost reached ends = reached_rounds s t reached (one_step RoundStep s t (gives_up device ends))
+
+pub same_stage : (s t : Stage) → t.core ≡ s.core → t.round ≡ s.round → t ≡ s
+same_stage s t core_same round_same = ap (λ (g : Gateway). record { core = g; round = t.round }) core_same ∙ ap (λ (p : Progress). record { core = s.core; round = p }) round_same
+
+-- steps of a round are steps of the service itself
+rounds_own : (s t : Stage) → CourseBy RoundStep s t → CourseBy OwnStep s t
+rounds_own s t (stays x) = stays s
+rounds_own s t (goes {t = middle} course u step) = goes (rounds_own s middle course) t (inl step)
+
+append_own : (f s t : Stage) → CourseBy OwnStep f s → CourseBy OwnStep s t → CourseBy OwnStep f t
+append_own f s t first (stays x) = first
+append_own f s t first (goes {t = middle} course u step) = goes (append_own f s middle first course) t step
+
+pub own_of_rounds : (s t : Stage) → LeadsOnBy RoundStep s t → LeadsOnBy OwnStep s t
+own_of_rounds s t led from before = ∥∥₁_elim before ∥∥₁_prop (λ b. ∥∥₁_elim (led s ∣ stays s ∣₁) ∥∥₁_prop (λ course. ∣ append_own from s t b (rounds_own s t course) ∣₁))
+
+-- ---- what an outcome does is a step of the service
+
+pub own_of_ends : (made_for : Aim) (device : ℕ) (o : Outcome) (s t : Stage) → EndsOwn made_for device o s t → LeadsOnBy OwnStep s t
+own_of_ends made_for device o s t (inl (under_way, ends)) = one_step OwnStep s t (inr (device, o, ends))
+own_of_ends made_for device o s t (inr (over, same)) = no_step OwnStep s t same
+
+pub own_of_answers : (asked : Asked) (o : Outcome) (old new : ScanCycle) → Answers asked o old new → DevicesLeadOn old new
+own_of_answers asked o old new answers from before =
+    own_of_rounds answers.middle (stage_of new) answers.goes from (own_of_ends asked.aim asked.device o (stage_of old) answers.middle answers.ends from before)
+
+own_if : (b : Bool) (asked : Asked) (o : Outcome) (old new : ScanCycle) → AnswersIf b asked o old new → DevicesLeadOn old new
+own_if true asked o old new answers = own_of_answers asked o old new answers
+own_if false asked o old new led = own_of_rounds (stage_of old) (stage_of new) led
+
+pub own_of_settles : (f : Fate) (asked : Asked) (old new : ScanCycle) → Settles f asked old new → DevicesLeadOn old new
+own_of_settles (fate.Told o) asked old new settles = own_if (is_answer o) asked o old new settles
+own_of_settles fate.Lost asked old new led = own_of_rounds (stage_of old) (stage_of new) led
+
+-- ---- what the core takes
+
+pub takes_event : (g : Gateway) (e : Event) (a : Answer) (h : Gateway) (depth : ℕ) → StepsOn g e a h → Drives depth g e h → IsSame g h → TakesEvent (Some e) g h
+takes_event g e a h depth step drives same = (a, (depth, ((step, same), drives)))
+
+-- the core that is kept in a box
+pub takes_from : (g m : Gateway) (o : Option Event) (h : Gateway) → m ≡ g → TakesEvent o m h → TakesEvent o g h
+takes_from g m o h same takes = subst (λ x. TakesEvent o x h) same takes
+
+pub sought_for : (g h : Gateway) (searches : List Sought) → h.site ≡ g.site → AreOf g.site searches → AreOf h.site searches
+sought_for g h searches same own = subst (λ (s : Site). AreOf s searches) (sym same) own
+
+pub taken_site : (o : Option Event) (g h : Gateway) → TakesEvent o g h → h.site ≡ g.site
+taken_site None g h same = ap (λ (x : Gateway). x.site) same
+taken_site (Some e) g h (a, one) = (((one.1).0).1).site
+
+pub round_for : (s h : Gateway) (p : Progress) → h.site ≡ s.site → IsRoundFor s.site p → IsRoundFor h.site p
+round_for s h p same fits = subst (λ (x : Site). IsRoundFor x p) (sym same) fits
+
+-- ---- clients
+
+-- a client's request leaves the machine as it was
+asked : (g : Gateway) (frame : Frame) (bytes : List ℕ) (goes_on : Bool) (h : Gateway) (answers : AnswersFrame g frame bytes goes_on h) → frame.unit ≡ g.site.unit
+    → Happens g (event.Client frame.pdu) (answer.Reply answers.pdu) h
+asked g frame bytes goes_on h answers unit = let (advances, still) = (answers.answers).own unit in (0, (advances, still))
+
+pub same_site : (g : Gateway) (frame : Frame) (bytes : List ℕ) (goes_on : Bool) (h : Gateway) → AnswersFrame g frame bytes goes_on h → h.site ≡ g.site
+same_site g frame bytes goes_on h answers = go (eqb_tells frame.unit g.site.unit)
+  where
+    go : ((eqb frame.unit g.site.unit ≡ true) × (frame.unit ≡ g.site.unit)) ⊎ ((eqb frame.unit g.site.unit ≡ false) × (frame.unit ≢ g.site.unit)) → h.site ≡ g.site
+    go (inl own) = ((((answers.answers).own own.1).0).1).site
+    go (inr other) = ap (λ (x : Gateway). x.site) ((answers.answers).other other.1).1
+
+pub answered : (s t : Stage) (frame : Frame) (bytes : List ℕ) (goes_on : Bool) → AnswersFrame s.core frame bytes goes_on t.core → t.round ≡ s.round → LeadsOnBy ClientStep s t
+answered s t frame bytes goes_on answers same = go (eqb_tells frame.unit s.core.site.unit)
+  where
+    go : ((eqb frame.unit s.core.site.unit ≡ true) × (frame.unit ≡ s.core.site.unit)) ⊎ ((eqb frame.unit s.core.site.unit ≡ false) × (frame.unit ≢ s.core.site.unit)) → LeadsOnBy ClientStep s t
+    go (inl own) = one_step ClientStep s t (frame.pdu, record { told = (answer.Reply answers.pdu, asked s.core frame bytes goes_on t.core answers own.1); round = same })
+    go (inr other) = no_step ClientStep s t (same_stage s t ((answers.answers).other other.1).1 same)
+
+guarded : (refused : Bool) (s t : Stage) (frame : Frame) (bytes : List ℕ) (goes_on : Bool) → t.round ≡ s.round → AnswersUnless AnswersFrame refused s.core frame bytes goes_on t.core → LeadsOnBy ClientStep s t
+guarded true s t frame bytes goes_on round (bytes_are, more, same) = no_step ClientStep s t (same_stage s t same round)
+guarded false s t frame bytes goes_on round answers = answered s t frame bytes goes_on answers round
+
+pub clients_guarded : (may_write : Bool) (s t : Stage) (frame : Frame) (bytes : List ℕ) (goes_on : Bool) → t.round ≡ s.round → Guards AnswersFrame may_write s.core frame bytes goes_on t.core → LeadsOnBy ClientStep s t
+clients_guarded may_write s t frame bytes goes_on round answers = guarded (not may_write && is_write frame.pdu) s t frame bytes goes_on round answers
+
+-- frames that are answered in a row
+module _ {S : Type 0} (Answers : S → Frame → List ℕ → Bool → S → Type 0) (stage : S → Stage)
+    (each : (s : S) (frame : Frame) (bytes : List ℕ) (goes_on : Bool) (t : S) → Answers s frame bytes goes_on t → LeadsOnBy ClientStep (stage s) (stage t)) where
+  pub clients_chain : (s : S) (turns : List (Turn S)) (t : S) → IsChain Answers s turns t → LeadsOnBy ClientStep (stage s) (stage t)
+  clients_chain s [] t same = subst (λ x. LeadsOnBy ClientStep (stage s) (stage x)) (sym same) (λ from before. before)
+  clients_chain s (turn ∷ turns) t (first, (bytes, goes_on, answered), rest) =
+      let here : LeadsOnBy ClientStep (stage s) (stage turn.after) = subst (λ x. LeadsOnBy ClientStep (stage x) (stage turn.after)) first (each turn.before turn.frame bytes goes_on turn.after answered) in
+      λ from before. clients_chain turn.after turns t rest from (here from before)
+
+-- bytes that are taken in a state are taken in one that equals it
+pub hears_from : {S : Type 0} (Answers : S → Frame → List ℕ → Bool → S → Type 0) (now : ℕ) (s t : S) (old : ClientPlace) (bytes : List ℕ) (u : S) (new : ClientPlace)
+    → s ≡ t → Hears Answers now s old bytes u new → Hears Answers now t old bytes u new
+hears_from Answers now s t old bytes u new same hears = subst (λ x. Hears Answers now x old bytes u new) same hears
+
+-- ---- the steps of a service's calls
+
+pub goes_learns : (g : Gateway) (p : Progress) (device : ℕ) (found : Option Layout) (h : Gateway) → ∥ IsFound g.site device found ∥₁ → h ≡ record g { maps = set g.maps device found } → LeadsOnBy RoundStep (record { core = g; round = p }) (record { core = h; round = p })
+goes_learns g p device found h own is from before = ∥∥₁_elim own ∥∥₁_prop (λ o.
+    one_step RoundStep (record { core = g; round = p }) (record { core = h; round = p }) (learns device found (record { own = o; same = same_stage (record { core = record g { maps = set g.maps device found }; round = p }) (record { core = h; round = p }) is refl })) from before)
+
+pub reached_learns : (g : Gateway) (p : Progress) (device : ℕ) (found : Option Layout) (h : Gateway) → ∥ IsReached (record { core = g; round = p }) ∥₁ → ∥ IsFound g.site device found ∥₁ → h ≡ record g { maps = set g.maps device found } → ∥ IsReached (record { core = h; round = p }) ∥₁
+reached_learns g p device found h reached own is = reached_rounds (record { core = g; round = p }) (record { core = h; round = p }) reached (goes_learns g p device found h own is)
+
+pub goes_begins : (s t : Stage) → Begins s t → LeadsOnBy RoundStep s t
+goes_begins s t is = one_step RoundStep s t (begins is)
+
+pub goes_opens : (s t : Stage) (device : ℕ) (turn : Turns.Turn) → OpensNext device turn s t → LeadsOnBy RoundStep s t
+goes_opens s t device turn is = one_step RoundStep s t (opens device turn is)
+
+pub goes_gives_up : (s t : Stage) (device : ℕ) → Ends device fate.Lost s t → LeadsOnBy RoundStep s t
+goes_gives_up s t device is = one_step RoundStep s t (gives_up device is)
+
+pub goes_scans : (s t : Stage) → Scans s t → LeadsOnBy RoundStep s t
+goes_scans s t is = one_step RoundStep s t (scans is)
+
+pub goes_forgets : (s t : Stage) (want : Want) → Forgets want s t → LeadsOnBy RoundStep s t
+goes_forgets s t want is = one_step RoundStep s t (forgets want is)
+
+pub goes_asks : (s t : Stage) (pdu : List ℕ) → Asks pdu s t → LeadsOnBy ClientStep s t
+goes_asks s t pdu is = one_step ClientStep s t (pdu, is)
+
+pub begins_by : (s : Stage) (site : Site) (p : Progress) → site ≡ s.core.site → p ≡ begun site s.round → Begins s (record { core = s.core; round = p })
+begins_by s site p same is = ap (λ (x : Progress). record { core = s.core; round = x }) (is ∙ ap (λ (x : Site). begun x s.round) same)
+
+pub answered_in : (g m h : Gateway) (p : Progress) (frame : Frame) (bytes : List ℕ) (goes_on : Bool) → m ≡ g → AnswersFrame m frame bytes goes_on h → LeadsOnBy ClientStep (record { core = g; round = p }) (record { core = h; round = p })
+answered_in g m h p frame bytes goes_on same answers = subst (λ (x : Gateway). LeadsOnBy ClientStep (record { core = x; round = p }) (record { core = h; round = p })) same (answered (record { core = m; round = p }) (record { core = h; round = p }) frame bytes goes_on answers refl)
+
+pub answered_site : (g m h : Gateway) (frame : Frame) (bytes : List ℕ) (goes_on : Bool) → m ≡ g → AnswersFrame m frame bytes goes_on h → h.site ≡ g.site
+answered_site g m h frame bytes goes_on same answers = same_site m frame bytes goes_on h answers ∙ ap (λ (x : Gateway). x.site) same

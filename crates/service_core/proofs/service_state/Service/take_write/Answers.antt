@@ -1,5 +1,0 @@
-use Rattle.service_parts.proofs.Rightful.{right_on}
-use Rattle.service_core.proofs.service_state.Service.take_write.Goals as goal
-
-pub invariant_of-self : goal.invariant_of-self
-invariant_of-self c = record { rightful = right_on _ _ c.args.self.now.lines c.close.ensures.goes c.args.self.now.rightful }

@@ -1,0 +1,117 @@
+-- What a service does to its core and to the round that is under way, step by step: by the time and what the round still
+-- wants, by what devices answer, and by what clients ask (IEC 61131-3 edition 2, 3.2; Modbus Application Protocol V1.1b3,
+-- sections 6.3, 6.6 and 6.12).
+use Rattle.std.specs.Prelude.{◌≡◌, ◌⊎◌, ℕ, true, false, List, All, Option, None, Some, set}
+use Rattle.register_map.specs.Layout.{Layout}
+use Rattle.site_model.specs.declared.want.Want.{Want}
+use Rattle.gateway.specs.declared.event_core.event.Event.{Event}
+use Rattle.gateway.specs.declared.event_core.event.Event.TheVariants as event
+use Rattle.gateway.specs.declared.event_core.event.Answer.{Answer}
+use Rattle.gateway.specs.declared.poller.outcome.Outcome.{Outcome}
+use Rattle.gateway.specs.event_core.Core.{Gateway}
+use Rattle.gateway.specs.event_core.Driving.{Happens}
+use Rattle.service.specs.declared.fate.Fate.{Fate}
+use Rattle.service.specs.declared.fate.Fate.TheVariants as fate
+use Rattle.service.specs.Tasks.{IsDone}
+use Rattle.service_parts.specs.Course.{IsNew}
+use Rattle.service_parts.specs.Seeking.{IsFound}
+use Rattle.service_core.specs.declared.round.Turn.{Turn}
+use Rattle.service_core.specs.Rounds.{ArePlanned, Closes, IsRoundFor, Opens, Progress, begun, event_told}
+
+-- a core, and the round that is under way
+pub record Stage : Type 0 where
+  pub core : Gateway
+  pub round : Progress
+
+-- The core takes this event, where there is one; without one it stays.
+abbrev pub TakesEvent : Option Event → Gateway → Gateway → Type 0
+TakesEvent None g h = h ≡ g
+TakesEvent (Some e) g h = (a : Answer) × Happens g e a h
+
+-- ---- what happens to a round
+
+-- The next round begins: each wanted block is to be asked for.
+abbrev pub Begins : Stage → Stage → Type 0
+Begins old new = new ≡ record old { round = begun old.core.site old.round }
+
+-- What comes next for a device: a request to it, or a wanted block is told as lost, since there is no request for it.
+pub record OpensNext (device : ℕ) (t : Turn) (old new : Stage) : Type 0 where
+  pub opens : Opens old.core device old.round t new.round
+  pub told : TakesEvent (event_told t) old.core new.core
+
+-- The device's request that is under way is over, and the core is told of the block that it reads, if it reads one.
+pub record Ends (device : ℕ) (f : Fate) (old new : Stage) : Type 0 where
+  pub happens : Option Event
+  pub closes : Closes old.core.site device f old.round happens new.round
+  pub told : TakesEvent happens old.core new.core
+
+-- The program runs: once in a round, when each wanted block was told in it. What it set is to be written.
+pub record Scans (old new : Stage) : Type 0 where
+  pub first : old.round.scanned ≡ false
+  pub read : All IsDone old.round.reads
+  pub runs : TakesEvent (Some event.Scan) old.core new.core
+  pub planned : ArePlanned new.core new.round.writes
+  pub same : new.round ≡ record old.round { writes = new.round.writes; scanned = true }
+
+-- A search found the device's map, or it is forgotten.
+pub record Learns (device : ℕ) (found : Option Layout) (old new : Stage) : Type 0 where
+  pub own : IsFound old.core.site device found
+  pub same : new ≡ record old { core = record old.core { maps = set old.core.maps device found } }
+
+-- A wanted block is known no more, since its device's map isn't.
+pub record Forgets (want : Want) (old new : Stage) : Type 0 where
+  pub told : TakesEvent (Some (event.Lost want)) old.core new.core
+  pub round : new.round ≡ old.round
+
+-- A client asks.
+pub record Asks (pdu : List ℕ) (old new : Stage) : Type 0 where
+  pub told : TakesEvent (Some (event.Client pdu)) old.core new.core
+  pub round : new.round ≡ old.round
+
+-- ---- kinds of steps
+
+-- By the time, and by what the round still wants. A request that is under way may be given up at any time.
+pub data RoundStep (s t : Stage) : Type 0 where
+  begins : Begins s t → RoundStep s t
+  opens : (device : ℕ) (turn : Turn) → OpensNext device turn s t → RoundStep s t
+  gives_up : (device : ℕ) → Ends device fate.Lost s t → RoundStep s t
+  scans : Scans s t → RoundStep s t
+  learns : (device : ℕ) (found : Option Layout) → Learns device found s t → RoundStep s t
+  forgets : (want : Want) → Forgets want s t → RoundStep s t
+
+-- By what a device answers.
+abbrev pub DeviceStep : Stage → Stage → Type 0
+DeviceStep s t = (device : ℕ) × (o : Outcome) × Ends device (fate.Told o) s t
+
+-- By what a client asks.
+abbrev pub ClientStep : Stage → Stage → Type 0
+ClientStep s t = (pdu : List ℕ) × Asks pdu s t
+
+-- ---- one step after another
+
+abbrev pub OwnStep : Stage → Stage → Type 0
+OwnStep s t = RoundStep s t ⊎ DeviceStep s t
+
+abbrev pub AnyStep : Stage → Stage → Type 0
+AnyStep s t = OwnStep s t ⊎ ClientStep s t
+
+-- From the one stage to the other by such steps alone.
+pub data CourseBy (Step : Stage → Stage → Type 0) : Stage → Stage → Type 0 where
+  stays : (s : Stage) → CourseBy Step s s
+  goes : {s t : Stage} → CourseBy Step s t → (u : Stage) → Step t u → CourseBy Step s u
+
+-- Whatever led to the one stage leads to the other: such steps alone lie between.
+abbrev pub LeadsOnBy : (Step : Stage → Stage → Type 0) → Stage → Stage → Type 0
+LeadsOnBy Step old new = (from : Stage) → ∥ CourseBy Step from old ∥₁ → ∥ CourseBy Step from new ∥₁
+
+-- A core on which nothing happened, before its first round.
+pub record IsFirst (s : Stage) : Type 0 where
+  pub core : IsNew s.core
+  pub round : IsRoundFor s.core.site s.round
+  pub over : s.round.scanned ≡ true
+
+-- It came to this by steps alone, from a first stage.
+pub record IsReached (s : Stage) : Type 0 where
+  pub first : Stage
+  pub opening : IsFirst first
+  pub course : CourseBy AnyStep first s

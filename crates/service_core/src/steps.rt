@@ -1,0 +1,320 @@
+//! What happens to a core and its round, step by step.
+ghost use Rattle.std.specs.Prelude.{◌≡◌, ◌<◌, length, set, slice_set, IfSome, IsTrue, None, Some, false};
+ghost use Rattle.modbus_frame.specs.Message.{HasQuantity, IsRequest};
+ghost use Rattle.gateway.specs.declared.poller.cycle.Call.{Call as CallValue};
+ghost use Rattle.gateway.specs.event_core.Restoring.{NothingSets, SetsAlone};
+ghost use Rattle.service.specs.Searches.{HasStepQuantity};
+ghost use Rattle.service_parts.specs.declared.wire.Aim.{Aim as AimValue};
+ghost use Rattle.service_parts.specs.declared.wire.Aim.TheVariants.{Block as BlockAim, Output as OutputAim};
+ghost use Rattle.service_parts.specs.Calls.{IsCallFor};
+ghost use Rattle.service_parts.specs.Requests.{IsOfRound};
+ghost use Rattle.service_parts.specs.Seeking.{IsFound, IsSought};
+ghost use Rattle.service_core.specs.declared.round.Turn.TheVariants.{Ask as AskTurn};
+ghost use Rattle.service_core.specs.Cycle.{ClientsLeadOn, EndsOwn, LeadsOn, stage_of};
+ghost use Rattle.service_core.specs.Rounds.{IsSendable, event_told};
+ghost use Rattle.service_core.specs.Stages.{Ends, TakesEvent};
+
+use crate::round::Turn;
+use crate::scan_cycle::ScanCycle;
+use crate::wish::Wish;
+use gateway::{Core, DEPTH, Event, Outcome};
+use modbus_frame::{Frame, FrameReply, Request, Responder, request_pdu};
+use register_map::Map;
+use service::{Fate, Search, Step, is_write, refusal};
+use site_model::Want;
+
+impl ScanCycle {
+    /// From now on this is the device's map, which its search found, or it has none.
+    #[tactic(auto, using(crate::proofs::Courses::goes_learns, crate::proofs::Courses::reached_learns))]
+    pub fn learn(&mut self, device: usize, map: Option<Map>)
+        requires { ∥ IsFound self.old.core.value.site device map ∥₁ }
+        ensures goes { LeadsOn self.old self.new }
+        ensures learned { device < length self.old.core.value.site.devices → self.new.core.value ≡ record self.old.core.value { maps = set self.old.core.value.maps device map } }
+    {
+        if device < self.devices() {
+            self.core.learn(device, map);
+        }
+    }
+
+    /// What was known of a device is known no more: it has no map, and its blocks are lost.
+    pub fn forget(&mut self, device: usize)
+        ensures goes { LeadsOn self.old self.new }
+    {
+        self.learn(device, None);
+        for i in 0..self.core.site().wants().len() {
+            self.forget_block(device, i);
+        }
+    }
+
+    fn forget_block(&mut self, device: usize, i: usize)
+        ensures goes { LeadsOn self.old self.new }
+    {
+        let want = match self.core.site().wants().get(i) {
+            Some(want) => *want,
+            None => return,
+        };
+        if want.device == device {
+            self.forget_want(want);
+        }
+    }
+
+    fn forget_want(&mut self, want: Want)
+        ensures goes { LeadsOn self.old self.new }
+    {
+        tell(&mut self.core, Some(Event::Lost(want)));
+    }
+
+    /// What comes next in the search for a device's map.
+    pub fn seek(&self, device: usize) -> Option<Step>
+        ensures sought { IfSome result (λ step. ∥ IsSought self.now.core.value.site device step ∥₁) }
+        ensures quantity { IfSome result HasStepQuantity }
+    {
+        let search = self.searches.get(device)?;
+        Some(search.next())
+    }
+
+    /// Takes what came of a read of a device's search.
+    pub fn answered(&mut self, device: usize, outcome: &Outcome)
+        ensures same { stage_of self.new ≡ stage_of self.old }
+    {
+        if let Some(search) = self.searches.get_mut(device) {
+            take(search, outcome);
+        }
+    }
+
+    /// From now on the device's map is searched from the start.
+    pub fn seek_anew(&mut self, device: usize)
+        ensures goes { LeadsOn self.old self.new }
+    {
+        let base = match self.core.site().devices().get(device) {
+            Some(own) => own.base,
+            None => return,
+        };
+        if let Some(search) = self.searches.get_mut(device) {
+            *search = Search::new(base);
+        }
+    }
+
+    /// Begins the next round.
+    pub fn begin(&mut self)
+        ensures goes { LeadsOn self.old self.new }
+    {
+        self.round.begin(self.core.site());
+        self.lost = 0;
+    }
+
+    /// The next request to the device, and what it is made for; wanted blocks that there is none for are lost.
+    #[tactic(auto, using(service_parts::proofs::Rightful::of_round))]
+    pub fn next(&mut self, device: usize) -> Option<Wish>
+        ensures goes { LeadsOn self.old self.new }
+        ensures asked { IfSome result (λ wish. IsOfRound self.new.core.value wish.aim device wish.request) }
+        ensures quantity { IfSome result (λ wish. HasQuantity wish.request) }
+    {
+        for _ in 0..self.round.requests() {
+            match self.open(device) {
+                Turn::Ask(aim, call) => {
+                    return Some(Wish {
+                        aim,
+                        request: call.request,
+                    });
+                }
+                Turn::Lack(_) => {}
+                Turn::Rest => return None,
+            }
+        }
+        None
+    }
+
+    /// What comes next for the device. A wanted block that there is no request for is told as lost.
+    fn open(&mut self, device: usize) -> Turn
+        ensures goes { LeadsOn self.old self.new }
+        ensures called { (aim : AimValue) (call : CallValue) → result ≡ AskTurn aim call → IsCallFor self.new.core.value aim device call }
+        ensures quantity { IsSendable result }
+    {
+        let turn = self.round.open(&self.core, device);
+        let event = told_by(&turn);
+        self.lost = lost_with(self.lost, &event);
+        tell(&mut self.core, event);
+        turn
+    }
+
+    /// This became of the device's request that is under way; whether the words that came are no block of its model.
+    fn close(&mut self, device: usize, fate: Fate) -> bool
+        ensures { Ends device fate (stage_of self.old) (stage_of self.new) }
+    {
+        let event = self.round.take(self.core.site(), device, fate);
+        let foreign = is_foreign(&event);
+        self.lost = lost_with(self.lost, &event);
+        tell(&mut self.core, event);
+        foreign
+    }
+
+    /// Takes the outcome of the device's request for a wanted block, where that is still under way; whether the words that
+    /// came are no block of its model.
+    pub fn close_block(&mut self, device: usize, want: usize, outcome: Outcome) -> bool
+        ensures { EndsOwn (BlockAim want) device outcome (stage_of self.old) (stage_of self.new) }
+    {
+        if !self.round.is_reading(device, want) {
+            return false;
+        }
+        self.close(device, Fate::Told(outcome))
+    }
+
+    /// Takes the outcome of the device's request that writes an output, where that is still under way.
+    pub fn close_write(&mut self, device: usize, output: usize, outcome: Outcome)
+        ensures { EndsOwn (OutputAim output) device outcome (stage_of self.old) (stage_of self.new) }
+    {
+        if self.round.is_writing(device, output) {
+            self.close(device, Fate::Told(outcome));
+        }
+    }
+
+    /// The device's request that is under way is given up.
+    fn drop_request(&mut self, device: usize)
+        ensures goes { LeadsOn self.old self.new }
+    {
+        self.close(device, Fate::Lost);
+    }
+
+    /// All that the round still has for a device is given up: what is wanted of it is lost, and it is written nothing.
+    pub fn give_up(&mut self, device: usize)
+        ensures goes { LeadsOn self.old self.new }
+    {
+        self.drop_request(device);
+        for _ in 0..self.round.requests() {
+            if !self.give_up_next(device) {
+                return;
+            }
+        }
+    }
+
+    // Whether there may be more.
+    fn give_up_next(&mut self, device: usize) -> bool
+        ensures goes { LeadsOn self.old self.new }
+    {
+        match self.open(device) {
+            Turn::Lack(_) => true,
+            Turn::Ask(..) => {
+                self.drop_request(device);
+                true
+            }
+            Turn::Rest => self.round.is_scanned() && !self.round.is_complete(),
+        }
+    }
+
+    /// Sets a tag, as a client's write does, to a number in the unit of the tag's exponent; whether some client's write does
+    /// so. Where none does nothing changes.
+    pub fn restore(&mut self, tag: usize, number: i64) -> bool
+        ensures goes { ClientsLeadOn self.old self.new }
+        ensures sets { IsTrue result → self.new.core.value.standing ≡ record self.old.core.value.standing { sets = slice_set self.old.core.value.standing.sets tag (Some number) } }
+        ensures refused { result ≡ false → (self.new.core.value ≡ self.old.core.value) × NothingSets self.old.core.value.site tag number }
+    {
+        match self.request_to_set(tag, number) {
+            Some(request) => {
+                self.set(&request, tag, number);
+                true
+            }
+            None => false,
+        }
+    }
+
+    /// The request by which a client sets a tag to this number, and nothing else.
+    fn request_to_set(&self, tag: usize, number: i64) -> Option<Request>
+        ensures request { IfSome result IsRequest }
+        ensures alone { IfSome result (SetsAlone self.now.core.value.site tag number) }
+        ensures none { result ≡ None → NothingSets self.now.core.value.site tag number }
+    {
+        self.core.request_to_set(tag, number)
+    }
+
+    /// A tag is set by the request that does so, as a client's.
+    #[tactic(auto, using(crate::proofs::Restored::set_alone))]
+    fn set(&mut self, request: &Request, tag: usize, number: i64)
+        requires request { IsRequest request.now }
+        requires alone { SetsAlone self.old.core.value.site tag number request.now }
+        ensures goes { ClientsLeadOn self.old self.new }
+        ensures sets { self.new.core.value.standing ≡ record self.old.core.value.standing { sets = slice_set self.old.core.value.standing.sets tag (Some number) } }
+    {
+        self.core.step(Event::Client(request_pdu(request)));
+    }
+
+    /// Runs the program, where each wanted block was told; whether it did.
+    pub fn scan(&mut self) -> bool
+        ensures goes { LeadsOn self.old self.new }
+    {
+        if self.round.is_scanned() || !self.round.is_read() {
+            return false;
+        }
+        self.round.scan(&mut self.core);
+        true
+    }
+
+    /// Whether the program ran, and nothing is left to be written.
+    pub fn is_complete(&self) -> bool {
+        self.round.is_complete()
+    }
+}
+
+impl Responder for ScanCycle {
+    ghost use Rattle.std.specs.Prelude.{◌≡◌};
+    ghost use Rattle.gateway.specs.event_core.Control.{AnswersFrame};
+    ghost use Rattle.service.specs.Guarding.{Guards};
+
+    ghost answers = { λ old frame bytes goes_on new. (new.may_write ≡ old.may_write) × (new.round ≡ old.round)
+        × Guards AnswersFrame old.may_write old.core.value frame bytes goes_on new.core.value };
+
+    fn answer(&mut self, frame: &Frame) -> FrameReply {
+        if !self.may_write && is_write(&frame.pdu) {
+            return refusal(frame);
+        }
+        self.core.answer(frame)
+    }
+}
+
+/// Takes the outcome of a search's read, where it takes more.
+fn take(search: &mut Search, outcome: &Outcome)
+    ensures { search.new.base ≡ search.old.base }
+{
+    if !search.is_full() {
+        search.take(outcome);
+    }
+}
+
+/// What the core is told, where there is no request for a wanted block.
+fn told_by(turn: &Turn) -> Option<Event>
+    ensures { result ≡ event_told turn.now }
+{
+    match turn {
+        Turn::Lack(want) => Some(Event::Lost(*want)),
+        Turn::Ask(..) | Turn::Rest => None,
+    }
+}
+
+/// The core takes an event, where there is one.
+fn tell(core: &mut Core<DEPTH>, event: Option<Event>)
+    ensures told { TakesEvent event core.old core.new }
+    ensures site { core.new.site ≡ core.old.site }
+{
+    if let Some(event) = event {
+        core.step(event);
+    }
+}
+
+/// How many blocks are lost, with this event.
+fn lost_with(lost: usize, event: &Option<Event>) -> usize {
+    match event {
+        Some(Event::Lost(_)) => lost.saturating_add(1),
+        _ => lost,
+    }
+}
+
+/// Whether words don't begin with their model's ID.
+fn is_foreign(event: &Option<Event>) -> bool {
+    match event {
+        Some(Event::Block(want, words)) => match words.as_slice() {
+            [first, ..] => *first != want.model,
+            [] => true,
+        },
+        _ => false,
+    }
+}
