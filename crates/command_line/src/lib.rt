@@ -44,7 +44,7 @@ pub use plant_lines::{NoPort, told_port};
 // a probe of a device
 pub use probe_link::{ProbeAddress, ProbeRun};
 // a service on a site
-pub use service_run::{Devices, ServiceRun, run_service};
+pub use service_run::{ServiceRun, run_service};
 // what a run tells of outputs that it doesn't write, and why a link failed
 pub use link_cause::cause_of_link;
 pub use unwritten::UnwrittenWatch;

@@ -1,14 +1,14 @@
 //! The words of the command `serve`.
 use crate::arguments::{definition_files, exe_option, option, program_file, quiet_flag, site_file};
 use crate::help;
-use crate::service_run::Devices;
 use clap::builder::ValueParser;
 use clap::{Arg, ArgAction, ArgMatches, Command};
+use point_types::Items;
 use service_core::Limits;
-use service_texts::{has_port, limits};
+use service_texts::{Devices, DevicesFault, WriterFault, devices_of, limits, writers_of};
 use site_service::{Keeping, KeptState, Serving};
-use std::alloc::{AllocError, AllocFailed, Global};
-use std::net::{IpAddr, Ipv4Addr, Net, SocketAddr, ToSocketAddrs};
+use std::alloc::{AllocError, Global};
+use std::net::{IpAddr, Net, SocketAddr, ToSocketAddrs};
 
 /// Where clients come to, where no other address is asked for.
 const USUAL_DOOR: &str = "127.0.0.1:1502";
@@ -147,7 +147,7 @@ pub(crate) struct ServiceWords<'a> {
     /// The address that clients come to.
     pub listen: SocketAddr,
     /// The addresses whose clients may write.
-    pub writers: Vec<IpAddr>,
+    pub writers: Items<IpAddr>,
     pub devices: Devices<'a>,
 }
 
@@ -158,9 +158,21 @@ pub(crate) enum Misuse {
     OutOfMemory,
 }
 
-impl<T: Drop> From<AllocFailed<T>> for Misuse {
-    fn from(_refused: AllocFailed<T>) -> Self {
-        Misuse::OutOfMemory
+impl From<WriterFault> for Misuse {
+    fn from(fault: WriterFault) -> Self {
+        match fault {
+            WriterFault::NoAddress => Misuse::Words("'--write-from' is no IP address"),
+            WriterFault::OutOfMemory => Misuse::OutOfMemory,
+        }
+    }
+}
+
+impl From<DevicesFault> for Misuse {
+    fn from(fault: DevicesFault) -> Self {
+        Misuse::Words(match fault {
+            DevicesFault::NoPort => "'--devices' is no HOST:PORT",
+            DevicesFault::Both => "'--devices' and '--plant' don't go together",
+        })
     }
 }
 
@@ -175,24 +187,13 @@ pub(crate) fn service_words<'a, R: Net>(
         return Err(Misuse::Words("'--state' and '--status-file' are one file"));
     }
     let listen = listen_address(rt, matches)?;
-    let writers = writers_of(alloc, matches)?;
-    let devices = devices_of(matches)?;
+    let writers = writers_of(alloc, matches.get_strs("write-from").unwrap_or(&[]))?;
+    let devices = devices_of(matches.get_str("devices"), matches.get_str("plant"))?;
     Ok(ServiceWords {
         listen,
         writers,
         devices,
     })
-}
-
-/// Where the devices are.
-fn devices_of<'a>(matches: &ArgMatches<'a>) -> Result<Devices<'a>, Misuse> {
-    match (matches.get_str("devices"), matches.get_str("plant")) {
-        (None, None) => Ok(Devices::BySite),
-        (None, Some(plant)) => Ok(Devices::Plant(plant)),
-        (Some(address), None) if has_port(address) => Ok(Devices::Behind(address)),
-        (Some(_), None) => Err(Misuse::Words("'--devices' is no HOST:PORT")),
-        (Some(_), Some(_)) => Err(Misuse::Words("'--devices' and '--plant' don't go together")),
-    }
 }
 
 /// How long the service waits.
@@ -237,22 +238,6 @@ fn listen_address<R: Net>(rt: &R, matches: &ArgMatches<'_>) -> Result<SocketAddr
         },
         Err(_) => Err(UNKNOWN_LISTEN),
     }
-}
-
-/// The addresses whose clients may write.
-fn writers_of(alloc: Global, matches: &ArgMatches<'_>) -> Result<Vec<IpAddr>, Misuse> {
-    let words = matches.get_strs("write-from").unwrap_or(&[]);
-    let mut writers = Vec::new(alloc);
-    for word in words {
-        match word.parse::<IpAddr>() {
-            Ok(address) => writers.push(address.to_canonical())?,
-            Err(_) => return Err(Misuse::Words("'--write-from' is no IP address")),
-        }
-    }
-    if words.is_empty() {
-        writers.push(IpAddr::V4(Ipv4Addr::LOCALHOST))?;
-    }
-    Ok(writers)
 }
 
 /// The files that the service keeps; the one of set values has this text.

@@ -2,14 +2,14 @@
 use crate::failing::{no_start, tell_lost, tell_unserved};
 use crate::plant_lines::told_port;
 use crate::second_process::{start_plant, tell_no_port};
-use crate::service_places::{addresses_of, plant_addresses, tell_unreachable};
+use crate::service_places::tell_unreachable;
 use commands::{Accepted, Outcome, accept, no_core, tell_no_memory, write_lines};
 use gateway::CoreFault;
 use modbus_frame::LinkFault;
 use refusal_notes::Notes;
 use scan_vm::Machine;
 use service_core::{Limits, Service};
-use service_texts::Addresses;
+use service_texts::{Addresses, Devices, addresses_of, plant_addresses};
 use site_service::{End, Keeping, Serving, serve_site};
 use std::alloc::{AllocError, Global};
 use std::io::{Read, Write};
@@ -34,17 +34,6 @@ pub struct ServiceRun<'n, 'a, 's, 'k, 't> {
     pub serving: Serving<'s>,
     /// The files that it keeps.
     pub keeping: Keeping<'k, 't>,
-}
-
-/// Where the devices of a site are.
-#[derive(Clone, Copy)]
-pub enum Devices<'a> {
-    /// Each where the site file says.
-    BySite,
-    /// All behind this address.
-    Behind(&'a str),
-    /// In a simulated plant, of the file at this path.
-    Plant(&'a str),
 }
 
 /// Serves a site, and gives the status: 0 after the last scan that was asked for, 1 for a refusal or a failed write, 2
@@ -101,7 +90,7 @@ fn prepared<R: Print + Eprint + AllocGlobal, W: Write>(
     given: &Accepted,
     out: &mut W,
 ) -> Result<Addresses, u8> {
-    match addresses_of(alloc, run, &given.site) {
+    match addresses_of(alloc, run.devices, run.notes.site, given.site.devices()) {
         Ok(addresses) => match tell_accepted(alloc, given.verified.budget(), out) {
             0 => {
                 tell_unkept(rt, run);
@@ -210,7 +199,7 @@ fn serve_started<R: Net + Clock + Eprint + AllocGlobal + Files, P: Read, W: Writ
     out: &mut W,
 ) -> u8 {
     match told_port(alloc, lines) {
-        Ok(port) => match plant_addresses(alloc, port, service.core().site()) {
+        Ok(port) => match plant_addresses(alloc, port, service.core().site().devices()) {
             Ok(addresses) => serve_over(rt, alloc, run, &addresses, service, out),
             Err(AllocError) => tell_no_memory(out),
         },

@@ -1,2 +1,3 @@
 pub mod Placing
 pub mod StateLines
+pub mod Named

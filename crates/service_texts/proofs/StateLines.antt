@@ -14,7 +14,7 @@ use Rattle.std.proofs.lemmas.Str.Parse.{digit_from_value}
 use Rattle.point_types.specs.Name.{begins_with_letter, is_name, is_name_byte, is_name_word, is_parted, most_characters}
 use Rattle.point_types.specs.Keyword.{is_reserved}
 use Rattle.site_model.specs.declared.tag.SiteTag.{SiteTag}
-use Rattle.service_texts.specs.State.{AreSaid, IsFit, Says, is_equals_sign, setting, state_text, tag_line}
+use Rattle.service_texts.specs.State.{AreSaid, IsFit, Says, is_equals_sign, name_in, setting, state_text, tag_line}
 
 -- a byte that is no equals sign and ends no line
 abbrev IsPlain : ℕ → Type 0
@@ -171,3 +171,7 @@ said_step Q before tags befores numbers tag number e f fit h rest =
     let all : AreSaid (tag ∷ tags) (number ∷ numbers) (lines (state_text (tag ∷ tags) (number ∷ numbers))) → Q =
     subst (λ ns. AreSaid (tag ∷ tags) ns (lines (state_text (tag ∷ tags) ns)) → Q) f (subst (λ ts. AreSaid ts befores (lines (state_text ts befores)) → Q) e h) in
     all (said_more tag number tags numbers fit rest)
+
+-- what a line says it says of the name before its first sign
+pub said_by_its_name : {line name : List ℕ} {number : ℤ} → Says line name number → Says line (name_in line) number
+said_by_its_name {line} {name} {number} says = subst (λ n. Says line n number) (sym says.named) says

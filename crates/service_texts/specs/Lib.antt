@@ -1,4 +1,6 @@
 pub mod Lines
 pub mod Places
+pub mod Reaching
 pub mod State
 pub mod Stations
+pub mod Writers

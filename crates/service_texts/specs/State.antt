@@ -8,6 +8,8 @@ use Rattle.std.specs.Str.Parse.{IsNumeral, signed_digits_value, without_leading_
 use mir.Syntax.{w64}
 use Rattle.point_types.specs.Name.{is_name}
 use Rattle.site_model.specs.declared.tag.SiteTag.{SiteTag}
+use Rattle.service_texts.specs.declared.state_lines.StateLine.{StateLine}
+use Rattle.service_texts.specs.declared.state_lines.StateLine.TheVariants.{Sets, NoSetting, NoTag}
 
 -- NAME=NUMBER
 abbrev pub setting : List ℕ → ℤ → List ℕ
@@ -53,3 +55,14 @@ AreSaid (tag ∷ tags) (Some number ∷ numbers) (line ∷ lines) = Says line ta
 abbrev pub tag_from : ℕ → List ℕ → List SiteTag → Option ℕ
 tag_from n name [] = None
 tag_from n name (tag ∷ tags) = if bytes_eq tag.name name then Some n else tag_from (n + 1) name tags
+
+-- the name that a line says
+abbrev pub name_in : List ℕ → List ℕ
+name_in line = before_first is_equals_sign line
+
+-- what a line of the file sets: the first tag of the name that it says, to the number that it says; where it is left out, it
+-- says no setting, or one of a name that no tag has
+abbrev pub IsStateLine : List SiteTag → List ℕ → StateLine → Type 0
+IsStateLine tags line (Sets tag number) = Says line (name_in line) number × (tag_from 0 (name_in line) tags ≡ Some tag)
+IsStateLine tags line NoSetting = (name : List ℕ) (number : ℤ) → Says line name number → ⊥
+IsStateLine tags line NoTag = ((number : ℤ) × Says line (name_in line) number) × (tag_from 0 (name_in line) tags ≡ None)

@@ -1,5 +1,6 @@
 //! Over which connections the devices of a site are reached.
-ghost use Rattle.std.specs.Prelude.{◌≡◌, [], ◌∷◌, ◌++◌, IfOk, OnOk, map};
+ghost use Rattle.std.specs.Prelude.{◌≡◌, [], ◌∷◌, ◌++◌, IfOk, IsTrue, OnOk, map};
+ghost use Rattle.service_texts.specs.Reaching.{HasPort};
 ghost use Rattle.service_texts.specs.Stations.{AreAt, addresses_of, all_behind, number_from, own_station, with_station};
 
 use crate::device_places::DevicePlace;
@@ -104,7 +105,9 @@ fn number_among(address: &str, links: &[Text]) -> Option<usize>
 }
 
 /// Whether a text has the form `HOST:PORT`.
-pub fn has_port(text: &str) -> bool {
+pub fn has_port(text: &str) -> bool
+    ensures { IsTrue result → HasPort text.now }
+{
     match text.rsplit_once(':') {
         Some((host, port)) => !host.is_empty() && matches!(port.parse::<u16>(), Ok(1..)),
         None => false,

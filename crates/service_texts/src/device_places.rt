@@ -28,6 +28,8 @@ pub enum AddressFault {
     Missing(usize),
     /// The unit of a device at its address, `remote_unit` or else `unit`, is no number in 0..255.
     BadUnit(usize),
+    /// A device's address, that the site file has, is no `HOST:PORT`.
+    NoPort(usize),
     /// Memory was refused.
     OutOfMemory,
 }

@@ -5,6 +5,7 @@
 mod addresses;
 mod device_places;
 mod lines;
+mod reaching;
 mod state_lines;
 mod waiting;
 mod write_record;
@@ -13,12 +14,13 @@ mod writers;
 // where the devices are
 pub use addresses::{Addresses, has_port};
 pub use device_places::{AddressFault, DevicePlace, read_places};
+pub use reaching::{Devices, DevicesFault, addresses_of, devices_of, plant_addresses};
 // which clients may write
-pub use writers::may_write;
+pub use writers::{WriterFault, may_write, writers_of};
 // how long is waited
 pub use waiting::limits;
 // what is kept over a restart
-pub use state_lines::{Setting, setting_in, state_text, tag_named};
+pub use state_lines::{Setting, StateLine, setting_in, state_line, state_text, tag_named};
 pub use write_record::WriteRecord;
 // what is told of a service
 pub use lines::{

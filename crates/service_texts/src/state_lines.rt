@@ -1,7 +1,7 @@
 //! The text in which set values are kept: a line `NAME=NUMBER` for each tag that is set.
 ghost use Rattle.std.specs.Prelude.{◌≡◌, ◌++◌, ℕ, ℤ, List, Some, IfOk, OnOk, MatchOption};
 ghost use Rattle.std.specs.Str.Lines.{lines};
-ghost use Rattle.service_texts.specs.State.{AreSaid, IsFit, Says, state_text, tag_from, tag_line};
+ghost use Rattle.service_texts.specs.State.{AreSaid, IsFit, IsStateLine, Says, state_text, tag_from, tag_line};
 
 use point_types::Name;
 use site_model::SiteTag;
@@ -14,6 +14,17 @@ pub struct Setting<'a> {
     pub name: &'a str,
     /// The number behind it.
     pub number: i64,
+}
+
+/// What a line of the text sets, or why it is left out.
+#[derive(Clone, Copy)]
+pub enum StateLine {
+    /// The tag of this number is set to this number.
+    Sets { tag: usize, number: i64 },
+    /// The line isn't `NAME=NUMBER`.
+    NoSetting,
+    /// No tag has the name that the line says.
+    NoTag,
 }
 
 /// The lines of the tags that are set, in their order. Read line by line, they say just these settings.
@@ -94,4 +105,22 @@ pub fn tag_named(tags: &[SiteTag], name: &str) -> Option<usize>
         }
     }
     None
+}
+
+/// What a line sets: the number that it says, with its sign, at the first of these tags that has the name that it says. Where
+/// it is left out, it says no setting, or no tag has its name.
+#[tactic(auto, using(crate::proofs::StateLines::said_by_its_name))]
+pub fn state_line(tags: &[SiteTag], line: &str) -> StateLine
+    ensures { IsStateLine tags.now line.now result }
+{
+    let Some(setting) = setting_in(line) else {
+        return StateLine::NoSetting;
+    };
+    match tag_named(tags, setting.name) {
+        Some(tag) => StateLine::Sets {
+            tag,
+            number: setting.number,
+        },
+        None => StateLine::NoTag,
+    }
 }

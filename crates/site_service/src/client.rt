@@ -1,12 +1,12 @@
 //! A client's connection.
-use crate::connection::Connection;
+ghost use Rattle.std.specs.Prelude.{◌<◌};
+ghost use Rattle.service_parts.specs.Clients.{DoesAt, Sends};
+
 use mio::net::TcpStream;
 use mio::{Interest, Registry, Token};
+use polled_stream::{Connection, Giver, Taker};
 use service_core::Service;
 use std::net::SocketAddr;
-
-/// The most pieces of one turn.
-const MOST_PIECES: u32 = 2;
 
 /// A client's connection.
 #[derive(Drop)]
@@ -45,25 +45,16 @@ impl Client {
 
     /// Hands over what came.
     pub(crate) fn receive(&mut self, service: &mut Service, place: usize, now: u64) {
-        for _ in 0..MOST_PIECES {
-            self.connection.fill();
-            if self.connection.rest().is_empty() {
-                return;
-            }
-            let used = service.from_client(place, self.connection.rest(), now);
-            self.connection.use_up(used);
-            if used == 0 {
-                return;
-            }
-        }
+        self.connection.hand_over(&mut FromClient {
+            service,
+            place,
+            now,
+        });
     }
 
     /// Sends what waits.
     pub(crate) fn send(&mut self, service: &mut Service, place: usize) {
-        let sent = self.connection.write(service.to_client(place));
-        if sent > 0 {
-            service.sent_to_client(place, sent);
-        }
+        self.connection.send(&mut ToClient { service, place });
     }
 
     /// Whether the connection is over, or is to be closed. What was still to be sent then had its last chance.
@@ -71,5 +62,48 @@ impl Client {
         service.wants_close(place)
             || self.connection.is_broken()
             || self.connection.is_over() && service.to_client(place).is_empty()
+    }
+}
+
+/// Takes what a client sends.
+#[derive(Drop)]
+struct FromClient<'s> {
+    service: &'s mut Service,
+    place: usize,
+    now: u64,
+}
+
+impl Taker for FromClient<'_> {
+    ghost use Rattle.std.specs.Prelude.{None};
+
+    ghost taken = { λ _. None };
+
+    fn take(&mut self, bytes: &[u8]) -> usize {
+        self.service.from_client(self.place, bytes, self.now)
+    }
+}
+
+/// Has what goes out to a client.
+#[derive(Drop)]
+struct ToClient<'s> {
+    service: &'s mut Service,
+    place: usize,
+}
+
+impl Giver for ToClient<'_> {
+    ghost use Rattle.std.specs.Prelude.{None};
+
+    ghost left = { λ _. None };
+
+    fn waiting(&self) -> &[u8] {
+        self.service.to_client(self.place)
+    }
+
+    fn gone(&mut self, n: usize)
+        ensures sends { 0 < n → DoesAt (λ old new. Sends old n new) self.old.service.now.places.items self.old.place self.new.service.now.places.items }
+    {
+        if n > 0 {
+            self.service.sent_to_client(self.place, n);
+        }
     }
 }

@@ -1,7 +1,11 @@
 //! The clients' connections.
+ghost use Rattle.std.specs.Prelude.{IfSome};
+ghost use Rattle.site_service.specs.Admitting.{HasRight};
+
 use crate::client::Client;
 use crate::door::Door;
 use crate::journal::Journal;
+use crate::tokens::Tokens;
 use mio::net::TcpStream;
 use mio::{Registry, Token};
 use service_core::Service;
@@ -13,26 +17,26 @@ use std::net::{IpAddr, SocketAddr};
 /// The most connections that are taken in one turn.
 const MOST_TAKEN: u32 = 64;
 
-/// The clients' connections, each at its place, under its token behind the first.
+/// The clients' connections, each at its place, under its token.
 #[derive(Drop)]
 pub(crate) struct Clients {
-    first: usize,
+    tokens: Tokens,
     places: Vec<Option<Client>>,
 }
 
 impl Clients {
     /// Places for so many, all of them free.
-    pub(crate) fn new(alloc: Global, first: usize, most: usize) -> Result<Clients, AllocError> {
+    pub(crate) fn new(alloc: Global, tokens: Tokens, most: usize) -> Result<Clients, AllocError> {
         let mut places = Vec::new(alloc);
         for _ in 0..most {
             places.push(None)?;
         }
-        Ok(Clients { first, places })
+        Ok(Clients { tokens, places })
     }
 
-    /// The system says of a token that there is something to do.
-    pub(crate) fn wake(&mut self, token: usize) {
-        if let Some(Some(client)) = self.places.get_mut(token.saturating_sub(self.first)) {
+    /// The system says of the client at a place that there is something to do.
+    pub(crate) fn wake(&mut self, place: usize) {
+        if let Some(Some(client)) = self.places.get_mut(place) {
             client.wake();
         }
     }
@@ -75,12 +79,11 @@ impl Clients {
         service: &mut Service,
         journal: &mut Journal<'_, W>,
     ) {
-        let is_writer = may_write(writers, address.ip().to_canonical());
-        match service.client_came(is_writer, journal.now()) {
+        match admitted(service, writers, address.ip(), journal.now()) {
             Some(place) => {
                 // the first who was silent for over half a minute, where there was no free place
                 self.leave(place, journal);
-                let token = Token(self.first.saturating_add(place));
+                let token = Token(self.tokens.of_client(place));
                 let client = Client::new(registry, token, stream, address);
                 self.put(place, client, service, journal);
             }
@@ -164,4 +167,12 @@ impl Clients {
             _ => false,
         }
     }
+}
+
+/// The place of a client that came from an address; none where the service has no place for it. It may write exactly where the
+/// address is that of one who may.
+fn admitted(service: &mut Service, writers: &[IpAddr], address: IpAddr, now: u64) -> Option<usize>
+    ensures { IfSome result (HasRight writers.now address service.new.places.items) }
+{
+    service.client_came(may_write(writers, address), now)
 }

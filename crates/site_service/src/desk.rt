@@ -91,10 +91,10 @@ impl<'a, W: Write> Desk<'a, W> {
         let now = self.now(rt)?;
         self.journal.turn_to(now);
         service.tick(now);
-        self.sockets.take(rt, serving, service, &mut self.journal);
+        let taken = self.sockets.take(rt, serving, service, &mut self.journal);
         // what was taken in may set values, and giving out says so
-        files.keep_state(rt, service.core(), &mut self.journal);
-        self.sockets.give(service, &mut self.journal);
+        let kept = files.keep_state(taken, rt, service.core(), &mut self.journal);
+        self.sockets.give(kept, service, &mut self.journal);
         let is_done = self.tell(serving, service, files);
         self.keep_status(rt, service, files);
         Ok(is_done)

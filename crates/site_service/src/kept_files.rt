@@ -2,6 +2,7 @@
 use crate::journal::Journal;
 use crate::keeping::Keeping;
 use crate::restoring::restore;
+use crate::sockets::Taken;
 use crate::state_file::StateFile;
 use crate::status_file::StatusFile;
 use gateway::{Core, DEPTH};
@@ -17,6 +18,12 @@ pub(crate) struct KeptFiles<'a> {
     alloc: Global,
     state: Option<StateFile<'a>>,
     status: Option<StatusFile<'a>>,
+}
+
+/// What is set is kept, or it is told that it can't be. Whoever set it is told that it is done only after that.
+#[derive(Drop)]
+pub(crate) struct Kept {
+    _by_files: (),
 }
 
 impl<'a> KeptFiles<'a> {
@@ -55,19 +62,21 @@ impl<'a> KeptFiles<'a> {
         }
     }
 
-    /// Keeps what is set, before whoever set it is told that it is done.
+    /// Keeps what is set, once all that came is taken, and before whoever set it is told that it is done.
     pub(crate) fn keep_state<R: Files, W: Write>(
         &mut self,
+        _taken: Taken,
         rt: &R,
         core: &Core<DEPTH>,
         journal: &mut Journal<'_, W>,
-    ) {
+    ) -> Kept {
         let alloc = self.alloc;
         if let Some(state) = &mut self.state {
             if let Some(word) = state.keep(rt, alloc, core) {
                 journal.tell(file_line(alloc, "state", word));
             }
         }
+        Kept { _by_files: () }
     }
 
     /// Whether the file that says how the service stands is to be written.

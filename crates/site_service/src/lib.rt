@@ -5,7 +5,6 @@
 
 mod client;
 mod clients;
-mod connection;
 mod desk;
 mod door;
 mod journal;
@@ -27,6 +26,7 @@ mod status_devices;
 mod status_file;
 mod status_tags;
 mod telling;
+mod tokens;
 mod turns;
 
 // what is kept over a restart

@@ -1,20 +1,20 @@
 //! A connection to devices.
-use crate::connection::Connection;
+ghost use Rattle.std.specs.Prelude.{◌≡◌, IfOk};
+
 use mio::net::TcpStream;
 use mio::{Interest, Registry, Token};
+use polled_stream::{Connection, Giver, Taker};
 use service_core::Service;
+use site_model::Text;
 use std::alloc::{AllocError, Global};
 use std::io::ErrorKind;
 use std::net::{Net, SocketAddr, ToSocketAddrs};
-
-/// The most pieces of one turn.
-const MOST_PIECES: u32 = 2;
 
 /// A connection to devices: it is down, is being made, or is up.
 #[derive(Drop)]
 pub(crate) struct Link {
     /// `HOST:PORT`; a name is looked up at each dial.
-    address: String,
+    address: Text,
     connection: Option<Connection<TcpStream>>,
     /// Whether the connection is up; else it is being made.
     is_up: bool,
@@ -32,9 +32,11 @@ enum Fate {
 
 impl Link {
     /// One to an address; it is down.
-    pub(crate) fn new(alloc: Global, address: &str) -> Result<Link, AllocError> {
+    pub(crate) fn new(alloc: Global, address: &str) -> Result<Link, AllocError>
+        ensures { IfOk result (λ link. link.address ≡ address.now) }
+    {
         Ok(Link {
-            address: String::from_str(alloc, address)?,
+            address: Text::new(alloc, address)?,
             connection: None,
             is_up: false,
             is_told: false,
@@ -112,17 +114,11 @@ impl Link {
         let Some(connection) = &mut self.connection else {
             return false;
         };
-        for _ in 0..MOST_PIECES {
-            connection.fill();
-            if connection.rest().is_empty() {
-                break;
-            }
-            let used = service.from_link(number, connection.rest(), now);
-            connection.use_up(used);
-            if used == 0 {
-                break;
-            }
-        }
+        connection.hand_over(&mut FromLink {
+            service,
+            number,
+            now,
+        });
         connection.is_over()
     }
 
@@ -132,10 +128,7 @@ impl Link {
             return;
         }
         if let Some(connection) = &mut self.connection {
-            let sent = connection.write(service.to_link(number));
-            if sent > 0 {
-                service.sent_to_link(number, sent);
-            }
+            connection.send(&mut ToLink { service, number });
         }
     }
 
@@ -144,6 +137,47 @@ impl Link {
         self.connection = None;
         self.is_up = false;
         service.link_down(number, now);
+    }
+}
+
+/// Takes what comes over a connection to devices.
+#[derive(Drop)]
+struct FromLink<'s> {
+    service: &'s mut Service,
+    number: usize,
+    now: u64,
+}
+
+impl Taker for FromLink<'_> {
+    ghost use Rattle.std.specs.Prelude.{None};
+
+    ghost taken = { λ _. None };
+
+    fn take(&mut self, bytes: &[u8]) -> usize {
+        self.service.from_link(self.number, bytes, self.now)
+    }
+}
+
+/// Has what goes out over a connection to devices.
+#[derive(Drop)]
+struct ToLink<'s> {
+    service: &'s mut Service,
+    number: usize,
+}
+
+impl Giver for ToLink<'_> {
+    ghost use Rattle.std.specs.Prelude.{None};
+
+    ghost left = { λ _. None };
+
+    fn waiting(&self) -> &[u8] {
+        self.service.to_link(self.number)
+    }
+
+    fn gone(&mut self, n: usize) {
+        if n > 0 {
+            self.service.sent_to_link(self.number, n);
+        }
     }
 }
 

@@ -1,15 +1,18 @@
 //! The connections to the devices.
+ghost use Rattle.std.specs.Prelude.{◌≡◌, IfOk, map};
+
 use crate::link::Link;
+use crate::tokens::Tokens;
 use mio::{Registry, Token};
 use service_core::Service;
 use site_model::Text;
 use std::alloc::{AllocError, Global};
 use std::net::Net;
 
-/// The connections to the devices, each under its token behind the first.
+/// The connections to the devices, each under its token.
 #[derive(Drop)]
 pub(crate) struct Links {
-    first: usize,
+    tokens: Tokens,
     links: Vec<Link>,
 }
 
@@ -17,19 +20,21 @@ impl Links {
     /// Those to these addresses; none is made yet.
     pub(crate) fn new(
         alloc: Global,
-        first: usize,
+        tokens: Tokens,
         addresses: &[Text],
-    ) -> Result<Links, AllocError> {
+    ) -> Result<Links, AllocError>
+        ensures { IfOk result (λ links. map (λ link. link.address) links.links.items ≡ addresses.now) }
+    {
         let mut links = Vec::new(alloc);
         for address in addresses {
             links.push(Link::new(alloc, address.as_str())?)?;
         }
-        Ok(Links { first, links })
+        Ok(Links { tokens, links })
     }
 
-    /// The system says of a token that there is something to do.
-    pub(crate) fn wake(&mut self, token: usize) {
-        if let Some(link) = self.links.get_mut(token.saturating_sub(self.first)) {
+    /// The system says of the connection of this number that there is something to do.
+    pub(crate) fn wake(&mut self, number: usize) {
+        if let Some(link) = self.links.get_mut(number) {
             link.wake();
         }
     }
@@ -68,10 +73,10 @@ impl Links {
         service: &mut Service,
         now: u64,
     ) {
-        let first = self.first;
+        let tokens = self.tokens;
         for (number, link) in self.links.iter_mut().enumerate() {
             if service.wants_dial(number) {
-                let token = Token(first.saturating_add(number));
+                let token = Token(tokens.of_link(number));
                 link.dial(rt, registry, token, service, number, now);
             }
         }

@@ -1,10 +1,10 @@
 //! A connection to a simulated plant.
 ghost use Rattle.std.specs.Prelude.{◌≤◌};
 
-use crate::connection::Connection;
 use inverter_sim::Plant;
 use mio::net::TcpStream;
 use mio::{Interest, Registry, Token};
+use polled_stream::{Connection, Giver};
 use service::Session;
 
 /// The most pieces of one turn.
@@ -51,7 +51,7 @@ impl PlantClient {
 
     /// Whether there is something to do without a wait.
     pub(crate) fn is_busy(&self) -> bool {
-        self.connection.is_busy(self.answers.waiting().len())
+        self.connection.is_busy(self.answers.unsent().len())
     }
 
     /// Answers what came.
@@ -71,15 +71,14 @@ impl PlantClient {
 
     /// Sends what waits.
     pub(crate) fn send(&mut self) {
-        let sent = self.connection.write(self.answers.waiting());
-        self.answers.sent(sent);
+        self.connection.send(&mut self.answers);
     }
 
     /// Whether the connection is over, or is to be closed. What was still to be sent then had its last chance.
     pub(crate) fn is_over(&self) -> bool {
         self.connection.is_broken()
             || self.answers.are_over()
-            || self.connection.is_over() && self.answers.waiting().is_empty()
+            || self.connection.is_over() && self.answers.unsent().is_empty()
     }
 }
 
@@ -94,7 +93,7 @@ impl Answers {
     }
 
     /// Those that are to be sent.
-    fn waiting(&self) -> &[u8] {
+    fn unsent(&self) -> &[u8] {
         &self.out[self.start..self.end]
     }
 
@@ -122,5 +121,19 @@ impl Answers {
     /// Whether nothing more will be sent.
     fn are_over(&self) -> bool {
         self.start == self.end && self.session.is_over()
+    }
+}
+
+impl Giver for Answers {
+    ghost use Rattle.std.specs.Prelude.{None};
+
+    ghost left = { λ _. None };
+
+    fn waiting(&self) -> &[u8] {
+        self.unsent()
+    }
+
+    fn gone(&mut self, n: usize) {
+        self.sent(n);
     }
 }

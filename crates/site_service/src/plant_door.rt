@@ -1,6 +1,7 @@
 //! A simulated plant behind a port.
 use crate::door::Door;
 use crate::plant_client::PlantClient;
+use crate::tokens::{DOOR, Owner, Tokens};
 use inverter_sim::Plant;
 use mio::net::TcpStream;
 use mio::{Events, Poll, Token};
@@ -8,9 +9,6 @@ use std::alloc::Global;
 use std::io;
 use std::net::{Net, SocketAddr};
 use std::time::Duration;
-
-/// The token of the door; those of the connections follow.
-const DOOR: usize = 0;
 
 /// The most connections at once; more wait at the door.
 const MOST_AT_ONCE: usize = 64;
@@ -25,6 +23,7 @@ pub struct PlantDoor {
     events: Events,
     door: Door,
     clients: Vec<Option<PlantClient>>,
+    tokens: Tokens,
     /// How many may still come; none for ever more.
     left: Option<u64>,
 }
@@ -48,6 +47,7 @@ impl PlantDoor {
             events: Events::with_capacity(alloc, MOST_AT_ONCE + 1)?,
             door,
             clients,
+            tokens: Tokens::new(0),
             left: limit_of(connections),
         })
     }
@@ -102,7 +102,7 @@ impl PlantDoor {
         if let Some(left) = self.left {
             self.left = Some(left.saturating_sub(1));
         }
-        let token = Token(place.saturating_add(DOOR + 1));
+        let token = Token(self.tokens.of_client(place));
         let client = PlantClient::new(self.poll.registry(), token, stream);
         if let Some(there) = self.clients.get_mut(place) {
             *there = client;
@@ -168,14 +168,14 @@ impl PlantDoor {
     // Marks those of whom the system says that there is something to do. It says so once.
     fn wake(&mut self) {
         for event in self.events.iter() {
-            let token = event.token().0;
-            if token == DOOR {
-                self.door.wake();
-            } else if let Some(Some(client)) = self
-                .clients
-                .get_mut(token.saturating_sub(DOOR + 1))
-            {
-                client.wake();
+            match self.tokens.owner(event.token().0) {
+                Owner::Door => self.door.wake(),
+                Owner::Link(_) => {}
+                Owner::Client(place) => {
+                    if let Some(Some(client)) = self.clients.get_mut(place) {
+                        client.wake();
+                    }
+                }
             }
         }
     }

@@ -1,7 +1,7 @@
 //! Files that are replaced whole.
+use lasting_file::{Lasting, SystemFile, WrittenDown};
 use std::alloc::{AllocError, Global};
 use std::fs::OpenFile;
-use std::io::Write;
 use std::rt::Files;
 use std::{fs, io};
 
@@ -21,12 +21,20 @@ pub(crate) fn replace_for_good<R: Files>(
     bytes: &[u8],
 ) -> io::Result<()> {
     let beside = beside(alloc, path)?;
-    let mut file = fs::create(rt, beside.as_str())?;
-    file.write_all(bytes)?;
-    file.sync_all()?;
-    fs::rename(rt, beside.as_str(), path)?;
+    let file = SystemFile::new(fs::create(rt, beside.as_str())?);
+    take_place(rt, WrittenDown::with(file, bytes)?, beside.as_str(), path)?;
     sync_folder(rt, path);
     Ok(())
+}
+
+// Gives a file, all of whose bytes stay, the path of another one.
+fn take_place<R: Files, F: Lasting>(
+    rt: &R,
+    _file: WrittenDown<F>,
+    beside: &str,
+    path: &str,
+) -> io::Result<()> {
+    fs::rename(rt, beside, path)
 }
 
 /// The path of a new file, before it takes another one's place.

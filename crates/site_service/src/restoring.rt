@@ -1,7 +1,9 @@
 //! What is set at the start.
+ghost use Rattle.site_service.specs.Setting.{SetsBy};
+
 use crate::journal::Journal;
 use service_core::Service;
-use service_texts::{left_out_setting_line, setting_in, tag_named};
+use service_texts::{StateLine, left_out_setting_line, state_line};
 use std::alloc::{AllocError, Global};
 use std::io::Write;
 
@@ -22,14 +24,19 @@ pub(crate) fn restore<W: Write>(
     }
 }
 
-/// Sets what a line says; whether that is something that a client could set.
+/// Sets what a line sets; whether that is something that a client could set.
 fn is_restored(service: &mut Service, line: &str) -> bool {
-    let Some(setting) = setting_in(line) else {
-        return false;
-    };
-    match tag_named(service.core().site().tags(), setting.name) {
-        Some(tag) => service.restore(tag, setting.number),
-        None => false,
+    let line = state_line(service.core().site().tags(), line);
+    is_set(service, line)
+}
+
+/// Sets what a line sets, to just its number; whether it does, as a client's write could.
+fn is_set(service: &mut Service, line: StateLine) -> bool
+    ensures { SetsBy line service.old.cycle.core.value result service.new.cycle.core.value }
+{
+    match line {
+        StateLine::Sets { tag, number } => service.restore(tag, number),
+        StateLine::NoSetting | StateLine::NoTag => false,
     }
 }
 

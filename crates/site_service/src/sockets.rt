@@ -2,8 +2,10 @@
 use crate::clients::Clients;
 use crate::door::Door;
 use crate::journal::Journal;
+use crate::kept_files::Kept;
 use crate::links::Links;
 use crate::serving::{End, Serving};
+use crate::tokens::{DOOR, Owner, Tokens};
 use mio::{Events, Poll, Token};
 use service_core::Service;
 use site_model::Text;
@@ -12,9 +14,6 @@ use std::io;
 use std::io::Write;
 use std::net::{Net, SocketAddr};
 use std::time::Duration;
-
-/// The token of the door; those of the links follow, and then those of the clients.
-const DOOR: usize = 0;
 
 /// The longest wait while one at the door couldn't be taken in, in milliseconds.
 const TRY_AGAIN: u64 = 1000;
@@ -27,7 +26,13 @@ pub(crate) struct Sockets {
     door: Door,
     links: Links,
     clients: Clients,
-    first_client: usize,
+    tokens: Tokens,
+}
+
+/// What came in this turn is taken. What is set is kept only after that.
+#[derive(Drop)]
+pub(crate) struct Taken {
+    _by_sockets: (),
 }
 
 impl Sockets {
@@ -53,18 +58,17 @@ impl Sockets {
         clients: usize,
         links: &[Text],
     ) -> io::Result<Sockets> {
-        let first_link = DOOR + 1;
-        let first_client = links.len().saturating_add(first_link);
-        let links = Links::new(alloc, first_link, links)?;
-        let most = first_client.saturating_add(clients);
-        let clients = Clients::new(alloc, first_client, clients)?;
+        let tokens = Tokens::new(links.len());
+        let most = tokens.of_client(clients);
+        let links = Links::new(alloc, tokens, links)?;
+        let clients = Clients::new(alloc, tokens, clients)?;
         Ok(Sockets {
             events: Events::with_capacity(alloc, most)?,
             poll,
             door,
             links,
             clients,
-            first_client,
+            tokens,
         })
     }
 
@@ -85,7 +89,7 @@ impl Sockets {
         serving: &Serving<'_>,
         service: &mut Service,
         journal: &mut Journal<'_, W>,
-    ) {
+    ) -> Taken {
         let now = journal.now();
         let registry = self.poll.registry();
         self.clients.take_in(registry, &mut self.door, serving.writers, service, journal);
@@ -93,10 +97,16 @@ impl Sockets {
         self.clients.receive(service, now);
         self.links.hang_up(service, now);
         self.links.dial(rt, registry, service, now);
+        Taken { _by_sockets: () }
     }
 
-    /// Sends what waits, and closes clients' connections that are over.
-    pub(crate) fn give<W: Write>(&mut self, service: &mut Service, journal: &mut Journal<'_, W>) {
+    /// Sends what waits, once what is set is kept, and closes clients' connections that are over.
+    pub(crate) fn give<W: Write>(
+        &mut self,
+        _kept: Kept,
+        service: &mut Service,
+        journal: &mut Journal<'_, W>,
+    ) {
         self.links.send(service);
         self.clients.send(service);
         self.clients.close(service, journal);
@@ -125,13 +135,10 @@ impl Sockets {
     // Marks those of whom the system says that there is something to do. It says so once.
     fn wake(&mut self) {
         for event in self.events.iter() {
-            let token = event.token().0;
-            if token == DOOR {
-                self.door.wake();
-            } else if token < self.first_client {
-                self.links.wake(token);
-            } else {
-                self.clients.wake(token);
+            match self.tokens.owner(event.token().0) {
+                Owner::Door => self.door.wake(),
+                Owner::Link(number) => self.links.wake(number),
+                Owner::Client(place) => self.clients.wake(place),
             }
         }
     }

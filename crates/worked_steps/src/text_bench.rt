@@ -115,6 +115,7 @@ fn tell_places(alloc: Global, page: &mut Page, text: &str) -> io::Result<()> {
         Err(AddressFault::NotToml) => page.tell("no site file"),
         Err(AddressFault::Missing(device)) => page.tell(format_args!("no address of {device}")),
         Err(AddressFault::BadUnit(device)) => page.tell(format_args!("no unit of {device}")),
+        Err(AddressFault::NoPort(device)) => page.tell(format_args!("no port of {device}")),
         Err(AddressFault::OutOfMemory) => page.tell("no memory"),
     }
 }

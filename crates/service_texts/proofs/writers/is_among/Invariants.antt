@@ -1,5 +1,5 @@
 use Rattle.std.proofs.Common.{◌≢◌, All, drop}
-use Rattle.service_texts.proofs.writers.may_write.Given as goal
+use Rattle.service_texts.proofs.writers.is_among.Given as goal
 
 -- where none of the rest is the address, none is
 abbrev pub invariant-loop-known : goal.invariant-loop-known

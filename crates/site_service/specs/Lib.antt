@@ -1,0 +1,3 @@
+pub mod Admitting
+pub mod Setting
+pub mod Tokens
