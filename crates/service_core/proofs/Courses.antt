@@ -270,3 +270,6 @@ answered_in g m h p frame bytes goes_on same answers = subst (λ (x : Gateway). 
 
 pub answered_site : (g m h : Gateway) (frame : Frame) (bytes : List ℕ) (goes_on : Bool) → m ≡ g → AnswersFrame m frame bytes goes_on h → h.site ≡ g.site
 answered_site g m h frame bytes goes_on same answers = same_site m frame bytes goes_on h answers ∙ ap (λ (x : Gateway). x.site) same
+
+pub first_stage : (s : Stage) (g : Gateway) (p : Progress) → s.core ≡ g → s.round ≡ p → IsNew g → IsRoundFor g.site p → p.scanned ≡ true → IsFirst s
+first_stage s g p core round opening fits over = subst IsFirst (sym (same_stage (record { core = g; round = p }) s core round)) (record { core = opening; round = fits; over = over })

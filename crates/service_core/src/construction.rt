@@ -6,7 +6,9 @@ ghost use Rattle.gateway.specs.event_core.Core.{Gateway, gateway_of};
 ghost use Rattle.gateway.specs.event_core.SiteRun.{none_of};
 ghost use Rattle.service_parts.specs.Requests.{AreRightfulBy};
 ghost use Rattle.service_parts.specs.Seeking.{AreOf};
+ghost use Rattle.service_core.specs.Cycle.{stage_of};
 ghost use Rattle.service_core.specs.Rounds.{IsRoundFor};
+ghost use Rattle.service_core.specs.Stages.{IsFirst};
 
 use crate::device::Device;
 use crate::device_side::{DeviceSide, Phase};
@@ -38,6 +40,7 @@ impl Service {
         now: u64,
     ) -> Result<Service, CoreFault>
         ensures opened { IfOk result (λ service. service.cycle.core.value ≡ gateway_of site (none_of site.devices) machine) }
+        ensures first { IfOk result (λ service. IsFirst (stage_of service.cycle)) }
         ensures matched { OnOk result (HasLinks site.tags machine.accepted.links) }
         ensures stations { IfOk result (λ service. service.lines.links.stations.items ≡ stations.now) }
         ensures numbers { IfOk result (λ service. service.lines.links.numbers.items ≡ replicate links 0) }

@@ -41,7 +41,8 @@ impl ScanCycle {
         requires fits { IsRoundFor core.site round }
         requires over { round.scanned ≡ true }
         requires sought { AreOf core.site searches.items }
-        ensures { IfOk result (λ cycle. cycle.core.value ≡ core) }
+        ensures core { IfOk result (λ cycle. cycle.core.value ≡ core) }
+        ensures round { IfOk result (λ cycle. cycle.round ≡ round) }
     {
         let core = Box::new(alloc, core)?;
         Ok(ScanCycle {

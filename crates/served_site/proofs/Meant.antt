@@ -1,0 +1,97 @@
+-- Each scan of a service computes what its program means.
+use Rattle.std.proofs.Common.{◌≡◌, ◌⊎◌, inl, inr, ℕ, List, Option, None, Some, Ok, refl, sym, ap, subst, ◌∙◌}
+use Rattle.scan_code.specs.Image.{Image, IsProper}
+use Rattle.scan_vm.specs.Machine.{opened}
+use Rattle.site_model.specs.declared.site.Site.{Site}
+use Rattle.site_model.specs.Readings.{AreSettings}
+use Rattle.il_assemble.proofs.Rules.{images_are_proper}
+use Rattle.il_assemble.specs.Correct.{AreVariables, DoesWhatItMeans}
+use Rattle.il_assemble.specs.Meaning.{Program}
+use Rattle.verifier.specs.Links.{links_from}
+use Rattle.verifier.specs.Verdict.{judged}
+use Rattle.verifier.specs.Verified.{Acceptance, HasLinks}
+use Rattle.gateway.specs.declared.event_core.event.Event.{Event}
+use Rattle.gateway.specs.declared.event_core.event.Event.TheVariants as event
+use Rattle.gateway.specs.declared.event_core.event.Answer.{Answer}
+use Rattle.gateway.specs.event_core.Core.{Gateway, StepsOn, gateway_of, numbers_of}
+use Rattle.gateway.specs.event_core.SiteRun.{Standing, Steps, none_of}
+use Rattle.service.specs.declared.fate.Fate.{Fate}
+use Rattle.service.specs.declared.fate.Fate.TheVariants as fate
+use Rattle.service_core.specs.Rounds.{event_told}
+use Rattle.service_core.specs.Stages as stages
+use Rattle.service_core.specs.Stages.{AnyStep, CourseBy, Ends, RoundStep, Scans, Stage, TakesEvent}
+use Rattle.service_core.proofs.OneRound.{scans_are_of_their_rounds}
+use Rattle.commands.specs.Accepted.{Accepts, most_deferred}
+use Rattle.commands.specs.Meant.{IsMeantScan}
+use Rattle.commands.proofs.MeaningLemmas.{IsKept, left_variables, opening_kept, step_meant, stored_ranged}
+use Rattle.served_site.specs.Serving.{IsScanOf, IsStart, ScansMeanTheProgram}
+
+module _ (site : Site) (p : Program) (a : Acceptance) (right : DoesWhatItMeans p a.image) (linked : links_from site.tags 0 a.image.tags ≡ Ok a.links) (proper : IsProper a.image) (verdict : judged a.image site.tags most_deferred ≡ Ok a.budget) (matched : HasLinks site.tags a.links) where
+  -- the core is of this site and program, and what is set and the variables lie in their ranges
+  record Keeps (g : Gateway) : Type 0 where
+    site_is : g.site ≡ site
+    program_is : g.machine.accepted ≡ a
+    kept : IsKept site p a right linked proper verdict matched g.standing
+
+  steps_here : (g : Gateway) (e : Event) (r : Answer) (h : Gateway) → Keeps g → StepsOn g e r h → Steps site a.image (numbers_of a) a.budget g.standing e r h.standing
+  steps_here g e r h keeps steps =
+      subst (λ (x : Acceptance). Steps site x.image (numbers_of x) x.budget g.standing e r h.standing) keeps.program_is
+      (subst (λ (x : Site). Steps x g.machine.accepted.image (numbers_of g.machine.accepted) g.machine.accepted.budget g.standing e r h.standing) keeps.site_is steps)
+
+  event_keeps : (o : Option Event) (g h : Gateway) → TakesEvent o g h → Keeps g → Keeps h
+  event_keeps None g h same keeps = subst Keeps (sym same) keeps
+  event_keeps (Some e) g h (r, one) keeps =
+      let advances = (one.1).0 in
+      record {
+        site_is = advances.1.site ∙ keeps.site_is;
+        program_is = advances.1.accepted ∙ keeps.program_is;
+        kept = (step_meant site p a right linked proper verdict matched g.standing e r h.standing keeps.kept (steps_here g e r h keeps advances.0)).1;
+      }
+
+  ends_keeps : (device : ℕ) (f : Fate) (s t : Stage) → Ends device f s t → Keeps s.core → Keeps t.core
+  ends_keeps device f s t is keeps = event_keeps is.happens s.core t.core is.told keeps
+
+  round_keeps : (s t : Stage) → RoundStep s t → Keeps s.core → Keeps t.core
+  round_keeps s t (stages.begins is) keeps = subst (λ (x : Stage). Keeps x.core) (sym is) keeps
+  round_keeps s t (stages.opens device next is) keeps = event_keeps (event_told next) s.core t.core is.told keeps
+  round_keeps s t (stages.gives_up device is) keeps = ends_keeps device fate.Lost s t is keeps
+  round_keeps s t (stages.scans is) keeps = event_keeps (Some event.Scan) s.core t.core is.runs keeps
+  round_keeps s t (stages.learns device found is) keeps = subst (λ (x : Stage). Keeps x.core) (sym is.same) (record { site_is = keeps.site_is; program_is = keeps.program_is; kept = keeps.kept })
+  round_keeps s t (stages.forgets want is) keeps = event_keeps (Some (event.Lost want)) s.core t.core is.told keeps
+
+  any_keeps : (s t : Stage) → AnyStep s t → Keeps s.core → Keeps t.core
+  any_keeps s t (inl (inl step)) keeps = round_keeps s t step keeps
+  any_keeps s t (inl (inr (device, o, is))) keeps = ends_keeps device (fate.Told o) s t is keeps
+  any_keeps s t (inr (pdu, is)) keeps = event_keeps (Some (event.Client pdu)) s.core t.core is.told keeps
+
+  course_keeps : (s t : Stage) → CourseBy AnyStep s t → Keeps s.core → Keeps t.core
+  course_keeps s t (stages.stays x) keeps = keeps
+  course_keeps s t (stages.goes {t = middle} course u step) keeps = any_keeps middle t step (course_keeps s middle course keeps)
+
+  start_keeps : (first : Stage) → IsStart site a first → Keeps first.core
+  start_keeps first start = subst Keeps (sym start.opened) (record { site_is = refl; program_is = refl; kept = opening_kept site p a right linked proper verdict matched })
+
+  scan_of : (first s t : Stage) → IsStart site a first → CourseBy AnyStep first s → Scans s t → IsScanOf site p a s t
+  scan_of first s t start course scans =
+      let keeps = course_keeps first s course (start_keeps first start) in
+      let advances = ((scans.runs.1).1).0 in
+      let meant = (step_meant site p a right linked proper verdict matched s.core.standing event.Scan scans.runs.0 t.core.standing keeps.kept (steps_here s.core event.Scan scans.runs.0 t.core keeps advances.0)).0 in
+      let scan = meant.1.scan in
+      record {
+        site = keeps.site_is;
+        program = keeps.program_is;
+        round = scans_are_of_their_rounds s t (record { first = first; opening = start.first; course = course }) scans;
+        means = meant.1;
+        variables = subst (AreVariables a.image.vars) (sym (ap (λ (x : Standing). x.variables) scan.after)) (left_variables site p a right linked proper verdict matched s.core.standing t.core.standing keeps.kept scan);
+        outputs = subst (AreSettings site.tags) (sym (ap (λ (x : Standing). (x.last).outputs) scan.after)) (stored_ranged site p a right linked proper verdict matched s.core.standing t.core.standing keeps.kept scan);
+        planned = scans.planned;
+      }
+
+pub scans_mean_the_program : ScansMeanTheProgram
+scans_mean_the_program site_text program_text texts site p a accepts matched first old new start course scans =
+    let on = (accepts.accepted).accepted in
+    let right = subst (DoesWhatItMeans p) (sym on.kept) (accepts.accepted).right in
+    let proper = subst IsProper (sym on.kept) (images_are_proper accepts.tree p (accepts.accepted).resolved) in
+    let linked = subst (λ (i : Image). links_from site.tags 0 i.tags ≡ Ok a.links) (sym on.kept) on.linked in
+    let verdict = subst (λ (i : Image). judged i site.tags most_deferred ≡ Ok a.budget) (sym on.kept) on.judged in
+    scan_of site p a right linked proper verdict matched first old new start course scans

@@ -1,0 +1,40 @@
+-- What each scan of a service is, from the texts of its site and its program.
+-- IEC 61131-3 edition 2, 3.2 (instruction list; one scan after another).
+use Rattle.std.specs.Prelude.{◌≡◌, ℕ, List}
+use Rattle.site_model.specs.declared.site.Site.{Site}
+use Rattle.site_model.specs.Readings.{AreSettings}
+use Rattle.scan_vm.specs.Machine.{opened}
+use Rattle.il_assemble.specs.Correct.{AreVariables}
+use Rattle.il_assemble.specs.Meaning.{Program}
+use Rattle.verifier.specs.Verified.{Acceptance, HasLinks}
+use Rattle.gateway.specs.event_core.Core.{gateway_of}
+use Rattle.gateway.specs.event_core.SiteRun.{none_of}
+use Rattle.service_core.specs.OneRound.{IsOfItsRound}
+use Rattle.service_core.specs.Rounds.{ArePlanned}
+use Rattle.service_core.specs.Stages.{AnyStep, CourseBy, IsFirst, Scans, Stage}
+use Rattle.commands.specs.Accepted.{Accepts}
+use Rattle.commands.specs.Meant.{IsMeantScan}
+
+-- Before its first round: nothing is known or set, no device has a map, and each variable of the program is at its start value.
+pub record IsStart (site : Site) (a : Acceptance) (first : Stage) : Type 0 where
+  pub opened : first.core ≡ gateway_of site (none_of site.devices) (opened a)
+  pub first : IsFirst first
+
+-- A scan from the one stage to the other. On what was told in its own round, or is known no more, it ends without a trap and
+-- within the budget, with the variables and outputs that the program means on the readings of that; these lie in their ranges;
+-- and for each output just what is due is to be written.
+pub record IsScanOf (site : Site) (p : Program) (a : Acceptance) (old new : Stage) : Type 0 where
+  pub site : old.core.site ≡ site
+  pub program : old.core.machine.accepted ≡ a
+  pub round : IsOfItsRound old
+  pub means : IsMeantScan p site a old.core.standing new.core.standing
+  pub variables : AreVariables a.image.vars new.core.standing.variables
+  pub outputs : AreSettings site.tags (new.core.standing.last).outputs
+  pub planned : ArePlanned new.core new.round.writes
+
+-- The texts of a site and a program are accepted, and a service was begun for them: whatever steps it makes, each of its
+-- scans is so.
+abbrev pub ScansMeanTheProgram : Type 0
+ScansMeanTheProgram = (site_text program_text : List ℕ) (texts : List (List ℕ)) (site : Site) (p : Program) (a : Acceptance)
+    → Accepts site_text program_text texts site p a → HasLinks site.tags a.links
+    → (first old new : Stage) → IsStart site a first → CourseBy AnyStep first old → Scans old new → IsScanOf site p a old new

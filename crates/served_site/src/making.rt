@@ -1,0 +1,39 @@
+//! A service of an accepted program is made.
+ghost use Rattle.std.specs.Prelude.{◌≡◌, IfErr, IfOk, OnOk, length, replicate};
+ghost use Rattle.verifier.specs.Verified.{HasLinks};
+ghost use Rattle.gateway.specs.declared.event_core.fault.CoreFault.TheVariants.{Foreign};
+ghost use Rattle.service_core.specs.Cycle.{stage_of};
+ghost use Rattle.served_site.specs.Serving.{IsStart};
+
+use commands::Accepted;
+use gateway::CoreFault;
+use scan_vm::Machine;
+use service_core::{Limits, Service, Station};
+use std::alloc::{AllocError, Global};
+
+/// A service of an accepted program on its site, over so many connections, all of them down. `stations` has an entry for
+/// each of the site's devices: where it is reached. The first round begins a period after 0. Foreign: the program was
+/// accepted for tags that the site doesn't have so; OutOfMemory: memory is refused.
+pub fn service_of(
+    alloc: Global,
+    given: Accepted,
+    links: usize,
+    stations: &[Station],
+    limits: Limits,
+) -> Result<Service, CoreFault>
+    ensures start { IfOk result (λ service. IsStart given.site given.verified.entry (stage_of service.cycle)) }
+    ensures matched { OnOk result (HasLinks given.site.tags given.verified.entry.links) }
+    ensures stations { IfOk result (λ service. service.lines.links.stations.items ≡ stations.now) }
+    ensures numbers { IfOk result (λ service. service.lines.links.numbers.items ≡ replicate links 0) }
+    ensures limits { IfOk result (λ service. service.side.limits ≡ limits) }
+    ensures time { IfOk result (λ service. service.side.now ≡ 0) }
+    ensures places { IfOk result (λ service. length service.places.items ≡ limits.clients) }
+    ensures foreign { IfErr result (λ e. e ≡ Foreign → HasLinks given.site.tags given.verified.entry.links → ⊥) }
+{
+    let Accepted { site, verified } = given;
+    let machine = match Machine::new(alloc, verified) {
+        Ok(machine) => machine,
+        Err(AllocError) => return Err(CoreFault::OutOfMemory),
+    };
+    Service::new(alloc, site, machine, links, stations, limits, 0)
+}
