@@ -169,10 +169,10 @@ impl From<WriterFault> for Misuse {
 
 impl From<DevicesFault> for Misuse {
     fn from(fault: DevicesFault) -> Self {
-        Misuse::Words(match fault {
-            DevicesFault::NoPort => "'--devices' is no HOST:PORT",
-            DevicesFault::Both => "'--devices' and '--plant' don't go together",
-        })
+        match fault {
+            DevicesFault::NoPort => Misuse::Words("'--devices' is no HOST:PORT"),
+            DevicesFault::Both => Misuse::Words("'--devices' and '--plant' don't go together"),
+        }
     }
 }
 
