@@ -322,6 +322,22 @@ def play_writers(counts, program, folder):
     service.end()
 
 
+def play_networks(counts, program, folder):
+    """Whoever is in a network may write, and whoever isn't may not."""
+    sets = [{"name": "target", "point": "WMaxLimPct", "low": 0, "high": 100}]
+    site = put(folder, "networks.toml", site_text([""] * 3, False, sets))
+    code = put(folder, "quiet.il", "PROGRAM quiet\nVAR a : INT; END_VAR\nLD 1\nST a\nEND_PROGRAM\n")
+    may = ["--write-from", "127.0.1.0/30", "--write-from", "127.0.0.9"]
+    service = Service(program, [site, code, "--devices", "127.0.0.1:9", "--listen", "127.0.0.1:0", "--every", "100", *may])
+    port = service.port()
+    for address, wanted in (("127.0.1.1", True), ("127.0.1.3", True), ("127.0.1.4", False), ("127.0.0.9", True), ("127.0.0.1", False)):
+        client = Client(port, address)
+        reply = client.write(LIMIT, 20)
+        counts.note(f"{address} {'may' if wanted else 'may not'} write", (reply[0] == 6) == wanted and (wanted or reply == bytes([0x86, 1])), reply)
+        client.close()
+    service.end()
+
+
 def definition(at):
     """Model 64001, whose point X stands at the first or at the second register."""
     names = ["X", "Y"] if at == 0 else ["Y", "X"]
@@ -372,5 +388,6 @@ def try_all(counts, program):
         play_three_links(counts, program, folder)
         play_one_address(counts, program, folder)
         play_writers(counts, program, folder)
+        play_networks(counts, program, folder)
         play_definitions(counts, program, folder)
         play_slow_reader(counts, program, folder)

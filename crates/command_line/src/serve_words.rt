@@ -5,10 +5,10 @@ use clap::builder::ValueParser;
 use clap::{Arg, ArgAction, ArgMatches, Command};
 use point_types::Items;
 use service_core::Limits;
-use service_texts::{Devices, DevicesFault, WriterFault, devices_of, limits, writers_of};
+use service_texts::{Devices, DevicesFault, Writer, WriterFault, devices_of, limits, writers_of};
 use site_service::{Keeping, KeptState, Serving};
 use std::alloc::{AllocError, Global};
-use std::net::{IpAddr, Net, SocketAddr, ToSocketAddrs};
+use std::net::{Net, SocketAddr, ToSocketAddrs};
 
 /// Where clients come to, where no other address is asked for.
 const USUAL_DOOR: &str = "127.0.0.1:1502";
@@ -146,8 +146,8 @@ fn verbose_flag<'a>(alloc: Global) -> Arg<'a> {
 pub(crate) struct ServiceWords<'a> {
     /// The address that clients come to.
     pub listen: SocketAddr,
-    /// The addresses whose clients may write.
-    pub writers: Items<IpAddr>,
+    /// The clients that may write.
+    pub writers: Items<Writer>,
     pub devices: Devices<'a>,
 }
 
@@ -169,10 +169,10 @@ impl From<WriterFault> for Misuse {
 
 impl From<DevicesFault> for Misuse {
     fn from(fault: DevicesFault) -> Self {
-        Misuse::Words(match fault {
-            DevicesFault::NoPort => "'--devices' is no HOST:PORT",
-            DevicesFault::Both => "'--devices' and '--plant' don't go together",
-        })
+        match fault {
+            DevicesFault::NoPort => Misuse::Words("'--devices' is no HOST:PORT"),
+            DevicesFault::Both => Misuse::Words("'--devices' and '--plant' don't go together"),
+        }
     }
 }
 
@@ -217,7 +217,7 @@ fn most_clients(matches: &ArgMatches<'_>) -> usize {
 pub(crate) fn serving_of<'a>(
     matches: &ArgMatches<'_>,
     listen: SocketAddr,
-    writers: &'a [IpAddr],
+    writers: &'a [Writer],
 ) -> Serving<'a> {
     Serving {
         listen,

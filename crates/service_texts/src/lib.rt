@@ -16,7 +16,7 @@ pub use addresses::{Addresses, has_port};
 pub use device_places::{AddressFault, DevicePlace, read_places};
 pub use reaching::{Devices, DevicesFault, addresses_of, devices_of, plant_addresses};
 // which clients may write
-pub use writers::{WriterFault, may_write, writers_of};
+pub use writers::{Writer, WriterFault, may_write, writers_of};
 // how long is waited
 pub use waiting::limits;
 // what is kept over a restart

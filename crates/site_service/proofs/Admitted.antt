@@ -5,9 +5,10 @@ use Rattle.std.specs.declared.net.ip_addr.IpAddr.{IpAddr}
 use Rattle.service_parts.specs.declared.client_place.ClientPlace.{ClientPlace}
 use Rattle.service_parts.specs.Clients.{IsOpen}
 use Rattle.service_texts.specs.Writers.{MayWrite}
+use Rattle.service_texts.specs.declared.writers.Writer.{Writer}
 use Rattle.site_service.specs.Admitting.{HasRight}
 
-pub right_given : (writers : List IpAddr) (address : IpAddr) (right : Bool) (now : ℕ) (places : List ClientPlace) (given : Option ℕ)
+pub right_given : (writers : List Writer) (address : IpAddr) (right : Bool) (now : ℕ) (places : List ClientPlace) (given : Option ℕ)
     → IfSome given (λ place. (c : ClientPlace) × (slice_get places place ≡ Some c) × IsOpen right now c)
     → MayWrite writers address right → IfSome given (HasRight writers address places)
 right_given writers address right now places None opened may = tt

@@ -1,5 +1,11 @@
 -- What a line that sets a tag does.
-use Rattle.std.proofs.Common.{◌≡◌, ℕ, ℤ, Bool, true, false, Some, IsTrue, refl, sym, subst}
+use Rattle.std.proofs.Common.{◌≡◌, ◌∙◌, ℕ, ℤ, int_eq, Bool, true, false, List, Option, Some, None, IsTrue, refl, sym, ap, subst}
+use lib.Pointwise.{pointwise}
+use Rattle.std.specs.Bool.{Decides}
+use Rattle.std.specs.Cmp.{signed_Decides}
+use Rattle.std.specs.Option.{option_eq}
+use Rattle.std.proofs.lemmas.Bool.{false≢true}
+use Rattle.std.proofs.lemmas.Slice.Eq.{slice_eq-Decides}
 use Rattle.std.specs.Prelude.{slice_set}
 use Rattle.gateway.specs.event_core.Core.{Gateway}
 use Rattle.gateway.specs.event_core.Restoring.{NothingSets}
@@ -19,3 +25,14 @@ pub set_by : (line : StateLine) (tag : ℕ) (number handed : ℤ) (old : Gateway
     → (result ≡ false → (new ≡ old) × NothingSets old.site tag handed) → SetsBy line old result new
 set_by line tag number handed old result new is same sets refused =
     subst (λ l. SetsBy l old result new) (sym is) (subst (λ n. SetsBy (Sets tag n) old result new) same (by_result tag handed old result new sets refused))
+
+-- what tags are set to is compared
+settings_compared : (a b : Option ℤ) → Decides (option_eq int_eq a b) (a ≡ b)
+settings_compared None None = (λ _. refl, λ _. refl)
+settings_compared None (Some y) = (λ h. absurd (false≢true h), λ e. ap (λ o. option_eq int_eq None o) (sym e))
+settings_compared (Some x) None = (λ h. absurd (false≢true h), λ e. ap (λ o. option_eq int_eq o None) e)
+settings_compared (Some x) (Some y) =
+    (λ h. ap Some ((signed_Decides x y).0 h), λ e. ap (λ o. option_eq int_eq (Some x) o) (sym e) ∙ (signed_Decides x x).1 refl)
+
+pub all_compared : (xs ys : List (Option ℤ)) (r : Bool) → r ≡ pointwise (option_eq int_eq) xs ys → IsTrue r → xs ≡ ys
+all_compared xs ys r is = (slice_eq-Decides settings_compared xs ys r is).0

@@ -9,7 +9,7 @@ use crate::tokens::Tokens;
 use mio::net::TcpStream;
 use mio::{Registry, Token};
 use service_core::Service;
-use service_texts::may_write;
+use service_texts::{Writer, may_write};
 use std::alloc::{AllocError, Global};
 use std::io::Write;
 use std::net::{IpAddr, SocketAddr};
@@ -53,12 +53,12 @@ impl Clients {
         false
     }
 
-    /// Takes in those who wait, where the service has a place for them; those at `writers` may write.
+    /// Takes in those who wait, where the service has a place for them; `writers` may write.
     pub(crate) fn take_in<W: Write>(
         &mut self,
         registry: &Registry,
         door: &mut Door,
-        writers: &[IpAddr],
+        writers: &[Writer],
         service: &mut Service,
         journal: &mut Journal<'_, W>,
     ) {
@@ -75,7 +75,7 @@ impl Clients {
         registry: &Registry,
         stream: TcpStream,
         address: SocketAddr,
-        writers: &[IpAddr],
+        writers: &[Writer],
         service: &mut Service,
         journal: &mut Journal<'_, W>,
     ) {
@@ -171,7 +171,7 @@ impl Clients {
 
 /// The place of a client that came from an address; none where the service has no place for it. It may write exactly where the
 /// address is that of one who may.
-fn admitted(service: &mut Service, writers: &[IpAddr], address: IpAddr, now: u64) -> Option<usize>
+fn admitted(service: &mut Service, writers: &[Writer], address: IpAddr, now: u64) -> Option<usize>
     ensures { IfSome result (HasRight writers.now address service.new.places.items) }
 {
     service.client_came(may_write(writers, address), now)

@@ -1,7 +1,8 @@
 //! What a service is to do, and how it ends.
+use service_texts::Writer;
 use std::io;
 use std::io::ErrorKind;
-use std::net::{IpAddr, SocketAddr};
+use std::net::SocketAddr;
 
 /// What a service is to do.
 #[derive(Clone, Copy)]
@@ -10,8 +11,8 @@ pub struct Serving<'a> {
     pub listen: SocketAddr,
     /// The most clients at once.
     pub clients: usize,
-    /// The addresses of the clients that may write.
-    pub writers: &'a [IpAddr],
+    /// The clients that may write.
+    pub writers: &'a [Writer],
     /// How many scans; none for ever.
     pub scans: Option<u64>,
     /// Whether each scan has its line.

@@ -1,5 +1,5 @@
 //! The file of set values, over the time of a service.
-ghost use Rattle.std.specs.Prelude.{◌≡◌, length, IfOk};
+ghost use Rattle.std.specs.Prelude.{◌≡◌, length, IfOk, IsTrue};
 
 use crate::replacing::replace_for_good;
 use gateway::{Core, DEPTH};
@@ -43,14 +43,16 @@ impl<'a> StateFile<'a> {
         self.is_due = self.writes.has_failed();
     }
 
-    /// Writes the file, where something was set since, or it is to be tried once more. Gives the word by which it is told
-    /// that it can't be written, or can again.
+    /// Writes the file, where something was set since, or it is to be tried once more: from then on what is set is what was
+    /// tried to be written. Gives the word by which it is told that it can't be written, or can again.
     pub(crate) fn keep<R: Files>(
         &mut self,
         rt: &R,
         alloc: Global,
         core: &Core<DEPTH>,
-    ) -> Option<&'static str> {
+    ) -> Option<&'static str>
+        ensures { length self.old.tried.items ≡ length core.now.standing.sets → self.new.tried.items ≡ core.now.standing.sets }
+    {
         if !self.is_due && self.is_as_tried(core.settings()) {
             return None;
         }
@@ -60,7 +62,9 @@ impl<'a> StateFile<'a> {
         self.writes.note(is_written)
     }
 
-    fn is_as_tried(&self, settings: &[Option<i64>]) -> bool {
+    fn is_as_tried(&self, settings: &[Option<i64>]) -> bool
+        ensures { IsTrue result → self.now.tried.items ≡ settings.now }
+    {
         self.tried.as_slice() == settings
     }
 

@@ -4,8 +4,8 @@ use crate::page::Page;
 use crate::sites::site;
 use crate::texts::Texts;
 use service_texts::{
-    AddressFault, Addresses, has_port, limits, may_write, read_places, setting_in, state_text,
-    tag_named,
+    AddressFault, Addresses, WriterFault, has_port, limits, may_write, read_places, setting_in,
+    state_text, tag_named, writers_of,
 };
 use std::alloc::Global;
 use std::net::IpAddr;
@@ -26,7 +26,7 @@ pub(crate) enum TextStep<'a> {
     Places(&'a str),
     /// Where they are behind one address.
     Behind(&'a str, &'a str),
-    /// Whether a client at the first address may write, where those at the others may.
+    /// Whether a client at an address may write, where these words say who may.
     MayWrite(&'a str, &'a [&'a str]),
     /// How long an answer is waited for, by a period and the longest time.
     Timeout(u64, u64),
@@ -130,14 +130,11 @@ fn tell_addresses(page: &mut Page, found: &Addresses) -> io::Result<()> {
     Ok(())
 }
 
-fn tell_writer(alloc: Global, page: &mut Page, address: &str, writers: &[&str]) -> io::Result<()> {
-    let mut addresses = Vec::new(alloc);
-    for writer in writers {
-        addresses.push(address_of(*writer)?)?;
+fn tell_writer(alloc: Global, page: &mut Page, address: &str, words: &[&str]) -> io::Result<()> {
+    let address = needed(address.parse::<IpAddr>().ok())?;
+    match writers_of(alloc, words) {
+        Ok(writers) => page.tell(may_write(writers.as_slice(), address)),
+        Err(WriterFault::NoAddress) => page.tell("no address"),
+        Err(WriterFault::OutOfMemory) => page.tell("no memory"),
     }
-    page.tell(may_write(&addresses, address_of(address)?))
-}
-
-fn address_of(word: &str) -> io::Result<IpAddr> {
-    needed(word.parse::<IpAddr>().ok())
 }

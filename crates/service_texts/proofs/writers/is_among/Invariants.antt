@@ -1,6 +1,7 @@
-use Rattle.std.proofs.Common.{◌≢◌, All, drop}
+use Rattle.std.proofs.Common.{◌↔◌, drop}
+use Rattle.service_texts.specs.Writers.{SomeAdmits}
 use Rattle.service_texts.proofs.writers.is_among.Given as goal
 
--- where none of the rest is the address, none is
-abbrev pub invariant-loop-known : goal.invariant-loop-known
-invariant-loop-known l = All (λ known. known ≢ l.address) (drop l.known-index l.writers) → All (λ known. known ≢ l.address) l.writers
+-- some of all admits it exactly where some of the rest does
+abbrev pub invariant-loop-writer : goal.invariant-loop-writer
+invariant-loop-writer l = SomeAdmits (drop l.writer-index l.writers) l.address ↔ SomeAdmits l.writers l.address
