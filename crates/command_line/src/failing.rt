@@ -3,7 +3,9 @@ ghost use Rattle.command_line.specs.Printing.{Fails};
 
 use commands::{FAILED_LINK, tell_no_memory, tell_unlinked, tell_unusable, write_lines};
 use modbus_frame::LinkFault;
-use refusal_notes::{Cause, FileFault, Notes, escaped, explain_unusable};
+use refusal_notes::{
+    Cause, FileFault, ListenFault, Notes, escaped, explain_unserved, explain_unusable,
+};
 use std::alloc::{AllocError, Global};
 use std::io;
 use std::io::{ErrorKind, Write};
@@ -76,31 +78,54 @@ pub(crate) fn tell_lost<R: Eprint + AllocGlobal, W: Write>(
     status
 }
 
-/// Tells that nothing can be served at an address, and gives the status.
-pub(crate) fn tell_unserved<W: Write>(
+/// Tells that nothing can be served at an address, explains it, and gives the status.
+pub(crate) fn tell_unserved<R: Eprint + AllocGlobal, W: Write>(
+    rt: &R,
     alloc: Global,
+    notes: &Notes<'_>,
     address: SocketAddr,
     kind: ErrorKind,
     out: &mut W,
 ) -> u8
     ensures { Fails (W.contents out.old) (W.contents out.new) result }
 {
-    match unserved_line(alloc, address, cause_word(kind)) {
-        Ok(line) => write_lines(out, line.as_bytes(), FAILED_LINK),
+    let fault = listen_fault(kind);
+    match unserved_line(alloc, address, fault.word()) {
+        Ok(line) => {
+            let status = write_lines(out, line.as_bytes(), FAILED_LINK);
+            explain_address(rt, alloc, notes, address, fault);
+            status
+        }
         Err(AllocError) => tell_no_memory(out),
     }
 }
 
-fn cause_word(kind: ErrorKind) -> &'static str {
+fn listen_fault(kind: ErrorKind) -> ListenFault {
     match kind {
-        ErrorKind::AddrInUse => "InUse",
-        ErrorKind::AddrNotAvailable => "NotAvailable",
-        ErrorKind::PermissionDenied => "Denied",
-        _ => "Failed",
+        ErrorKind::AddrInUse => ListenFault::InUse,
+        ErrorKind::AddrNotAvailable => ListenFault::NotAvailable,
+        ErrorKind::PermissionDenied => ListenFault::Denied,
+        _ => ListenFault::Failed,
     }
 }
 
 fn unserved_line(alloc: Global, address: SocketAddr, why: &str) -> Result<String, AllocError> {
     let text = format!(in alloc; "refused: listen {address} {why}\n")?;
     Ok(text)
+}
+
+/// Prints why nothing can be served at an address.
+fn explain_address<R: Eprint + AllocGlobal>(
+    rt: &R,
+    alloc: Global,
+    notes: &Notes<'_>,
+    address: SocketAddr,
+    fault: ListenFault,
+) {
+    if notes.quiet {
+        return;
+    }
+    if let Ok(address) = format!(in alloc; "{address}") {
+        explain_unserved(rt, address.as_str(), fault);
+    }
 }

@@ -39,8 +39,10 @@ pub fn simulate<R: Net + Eprint + AllocGlobal, W: Write>(
 {
     match plant_told(alloc, notes.plant, notes.defs, out) {
         Ok(mut plant) => match at.connections {
-            Some(connections) => serve_many(rt, alloc, &mut plant, at.port, connections, out),
-            None => serve_first(rt, alloc, &mut plant, at.port, out),
+            Some(connections) => {
+                serve_many(rt, alloc, notes, &mut plant, at.port, connections, out)
+            }
+            None => serve_first(rt, alloc, notes, &mut plant, at.port, out),
         },
         Err(refused) => {
             notes.explain(rt, &refused.cause);
@@ -50,9 +52,10 @@ pub fn simulate<R: Net + Eprint + AllocGlobal, W: Write>(
 }
 
 /// Serves the plant to so many connections, once its port is printed.
-fn serve_many<R: Net, W: Write>(
+fn serve_many<R: Net + Eprint + AllocGlobal, W: Write>(
     rt: &R,
     alloc: Global,
+    notes: &Notes<'_>,
     plant: &mut Plant,
     port: u16,
     connections: u64,
@@ -62,7 +65,7 @@ fn serve_many<R: Net, W: Write>(
 {
     match PlantDoor::open(rt, alloc, loopback(port), connections) {
         Ok(mut door) => serve_at_door(alloc, &mut door, plant, out),
-        Err(fault) => tell_unserved(alloc, loopback(port), fault.kind(), out),
+        Err(fault) => tell_unserved(rt, alloc, notes, loopback(port), fault.kind(), out),
     }
 }
 
@@ -88,9 +91,10 @@ fn serve_at_door<W: Write>(
 }
 
 /// Serves the plant on a port, for one connection to its end.
-fn serve_first<R: Net, W: Write>(
+fn serve_first<R: Net + Eprint + AllocGlobal, W: Write>(
     rt: &R,
     alloc: Global,
+    notes: &Notes<'_>,
     plant: &mut Plant,
     port: u16,
     out: &mut W,
@@ -99,7 +103,9 @@ fn serve_first<R: Net, W: Write>(
 {
     match TcpListener::bind(rt, loopback(port)) {
         Ok(listener) => serve_listener(alloc, &listener, plant, out),
-        Err(fault) if port > 0 => tell_unserved(alloc, loopback(port), fault.kind(), out),
+        Err(fault) if port > 0 => {
+            tell_unserved(rt, alloc, notes, loopback(port), fault.kind(), out)
+        }
         Err(_) => tell_unlinked(alloc, LinkFault::Read, out),
     }
 }

@@ -165,7 +165,9 @@ fn serve_over<R: Net + Clock + Eprint + AllocGlobal + Files, W: Write>(
         Ok(()) => 0,
         Err(End::OutOfMemory) => tell_no_memory(out),
         Err(End::System) => tell_lost(rt, alloc, &run.notes, LinkFault::Read, out),
-        Err(End::Listen(kind)) => tell_unserved(alloc, run.serving.listen, kind, out),
+        Err(End::Listen(kind)) => {
+            tell_unserved(rt, alloc, &run.notes, run.serving.listen, kind, out)
+        },
     }
 }
 

@@ -66,6 +66,8 @@ pub enum Rule<'a> {
     Over(&'static str, i64),
     /// A number under that at another key.
     Under(&'static str, i64),
+    /// The name of no point of the model with this number.
+    NoPointOf(i64),
     /// A list of more than so many entries.
     Longer(usize),
     /// What another entry has already: the words before that one's name.

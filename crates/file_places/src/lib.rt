@@ -7,6 +7,7 @@ mod finding;
 mod looking;
 mod place;
 mod plant;
+mod points;
 mod site;
 mod wording;
 

@@ -89,6 +89,7 @@ pub(crate) fn rule_shown(alloc: Global, rule: Rule<'_>) -> Result<String, AllocE
         ),
         Rule::Over(key, number) => format!(in alloc; "is over {key} = {number}"),
         Rule::Under(key, number) => format!(in alloc; "is under {key} = {number}"),
+        Rule::NoPointOf(model) => format!(in alloc; "is no point of model {model}"),
         Rule::Longer(most) => format!(in alloc; "has more than {most} entries"),
         Rule::Repeats(words, entry) => repeating(alloc, words, entry),
     }

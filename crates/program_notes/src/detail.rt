@@ -32,7 +32,7 @@ pub fn detail_of(
     match refusal.at {
         RefusedAt::Instruction(number) => Ok(Detail {
             line: instruction_line(alloc, program, number),
-            text: instruction_text(alloc, image, site, number, refusal.kind)?,
+            text: instruction_text(alloc, program, image, site, number, refusal.kind)?,
         }),
         RefusedAt::Tag(number) => tag_detail(alloc, program, image, site, number, refusal.kind),
         RefusedAt::Program => budget_detail(alloc, program, image, site, refusal.kind),

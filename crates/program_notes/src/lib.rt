@@ -9,6 +9,7 @@ mod detail;
 mod items;
 mod line_index;
 mod longest;
+mod meeting;
 mod mending;
 mod refusing;
 mod stacking;
@@ -19,7 +20,7 @@ mod words;
 
 pub use code_lines::{address_of, declared_line, line_inside, name_in, number_at, tag_name};
 pub use detail::{Detail, detail_of};
-pub use mending::Mend;
+pub use mending::{Mend, MendPlace, Way};
 pub use program_rows::{Row, instruction_line, rows_of};
 pub use refusing::{is_divided_by_zero, mend_of};
 pub use table::{Beside, table_of};

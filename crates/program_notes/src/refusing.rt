@@ -1,6 +1,7 @@
 //! Why an instruction is refused, by what is known before it.
 ghost use Rattle.std.specs.Prelude.{◌<◌, length};
 
+use crate::meeting::missing_text;
 use crate::mending::{Mend, mended_by};
 use crate::stacking::{clash_text, stack_text};
 use crate::typing::type_text;
@@ -10,7 +11,9 @@ use facts::context::Context;
 use facts::fact::Fact;
 use facts::span::Span;
 use facts::{Refusal, RefusalKind};
-use point_types::{IlType, Name, Operator};
+use il_reader::Program;
+use point_types::{IlType, Items, Name, Operator};
+use program_rows::{Row, rows_of};
 use scan_code::{Image, Op};
 use site_model::Site;
 use std::alloc::{AllocError, Global};
@@ -23,15 +26,33 @@ pub(crate) const MOST_DEFERRED: usize = 32;
 /// Why an instruction is refused; empty where nothing is known.
 pub(crate) fn instruction_text(
     alloc: Global,
+    program: &Program,
     image: &Image,
     site: &Site,
     number: usize,
     kind: RefusalKind,
 ) -> Result<String, AllocError> {
     match framed(alloc, image, site, MOST_DEFERRED) {
+        Ok(context) if kind == RefusalKind::NoResult => {
+            missing_in(alloc, program, image, &context, number)
+        }
         Ok(context) => text_in(alloc, image, &context, number, kind),
         Err(other) => nothing_told(alloc, other),
     }
+}
+
+/// Why there is no result at an instruction.
+fn missing_in(
+    alloc: Global,
+    program: &Program,
+    image: &Image,
+    context: &Context,
+    number: usize,
+) -> Result<String, AllocError>
+    requires { length context.now.listing < 65536 }
+{
+    let rows: Items<Row> = rows_of(alloc, program, context)?;
+    missing_text(alloc, image, context, rows.as_slice(), number)
 }
 
 /// Nothing, where it isn't memory that was refused.
@@ -84,7 +105,6 @@ fn fact_text(
         }
         RefusalKind::StoreRange => store_text(alloc, image, context, fact, op),
         RefusalKind::WrongType => type_text(alloc, image, before, fact, op),
-        RefusalKind::NoResult => String::from_str(alloc, missing_words(before)),
         RefusalKind::Stack => stack_text(alloc, fact, op),
         _ => Ok(String::new(alloc)),
     }
@@ -112,23 +132,6 @@ fn is_behind_repeated(instructions: &[(usize, Op)], number: usize) -> bool {
         }
     }
     false
-}
-
-/// Why there is no result, by the instructions before.
-fn missing_words(before: &[(usize, Op)]) -> &'static str {
-    for (_, op) in before {
-        match op {
-            Op::LoadVariable(_)
-            | Op::LoadInput(_)
-            | Op::LoadPresence(_)
-            | Op::LoadBool(_)
-            | Op::LoadNumber(_, _) => {
-                return "a way to here loads nothing, or brings a result of another type";
-            }
-            _ => {}
-        }
-    }
-    "nothing was loaded before"
 }
 
 /// What mends the types at an instruction that is refused for them; None where they aren't known.

@@ -1,5 +1,6 @@
 //! Which types don't agree at an instruction.
 use crate::code_lines::name_in;
+use crate::meeting::brought;
 use crate::refusing::operands;
 use crate::words::type_word;
 use facts::abstract_value::AbstractValue;
@@ -89,7 +90,12 @@ fn applied(
         return alike(alloc, result.kind);
     }
     let (one, other) = loads_before(before);
-    let one = subject(alloc, image, one, "the result before")?;
+    let one = subject(
+        alloc,
+        image,
+        of_kind(image, one, deferred.kind),
+        "the result before",
+    )?;
     let other = subject(alloc, image, other, "the operand")?;
     let mut text = typed(alloc, one.as_str(), deferred.kind)?;
     let second = typed(alloc, other.as_str(), result.kind)?;
@@ -113,6 +119,16 @@ fn loads_before(before: &[(usize, Op)]) -> (Option<Op>, Option<Op>) {
     match before {
         [.., (_, one), (_, Op::Push), (_, other)] => (Some(*one), Some(*other)),
         _ => (None, None),
+    }
+}
+
+/// The load that stands before, where what it loads has this type: on another way to here it may be another one.
+fn of_kind(image: &Image, load: Option<Op>, kind: IlType) -> Option<Op> {
+    let load = load?;
+    if brought(image, load, None) == Some(kind) {
+        Some(load)
+    } else {
+        None
     }
 }
 

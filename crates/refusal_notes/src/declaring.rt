@@ -3,7 +3,7 @@ use crate::kinds::{kind_of, no_end, no_start, no_type};
 use crate::met::{Met, line_of};
 use crate::mistakes::mistake_met;
 use crate::pieces::{Piece, has};
-use crate::reserved::{is_operator, reserved};
+use crate::reserved::{is_one_of, is_operator, reserved};
 use crate::told::{Hint, Told};
 use point_types::IlType;
 use source_notes::rank;
@@ -31,12 +31,17 @@ const NO_END_VAR: Hint = Hint {
 
 const NO_QUALIFIER: Hint = Hint {
     meaning: "VAR has no such word behind it",
-    help: "leave it out: variables keep their values from scan to scan, and begin anew with each start; what clients set is kept with serve --state",
+    help: "leave it out: variables keep their values between scans anyway, and begin anew with each start; what clients set is kept with serve --state",
 };
 
 const NO_CONSTANT: Hint = Hint {
     meaning: "there are no constants",
-    help: "write the number itself where it is used; or leave CONSTANT out: a variable that nothing stores keeps its start value",
+    help: "leave CONSTANT out, and declare a variable whose range is that one number, as most : INT (50..50); or write the number itself where it is used",
+};
+
+const NO_WORD_OF_EXTERNALS: Hint = Hint {
+    meaning: "VAR_EXTERNAL has no such word behind it",
+    help: "leave it out: the site file says what a tag holds, and what clients set is kept with serve --state",
 };
 
 const ONE_WORD: Hint = Hint {
@@ -114,8 +119,8 @@ fn no_colon(
     let Some(first) = declaration.first() else {
         return Ok(Told::new(alloc, NO_COLON));
     };
-    if let Some(hint) = hint_on_qualifier(*first) {
-        return Ok(Told::on(alloc, *first, hint));
+    if let Some(hint) = hint_on_qualifier(met, *first) {
+        return on_qualifier(alloc, met, *first, hint);
     }
     if declaration.len() == 1 && is_like_end(met, *first) {
         let mut told = Told::new(alloc, NO_END_VAR).knowing("did you mean END_VAR?")?;
@@ -125,20 +130,38 @@ fn no_colon(
     Ok(Told::new(alloc, NO_COLON))
 }
 
-/// The hint on a word behind VAR.
-fn hint_on_qualifier(word: Piece<'_>) -> Option<Hint> {
+/// What is told of a word behind VAR: on it, where it stands on the line at fault, and else there.
+fn on_qualifier(
+    alloc: Global,
+    met: &Met<'_, '_>,
+    word: Piece<'_>,
+    hint: Hint,
+) -> Result<Told, AllocError> {
+    let line = line_of(met.code, word.at);
+    if line == line_of(met.code, met.at) {
+        return Ok(Told::on(alloc, word, hint));
+    }
+    let qualifier = word.text;
+    let text = format!(in alloc; "behind {qualifier} of line {line}")?;
+    Told::new(alloc, hint).knowing(text.as_str())
+}
+
+/// The hint on a word behind VAR or VAR_EXTERNAL.
+fn hint_on_qualifier(met: &Met<'_, '_>, word: Piece<'_>) -> Option<Hint> {
     if word.is("EXTERNAL") {
         return Some(ONE_WORD);
     }
-    if word.is("CONSTANT") {
-        return Some(NO_CONSTANT);
+    let is_constant = word.is("CONSTANT");
+    if !is_constant && !is_one_of(&["RETAIN", "NON_RETAIN", "PERSISTENT"], word.text) {
+        return None;
     }
-    for qualifier in ["RETAIN", "NON_RETAIN", "PERSISTENT"] {
-        if word.is(qualifier) {
-            return Some(NO_QUALIFIER);
-        }
+    if is_external(met) {
+        Some(NO_WORD_OF_EXTERNALS)
+    } else if is_constant {
+        Some(NO_CONSTANT)
+    } else {
+        Some(NO_QUALIFIER)
     }
-    None
 }
 
 /// Whether a word that stands alone on its line may be meant as END_VAR.

@@ -89,7 +89,10 @@ fn put_place(alloc: Global, cause: &mut Cause, text: &str, place: Option<FilePla
             if rule.as_str() == "is missing" {
                 put_needs(cause, entry.as_str(), needs);
             }
-            put_advice(cause, *key, advice)
+            put_advice(cause, *key, advice);
+            if rule.as_str() == "is no list of tables" {
+                put_section(alloc, cause, text, *key);
+            }
         }
     }
 }
@@ -131,28 +134,64 @@ fn put_brackets(text: &str, cause: &mut Cause) {
         return;
     };
     for (section, single, double) in LISTS {
-        if line == *single || (line == *double && has_line(text, single)) {
-            cause.meaning = "the entries of a list stand in one pair of brackets";
-            cause.help = "begin each entry with [[{}]], in two pairs of brackets";
-            let _ = cause.name.push_str(section);
-            return;
+        if line == *single || line == *double {
+            put_single(cause, text, section, single);
         }
     }
 }
 
-/// What stands on a line of a text, counted from 1.
+/// Puts the same where a key has a table in place of a list, because of one pair of brackets.
+fn put_section(alloc: Global, cause: &mut Cause, text: &str, key: &str) {
+    for (section, single, _) in LISTS {
+        if ends_with_key(section, key) && put_single(cause, text, section, single) {
+            cause.detail = String::new(alloc);
+        }
+    }
+}
+
+/// Whether a section is a key of the file, or one of its entries.
+fn ends_with_key(section: &str, key: &str) -> bool {
+    match section.strip_suffix(key) {
+        Some(before) => before.is_empty() || before.ends_with("."),
+        None => false,
+    }
+}
+
+/// Puts the first line that has a section in one pair of brackets, and what to do; whether there is one.
+fn put_single(cause: &mut Cause, text: &str, section: &str, single: &str) -> bool {
+    let Some(line) = line_with(text, single) else {
+        return false;
+    };
+    cause.line = line;
+    cause.mark = Mark::Line;
+    cause.meaning = "the entries of a list stand in one pair of brackets";
+    cause.help = "begin each entry with [[{}]], in two pairs of brackets";
+    cause.name.clear();
+    let _ = cause.name.push_str(section);
+    true
+}
+
+/// What stands on a line of a text, counted from 1, before a comment.
 fn line_of(text: &str, number: u32) -> Option<&str> {
     let before = number.checked_sub(1)?;
-    Some(text.lines().nth(before as usize)?.trim())
+    Some(before_comment(text.lines().nth(before as usize)?))
 }
 
-fn has_line(text: &str, wanted: &str) -> bool {
-    for line in text.lines() {
-        if line.trim() == wanted {
-            return true;
+fn before_comment(line: &str) -> &str {
+    match line.split_once("#") {
+        Some((before, _)) => before.trim(),
+        None => line.trim(),
+    }
+}
+
+/// The number of the first line on which this alone stands, counted from 1.
+fn line_with(text: &str, wanted: &str) -> Option<u32> {
+    for (before, line) in text.lines().enumerate() {
+        if before_comment(line) == wanted {
+            return u32::try_from(before.saturating_add(1)).ok();
         }
     }
-    false
+    None
 }
 
 /// Puts what is known of an entry in place of the words of the fault.

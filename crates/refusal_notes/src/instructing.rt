@@ -8,14 +8,27 @@ use crate::reserved::{
 use crate::told::{Hint, Told};
 use std::alloc::{AllocError, Global};
 
+/// The jumps.
+static JUMPS: [&str; 3] = ["JMP", "JMPC", "JMPCN"];
+
 const NO_CONVERSION: Hint = Hint {
     meaning: "there is no conversion {}",
-    help: "conversions lead from one type of whole numbers to another, as INT_TO_DINT; a number for a BOOL is chosen by SEL, as LD b / SEL 0, 1",
+    help: "conversions lead from one type of whole numbers to another, as INT_TO_DINT; a number for a BOOL is chosen by SEL, as LD b / SEL INT#0, INT#1",
 };
 
 const NO_LABEL_COLON: Hint = Hint {
     meaning: "no operator stands where one must",
     help: "write a colon behind {} where it is a label; else begin the line with an operator, as LD",
+};
+
+const LABEL_ENDS: Hint = Hint {
+    meaning: "the label {} has no colon",
+    help: "a label ends with a colon: write {}: in front of an instruction, or on a line of its own",
+};
+
+const NAME_BEFORE: Hint = Hint {
+    meaning: "{} stands in front of an operator, and is none",
+    help: "write a colon behind {} where it is a label; else take it away",
 };
 
 const NO_JUMP: Hint = Hint {
@@ -109,6 +122,12 @@ pub(crate) fn no_operator(alloc: Global, met: &Met<'_, '_>) -> Result<Told, Allo
     if let Some(hint) = hint_before(met) {
         return Ok(Told::new(alloc, hint));
     }
+    if let Some(told) = name_before(alloc, met)? {
+        return Ok(told);
+    }
+    if let Some(told) = label_without_colon(alloc, met)? {
+        return Ok(told);
+    }
     if let Some(hint) = mistake_met(met) {
         return Told::named(alloc, word, hint);
     }
@@ -125,6 +144,71 @@ pub(crate) fn no_operator(alloc: Global, met: &Met<'_, '_>) -> Result<Told, Allo
     };
     let question = operator_meant(alloc, word)?;
     Told::named(alloc, word, hint)?.knowing(question.as_str())
+}
+
+/// What is told of a name before an operator, from which a comment over several lines parts it; none of other words.
+fn name_before(alloc: Global, met: &Met<'_, '_>) -> Result<Option<Told>, AllocError> {
+    let Some(name) = met.last() else {
+        return Ok(None);
+    };
+    if !is_operator(met.text()) || !name.is_word() {
+        return Ok(None);
+    }
+    let hint = match jump_to(met, name.text) {
+        Some(_) => LABEL_ENDS,
+        None => NAME_BEFORE,
+    };
+    let (word, line) = (name.text, line_of(met.code, name.at));
+    let text = format!(in alloc;
+        "{word} stands in line {line}, and a comment joins the two lines"
+    )?;
+    let told = Told::named(alloc, word, hint)?;
+    Ok(Some(told.knowing(text.as_str())?))
+}
+
+/// What is told of a label without its colon, which a jump names; none of another word.
+fn label_without_colon(alloc: Global, met: &Met<'_, '_>) -> Result<Option<Told>, AllocError> {
+    if !is_like_label(met) {
+        return Ok(None);
+    }
+    let Some(jump) = jump_to(met, met.text()) else {
+        return Ok(None);
+    };
+    let line = line_of(met.code, jump.at);
+    let text = format!(in alloc; "the jump of line {line} names it")?;
+    let told = Told::named(alloc, met.text(), LABEL_ENDS)?;
+    Ok(Some(told.knowing(text.as_str())?))
+}
+
+/// Whether a word is met that stands alone on its line, or before an instruction.
+fn is_like_label(met: &Met<'_, '_>) -> bool {
+    let next = met.next();
+    let is_word = match met.piece() {
+        Some(piece) => piece.is_word(),
+        None => false,
+    };
+    is_word && (next == "\n" || next.is_empty() || next == "{" || is_operator(next))
+}
+
+/// The jump of the program that names a label.
+fn jump_to<'a>(met: &Met<'_, 'a>, label: &str) -> Option<Piece<'a>> {
+    match jump_in(met.before, label) {
+        Some(jump) => Some(jump),
+        None => jump_in(met.rest, label),
+    }
+}
+
+fn jump_in<'a>(pieces: &[Piece<'a>], label: &str) -> Option<Piece<'a>> {
+    let mut last: Option<Piece<'a>> = None;
+    for piece in pieces {
+        if let Some(jump) = last {
+            if piece.is(label) && is_one_of(&JUMPS, jump.text) {
+                return Some(jump);
+            }
+        }
+        last = Some(*piece);
+    }
+    None
 }
 
 /// The hint on what stands behind a count, or on a label behind another one.
@@ -204,7 +288,7 @@ fn hint_on_operands(met: &Met<'_, '_>, operator: &str, operands: &[Piece<'_>]) -
         NO_PARENTHESIS
     } else if met.is(")") {
         OWN_LINE
-    } else if met.is(":") && is_one_of(&["JMP", "JMPC", "JMPCN"], operator) {
+    } else if met.is(":") && is_one_of(&JUMPS, operator) {
         LABEL_COLON
     } else if takes_two && operands.len() < 3 {
         NO_SECOND

@@ -3,6 +3,7 @@ use crate::met::Met;
 use crate::pieces::{Piece, behind_first};
 use crate::reserved::{is_one_of, type_meant, type_named};
 use crate::told::{Hint, Told};
+use crate::wording::NO_TIME;
 use il_assemble::first_misfit;
 use il_reader::Program;
 use point_types::IlType;
@@ -19,11 +20,16 @@ static OTHER_TYPES: [(&[&str], Hint); 8] = [
         },
     ),
     (
-        &["TIME", "DATE", "TIME_OF_DAY", "TOD", "DATE_AND_TIME", "DT"],
-        Hint {
-            meaning: "there are no times",
-            help: "count scans, or read a clock of the site, in a type of whole numbers, as UDINT",
-        },
+        &[
+            "TIME",
+            "LTIME",
+            "DATE",
+            "TIME_OF_DAY",
+            "TOD",
+            "DATE_AND_TIME",
+            "DT",
+        ],
+        NO_TIME,
     ),
     (
         &["BYTE", "WORD", "DWORD", "LWORD", "ULINT", "UINT64"],

@@ -204,7 +204,7 @@ static OPERATORS: [Mistake; 18] = [
         signs: &["MUX"],
         hint: Hint {
             meaning: "{} is no operator",
-            help: "choose between two by SEL, as LD b / SEL 0, 1; between more by one SEL behind the other",
+            help: "choose between two by SEL, as LD b / SEL INT#0, INT#1; between more by one SEL behind the other",
         },
     },
     Mistake {

@@ -1,6 +1,7 @@
 //! What is printed on standard error of a refusal.
 use crate::cause::{Cause, NotedFile};
 use crate::file_fault::FileFault;
+use crate::listen_fault::ListenFault;
 use crate::unread_keys::{KeyedFile, unread_warnings};
 use source_notes::{Mark, Note};
 use std::alloc::{AllocError, Global};
@@ -108,6 +109,25 @@ pub fn explain_unusable(rt: &(impl Eprint + AllocGlobal), path: &str, fault: Fil
         help: fault.help(),
         name: "",
         detail: detail.as_str(),
+    };
+    print(rt, &note);
+}
+
+/// Prints why nothing can be served at an address.
+pub fn explain_unserved(rt: &(impl Eprint + AllocGlobal), address: &str, fault: ListenFault) {
+    let Ok(path) = format!(in rt.alloc(); "listen {address}") else {
+        return;
+    };
+    let note = Note {
+        path: path.as_str(),
+        text: "",
+        line: 0,
+        mark: Mark::Line,
+        kind: fault.word(),
+        meaning: fault.meaning(),
+        help: fault.help(),
+        name: "",
+        detail: "",
     };
     print(rt, &note);
 }

@@ -22,6 +22,16 @@ const TOO_LOW: Hint = Hint {
     help: "write a number within the type",
 };
 
+const DECIMAL_TURNS: Hint = Hint {
+    meaning: "the turns of a counted jump stand in decimal",
+    help: "write a number from 1 to 255 in decimal, as {LOOP 10}, without a type and without a base",
+};
+
+const SIGNED_BASE: Hint = Hint {
+    meaning: "only a decimal has a sign",
+    help: "write the number in decimal, as -26 in place of -16#1A",
+};
+
 const NO_DIGITS: Hint = Hint {
     meaning: "what begins with a digit is a number, and this is none",
     help: "write all its digits, as 1000, or digits of the base behind 16#, 8# or 2#; a name begins with a letter",
@@ -39,6 +49,7 @@ struct Number<'a> {
     kind: IlType,
     /// Whether a type stands in front of it.
     is_typed: bool,
+    has_sign: bool,
     is_negative: bool,
     /// What stands behind the type and the sign.
     digits: &'a str,
@@ -52,22 +63,34 @@ pub(crate) fn no_number(alloc: Global, met: &Met<'_, '_>) -> Result<Option<Told>
         return Ok(None);
     };
     if has(met.line(), "{") {
-        return Ok(Some(Told::on(alloc, piece, TURNS)));
+        let hint = if piece.text.contains("#") {
+            DECIMAL_TURNS
+        } else {
+            TURNS
+        };
+        return Ok(Some(Told::on(alloc, piece, hint)));
     }
     let number = number_met(piece, met.rest);
-    let mut told = if is_number(number.digits) {
-        let hint = if number.is_negative {
-            TOO_LOW
-        } else {
-            TOO_LARGE
-        };
-        let holds = holds(alloc, number.kind)?;
-        Told::new(alloc, hint).knowing(holds.as_str())?
-    } else {
-        Told::new(alloc, hint_on_digits(&number))
-    };
+    let mut told = told_of_number(alloc, &number)?;
     told.span = Some((piece.at, number.behind));
     Ok(Some(told))
+}
+
+/// What is told of a number, by its sign and its digits.
+fn told_of_number(alloc: Global, number: &Number<'_>) -> Result<Told, AllocError> {
+    if !is_number(number.digits) {
+        return Ok(Told::new(alloc, hint_on_digits(number)));
+    }
+    if number.has_sign && number.digits.contains("#") {
+        return Ok(Told::new(alloc, SIGNED_BASE));
+    }
+    let hint = if number.is_negative {
+        TOO_LOW
+    } else {
+        TOO_LARGE
+    };
+    let holds = holds(alloc, number.kind)?;
+    Told::new(alloc, hint).knowing(holds.as_str())
 }
 
 fn hint_on_digits(number: &Number<'_>) -> Hint {
@@ -104,6 +127,7 @@ fn number_of(piece: Piece<'_>) -> Number<'_> {
     Number {
         kind,
         is_typed: typed.is_some(),
+        has_sign: false,
         is_negative: false,
         digits,
         behind: piece.behind(),
@@ -113,6 +137,7 @@ fn number_of(piece: Piece<'_>) -> Number<'_> {
 /// The same with a sign and its digits.
 fn signed<'a>(number: Number<'a>, sign: Piece<'a>, digits: Piece<'a>) -> Number<'a> {
     Number {
+        has_sign: true,
         is_negative: sign.text == "-",
         digits: digits.text.trim(),
         behind: if digits.text == "\n" {

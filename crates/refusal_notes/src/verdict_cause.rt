@@ -1,11 +1,10 @@
 //! What is noted of a program that the verdict refuses.
 use crate::cause::Cause;
+use crate::mend_texts::{help_on, name_of};
 use crate::nearest::Nearest;
 use il_reader::Program;
 use point_types::Name;
-use program_notes::{
-    Mend, address_of, detail_of, is_divided_by_zero, mend_of, name_in, tag_name, type_word,
-};
+use program_notes::{address_of, detail_of, is_divided_by_zero, mend_of, name_in, tag_name};
 use scan_code::{Image, decode};
 use site_model::Site;
 use std::alloc::{AllocError, Global};
@@ -41,6 +40,9 @@ pub fn cause_of_refusal(alloc: Global, program: &Program, site: &Site, refused: 
             let _ = put_mend(alloc, &mut cause, site, refused);
         }
         RefusalKind::ZeroDivisor => put_divisor(alloc, &mut cause, site, refused),
+        RefusalKind::StoreRange => {
+            let _ = push_step(alloc, &mut cause, site, refused);
+        }
         _ => {}
     }
     cause
@@ -58,25 +60,6 @@ fn put_divisor(alloc: Global, cause: &mut Cause, site: &Site, refused: &Refused)
     }
 }
 
-/// The help on two types of which one is converted.
-const CONVERTED: &str = "convert by {}, or write the type of a literal, as INT#8";
-
-/// The help on a BOOL that is wanted of a number.
-const COMPARED: &str = "make a BOOL of the number by a comparison, as NE 0";
-
-/// The help on a number that is wanted of a BOOL.
-const CHOSEN: &str = "make a number of the BOOL by SEL, as SEL 0, 1";
-
-/// The help where either may be meant.
-const COMPARED_OR_CHOSEN: &str =
-    "make a BOOL of a number by a comparison, as NE 0, or choose a number by a BOOL with SEL, as SEL 0, 1";
-
-/// The help on a conversion of what has its type.
-const LEFT_AWAY: &str = "leave the conversion away: what it converts has that type";
-
-/// The help on S and R of a number.
-const STORED: &str = "store by ST: S and R set a BOOL";
-
 /// Appends the tag of the site that may be meant.
 fn push_tag_meant(alloc: Global, cause: &mut Cause, site: &Site) -> Result<(), AllocError> {
     let mut nearest = Nearest::to(alloc, cause.name.as_str());
@@ -89,6 +72,51 @@ fn push_tag_meant(alloc: Global, cause: &mut Cause, site: &Site) -> Result<(), A
         cause.detail.push_str(question.as_str())?;
     }
     Ok(())
+}
+
+/// Appends in which steps a tag counts that is stored, where that isn't in ones.
+fn push_step(
+    alloc: Global,
+    cause: &mut Cause,
+    site: &Site,
+    refused: &Refused,
+) -> Result<(), AllocError> {
+    let Some(exponent) = exponent_of(site, &refused.image, cause.name.as_str()) else {
+        return Ok(());
+    };
+    match step_word(exponent) {
+        Some(word) => cause.detail.push_str(word),
+        None => {
+            let text = format!(in alloc; " in steps of 10^{exponent}")?;
+            cause.detail.push_str(text.as_str())
+        }
+    }
+}
+
+/// The exponent of the site's tag of a name that the program has as a tag.
+fn exponent_of(site: &Site, image: &Image, name: &str) -> Option<i8> {
+    for tag in image.tags.as_slice() {
+        if tag.name.as_str() == name {
+            let number = site.tag(name)?;
+            let tag = site.tags().get(number)?;
+            return Some(tag.exponent);
+        }
+    }
+    None
+}
+
+/// In what a number of 10^exponent counts.
+fn step_word(exponent: i8) -> Option<&'static str> {
+    match exponent {
+        -3 => Some(" in thousandths"),
+        -2 => Some(" in hundredths"),
+        -1 => Some(" in tenths"),
+        0 => Some(""),
+        1 => Some(" in tens"),
+        2 => Some(" in hundreds"),
+        3 => Some(" in thousands"),
+        _ => None,
+    }
 }
 
 /// Puts in what mends two types that don't agree.
@@ -104,18 +132,8 @@ fn put_mend(
     let Some(mend) = mend_of(alloc, &refused.image, site, number) else {
         return Ok(());
     };
-    if let Mend::Convert(from, to) = mend {
-        let (from, to) = (type_word(from), type_word(to));
-        cause.name = format!(in alloc; "{from}_TO_{to}")?;
-    }
-    cause.help = match mend {
-        Mend::Convert(_, _) => CONVERTED,
-        Mend::LeaveAway => LEFT_AWAY,
-        Mend::Compare => COMPARED,
-        Mend::Choose => CHOSEN,
-        Mend::CompareOrChoose => COMPARED_OR_CHOSEN,
-        Mend::Store => STORED,
-    };
+    cause.name = name_of(alloc, mend.way)?;
+    cause.help = help_on(mend);
     Ok(())
 }
 

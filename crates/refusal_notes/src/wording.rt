@@ -2,7 +2,7 @@
 use crate::met::{Met, line_of};
 use crate::mistakes::mistake_met;
 use crate::pieces::{Piece, has};
-use crate::reserved::{is_operator, reserved};
+use crate::reserved::{is_one_of, is_operator, reserved};
 use crate::told::{Hint, Told};
 use source_notes::rank;
 use std::alloc::{AllocError, Global};
@@ -27,10 +27,24 @@ const COMPARED: Hint = Hint {
     help: "write EQ with what the result is compared with",
 };
 
-const NO_TIME: Hint = Hint {
-    meaning: "there are no times",
-    help: "count scans, or read a clock of the site, in a type of whole numbers, as UDINT",
+/// A time, by its literal or its type.
+pub(crate) const NO_TIME: Hint = Hint {
+    meaning: "there are no times: a program has no clock",
+    help: "count scans in a variable, as n : INT (0..500); with LD n / ADD 1 / MIN 500 / ST n, or load a tag whose point counts seconds; serve makes a scan each --every milliseconds",
 };
+
+/// What stands before the # of a time.
+static TIMES: [&str; 9] = [
+    "T",
+    "TIME",
+    "LTIME",
+    "D",
+    "DATE",
+    "TOD",
+    "TIME_OF_DAY",
+    "DT",
+    "DATE_AND_TIME",
+];
 
 const NO_SUCH_TYPE: Hint = Hint {
     meaning: "no type of whole numbers stands before the #",
@@ -138,8 +152,11 @@ fn hint_on_mark(met: &Met<'_, '_>) -> Option<Hint> {
 /// The hint on a word that is none.
 fn hint_on_word(word: &str) -> Option<Hint> {
     if let Some((front, _)) = word.split_once("#") {
-        let is_time = front.eq_ignore_ascii_case("T") || front.eq_ignore_ascii_case("TIME");
-        return Some(if is_time { NO_TIME } else { NO_SUCH_TYPE });
+        return Some(if is_one_of(&TIMES, front) {
+            NO_TIME
+        } else {
+            NO_SUCH_TYPE
+        });
     }
     if word.len() > 32 {
         Some(TOO_LONG)
@@ -194,7 +211,19 @@ pub(crate) fn no_frame(alloc: Global, met: &Met<'_, '_>) -> Result<Told, AllocEr
     }
 }
 
+/// The text ends with this word, its first one, without a name behind it.
+fn ends_unnamed(alloc: Global, word: Piece<'_>) -> Result<Told, AllocError> {
+    let mut told = Told::new(alloc, UNNAMED).knowing("the text ends here")?;
+    told.span = Some((word.behind(), word.behind().saturating_add(1)));
+    Ok(told)
+}
+
 fn not_begun(alloc: Global, met: &Met<'_, '_>) -> Result<Told, AllocError> {
+    if let Some(word) = met.piece() {
+        if word.is("PROGRAM") {
+            return ends_unnamed(alloc, word);
+        }
+    }
     let question = match rank("PROGRAM", met.text()) {
         Some(_) => "did you mean PROGRAM?",
         None => "",

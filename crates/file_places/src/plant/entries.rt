@@ -1,11 +1,12 @@
 //! What breaks a rule in the entry of a device's value, and of a fault.
 use crate::finding::{EntryName, Finding, KeyRule, Kind, Rule, stands_at};
 use crate::looking::{first_broken, first_outside, is_alike};
+use crate::points::no_point;
 use file_keys::{number_at, text_at};
 use inverter_sim::PlantFault;
 use inverter_sim::rules::{definition_of, numbers_of, own_key};
 use model_defs::{ModelDef, Point};
-use source_notes::{nearer, nearest_of};
+use source_notes::nearest_of;
 use toml::Value;
 
 static VALUE_KEYS: [KeyRule; 3] = [
@@ -41,10 +42,7 @@ pub(super) fn value_finding<'a>(
             "model",
             "is none of the device's models",
         )),
-        PlantFault::UnknownPoint => {
-            let finding = Finding::at(entry, "point", "is no point of its model");
-            Some(finding.meaning(nearest_point(entry, defs)))
-        }
+        PlantFault::UnknownPoint => Some(no_point(entry, model_at(entry, defs), defs)),
         PlantFault::BadRange => Some(unfit_raw(entry, defs)),
         PlantFault::Duplicate => Some(known_value(before, device, entry)),
         _ => None,
@@ -54,16 +52,6 @@ pub(super) fn value_finding<'a>(
 /// The definition of the model that an entry names.
 fn model_at<'a>(entry: &Value, defs: &'a [ModelDef]) -> Option<&'a ModelDef> {
     definition_of(defs, number_at(entry, "model")?)
-}
-
-/// The point of the entry's model whose name is nearest.
-fn nearest_point<'a>(entry: &Value, defs: &'a [ModelDef]) -> Option<&'a str> {
-    let written = text_at(entry, "point")?;
-    let mut found = None;
-    for point in model_at(entry, defs)?.points.as_slice() {
-        found = nearer(found, point.name.as_str(), written);
-    }
-    found.map(|near| near.name)
 }
 
 fn point_at<'a>(entry: &Value, defs: &'a [ModelDef]) -> Option<&'a Point> {

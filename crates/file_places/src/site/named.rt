@@ -1,4 +1,6 @@
 //! What an entry of a site file names, and which names it may have meant.
+use crate::finding::Finding;
+use crate::points::no_point;
 use file_keys::{number_at, section_at, text_at};
 use model_defs::{ModelDef, Point};
 use site_model::rules::{definition_of, point_for};
@@ -15,14 +17,9 @@ pub(super) fn point_at<'a>(entry: &Value, defs: &'a [ModelDef]) -> Option<&'a Po
     point_for(text_at(entry, "point")?, model_at(entry, defs)?)
 }
 
-/// The point of the entry's model whose name is nearest.
-pub(super) fn nearest_point<'a>(entry: &Value, defs: &'a [ModelDef]) -> Option<&'a str> {
-    let written = text_at(entry, "point")?;
-    let mut found = None;
-    for point in model_at(entry, defs)?.points.as_slice() {
-        found = nearer(found, point.name.as_str(), written);
-    }
-    found.map(|near| near.name)
+/// What is found where the entry's model has no point of the name that it says.
+pub(super) fn unknown_point<'a>(entry: &'a Value, defs: &'a [ModelDef]) -> Finding<'a> {
+    no_point(entry, model_at(entry, defs), defs)
 }
 
 /// The name of an entry of a section that is nearest to a written one.

@@ -1,5 +1,5 @@
 //! What breaks a rule in an entry of what is served.
-use super::named::{nearest_point, point_at};
+use super::named::{point_at, unknown_point};
 use super::tags::{access, is_of_device};
 use crate::finding::{EntryName, Finding, KeyRule, Kind, Rule, Stands, named_entry, stands_at};
 use crate::looking::{first_broken, is_alike};
@@ -32,10 +32,7 @@ pub(super) fn served_finding<'a>(
             "model",
             "is none of the gateway's models",
         )),
-        SiteFault::UnknownPoint => {
-            let finding = Finding::at(entry, "point", "is no point of its model");
-            Some(finding.meaning(nearest_point(entry, defs)))
-        }
+        SiteFault::UnknownPoint => Some(unknown_point(entry, defs)),
         SiteFault::BadRange => Some(unfit(entry, point_at(entry, defs))),
         SiteFault::BadType => Some(unlike_point(file, entry)),
         SiteFault::Duplicate => Some(known_point(file, before, entry)),

@@ -66,11 +66,19 @@ fn unlike_others(entry: &Value) -> Finding<'_> {
             "take the key away, or write access in and type BOOL",
         );
     }
-    if has(entry, "round") && !is_rounding(entry) {
+    if has(entry, "round") && !may_round(entry) {
         return Finding::advised(
             entry,
             "round",
-            "may be down, for tags in without a bit",
+            "is for tags in without a bit",
+            "take the key away: only what is read of a device is rounded",
+        );
+    }
+    if has(entry, "round") && text_at(entry, "round") != Some("down") {
+        return Finding::advised(
+            entry,
+            "round",
+            "isn't down",
             "write \"down\", or take the key away",
         );
     }
@@ -94,6 +102,6 @@ fn is_input(entry: &Value) -> bool {
     matches!(access(entry), Some(Access::Input))
 }
 
-fn is_rounding(entry: &Value) -> bool {
-    is_input(entry) && !has(entry, "bit") && text_at(entry, "round") == Some("down")
+fn may_round(entry: &Value) -> bool {
+    is_input(entry) && !has(entry, "bit")
 }

@@ -1,5 +1,5 @@
 //! What breaks a rule in the entry of a tag.
-use super::named::{nearest_entry, nearest_point, point_at};
+use super::named::{nearest_entry, point_at, unknown_point};
 use super::tag_words::bad_word;
 use crate::finding::{EntryName, Finding, KeyRule, Kind, Rule, Stands, named_entry, stands_at};
 use crate::looking::{first_alike, first_broken, first_outside, is_alike};
@@ -42,10 +42,7 @@ pub(super) fn tag_finding<'a>(
         SiteFault::MissingKey => missing(entry),
         SiteFault::UnknownDevice => Some(unknown_device(file, entry)),
         SiteFault::UnknownModel => Some(Finding::at(entry, "model", unknown_model(entry))),
-        SiteFault::UnknownPoint => {
-            let finding = Finding::at(entry, "point", "is no point of its model");
-            Some(finding.meaning(nearest_point(entry, defs)))
-        }
+        SiteFault::UnknownPoint => Some(unknown_point(entry, defs)),
         SiteFault::NotWritable => Some(Finding::at(entry, "point", "can't be written")),
         SiteFault::BadRange => Some(outside(entry, defs)),
         SiteFault::BadType => Some(bad_word(entry)),
@@ -102,14 +99,24 @@ fn unknown_model(entry: &Value) -> &'static str {
 /// The number that is outside its range.
 fn outside<'a>(entry: &'a Value, defs: &[ModelDef]) -> Finding<'a> {
     if let Some(finding) = out_of_order(entry) {
-        return finding;
+        return counted(entry, finding);
     }
     if let Some(finding) = out_of_type(entry) {
-        return finding;
+        return counted(entry, finding);
     }
     match first_outside(entry, &EXPONENT) {
         Some(finding) => finding,
         None => no_bit(entry, defs),
+    }
+}
+
+/// What to do about a number of a tag, by its exponent.
+fn counted<'a>(entry: &Value, finding: Finding<'a>) -> Finding<'a> {
+    match number_at(entry, "exponent") {
+        None | Some(0) => finding,
+        Some(_) => finding.helped(
+            "correct the number, or the exponent: low, high and default count the point's value in steps of 10^exponent, so in tens where it is 1, and in tenths where it is -1",
+        ),
     }
 }
 

@@ -1,0 +1,91 @@
+//! A point that isn't there, and which one may be meant.
+use crate::finding::{Finding, Rule, stands_at};
+use file_keys::{number_at, text_at};
+use model_defs::ModelDef;
+use source_notes::nearer;
+use toml::Value;
+
+/// What is found where an entry's model, of which this is the definition, has no point of the name that it says.
+pub(crate) fn no_point<'a>(
+    entry: &'a Value,
+    model: Option<&'a ModelDef>,
+    defs: &[ModelDef],
+) -> Finding<'a> {
+    let (Some(number), Some(model), Some(written)) = (
+        number_at(entry, "model"),
+        model,
+        text_at(entry, "point"),
+    ) else {
+        return Finding::at(entry, "point", "is no point of its model");
+    };
+    let finding = Finding::by("point", stands_at(entry, "point"), Rule::NoPointOf(number));
+    let beginning = beginning_of(model, written);
+    if is_one_less(beginning, written) {
+        return finding.meaning(beginning);
+    }
+    if let Some(near) = nearest_point(model, written) {
+        return finding.meaning(Some(near));
+    }
+    if is_of_another(defs, written) {
+        return finding.helped("correct the model: another one has a point of this name");
+    }
+    finding.meaning(beginning.or(continuing(model, written)))
+}
+
+/// Whether a name has one letter less than another one.
+fn is_one_less(name: Option<&str>, written: &str) -> bool {
+    match name {
+        Some(name) => name.len().saturating_add(1) == written.len(),
+        None => false,
+    }
+}
+
+/// The point whose name is nearest.
+fn nearest_point<'a>(model: &'a ModelDef, written: &str) -> Option<&'a str> {
+    let mut found = None;
+    for point in model.points.as_slice() {
+        found = nearer(found, point.name.as_str(), written);
+    }
+    found.map(|near| near.name)
+}
+
+fn is_of_another(defs: &[ModelDef], written: &str) -> bool {
+    for model in defs {
+        if model.find(written).is_some() {
+            return true;
+        }
+    }
+    false
+}
+
+/// The point with the longest name with which another one begins.
+fn beginning_of<'a>(model: &'a ModelDef, written: &str) -> Option<&'a str> {
+    let mut found: Option<&'a str> = None;
+    for point in model.points.as_slice() {
+        let name = point.name.as_str();
+        if written.starts_with(name) && is_longer(name, found) {
+            found = Some(name);
+        }
+    }
+    found
+}
+
+/// The first point whose name goes on behind another one of three letters at least.
+fn continuing<'a>(model: &'a ModelDef, written: &str) -> Option<&'a str> {
+    if written.len() < 3 {
+        return None;
+    }
+    for point in model.points.as_slice() {
+        if point.name.as_str().starts_with(written) {
+            return Some(point.name.as_str());
+        }
+    }
+    None
+}
+
+fn is_longer(name: &str, found: Option<&str>) -> bool {
+    match found {
+        Some(found) => name.len() > found.len(),
+        None => true,
+    }
+}

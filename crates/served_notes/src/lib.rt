@@ -1,0 +1,13 @@
+//! Warnings of what clients may not be shown: a sum that its point can't say in each case, or what the program may store in
+//! a `site` tag. Which these are is proved below (served_ranges); of the words nothing is proved but that they end and are
+//! safe.
+#![tactic(auto)]
+
+mod limits;
+mod mending;
+mod reason;
+mod subject;
+mod warnings;
+mod words;
+
+pub use warnings::shown_warnings;

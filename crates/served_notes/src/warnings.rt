@@ -1,0 +1,136 @@
+//! Warnings of the points that don't always show what they are to.
+use crate::mending::mend_of;
+use crate::reason::reason_of;
+use crate::subject::{Shown, Subject};
+use crate::words::wrong_with;
+use file_places::{EntryName, entry_shown};
+use served_ranges::{
+    Demand, always_shows_stored, always_shows_total, demand_of_stored, demand_of_total,
+};
+use site_model::{Access, Served, Site, SiteTag, Source};
+use source_notes::escaped;
+use std::alloc::{AllocError, Global};
+
+/// The most points that are told.
+const MOST_TOLD: usize = 10;
+
+/// Warnings, as lines on the site file at a path.
+#[derive(Drop)]
+struct Warnings {
+    path: String,
+    lines: String,
+    count: usize,
+}
+
+/// Warnings of the sums and the `site` tags of a site that their points don't always show, by the ranges of the file at a
+/// path; empty where each is.
+pub fn shown_warnings(alloc: Global, path: &str, site: &Site) -> Result<String, AllocError> {
+    let mut warnings = Warnings {
+        path: escaped(alloc, path)?,
+        lines: String::new(alloc),
+        count: 0,
+    };
+    warnings.push_sums(alloc, site)?;
+    warnings.push_stored(alloc, site)?;
+    warnings.told(alloc)
+}
+
+/// What is wrong with a demand, and below it what to do.
+fn told_of(alloc: Global, subject: Subject<'_>, demand: &Demand) -> Result<String, AllocError> {
+    let reason = reason_of(demand);
+    let mut text = wrong_with(alloc, subject, demand, reason)?;
+    let mend = mend_of(alloc, subject, demand, reason)?;
+    text.push_str("\n  help: ")?;
+    text.push_str(mend.as_str())?;
+    Ok(text)
+}
+
+impl Warnings {
+    fn push_sums(&mut self, alloc: Global, site: &Site) -> Result<(), AllocError> {
+        for (number, entry) in site.served().iter().enumerate() {
+            if let Source::Sum(parts) = &entry.source {
+                if !always_shows_total(site, entry, parts.as_slice()) {
+                    let name = EntryName::Numbered("[[served]]", number.saturating_add(1));
+                    self.push_sum(alloc, site, entry, parts.as_slice(), name)?;
+                }
+            }
+        }
+        Ok(())
+    }
+
+    fn push_sum(
+        &mut self,
+        alloc: Global,
+        site: &Site,
+        entry: &Served,
+        parts: &[usize],
+        name: EntryName<'_>,
+    ) -> Result<(), AllocError> {
+        let demand = demand_of_total(site, entry, parts);
+        let subject = Subject::of_entry(site.models(), entry);
+        self.push(alloc, name, subject, demand)
+    }
+
+    fn push_stored(&mut self, alloc: Global, site: &Site) -> Result<(), AllocError> {
+        for (number, tag) in site.tags().iter().enumerate() {
+            if tag.access == Access::Shown && !always_shows_stored(site, tag) {
+                let number = number.saturating_add(1);
+                let name = EntryName::Named("[[tag]]", tag.name.as_str(), number);
+                self.push_tag(alloc, site, tag, name)?;
+            }
+        }
+        Ok(())
+    }
+
+    fn push_tag(
+        &mut self,
+        alloc: Global,
+        site: &Site,
+        tag: &SiteTag,
+        name: EntryName<'_>,
+    ) -> Result<(), AllocError> {
+        let demand = demand_of_stored(site, tag);
+        let subject = Subject::of_tag(site.models(), tag);
+        self.push(alloc, name, subject, demand)
+    }
+
+    /// Appends a warning, where not too many are told.
+    fn push(
+        &mut self,
+        alloc: Global,
+        name: EntryName<'_>,
+        subject: Option<Subject<'_>>,
+        demand: Option<Demand>,
+    ) -> Result<(), AllocError> {
+        let (Some(subject), Some(demand)) = (subject, demand) else {
+            return Ok(());
+        };
+        self.count = self.count.saturating_add(1);
+        if self.count > MOST_TOLD {
+            return Ok(());
+        }
+        let entry = entry_shown(alloc, name)?;
+        let text = told_of(alloc, subject, &demand)?;
+        let (path, entry, text) = (self.path.as_str(), entry.as_str(), text.as_str());
+        let lines = format!(in alloc; "{path}: warning: {entry}: {text}\n")?;
+        self.lines.push_str(lines.as_str())
+    }
+
+    /// The lines, and how many more there are.
+    fn told(self, alloc: Global) -> Result<String, AllocError> {
+        let Warnings {
+            path,
+            mut lines,
+            count,
+        } = self;
+        let more = count.saturating_sub(MOST_TOLD);
+        if more > 0 {
+            let path = path.as_str();
+            let line = format!(in alloc;
+                "{path}: warning: {more} more points don't always show what they are to\n"
+            )?;
+            lines.push_str(line.as_str())?;
+        }
+        Ok(lines)
+    }
+}

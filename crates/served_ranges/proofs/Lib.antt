@@ -1,0 +1,3 @@
+pub mod Between
+pub mod Ends
+pub mod Sums

@@ -1,0 +1,92 @@
+-- What the gateway's own points that show a total, or what the program stored, may have to say, and when they always say
+-- it: by the served image.
+-- SunSpec Device Information Model Specification, points and scale factors, the table of types.
+use Rattle.std.specs.Prelude.{ℕ, nat_eq, List, [], ◌∷◌, All, find, slice_get, ℤ, pos, ◌+ℤ◌, ◌≤ℤ◌, Option, Some, None, IsSome, IsSomeAnd, option_map, option_and_then}
+use Rattle.point_types.specs.declared.kind.Kind.{Kind}
+use Rattle.point_types.specs.declared.reading.Reading.{Reading}
+use Rattle.model_defs.specs.declared.model.ModelDef.{ModelDef}
+use Rattle.model_defs.specs.declared.point.Point.{Point}
+use Rattle.site_model.specs.declared.served.Served.{Served}
+use Rattle.site_model.specs.declared.site.Site.{Site}
+use Rattle.site_model.specs.declared.tag.SiteTag.{SiteTag}
+use Rattle.site_model.specs.Readings.{AreUsable}
+use Rattle.gateway.specs.served.Points.{served_factor}
+use Rattle.gateway.specs.served.ServedImage.{ReadsAs, amount, own_value, sum_of}
+use Rattle.served_ranges.specs.declared.shown.Demand.{Demand}
+
+-- ---- the definition's point of an entry of the site file, and of a tag of the gateway's own models
+
+abbrev pub model_of : List ModelDef → ℕ → Option ModelDef
+model_of models id = find (λ m. nat_eq m.id id) models
+
+abbrev pub point_of_entry : List ModelDef → Served → Option Point
+point_of_entry models s = option_and_then (λ m. slice_get m.points s.point) (model_of models s.model)
+
+abbrev pub point_of_tag : List ModelDef → SiteTag → Option Point
+point_of_tag models t = option_and_then (λ m. find (λ p. nat_eq p.offset t.offset) m.points) (model_of models t.model)
+
+-- ---- what is shown
+
+-- each part of a sum has a value of its own
+abbrev pub HaveValues : List Reading → List ℕ → Type 0
+HaveValues readings parts = All (λ i. IsSome (option_and_then own_value (slice_get readings i))) parts
+
+-- with these readings the point shows the total: there is one, and words of its kind read as that
+abbrev pub ShowsTotal : Site → (model : ℕ) → List ℕ → List Reading → Point → Type 0
+ShowsTotal site model parts readings p =
+    IsSomeAnd (sum_of site.tags readings (served_factor site.served model p.sf) parts) (λ total. (words : List ℕ) × ReadsAs p.kind total words)
+
+-- whatever the readings of the tags are in their ranges: where each part of the sum has a value of its own, the point of
+-- the entry shows the total
+abbrev pub AlwaysShowsTotal : Site → Served → List ℕ → Type 0
+AlwaysShowsTotal site s parts =
+    (readings : List Reading) → AreUsable site.tags readings → HaveValues readings parts →
+    IsSomeAnd (point_of_entry site.models s) (ShowsTotal site s.model parts readings)
+
+-- each number from low to high, in units of 10^exponent, has words of the kind that read as it by the factor
+abbrev pub AllAreShown : Kind → Option ℤ → (exponent low high : ℤ) → Type 0
+AllAreShown kind factor exponent low high =
+    (n : ℤ) → low ≤ℤ n → n ≤ℤ high → (words : List ℕ) × ReadsAs kind (amount exponent factor n) words
+
+-- whatever the program stores in a `site` tag, which lies in its range: its point shows it
+abbrev pub AlwaysShowsStored : Site → SiteTag → Type 0
+AlwaysShowsStored site t =
+    IsSomeAnd (point_of_tag site.models t) (λ p. AllAreShown p.kind (served_factor site.served t.model p.sf) t.exponent t.low t.high)
+
+-- ---- the ends of a total
+
+-- the total of one end of the ranges of some tags, on top of what there is; none where one of the numbers is no tag's
+abbrev pub end_over : (SiteTag → ℤ) → ℤ → List SiteTag → List ℕ → Option ℤ
+end_over end n tags [] = Some n
+end_over end n tags (i ∷ is) = option_and_then (λ v. end_over end (n +ℤ v) tags is) (option_map end (slice_get tags i))
+
+abbrev pub lowest_total : List SiteTag → List ℕ → Option ℤ
+lowest_total tags parts = end_over (λ t. t.low) (pos 0) tags parts
+
+abbrev pub highest_total : List SiteTag → List ℕ → Option ℤ
+highest_total tags parts = end_over (λ t. t.high) (pos 0) tags parts
+
+-- ---- what a point may have to say
+
+abbrev pub exponent_of : List SiteTag → List ℕ → Option ℤ
+exponent_of tags [] = None
+exponent_of tags (i ∷ is) = option_map (λ t. t.exponent) (slice_get tags i)
+
+-- at a point of a model: a number of 10^exponent from low to high
+abbrev pub demand_at : Site → (model : ℕ) → (exponent low high : ℤ) → Point → Demand
+demand_at site model exponent low high p = record { kind = p.kind; factor = served_factor site.served model p.sf; exponent = exponent; low = low; high = high }
+
+-- of the total of some tags, which all have the exponent of the first
+abbrev pub demand_of_total : Site → Served → List ℕ → Option Demand
+demand_of_total site s parts =
+    option_and_then (λ exponent.
+    option_and_then (λ low.
+    option_and_then (λ high.
+    option_map (demand_at site s.model exponent low high) (point_of_entry site.models s))
+    (highest_total site.tags parts))
+    (lowest_total site.tags parts))
+    (exponent_of site.tags parts)
+
+-- of a `site` tag
+abbrev pub demand_of_stored : Site → SiteTag → Option Demand
+demand_of_stored site t = option_map (demand_at site t.model t.exponent t.low t.high) (point_of_tag site.models t)
