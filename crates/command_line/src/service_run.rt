@@ -7,7 +7,7 @@ use commands::{Accepted, Outcome, accept, no_core, tell_no_memory, write_lines};
 use gateway::CoreFault;
 use modbus_frame::LinkFault;
 use refusal_notes::Notes;
-use scan_vm::Machine;
+use served_site::service_of;
 use service_core::{Limits, Service};
 use service_texts::{Addresses, Devices, addresses_of, plant_addresses};
 use site_service::{End, Keeping, Serving, serve_site};
@@ -64,7 +64,13 @@ fn serve_accepted<R: Net + Clock + Processes + Print + Eprint + AllocGlobal + Fi
     out: &mut W,
 ) -> u8 {
     match prepared(rt, alloc, run, &given, out) {
-        Ok(addresses) => match service_of(alloc, given, &addresses, run.limits) {
+        Ok(addresses) => match service_of(
+            alloc,
+            given,
+            addresses.links.len(),
+            addresses.stations.as_slice(),
+            run.limits,
+        ) {
             Ok(mut service) => match run.devices {
                 Devices::Plant(plant) => serve_plant(rt, alloc, run, plant, &mut service, out),
                 _ => serve_over(rt, alloc, run, &addresses, &mut service, out),
@@ -118,30 +124,6 @@ fn tell_no_core<W: Write>(alloc: Global, fault: CoreFault, out: &mut W) -> u8 {
         Ok(line) => write_lines(out, line.as_bytes(), 1),
         Err(_) => tell_no_memory(out),
     }
-}
-
-/// The service of an accepted program, whose devices are at these addresses.
-fn service_of(
-    alloc: Global,
-    given: Accepted,
-    addresses: &Addresses,
-    limits: Limits,
-) -> Result<Service, CoreFault> {
-    let Accepted { site, verified } = given;
-    let machine = match Machine::new(alloc, verified) {
-        Ok(machine) => machine,
-        Err(AllocError) => return Err(CoreFault::OutOfMemory),
-    };
-    let stations = addresses.stations.as_slice();
-    Service::new(
-        alloc,
-        site,
-        machine,
-        addresses.links.len(),
-        stations,
-        limits,
-        0,
-    )
 }
 
 /// Serves a site over connections to these addresses.

@@ -69,7 +69,7 @@ module _ (site : Site) (p : Program) (a : Acceptance) (right : DoesWhatItMeans p
   course_keeps s t (stages.goes {t = middle} course u step) keeps = any_keeps middle t step (course_keeps s middle course keeps)
 
   start_keeps : (first : Stage) → IsStart site a first → Keeps first.core
-  start_keeps first start = subst Keeps (sym start.opened) (record { site_is = refl; program_is = refl; kept = opening_kept site p a right linked proper verdict matched })
+  start_keeps first start = subst Keeps (sym start.core) (record { site_is = refl; program_is = refl; kept = opening_kept site p a right linked proper verdict matched })
 
   scan_of : (first s t : Stage) → IsStart site a first → CourseBy AnyStep first s → Scans s t → IsScanOf site p a s t
   scan_of first s t start course scans =
@@ -78,8 +78,8 @@ module _ (site : Site) (p : Program) (a : Acceptance) (right : DoesWhatItMeans p
       let meant = (step_meant site p a right linked proper verdict matched s.core.standing event.Scan scans.runs.0 t.core.standing keeps.kept (steps_here s.core event.Scan scans.runs.0 t.core keeps advances.0)).0 in
       let scan = meant.1.scan in
       record {
-        site = keeps.site_is;
-        program = keeps.program_is;
+        same_site = keeps.site_is;
+        same_program = keeps.program_is;
         round = scans_are_of_their_rounds s t (record { first = first; opening = start.first; course = course }) scans;
         means = meant.1;
         variables = subst (AreVariables a.image.vars) (sym (ap (λ (x : Standing). x.variables) scan.after)) (left_variables site p a right linked proper verdict matched s.core.standing t.core.standing keeps.kept scan);

@@ -16,16 +16,16 @@ use Rattle.commands.specs.Accepted.{Accepts}
 use Rattle.commands.specs.Meant.{IsMeantScan}
 
 -- Before its first round: nothing is known or set, no device has a map, and each variable of the program is at its start value.
-pub record IsStart (site : Site) (a : Acceptance) (first : Stage) : Type 0 where
-  pub opened : first.core ≡ gateway_of site (none_of site.devices) (opened a)
-  pub first : IsFirst first
+pub record IsStart (site : Site) (a : Acceptance) (s : Stage) : Type 0 where
+  pub core : s.core ≡ gateway_of site (none_of site.devices) (opened a)
+  pub first : IsFirst s
 
 -- A scan from the one stage to the other. On what was told in its own round, or is known no more, it ends without a trap and
 -- within the budget, with the variables and outputs that the program means on the readings of that; these lie in their ranges;
 -- and for each output just what is due is to be written.
 pub record IsScanOf (site : Site) (p : Program) (a : Acceptance) (old new : Stage) : Type 0 where
-  pub site : old.core.site ≡ site
-  pub program : old.core.machine.accepted ≡ a
+  pub same_site : old.core.site ≡ site
+  pub same_program : old.core.machine.accepted ≡ a
   pub round : IsOfItsRound old
   pub means : IsMeantScan p site a old.core.standing new.core.standing
   pub variables : AreVariables a.image.vars new.core.standing.variables

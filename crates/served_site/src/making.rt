@@ -21,14 +21,14 @@ pub fn service_of(
     stations: &[Station],
     limits: Limits,
 ) -> Result<Service, CoreFault>
-    ensures start { IfOk result (λ service. IsStart given.site given.verified.entry (stage_of service.cycle)) }
-    ensures matched { OnOk result (HasLinks given.site.tags given.verified.entry.links) }
+    ensures start { IfOk result (λ service. IsStart given.site given.verified (stage_of service.cycle)) }
+    ensures matched { OnOk result (HasLinks given.site.tags given.verified.links) }
     ensures stations { IfOk result (λ service. service.lines.links.stations.items ≡ stations.now) }
     ensures numbers { IfOk result (λ service. service.lines.links.numbers.items ≡ replicate links 0) }
     ensures limits { IfOk result (λ service. service.side.limits ≡ limits) }
     ensures time { IfOk result (λ service. service.side.now ≡ 0) }
     ensures places { IfOk result (λ service. length service.places.items ≡ limits.clients) }
-    ensures foreign { IfErr result (λ e. e ≡ Foreign → HasLinks given.site.tags given.verified.entry.links → ⊥) }
+    ensures foreign { IfErr result (λ e. e ≡ Foreign → HasLinks given.site.tags given.verified.links → ⊥) }
 {
     let Accepted { site, verified } = given;
     let machine = match Machine::new(alloc, verified) {

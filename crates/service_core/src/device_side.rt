@@ -1,6 +1,7 @@
 //! The devices' side of a service, apart from its core and from what goes out: connections, devices and outputs.
-ghost use Rattle.std.specs.Prelude.{◌≡◌, ◌<◌, Some, length, max, slice_get, take};
+ghost use Rattle.std.specs.Prelude.{◌≡◌, ◌≤◌, ◌<◌, ℕ, Some, length, max, slice_get, take};
 ghost use Rattle.service_parts.specs.declared.wire.Wire.{Wire as WireValue};
+ghost use Rattle.service_parts.specs.Waking.{due_at, is_quiet};
 ghost use Rattle.service_core.specs.Connections.{HearsThere};
 ghost use Rattle.service_core.specs.Telling.{told_at};
 
@@ -250,10 +251,13 @@ impl DeviceSide {
     }
 
     /// Not later than at this time something is to be done about a connection, or at the given one.
-    pub(crate) fn wakes_at(&self, lines: &Lines, at: u64) -> u64 {
+    pub(crate) fn wakes_at(&self, lines: &Lines, at: u64) -> u64
+        ensures most { result ≤ at }
+        ensures links { (link : ℕ) (wire : WireValue) → slice_get self.entry.now.wires.items link ≡ Some wire → result ≤ due_at (is_quiet lines.entry.now link) wire }
+    {
         let mut at = at;
-        for (link, wire) in self.wires.iter().enumerate() {
-            at = at.min(wire.wakes_at(lines.is_sent(link)));
+        for link in 0..self.wires.len() {
+            at = at.min(self.wires[link].wakes_at(lines.is_sent(link)));
         }
         at
     }

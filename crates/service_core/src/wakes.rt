@@ -1,11 +1,22 @@
 //! When something is to be done next.
+ghost use Rattle.std.specs.Prelude.{◌≡◌, ◌≤◌, ◌&&◌, not, true, ℕ, Some, slice_get};
+ghost use Rattle.service_parts.specs.declared.client_place.ClientPlace.{ClientPlace as Place};
+ghost use Rattle.service_parts.specs.declared.wire.Wire.{Wire as WireValue};
+ghost use Rattle.service_parts.specs.Places.{after};
+ghost use Rattle.service_parts.specs.Waking.{due_at, is_quiet};
+
 use crate::service_state::Service;
 use service_parts::ClientPlace;
 
 impl Service {
-    /// Not later than at this time a tick is wanted. A time that is over asks for something at once: a connection is to be
+    /// Not later than at this time a tick is wanted: the next round is due, a wait or a dial ends, a dial is due, a device may
+    /// be asked again, or a client was silent for long. A time that is over asks for something at once: a connection is to be
     /// made, or to be closed.
-    pub fn wakes_at(&self) -> u64 {
+    pub fn wakes_at(&self) -> u64
+        ensures round { result ≤ self.now.side.next_round }
+        ensures links { (link : ℕ) (wire : WireValue) → slice_get self.now.side.wires.items link ≡ Some wire → result ≤ due_at (is_quiet self.now.lines link) wire }
+        ensures clients { (place : ℕ) (c : Place) → slice_get self.now.places.items place ≡ Some c → (c.is_taken && not c.is_closing) ≡ true → result ≤ after c.last self.now.side.limits.idle }
+    {
         let mut at = self.side.next_round;
         if self.side.is_reading() {
             at = at.min(self.side.deadline);
@@ -15,12 +26,24 @@ impl Service {
     }
 }
 
-fn wakes_for_clients(places: &[ClientPlace], idle: u64, at: u64) -> u64 {
+fn wakes_for_clients(places: &[ClientPlace], idle: u64, at: u64) -> u64
+    ensures most { result ≤ at }
+    ensures clients { (place : ℕ) (c : Place) → slice_get places.now place ≡ Some c → (c.is_taken && not c.is_closing) ≡ true → result ≤ after c.last idle }
+{
     let mut at = at;
-    for client in places {
-        if client.is_waited_for() {
-            at = at.min(client.last().saturating_add(idle));
-        }
+    for place in 0..places.len() {
+        at = wakes_for(&places[place], idle, at);
     }
     at
+}
+
+fn wakes_for(client: &ClientPlace, idle: u64, at: u64) -> u64
+    ensures most { result ≤ at }
+    ensures client { (client.now.is_taken && not client.now.is_closing) ≡ true → result ≤ after client.now.last idle }
+{
+    if client.is_waited_for() {
+        at.min(client.last().saturating_add(idle))
+    } else {
+        at
+    }
 }

@@ -4,3 +4,4 @@ pub mod Calls
 pub mod Requests
 pub mod Clients
 pub mod Places
+pub mod Waking

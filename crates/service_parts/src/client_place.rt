@@ -1,5 +1,5 @@
 //! A place for a client.
-ghost use Rattle.std.specs.Prelude.{◌≡◌, ◌≤◌, ◌<◌, ◌↔◌, [], length, take, IsTrue, true, false};
+ghost use Rattle.std.specs.Prelude.{◌≡◌, ◌≤◌, ◌<◌, ◌↔◌, ◌&&◌, not, [], length, take, IsTrue, true, false};
 ghost use Rattle.service.specs.Sessions.{IsFree, ServesOn};
 
 use crate::times::heard_at;
@@ -78,7 +78,9 @@ impl ClientPlace {
     }
 
     /// Whether its client waits to be closed once it was silent for long.
-    pub fn is_waited_for(&self) -> bool {
+    pub fn is_waited_for(&self) -> bool
+        ensures { result ≡ (self.now.is_taken && not self.now.is_closing) }
+    {
         self.is_taken && !self.is_closing
     }
 

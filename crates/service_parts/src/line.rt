@@ -1,5 +1,5 @@
 //! What goes out over one connection.
-ghost use Rattle.std.specs.Prelude.{◌≡◌, ◌≤◌, IsTrue, [], drop, length, min};
+ghost use Rattle.std.specs.Prelude.{◌≡◌, ◌≤◌, ◌==◌, IsTrue, [], drop, length, min};
 
 use arrayvec::ArrayVec;
 
@@ -29,7 +29,8 @@ impl Line {
 
     /// Whether nothing waits.
     pub fn is_sent(&self) -> bool
-        ensures { IsTrue result → self.now.out.items ≡ [] }
+        ensures quiet { IsTrue result → self.now.out.items ≡ [] }
+        ensures exact { result ≡ (length self.now.out.items == 0) }
     {
         self.out.is_empty()
     }

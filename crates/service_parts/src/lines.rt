@@ -2,6 +2,7 @@
 ghost use Rattle.std.specs.Prelude.{◌≡◌, ◌+◌, ◌<◌, ◌^◌, ℕ, All, drop, min, slice_get, [], length, replicate, set, IfNone, IfOk, IfSome, IsTrue, Some};
 ghost use Rattle.service_parts.specs.declared.line.Line.{Line as LineValue};
 ghost use Rattle.gateway.specs.event_core.Core.{Gateway};
+ghost use Rattle.service_parts.specs.Waking.{is_quiet};
 ghost use Rattle.service_parts.specs.Requests.{AreRightfulBy, IsFoundOn, IsRightfulOn, StayRightful};
 
 use crate::limits::Station;
@@ -118,7 +119,8 @@ impl Lines {
 
     /// Whether nothing waits on a link.
     pub fn is_sent(&self, link: usize) -> bool
-        ensures { IsTrue result → (line : LineValue) → slice_get self.now.lines.items link ≡ Some line → line.out.items ≡ [] }
+        ensures quiet { IsTrue result → (line : LineValue) → slice_get self.now.lines.items link ≡ Some line → line.out.items ≡ [] }
+        ensures exact { result ≡ is_quiet self.now link }
     {
         match self.lines.get(link) {
             Some(line) => line.is_sent(),

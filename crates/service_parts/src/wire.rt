@@ -4,6 +4,7 @@ ghost use Rattle.service.specs.Hearing.{Takes, asking, fresh};
 ghost use Rattle.modbus_frame.specs.Frame.{frame_bytes};
 ghost use Rattle.modbus_frame.specs.Message.{HasQuantity};
 ghost use Rattle.gateway.specs.poller.LinkRun.{frame_of};
+ghost use Rattle.service_parts.specs.Waking.{due_at};
 
 use crate::limits::Limits;
 use crate::times::longer;
@@ -150,7 +151,9 @@ impl Wire {
 
     /// When something is to be done about it: a wait or a dial ends, a dial is due, or, once all is written, a device may
     /// be asked again.
-    pub fn wakes_at(&self, is_sent: bool) -> u64 {
+    pub fn wakes_at(&self, is_sent: bool) -> u64
+        ensures { result ≡ due_at is_sent self.now }
+    {
         if !self.is_up {
             return self.dial_until.unwrap_or(self.dial_at);
         }
