@@ -44,7 +44,9 @@ impl Link {
     }
 
     /// The system says that there is something to do.
-    pub(crate) fn wake(&mut self) {
+    pub(crate) fn wake(&mut self)
+        ensures { self.new.address ≡ self.old.address }
+    {
         self.is_told = true;
         if let Some(connection) = &mut self.connection {
             connection.wake();
@@ -68,7 +70,9 @@ impl Link {
         service: &mut Service,
         number: usize,
         now: u64,
-    ) {
+    )
+        ensures { self.new.address ≡ self.old.address }
+    {
         self.connection = begun(rt, registry, token, self.address.as_str());
         self.is_up = false;
         self.is_told = false;
@@ -80,7 +84,9 @@ impl Link {
     }
 
     /// Hands over what came, and tells where the connection stands now, or ended.
-    pub(crate) fn receive(&mut self, service: &mut Service, number: usize, now: u64) {
+    pub(crate) fn receive(&mut self, service: &mut Service, number: usize, now: u64)
+        ensures { self.new.address ≡ self.old.address }
+    {
         if !self.is_up && self.is_told {
             self.meet(service, number, now);
         }
@@ -90,7 +96,9 @@ impl Link {
     }
 
     // Sees what became of a connection that was begun.
-    fn meet(&mut self, service: &mut Service, number: usize, now: u64) {
+    fn meet(&mut self, service: &mut Service, number: usize, now: u64)
+        ensures { self.new.address ≡ self.old.address }
+    {
         self.is_told = false;
         match self.fate() {
             Fate::Stands => {
@@ -110,7 +118,9 @@ impl Link {
     }
 
     // Hands over what came; whether the connection is over.
-    fn feed(&mut self, service: &mut Service, number: usize, now: u64) -> bool {
+    fn feed(&mut self, service: &mut Service, number: usize, now: u64) -> bool
+        ensures { self.new.address ≡ self.old.address }
+    {
         let Some(connection) = &mut self.connection else {
             return false;
         };
@@ -123,7 +133,9 @@ impl Link {
     }
 
     /// Sends what waits.
-    pub(crate) fn send(&mut self, service: &mut Service, number: usize) {
+    pub(crate) fn send(&mut self, service: &mut Service, number: usize)
+        ensures { self.new.address ≡ self.old.address }
+    {
         if !self.is_up {
             return;
         }
@@ -133,7 +145,9 @@ impl Link {
     }
 
     /// Closes it, and tells so.
-    pub(crate) fn close(&mut self, service: &mut Service, number: usize, now: u64) {
+    pub(crate) fn close(&mut self, service: &mut Service, number: usize, now: u64)
+        ensures { self.new.address ≡ self.old.address }
+    {
         self.connection = None;
         self.is_up = false;
         service.link_down(number, now);

@@ -33,7 +33,9 @@ impl Links {
     }
 
     /// The system says of the connection of this number that there is something to do.
-    pub(crate) fn wake(&mut self, number: usize) {
+    pub(crate) fn wake(&mut self, number: usize)
+        ensures { map (λ link. link.address) self.new.links.items ≡ map (λ link. link.address) self.old.links.items }
+    {
         if let Some(link) = self.links.get_mut(number) {
             link.wake();
         }
@@ -50,14 +52,18 @@ impl Links {
     }
 
     /// Hands over what came, and tells of connections that stand now, or ended.
-    pub(crate) fn receive(&mut self, service: &mut Service, now: u64) {
+    pub(crate) fn receive(&mut self, service: &mut Service, now: u64)
+        ensures { map (λ link. link.address) self.new.links.items ≡ map (λ link. link.address) self.old.links.items }
+    {
         for (number, link) in self.links.iter_mut().enumerate() {
             link.receive(service, number, now);
         }
     }
 
     /// Closes those that are to be closed.
-    pub(crate) fn hang_up(&mut self, service: &mut Service, now: u64) {
+    pub(crate) fn hang_up(&mut self, service: &mut Service, now: u64)
+        ensures { map (λ link. link.address) self.new.links.items ≡ map (λ link. link.address) self.old.links.items }
+    {
         for (number, link) in self.links.iter_mut().enumerate() {
             if service.wants_hang_up(number) {
                 link.close(service, number, now);
@@ -72,7 +78,9 @@ impl Links {
         registry: &Registry,
         service: &mut Service,
         now: u64,
-    ) {
+    )
+        ensures { map (λ link. link.address) self.new.links.items ≡ map (λ link. link.address) self.old.links.items }
+    {
         let tokens = self.tokens;
         for (number, link) in self.links.iter_mut().enumerate() {
             if service.wants_dial(number) {
@@ -83,7 +91,9 @@ impl Links {
     }
 
     /// Sends what waits.
-    pub(crate) fn send(&mut self, service: &mut Service) {
+    pub(crate) fn send(&mut self, service: &mut Service)
+        ensures { map (λ link. link.address) self.new.links.items ≡ map (λ link. link.address) self.old.links.items }
+    {
         for (number, link) in self.links.iter_mut().enumerate() {
             link.send(service, number);
         }
