@@ -5,6 +5,7 @@ ghost use Rattle.command_line.specs.Asked.{ObeysFiles};
 use crate::plant_run::{PlantRun, run_plant};
 use crate::plant_server::{PlantPort, simulate};
 use crate::probe_link::{ProbeRun, probe_over};
+use crate::shown::warn_of_shown;
 use commands::TextCommand;
 use refusal_notes::Notes;
 use std::alloc::Global;
@@ -52,7 +53,7 @@ pub fn obey_on<W: Write>(
                 program,
                 defs,
             };
-            told(rt, check, notes, out)
+            checked(rt, check, notes, out)
         }
         FileCommand::Explain { listing } => {
             let explain = TextCommand::Explain {
@@ -98,6 +99,22 @@ fn told<W: Write>(
     notes.warn(rt);
     notes.explain(rt, &obeyed.cause);
     obeyed.status
+}
+
+/// The same, with a warning of what clients may not be shown where a program is accepted.
+fn checked<W: Write>(
+    rt: &(impl Eprint + AllocGlobal),
+    command: TextCommand<'_>,
+    notes: &Notes<'_>,
+    out: &mut W,
+) -> u8
+    ensures { Obeys command.entry (W.contents out.old) (W.contents out.new) result }
+{
+    let status = told(rt, command, notes, out);
+    if status == 0 {
+        warn_of_shown(rt, notes);
+    }
+    status
 }
 
 /// Warns of what nothing reads in the site file. The simulator that is started warns of the plant file and the definitions.

@@ -20,6 +20,7 @@ mod second_process;
 mod serve_words;
 mod service_places;
 mod service_run;
+mod shown;
 mod socket;
 mod source;
 mod sources;

@@ -7,6 +7,7 @@ use crate::failing::{no_start, tell_lost, tell_unreached};
 use crate::link_cause::cause_of_link;
 use crate::plant_lines::told_port;
 use crate::second_process::{start_plant, start_probe, tell_no_port};
+use crate::shown::warn_on_site;
 use crate::socket::{SocketLink, link_over, loopback};
 use crate::unwritten::UnwrittenWatch;
 use crate::watched_link::WatchedLink;
@@ -171,7 +172,7 @@ fn probed_behind<R: Net + Processes + Eprint + AllocGlobal, W: Write>(
     }
 }
 
-/// Serves a probe of the core on a free port, and prints what it prints.
+/// Serves a probe of the core on a free port, and prints what it prints; warns before of what it may not be shown.
 fn probed<R: Net + Processes + Eprint + AllocGlobal, W: Write>(
     rt: &R,
     alloc: Global,
@@ -181,6 +182,7 @@ fn probed<R: Net + Processes + Eprint + AllocGlobal, W: Write>(
 ) -> u8
     ensures { Grows (W.contents out.old) (W.contents out.new) }
 {
+    warn_on_site(rt, &run.notes, core.site());
     match TcpListener::bind(rt, loopback(0)) {
         Ok(listener) => probed_on(rt, alloc, run, &listener, core, out),
         Err(fault) => tell_unreached(rt, alloc, &run.notes, fault.kind(), out),

@@ -3,6 +3,7 @@ use crate::failing::{no_start, tell_lost, tell_unserved};
 use crate::plant_lines::told_port;
 use crate::second_process::{start_plant, tell_no_port};
 use crate::service_places::tell_unreachable;
+use crate::shown::warn_on_site;
 use commands::{Accepted, Outcome, accept, no_core, tell_no_memory, write_lines};
 use gateway::CoreFault;
 use modbus_frame::LinkFault;
@@ -100,6 +101,7 @@ fn prepared<R: Print + Eprint + AllocGlobal, W: Write>(
         Ok(addresses) => match tell_accepted(alloc, given.verified.budget(), out) {
             0 => {
                 tell_unkept(rt, run);
+                warn_on_site(rt, &run.notes, &given.site);
                 Ok(addresses)
             }
             status => Err(status),

@@ -1,5 +1,5 @@
 //! What to do about a point that doesn't always show what it is to.
-use crate::limits::{Limits, steps_to};
+use crate::limits::{Limits, limits_of, steps_to};
 use crate::reason::Reason;
 use crate::subject::{Shown, Subject};
 use served_ranges::Demand;
@@ -72,7 +72,8 @@ fn coarser_numbers(alloc: Global, subject: Subject<'_>, factor: i16) -> Result<S
     }
 }
 
-/// Numbers and a factor that are coarser by as many powers of ten as it takes, where there are such ones.
+/// A factor as coarse as the numbers, where that is enough; else numbers and a factor that are coarser by as many powers of
+/// ten as it takes, where there are such ones.
 fn coarser(
     alloc: Global,
     subject: Subject<'_>,
@@ -80,6 +81,12 @@ fn coarser(
     factor: i16,
     limits: Limits,
 ) -> Result<String, AllocError> {
+    if let (Some(name), true) = (subject.factor, fits_as_counted(demand)) {
+        let exponent = demand.exponent;
+        return format!(in alloc;
+            "serve {name} with value = {exponent}, as its numbers count; or narrow the range"
+        );
+    }
     let steps = steps_to(demand, limits);
     let exponent = demand.exponent.saturating_add(steps);
     let served = factor.saturating_add(i16::from(steps));
@@ -92,6 +99,14 @@ fn coarser(
             )
         }
         _ => String::from_str(alloc, narrowed(subject.shown)),
+    }
+}
+
+/// Whether a demand is met by a factor that is its exponent.
+fn fits_as_counted(demand: &Demand) -> bool {
+    match limits_of(demand.kind, 0) {
+        Some(limits) => steps_to(demand, limits) == 0,
+        None => false,
     }
 }
 
