@@ -1,7 +1,7 @@
 //! What the helps of the commands say behind their words and options.
 
 /// The version of the program, and the kit that proves and builds it.
-pub(crate) const VERSION: &str = "0.1.0 (rattle-kit-13b logic dac8208d650f15bf)";
+pub(crate) const VERSION: &str = "0.1.0 (rattle-kit-13f logic dac8208d650f15bf)";
 
 pub const PROGRAM: &str =
     "Without arguments it reads a program (Instruction List) from standard input, and behind END_PROGRAM a
