@@ -138,7 +138,7 @@ module _ (site : Site) (a : Acceptance) (p : Program) where
         (subst (λ (x : Site). AreReadings x.tags x.wants before.standing.blocks before.standing.sets scan.readings) (sym on_site) (h.means).read)
         (subst (λ (x : Acceptance). ending_on x scan.readings before.standing.variables x.budget ≡ Ended (scan.report).steps scan.end) (sym on_program) (h.safe).ended)
         (subst (λ (x : Acceptance). (scan.report).steps ≤ x.budget) (sym on_program) (h.safe).bounded)
-        (subst (λ (x : Acceptance). (k : ℕ) (y : State) → ending_on x scan.readings before.standing.variables k ≡ Unfinished y → length y.deferred ≤ most_deferred) (sym on_program) (h.safe).shallow)
+        (subst (λ (x : Acceptance). (k : ℕ) (y : State) → ending_on x scan.readings before.standing.variables k ≡ Unfinished y → length y.deferred ≤ most_deferred) (sym on_program) h.shallow)
 
     of_behind : IsOf behind
     of_behind = record {

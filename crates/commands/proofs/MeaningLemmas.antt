@@ -48,7 +48,7 @@ use Rattle.gateway.specs.declared.event_core.event.Event.{Event}
 use Rattle.gateway.specs.declared.event_core.event.Event.TheVariants as event
 use Rattle.gateway.specs.declared.served.point.OwnPoint.{OwnPoint}
 use Rattle.commands.specs.Accepted.{most_deferred}
-use Rattle.commands.specs.Headline.{stored_of}
+use Rattle.commands.specs.OneScan.{stored_of}
 use Rattle.commands.specs.Meant.{IsMeantScan, RunsAsMeant, StepsAsMeant}
 
 -- ---- numbers in their ranges

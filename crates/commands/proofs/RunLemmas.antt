@@ -219,10 +219,10 @@ module _ (site : Site) (p : Program) (a : Acceptance) (right : DoesWhatItMeans p
           safe = record {
             ended = subst (λ (k : ℕ). ending_on a h.readings before.standing.variables a.budget ≡ Ended k h.end) counted h.ended;
             bounded = subst (λ (k : ℕ). k ≤ a.budget) counted h.bounded;
-            shallow = subst (λ (x : Acceptance). (k : ℕ) (y : State) → ending_on x h.readings before.standing.variables k ≡ Unfinished y → length y.deferred ≤ most_deferred) middle.on_program behind.shallow;
             variables = left_variables site p a right linked proper verdict matched before.standing t.standing middle.kept h;
             outputs = stored_ranged site p a right linked proper verdict matched before.standing t.standing middle.kept h;
           };
+          shallow = subst (λ (x : Acceptance). (k : ℕ) (y : State) → ending_on x h.readings before.standing.variables k ≡ Unfinished y → length y.deferred ≤ most_deferred) middle.on_program behind.shallow;
           means = record { each = h.each; read = h.read; computed = means_end site p a right linked proper verdict matched before.standing t.standing middle.kept h };
           leaves = subst (λ (k : ℕ). t ≡ after_scan before h.readings k h.end) counted behind.core;
           writes = record {

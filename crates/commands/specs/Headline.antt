@@ -2,29 +2,26 @@
 -- operand of the wrong type, an overflow, a zero divisor, a missing point or a jump out of its code; each scan ends within the
 -- printed number of instructions, computes what Instruction List means, and writes only writable points, with values in their
 -- stated ranges.
--- Accepted: `IsAccepted`. Safe, within the number: `IsSafe`. Means: `IsMeant`. Writes: `Writes`. Told: `Tells`.
+-- Accepted: `IsAccepted`. Safe, within the number: `IsSafe` and `IsShallow`. Means: `IsMeant`. Writes: `Writes`. Told: `Tells`.
 -- IEC 61131-3 edition 2, 3.2 (instruction list; one scan after another); MODBUS Messaging on TCP/IP Implementation Guide, section 4.2.
-use Rattle.std.specs.Prelude.{◌≡◌, ◌≢◌, ℕ, ◌≤◌, ℤ, List, length, map, count_by, Option, Result}
-use Rattle.point_types.specs.declared.reading.Reading.{Reading}
+use Rattle.std.specs.Prelude.{◌≡◌, ◌≢◌, ℕ, ◌≤◌, List, length, map, count_by, Result}
 use Rattle.modbus_frame.specs.declared.link.LinkFault.{LinkFault}
-use Rattle.site_model.specs.Readings.{AreReadings, AreSettings}
 use Rattle.site_model.specs.declared.site.Site.{Site}
 use Rattle.point_writer.specs.declared.write.Write.{Write}
 use Rattle.point_writer.specs.declared.write.NoWrite.{NoWrite}
-use Rattle.scan_code.specs.Machine.{Ending, State, Ended, Unfinished, opening, run}
+use Rattle.scan_code.specs.Machine.{State, Unfinished}
 use Rattle.scan_vm.specs.Machine as vm
-use Rattle.il_assemble.specs.Correct.{AreVariables}
-use Rattle.il_assemble.specs.Meaning.{Program, Done, meaning}
+use Rattle.il_assemble.specs.Meaning.{Program}
 use Rattle.verifier.specs.Safe.{NeverGoesWrong}
 use Rattle.verifier.specs.Verified.{Acceptance}
 use Rattle.gateway.specs.event_core.Control.{IsDue, Notes, after_scan}
-use Rattle.gateway.specs.event_core.Core.{Gateway, gateway_of, numbers_of}
-use Rattle.gateway.specs.event_core.SiteRun.{none_of, reading_at, stored_at}
+use Rattle.gateway.specs.event_core.Core.{Gateway, gateway_of}
 use Rattle.gateway.specs.poller.Cycle.{ArePlans, TakesBlocks, WritesPoints, is_refused}
 use Rattle.gateway.specs.poller.Finding.{FindsAll}
 use Rattle.gateway.specs.poller.LinkRun.{Exchange}
 use Rattle.gateway.specs.poller.Polling.{Polling, Talks}
 use Rattle.commands.specs.Accepted.{most_deferred}
+use Rattle.commands.specs.OneScan.{IsMeant, IsSafe, run_of}
 use Rattle.commands.specs.Described.{AreTagsOf, Describes, Spells}
 use Rattle.commands.specs.Printed.{AreAllDone, EndsEarly}
 use Rattle.commands.specs.Series.{AreInOrder, Course, Moment, Scan, Series}
@@ -45,31 +42,9 @@ pub record IsAccepted (site_text program_text : List ℕ) (texts : List (List �
   pub is_for : IsFor site_text program_text texts site program a
   pub safe : NeverGoesWrong a
 
--- what is read for the program's tags, of the readings of the site's
-abbrev pub inputs_of : Acceptance → List Reading → List Reading
-inputs_of a readings = map (reading_at readings) (numbers_of a)
-
--- what the program stored, by the site's tags
-abbrev pub stored_of : Site → Acceptance → State → List (Option ℤ)
-stored_of site a end = stored_at (numbers_of a) end.outputs (none_of site.tags)
-
--- the machine after at most so many instructions of the scan
-abbrev pub run_of : Acceptance → Scan → ℕ → Ending
-run_of a scan n = run a.image (inputs_of a scan.readings) 0 n (opening a.image ((scan.taken).core).standing.variables)
-
--- no trap, at most the budget's instructions, never more values deferred than fit; all numbers in their declared ranges
-pub record IsSafe (site : Site) (a : Acceptance) (scan : Scan) : Type 0 where
-  pub ended : run_of a scan a.budget ≡ Ended (scan.report).steps scan.end
-  pub bounded : (scan.report).steps ≤ a.budget
-  pub shallow : (n : ℕ) (s : State) → run_of a scan n ≡ Unfinished s → length s.deferred ≤ most_deferred
-  pub variables : AreVariables a.image.vars (scan.end).variables
-  pub outputs : AreSettings site.tags (stored_of site a scan.end)
-
--- on a reading of each tag by what is known and set, the variables and outputs are those that the program means
-pub record IsMeant (site : Site) (a : Acceptance) (p : Program) (scan : Scan) : Type 0 where
-  pub each : length scan.readings ≡ length site.tags
-  pub read : AreReadings site.tags site.wants ((scan.taken).core).standing.blocks ((scan.taken).core).standing.sets scan.readings
-  pub computed : meaning p (inputs_of a scan.readings) ((scan.taken).core).standing.variables ≡ Done (scan.end).variables (scan.end).outputs
+-- the values that the scan ever defers, after however many instructions, are never more than fit
+abbrev pub IsShallow : Acceptance → Scan → Type 0
+IsShallow a scan = (n : ℕ) (s : State) → run_of a scan.readings ((scan.taken).core).standing.variables n ≡ Unfinished s → length s.deferred ≤ most_deferred
 
 -- for the site's first n outputs, in order, its tag's set point goes out where it has one, and nothing else does
 pub record Writes (site : Site) (n : ℕ) (scan : Scan) : Type 0 where
@@ -85,8 +60,9 @@ pub record Writes (site : Site) (n : ℕ) (scan : Scan) : Type 0 where
 -- what comes of the wanted blocks is taken, the program runs once and the core is left at that, and then its first n outputs go out
 pub record DoesScan (site : Site) (a : Acceptance) (p : Program) (n : ℕ) (scan : Scan) : Type 0 where
   pub takes : TakesBlocks Notes site ((scan.before).core).maps site.wants (scan.before).link (scan.before).core (scan.taken).link (scan.taken).core (scan.report).lost
-  pub safe : IsSafe site a scan
-  pub means : IsMeant site a p scan
+  pub safe : IsSafe site a scan.readings ((scan.taken).core).standing.variables (scan.report).steps scan.end
+  pub shallow : IsShallow a scan
+  pub means : IsMeant site a p ((scan.taken).core).standing scan.readings scan.end
   pub leaves : (scan.behind).core ≡ after_scan (scan.taken).core scan.readings (scan.report).steps scan.end
   pub writes : Writes site n scan
 

@@ -4,6 +4,7 @@ pub mod Defined
 pub mod Described
 pub mod Explained
 pub mod Given
+pub mod OneScan
 pub mod Headline
 pub mod Input
 pub mod Meant

@@ -81,9 +81,17 @@ module _ (site : Site) (p : Program) (a : Acceptance) (right : DoesWhatItMeans p
         same_site = keeps.site_is;
         same_program = keeps.program_is;
         round = scans_are_of_their_rounds s t (record { first = first; opening = start.first; course = course }) scans;
-        means = meant.1;
-        variables = subst (AreVariables a.image.vars) (sym (ap (λ (x : Standing). x.variables) scan.after)) (left_variables site p a right linked proper verdict matched s.core.standing t.core.standing keeps.kept scan);
-        outputs = subst (AreSettings site.tags) (sym (ap (λ (x : Standing). (x.last).outputs) scan.after)) (stored_ranged site p a right linked proper verdict matched s.core.standing t.core.standing keeps.kept scan);
+        readings = scan.readings;
+        steps = scan.steps;
+        end = scan.end;
+        safe = record {
+          ended = scan.ended;
+          bounded = scan.bounded;
+          variables = left_variables site p a right linked proper verdict matched s.core.standing t.core.standing keeps.kept scan;
+          outputs = stored_ranged site p a right linked proper verdict matched s.core.standing t.core.standing keeps.kept scan;
+        };
+        means = record { each = scan.each; read = scan.read; computed = meant.1.means };
+        leaves = scan.after;
         planned = scans.planned;
       }
 

@@ -2,34 +2,36 @@
 -- IEC 61131-3 edition 2, 3.2 (instruction list; one scan after another).
 use Rattle.std.specs.Prelude.{◌≡◌, ℕ, List}
 use Rattle.site_model.specs.declared.site.Site.{Site}
-use Rattle.site_model.specs.Readings.{AreSettings}
+use Rattle.point_types.specs.declared.reading.Reading.{Reading}
+use Rattle.scan_code.specs.Machine.{State}
 use Rattle.scan_vm.specs.Machine.{opened}
-use Rattle.il_assemble.specs.Correct.{AreVariables}
 use Rattle.il_assemble.specs.Meaning.{Program}
 use Rattle.verifier.specs.Verified.{Acceptance, HasLinks}
-use Rattle.gateway.specs.event_core.Core.{gateway_of}
-use Rattle.gateway.specs.event_core.SiteRun.{none_of}
+use Rattle.gateway.specs.event_core.Core.{gateway_of, numbers_of}
+use Rattle.gateway.specs.event_core.SiteRun.{none_of, scanned}
 use Rattle.service_core.specs.OneRound.{IsOfItsRound}
 use Rattle.service_core.specs.Rounds.{ArePlanned}
 use Rattle.service_core.specs.Stages.{AnyStep, CourseBy, IsFirst, Scans, Stage}
 use Rattle.commands.specs.Accepted.{Accepts}
-use Rattle.commands.specs.Meant.{IsMeantScan}
+use Rattle.commands.specs.OneScan.{IsMeant, IsSafe}
 
 -- Before its first round: nothing is known or set, no device has a map, and each variable of the program is at its start value.
 pub record IsStart (site : Site) (a : Acceptance) (s : Stage) : Type 0 where
   pub core : s.core ≡ gateway_of site (none_of site.devices) (opened a)
   pub first : IsFirst s
 
--- A scan from the one stage to the other. On what was told in its own round, or is known no more, it ends without a trap and
--- within the budget, with the variables and outputs that the program means on the readings of that; these lie in their ranges;
--- and for each output just what is due is to be written.
+-- A scan from the one stage to the other, of what was told in its own round, or is known no more. As in `run` it is safe, and
+-- computes what the program means; and for each output just what is due is to be written.
 pub record IsScanOf (site : Site) (p : Program) (a : Acceptance) (old new : Stage) : Type 0 where
   pub same_site : old.core.site ≡ site
   pub same_program : old.core.machine.accepted ≡ a
   pub round : IsOfItsRound old
-  pub means : IsMeantScan p site a old.core.standing new.core.standing
-  pub variables : AreVariables a.image.vars new.core.standing.variables
-  pub outputs : AreSettings site.tags (new.core.standing.last).outputs
+  pub readings : List Reading
+  pub steps : ℕ
+  pub end : State
+  pub safe : IsSafe site a readings old.core.standing.variables steps end
+  pub means : IsMeant site a p old.core.standing readings end
+  pub leaves : new.core.standing ≡ scanned site (numbers_of a) old.core.standing readings steps end
   pub planned : ArePlanned new.core new.round.writes
 
 -- The texts of a site and a program are accepted, and a service was begun for them: whatever steps it makes, each of its

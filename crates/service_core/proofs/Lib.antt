@@ -13,4 +13,4 @@ pub mod Sent
 pub mod Stays
 pub mod Mapped
 pub mod Planned
-pub mod Placed
+pub mod Carried

@@ -1,16 +1,31 @@
--- What is heard over the connection of a link (MODBUS Messaging on TCP/IP Implementation Guide, section 4.4.1).
-use Rattle.std.specs.Prelude.{◌≡◌, ℕ, true, false, List, Option, None, Some}
+-- What becomes of a connection to devices by a call of a service (MODBUS Messaging on TCP/IP Implementation Guide, section
+-- 4.4.1).
+use Rattle.std.specs.Prelude.{◌≡◌, ◌⊎◌, ℕ, List, [], Option}
 use Rattle.service.specs.declared.fate.Fate.{Fate}
-use Rattle.service.specs.Hearing.{Takes}
-use Rattle.service_parts.specs.declared.wire.Wire.{Wire}
+use Rattle.service_parts.specs.declared.line.Line.{Line}
+use Rattle.service_parts.specs.Frames as frames
+use Rattle.service_parts.specs.Frames.{IsCut, Led, OwnStep, Sends}
+use Rattle.service_core.specs.declared.scan_cycle.ScanCycle.{ScanCycle}
+use Rattle.service_core.specs.Cycle.{HearsBy, LeadsOn}
 
--- These bytes are taken of the stream of a connection that is well, and this became of its request; the request itself stays
--- the one that is under way until it is ended.
-pub record HearsOf (old : Wire) (bytes : List ℕ) (fate : Option Fate) (new : Wire) : Type 0 where
-  pub asked : new.asked ≡ old.asked
-  pub takes : old.is_up ≡ true → old.is_bad ≡ false → Takes old.inquiry bytes fate new.inquiry
+-- These bytes are taken of a link's stream: they tell what became of the request that is under way on it, of no other one; or
+-- nothing yet, and then nothing happens. Then the service goes on by itself.
+pub record Hears (link : ℕ) (line : Line) (bytes : List ℕ) (old new : ScanCycle) (lines : List Line) : Type 0 where
+  pub fate : Option Fate
+  pub heard : Line
+  pub hears : frames.Hears bytes fate line heard
+  pub goes : ∥ Led OwnStep heard lines link ∥₁
+  pub settles : HearsBy fate line.wire.asked old new
 
--- There is a connection at that place, and so it is.
-abbrev pub HearsThere : Wire → List ℕ → Option Fate → Option Wire → Type 0
-HearsThere old bytes fate (Some new) = HearsOf old bytes fate new
-HearsThere old bytes fate None = ⊥
+-- So many bytes of what waits on a link are written. Then the service goes on by itself, or, where a request is written whole,
+-- what came before it is looked at.
+pub record GoesBehindSent (link n : ℕ) (line : Line) (old new : ScanCycle) (lines : List Line) : Type 0 where
+  pub left : Line
+  pub sends : Sends n line left
+  pub goes : (LeadsOn old new × ∥ Led OwnStep left lines link ∥₁) ⊎ ((left.out.items ≡ []) × Hears link left [] old new lines)
+
+-- A link's stream is over or begins, and then the service goes on by itself.
+pub record GoesFromCut (link : ℕ) (lines : List Line) : Type 0 where
+  pub cut : Line
+  pub is : IsCut cut
+  pub goes : ∥ Led OwnStep cut lines link ∥₁

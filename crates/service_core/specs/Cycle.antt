@@ -4,10 +4,8 @@ use Rattle.gateway.specs.declared.poller.outcome.Outcome.{Outcome}
 use Rattle.gateway.specs.declared.poller.outcome.Outcome.TheVariants as outcome
 use Rattle.service.specs.declared.fate.Fate.{Fate}
 use Rattle.service.specs.declared.fate.Fate.TheVariants as fate
-use Rattle.service.specs.Hearing.{Takes, Wire as Hearing}
 use Rattle.service_parts.specs.declared.wire.Aim.{Aim}
 use Rattle.service_parts.specs.declared.wire.Asked.{Asked}
-use Rattle.service_parts.specs.declared.wire.Wire.{Wire}
 use Rattle.service_core.specs.declared.scan_cycle.ScanCycle.{ScanCycle}
 use Rattle.service_core.specs.Rounds.{IsUnderWay}
 use Rattle.service_core.specs.Stages.{ClientStep, Ends, LeadsOnBy, OwnStep, RoundStep, Stage}
@@ -62,14 +60,7 @@ abbrev pub SettlesIf : Option Asked → Fate → ScanCycle → ScanCycle → Typ
 SettlesIf None f old new = LeadsOn old new
 SettlesIf (Some asked) f old new = Settles f asked old new
 
+-- This became of the request that was under way, or nothing yet: then nothing happens.
 abbrev pub HearsBy : Option Fate → Option Asked → ScanCycle → ScanCycle → Type 0
 HearsBy None asked old new = stage_of new ≡ stage_of old
 HearsBy (Some f) asked old new = SettlesIf asked f old new
-
--- These bytes are taken of a connection's stream: they tell what became of the request that is under way on it, of no other
--- one; or nothing yet, and then nothing happens.
-pub record Hears (wire : Wire) (bytes : List ℕ) (old new : ScanCycle) : Type 0 where
-  pub fate : Option Fate
-  pub heard : Hearing
-  pub takes : Takes wire.inquiry bytes fate heard
-  pub settles : HearsBy fate wire.asked old new

@@ -2,6 +2,7 @@ pub mod Connections
 pub mod Counting
 pub mod Cycle
 pub mod Maps
+pub mod Noting
 pub mod OneRound
 pub mod Rounds
 pub mod Stages

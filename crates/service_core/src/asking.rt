@@ -3,6 +3,7 @@ ghost use Rattle.std.specs.Prelude.{◌≡◌, ◌<◌, ℕ, IfSome, Some, lengt
 ghost use Rattle.modbus_frame.specs.Message.{HasQuantity};
 ghost use Rattle.service.specs.declared.search.Step.TheVariants.{Found};
 ghost use Rattle.service_core.specs.Cycle.{LeadsOn};
+ghost use Rattle.service_parts.specs.Frames.{LinesGo};
 ghost use Rattle.service_parts.specs.Requests.{MayGoOver};
 ghost use Rattle.service_parts.specs.Seeking.{IsSought};
 
@@ -26,11 +27,12 @@ impl Service {
     /// Begins requests on all connections that are free.
     pub(crate) fn ask_all(&mut self)
         ensures links { self.new.lines.links ≡ self.old.lines.links }
+        ensures lines { LinesGo self.old.lines.lines.items self.new.lines.lines.items }
         ensures goes { LeadsOn self.old.cycle self.new.cycle }
         ensures places { self.new.places.items ≡ self.old.places.items }
         ensures time { self.new.side.now ≡ self.old.side.now }
     {
-        for link in 0..self.side.wires.len() {
+        for link in 0..self.lines.count() {
             self.ask(link);
         }
     }
@@ -38,6 +40,7 @@ impl Service {
     /// Begins requests on a connection until one is under way, or none is left to begin.
     fn ask(&mut self, link: usize)
         ensures links { self.new.lines.links ≡ self.old.lines.links }
+        ensures lines { LinesGo self.old.lines.lines.items self.new.lines.lines.items }
         ensures goes { LeadsOn self.old.cycle self.new.cycle }
         ensures places { self.new.places.items ≡ self.old.places.items }
         ensures time { self.new.side.now ≡ self.old.side.now }
@@ -47,7 +50,8 @@ impl Service {
                 return;
             }
             if !self.ask_for(link, Purpose::Round) && !self.ask_for(link, Purpose::Search) {
-                self.side.rest_link(link);
+                let until = self.asked_again_at(link);
+                self.lines.rest_until(link, until);
                 return;
             }
         }
@@ -55,17 +59,29 @@ impl Service {
 
     /// Whether a connection is free, and may have something to ask.
     fn may_ask(&self, link: usize) -> bool {
-        self.side.is_stirred(link) && self.is_free(link)
+        self.lines.is_stirred(link, self.side.now) && self.lines.is_free(link)
+    }
+
+    /// When one of a connection's devices may be asked again.
+    fn asked_again_at(&self, link: usize) -> u64 {
+        let mut until = u64::MAX;
+        for i in 0..self.lines.devices_on(link) {
+            if let Some(device) = self.lines.device_at(link, i) {
+                until = self.side.asked_again(device, until);
+            }
+        }
+        until
     }
 
     /// Asks the next device in turn that there is something to ask of; whether there is one.
     fn ask_for(&mut self, link: usize, purpose: Purpose) -> bool
         ensures links { self.new.lines.links ≡ self.old.lines.links }
+        ensures lines { LinesGo self.old.lines.lines.items self.new.lines.lines.items }
         ensures goes { LeadsOn self.old.cycle self.new.cycle }
         ensures places { self.new.places.items ≡ self.old.places.items }
         ensures time { self.new.side.now ≡ self.old.side.now }
     {
-        let Some(turn) = self.side.turn(link) else {
+        let Some(turn) = self.lines.turn(link) else {
             return false;
         };
         self.ask_between(link, purpose, turn, usize::MAX)
@@ -75,12 +91,13 @@ impl Service {
     /// The same among the devices with these numbers.
     fn ask_between(&mut self, link: usize, purpose: Purpose, first: usize, end: usize) -> bool
         ensures links { self.new.lines.links ≡ self.old.lines.links }
+        ensures lines { LinesGo self.old.lines.lines.items self.new.lines.lines.items }
         ensures goes { LeadsOn self.old.cycle self.new.cycle }
         ensures places { self.new.places.items ≡ self.old.places.items }
         ensures time { self.new.side.now ≡ self.old.side.now }
     {
-        for i in 0..self.side.devices_on(link) {
-            if let Some(device) = self.side.device_at(link, i) {
+        for i in 0..self.lines.devices_on(link) {
+            if let Some(device) = self.lines.device_at(link, i) {
                 if first <= device && device < end && self.ask_device(link, device, purpose) {
                     return true;
                 }
@@ -91,6 +108,7 @@ impl Service {
 
     fn ask_device(&mut self, link: usize, device: usize, purpose: Purpose) -> bool
         ensures links { self.new.lines.links ≡ self.old.lines.links }
+        ensures lines { LinesGo self.old.lines.lines.items self.new.lines.lines.items }
         ensures goes { LeadsOn self.old.cycle self.new.cycle }
         ensures places { self.new.places.items ≡ self.old.places.items }
         ensures time { self.new.side.now ≡ self.old.side.now }
@@ -111,6 +129,7 @@ impl Service {
         ensures quantity { IfSome result (λ wish. HasQuantity wish.request) }
         ensures asked { IfSome result (λ wish. MayGoOver self.new.cycle.core.value self.new.lines.links.numbers.items self.new.lines.found_on.items link wish.aim device wish.request) }
         ensures links { self.new.lines.links ≡ self.old.lines.links }
+        ensures lines { LinesGo self.old.lines.lines.items self.new.lines.lines.items }
         ensures goes { LeadsOn self.old.cycle self.new.cycle }
         ensures places { self.new.places.items ≡ self.old.places.items }
         ensures time { self.new.side.now ≡ self.old.side.now }
@@ -128,6 +147,7 @@ impl Service {
         ensures quantity { IfSome result (λ wish. HasQuantity wish.request) }
         ensures asked { IfSome result (λ wish. MayGoOver self.new.cycle.core.value self.new.lines.links.numbers.items self.new.lines.found_on.items link wish.aim device wish.request) }
         ensures links { self.new.lines.links ≡ self.old.lines.links }
+        ensures lines { LinesGo self.old.lines.lines.items self.new.lines.lines.items }
         ensures goes { LeadsOn self.old.cycle self.new.cycle }
         ensures places { self.new.places.items ≡ self.old.places.items }
         ensures time { self.new.side.now ≡ self.old.side.now }
@@ -143,6 +163,7 @@ impl Service {
         ensures quantity { IfSome result (λ wish. HasQuantity wish.request) }
         ensures asked { IfSome result (λ wish. MayGoOver self.new.cycle.core.value self.new.lines.links.numbers.items self.new.lines.found_on.items link wish.aim device wish.request) }
         ensures links { self.new.lines.links ≡ self.old.lines.links }
+        ensures lines { LinesGo self.old.lines.lines.items self.new.lines.lines.items }
         ensures goes { LeadsOn self.old.cycle self.new.cycle }
         ensures places { self.new.places.items ≡ self.old.places.items }
         ensures time { self.new.side.now ≡ self.old.side.now }
@@ -156,7 +177,7 @@ impl Service {
                 request,
             }),
             Step::Found(map) => {
-                self.find(link, device, map);
+                self.find_over(link, device, map);
                 None
             }
             Step::NoMap => {
@@ -166,28 +187,52 @@ impl Service {
         }
     }
 
-    fn find(&mut self, link: usize, device: usize, map: Map)
+    /// A search found the device's map. It is learned where all of its answers came over the connection that the link has
+    /// now; else it is searched again over this one.
+    fn find_over(&mut self, link: usize, device: usize, map: Map)
         requires { ∥ IsSought self.old.cycle.core.value.site device (Found map) ∥₁ }
+        ensures links { self.new.lines.links ≡ self.old.lines.links }
+        ensures lines { LinesGo self.old.lines.lines.items self.new.lines.lines.items }
+        ensures goes { LeadsOn self.old.cycle self.new.cycle }
+        ensures places { self.new.places.items ≡ self.old.places.items }
+        ensures time { self.new.side.now ≡ self.old.side.now }
+    {
+        let Some(number) = self.lines.number_of(link) else {
+            return;
+        };
+        if self.cycle.is_sought_over(device, number) {
+            self.find(link, device, number, map);
+        } else {
+            self.cycle.seek_anew(device, number);
+        }
+    }
+
+    fn find(&mut self, link: usize, device: usize, number: u64, map: Map)
+        requires sought { ∥ IsSought self.old.cycle.core.value.site device (Found map) ∥₁ }
+        requires number { slice_get self.old.lines.links.numbers.items link ≡ Some number }
+        requires over { slice_get self.old.cycle.over.items device ≡ Some number }
         ensures learned { device < length self.old.cycle.core.value.site.devices → self.new.cycle.core.value.maps ≡ set self.old.cycle.core.value.maps device (Some map) }
-        ensures found { (number : ℕ) (unit : ℕ) → slice_get self.old.lines.links.numbers.items link ≡ Some number → slice_get self.old.lines.links.stations.items device ≡ Some (record { link = link; unit = unit })
+        ensures found { (unit : ℕ) → slice_get self.old.lines.links.stations.items device ≡ Some (record { link = link; unit = unit })
             → device < length self.old.lines.found_on.items → self.new.lines.found_on.items ≡ set self.old.lines.found_on.items device (Some number) }
         ensures links { self.new.lines.links ≡ self.old.lines.links }
+        ensures lines { LinesGo self.old.lines.lines.items self.new.lines.lines.items }
         ensures goes { LeadsOn self.old.cycle self.new.cycle }
         ensures places { self.new.places.items ≡ self.old.places.items }
         ensures time { self.new.side.now ≡ self.old.side.now }
     {
         self.cycle.learn(device, Some(map));
-        self.lines.find(link, device);
+        self.lines.find(link, device, number);
         self.side.find(device);
     }
 
     fn find_none(&mut self, device: usize)
         ensures links { self.new.lines.links ≡ self.old.lines.links }
+        ensures lines { LinesGo self.old.lines.lines.items self.new.lines.lines.items }
         ensures goes { LeadsOn self.old.cycle self.new.cycle }
         ensures places { self.new.places.items ≡ self.old.places.items }
         ensures time { self.new.side.now ≡ self.old.side.now }
     {
-        self.cycle.seek_anew(device);
+        self.cycle.seek_anew(device, self.lines.number_for(device));
         self.side.find_none(device);
     }
 
@@ -195,13 +240,18 @@ impl Service {
         requires quantity { HasQuantity wish.request }
         requires asked { MayGoOver self.old.cycle.core.value self.old.lines.links.numbers.items self.old.lines.found_on.items link wish.aim device wish.request }
         ensures links { self.new.lines.links ≡ self.old.lines.links }
+        ensures lines { LinesGo self.old.lines.lines.items self.new.lines.lines.items }
         ensures goes { LeadsOn self.old.cycle self.new.cycle }
         ensures places { self.new.places.items ≡ self.old.places.items }
         ensures time { self.new.side.now ≡ self.old.side.now }
     {
+        let Some(number) = self.lines.number_of(link) else {
+            return;
+        };
         let asked = Asked {
             device,
             aim: wish.aim,
+            number,
             since: self.side.now,
             until: self.side.until(wish.aim),
         };
@@ -209,27 +259,17 @@ impl Service {
         self.side.count(device);
     }
 
-    /// Begins a request, where the connection is free. Bytes that came before it are looked at with those that come next.
-    #[tactic(auto, using(service_parts::proofs::Rightful::whole_frame))]
+    /// Begins a request, where one may begin. Bytes that came before it are looked at with those that come next.
     fn start(&mut self, link: usize, asked: Asked, request: Request)
         requires quantity { HasQuantity request }
+        requires number { slice_get self.old.lines.links.numbers.items link ≡ Some asked.number }
         requires asked { MayGoOver self.old.cycle.core.value self.old.lines.links.numbers.items self.old.lines.found_on.items link asked.aim asked.device request }
         ensures links { self.new.lines.links ≡ self.old.lines.links }
+        ensures lines { LinesGo self.old.lines.lines.items self.new.lines.lines.items }
         ensures goes { LeadsOn self.old.cycle self.new.cycle }
         ensures places { self.new.places.items ≡ self.old.places.items }
         ensures time { self.new.side.now ≡ self.old.side.now }
     {
-        let Some(unit) = self.lines.unit_at(asked.device, link) else {
-            return;
-        };
-        if !self.lines.is_sent(link) {
-            return;
-        }
-        let Some(wire) = self.side.wires.get_mut(link) else {
-            return;
-        };
-        if let Some(bytes) = wire.begin(asked, unit, request) {
-            self.lines.put(link, bytes);
-        }
+        self.lines.begin(link, asked, request);
     }
 }

@@ -16,6 +16,7 @@ impl Service {
     /// to be closed.
     pub fn client_came(&mut self, may_write: bool, now: u64) -> Option<usize>
         ensures links { self.new.lines.links ≡ self.old.lines.links }
+        ensures lines { self.new.lines ≡ self.old.lines }
         ensures core { self.new.cycle.core.value ≡ self.old.cycle.core.value }
         ensures time { self.new.side.now ≡ max self.old.side.now now }
         ensures given { result ≡ given_place self.new.side.now self.old.places.items }
@@ -33,6 +34,7 @@ impl Service {
     /// The client at the place is gone.
     pub fn client_gone(&mut self, place: usize)
         ensures links { self.new.lines.links ≡ self.old.lines.links }
+        ensures lines { self.new.lines ≡ self.old.lines }
         ensures core { self.new.cycle.core.value ≡ self.old.cycle.core.value }
         ensures gone { DoesAt (λ c d. d.is_taken ≡ false) self.old.places.items place self.new.places.items }
         ensures time { self.new.side.now ≡ self.old.side.now }
@@ -46,6 +48,7 @@ impl Service {
     /// given again.
     pub fn from_client(&mut self, place: usize, bytes: &[u8], now: u64) -> usize
         ensures links { self.new.lines.links ≡ self.old.lines.links }
+        ensures lines { self.new.lines ≡ self.old.lines }
         ensures goes { ClientsLeadOn self.old.cycle self.new.cycle }
         ensures time { self.new.side.now ≡ max self.old.side.now now }
         ensures used { result ≤ length bytes.now }
@@ -88,6 +91,7 @@ impl Service {
     /// So many bytes are written to a client.
     pub fn sent_to_client(&mut self, place: usize, n: usize)
         ensures links { self.new.lines.links ≡ self.old.lines.links }
+        ensures lines { self.new.lines ≡ self.old.lines }
         ensures core { self.new.cycle.core.value ≡ self.old.cycle.core.value }
         ensures sends { DoesAt (λ c d. Sends c n d) self.old.places.items place self.new.places.items }
         ensures time { self.new.side.now ≡ self.old.side.now }

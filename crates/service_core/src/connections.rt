@@ -1,10 +1,13 @@
 //! Connections to devices, and what comes over them.
-ghost use Rattle.std.specs.Prelude.{◌≡◌, ◌+◌, ◌<◌, ◌^◌, ℕ, Some, max, set, slice_get, take, length, true, false};
+ghost use Rattle.std.specs.Prelude.{◌≡◌, ◌+◌, ◌<◌, ◌^◌, ◌↔◌, ℕ, IsTrue, Some, max, set, slice_get, take, length, true, false};
+ghost use Rattle.service_parts.specs.declared.line.Line.{Line as LineValue};
 ghost use Rattle.service_parts.specs.declared.wire.Aim.TheVariants.{Output as OutputAim};
-ghost use Rattle.service_parts.specs.declared.wire.Wire.{Wire as WireValue};
-ghost use Rattle.service_core.specs.Cycle.{Answers, AnswersIf, DevicesLeadOn, EndsOwn, Hears, LeadsOn, Settles, SettlesIf, is_answer, stage_of};
-ghost use Rattle.service_core.specs.Telling.{state_by, told_at};
+ghost use Rattle.service_parts.specs.Frames.{LinesGo, OthersGo};
 ghost use Rattle.service_parts.specs.Requests.{IsRightfulOn};
+ghost use Rattle.service_parts.specs.Waking.{IsToDial, IsToHangUp};
+ghost use Rattle.service_core.specs.Connections.{GoesBehindSent, GoesFromCut, Hears};
+ghost use Rattle.service_core.specs.Cycle.{Answers, AnswersIf, DevicesLeadOn, EndsOwn, LeadsOn, Settles, SettlesIf, is_answer, stage_of};
+ghost use Rattle.service_core.specs.Telling.{state_by, told_at};
 
 use crate::note::{Loss, Unwritten};
 use crate::output::OutputState;
@@ -15,25 +18,31 @@ use service_parts::{Aim, Asked};
 
 impl Service {
     /// Whether a connection is to be made: it is down, no dial is under way, and its back-off is over.
-    pub fn wants_dial(&self, link: usize) -> bool {
-        self.side.wants_dial(link)
+    pub fn wants_dial(&self, link: usize) -> bool
+        ensures { (line : LineValue) → slice_get self.now.lines.lines.items link ≡ Some line → IsTrue result ↔ IsToDial self.now.side.now line.wire }
+    {
+        self.lines.wants_dial(link, self.side.now)
     }
 
     /// A dial began. It may take as long as a device may take to answer; then it is to be given up, and told as down.
     pub fn dial_began(&mut self, link: usize, now: u64)
         ensures links { self.new.lines.links ≡ self.old.lines.links }
+        ensures lines { LinesGo self.old.lines.lines.items self.new.lines.lines.items }
         ensures core { self.new.cycle.core.value ≡ self.old.cycle.core.value }
         ensures places { self.new.places.items ≡ self.old.places.items }
         ensures time { self.new.side.now ≡ max self.old.side.now now }
     {
         self.side.turn_to(now);
-        self.side.dial(link);
+        self.lines.dial(link, self.side.dial_until());
     }
 
     /// A connection is up: its devices have no map, until a search finds one. It has the next number of its link.
     pub fn link_up(&mut self, link: usize, now: u64)
         ensures stations { self.new.lines.links.stations ≡ self.old.lines.links.stations }
         ensures goes { LeadsOn self.old.cycle self.new.cycle }
+        ensures others { OthersGo link self.old.lines.lines.items self.new.lines.lines.items }
+        ensures anew { (number : ℕ) (line : LineValue) → slice_get self.old.lines.links.numbers.items link ≡ Some number → number + 1 < 2 ^ 64 → slice_get self.old.lines.lines.items link ≡ Some line
+            → GoesFromCut link self.new.lines.lines.items }
         ensures next { (number : ℕ) → slice_get self.old.lines.links.numbers.items link ≡ Some number → number + 1 < 2 ^ 64
             → self.new.lines.links.numbers.items ≡ set self.old.lines.links.numbers.items link (number + 1) }
         ensures places { self.new.places.items ≡ self.old.places.items }
@@ -48,11 +57,11 @@ impl Service {
     /// A link has a new connection: what was known of its devices isn't known any more.
     fn begin_anew(&mut self, link: usize)
         ensures links { self.new.lines.links ≡ self.old.lines.links }
+        ensures lines { LinesGo self.old.lines.lines.items self.new.lines.lines.items }
         ensures goes { LeadsOn self.old.cycle self.new.cycle }
         ensures places { self.new.places.items ≡ self.old.places.items }
         ensures time { self.new.side.now ≡ self.old.side.now }
     {
-        self.side.come_up(link);
         self.forget_all(link);
         self.go_on();
     }
@@ -60,6 +69,7 @@ impl Service {
     fn forget_all(&mut self, link: usize)
         ensures noted { self.new.lines.found_on ≡ self.old.lines.found_on }
         ensures links { self.new.lines.links ≡ self.old.lines.links }
+        ensures lines { LinesGo self.old.lines.lines.items self.new.lines.lines.items }
         ensures goes { LeadsOn self.old.cycle self.new.cycle }
         ensures places { self.new.places.items ≡ self.old.places.items }
         ensures time { self.new.side.now ≡ self.old.side.now }
@@ -74,35 +84,51 @@ impl Service {
     /// A connection is down: a dial failed, the peer ended it, or there was an error.
     pub fn link_down(&mut self, link: usize, now: u64)
         ensures links { self.new.lines.links ≡ self.old.lines.links }
+        ensures others { OthersGo link self.old.lines.lines.items self.new.lines.lines.items }
+        ensures ends { (line : LineValue) → slice_get self.old.lines.lines.items link ≡ Some line → GoesFromCut link self.new.lines.lines.items }
         ensures goes { LeadsOn self.old.cycle self.new.cycle }
         ensures places { self.new.places.items ≡ self.old.places.items }
         ensures time { self.new.side.now ≡ max self.old.side.now now }
     {
         self.side.turn_to(now);
-        self.lines.go_down(link);
-        self.side.go_down(link);
+        self.lines.go_down(link, self.side.now, &self.side.limits);
         self.lose_all(link, Loss::Down);
         self.go_on();
     }
 
     /// Whether a connection is to be closed, or its dial to be given up, and told as down.
-    pub fn wants_hang_up(&self, link: usize) -> bool {
-        self.side.wants_hang_up(link)
+    pub fn wants_hang_up(&self, link: usize) -> bool
+        ensures { (line : LineValue) → slice_get self.now.lines.lines.items link ≡ Some line → IsTrue result ↔ IsToHangUp self.now.side.now line.wire }
+    {
+        self.lines.wants_hang_up(link, self.side.now)
     }
 
     /// Bytes of a connection; how many of them were used. The rest is to be given again. Of what they answer the core is told
     /// as of the request that is under way there, and of no other.
     pub fn from_link(&mut self, link: usize, bytes: &[u8], now: u64) -> usize
-        ensures hears { (wire : WireValue) → slice_get self.old.side.wires.items link ≡ Some wire → wire.is_up ≡ true → wire.is_bad ≡ false → Hears wire (take result bytes.now) self.old.cycle self.new.cycle }
+        ensures hears { (line : LineValue) → slice_get self.old.lines.lines.items link ≡ Some line → Hears link line (take result bytes.now) self.old.cycle self.new.cycle self.new.lines.lines.items }
         ensures links { self.new.lines.links ≡ self.old.lines.links }
+        ensures others { OthersGo link self.old.lines.lines.items self.new.lines.lines.items }
         ensures goes { DevicesLeadOn self.old.cycle self.new.cycle }
         ensures places { self.new.places.items ≡ self.old.places.items }
         ensures time { self.new.side.now ≡ max self.old.side.now now }
     {
         self.side.turn_to(now);
-        let (used, fate) = self.side.take(link, bytes);
+        self.hear(link, bytes)
+    }
+
+    fn hear(&mut self, link: usize, bytes: &[u8]) -> usize
+        ensures hears { (line : LineValue) → slice_get self.old.lines.lines.items link ≡ Some line → Hears link line (take result bytes.now) self.old.cycle self.new.cycle self.new.lines.lines.items }
+        ensures links { self.new.lines.links ≡ self.old.lines.links }
+        ensures others { OthersGo link self.old.lines.lines.items self.new.lines.lines.items }
+        ensures goes { DevicesLeadOn self.old.cycle self.new.cycle }
+        ensures places { self.new.places.items ≡ self.old.places.items }
+        ensures time { self.new.side.now ≡ self.old.side.now }
+    {
+        let asked = self.lines.asked(link);
+        let (used, fate) = self.lines.take(link, bytes);
         if let Some(fate) = fate {
-            self.settle(link, fate);
+            self.settle(link, asked, fate);
         }
         used
     }
@@ -111,47 +137,50 @@ impl Service {
     /// is there, for its unit, by a state that this service's core came through. A round asks and writes by a map that was
     /// found over this very connection.
     pub fn to_link(&self, link: usize) -> &[u8]
-        ensures { IsRightfulOn self.entry.now.cycle.core.value self.entry.now.lines link result.now }
+        ensures rightful { IsRightfulOn self.entry.now.cycle.core.value self.entry.now.lines link result.now }
+        ensures waits { (line : LineValue) → slice_get self.entry.now.lines.lines.items link ≡ Some line → result.now ≡ line.out.items }
     {
         self.lines.out(link)
     }
 
-    /// So many bytes are written to a connection.
+    /// So many bytes are written to a connection, and the rest of them waits. Once a request is written whole, what came
+    /// before is looked at.
     pub fn sent_to_link(&mut self, link: usize, n: usize)
+        ensures sends { (line : LineValue) → slice_get self.old.lines.lines.items link ≡ Some line → GoesBehindSent link n line self.old.cycle self.new.cycle self.new.lines.lines.items }
         ensures links { self.new.lines.links ≡ self.old.lines.links }
-        ensures goes { LeadsOn self.old.cycle self.new.cycle }
+        ensures others { OthersGo link self.old.lines.lines.items self.new.lines.lines.items }
+        ensures goes { DevicesLeadOn self.old.cycle self.new.cycle }
         ensures places { self.new.places.items ≡ self.old.places.items }
         ensures time { self.new.side.now ≡ self.old.side.now }
     {
         self.lines.sent(link, n);
-        // a request that was given up before all of it was written
-        if self.is_free(link) {
+        if self.lines.is_asked(link) {
+            self.hear(link, &[]);
+        } else if self.lines.is_free(link) {
+            // the request was given up before all of it was written
             self.go_on();
         }
-    }
-
-    /// Whether a request may begin on a connection.
-    pub(crate) fn is_free(&self, link: usize) -> bool {
-        self.side.is_free(link) && self.lines.is_sent(link)
     }
 
     /// A device's map is forgotten, and it is searched from now on.
     pub(crate) fn forget(&mut self, device: usize)
         ensures noted { self.new.lines.found_on ≡ self.old.lines.found_on }
         ensures links { self.new.lines.links ≡ self.old.lines.links }
+        ensures lines { LinesGo self.old.lines.lines.items self.new.lines.lines.items }
         ensures goes { LeadsOn self.old.cycle self.new.cycle }
         ensures places { self.new.places.items ≡ self.old.places.items }
         ensures time { self.new.side.now ≡ self.old.side.now }
     {
         self.cycle.forget(device);
         self.cycle.give_up(device);
-        self.cycle.seek_anew(device);
+        self.cycle.seek_anew(device, self.lines.number_for(device));
         self.side.seek(device);
     }
 
     /// All devices of a connection are lost.
     pub(crate) fn lose_all(&mut self, link: usize, loss: Loss)
         ensures links { self.new.lines.links ≡ self.old.lines.links }
+        ensures lines { LinesGo self.old.lines.lines.items self.new.lines.lines.items }
         ensures goes { LeadsOn self.old.cycle self.new.cycle }
         ensures places { self.new.places.items ≡ self.old.places.items }
         ensures time { self.new.side.now ≡ self.old.side.now }
@@ -166,6 +195,7 @@ impl Service {
     /// A device is lost: it is asked nothing more in this round.
     pub(crate) fn lose(&mut self, device: usize, loss: Loss)
         ensures links { self.new.lines.links ≡ self.old.lines.links }
+        ensures lines { LinesGo self.old.lines.lines.items self.new.lines.lines.items }
         ensures goes { LeadsOn self.old.cycle self.new.cycle }
         ensures places { self.new.places.items ≡ self.old.places.items }
         ensures time { self.new.side.now ≡ self.old.side.now }
@@ -174,15 +204,16 @@ impl Service {
         self.side.lose(device, loss);
     }
 
-    /// This became of the request that is under way on a connection; then the service goes on.
-    fn settle(&mut self, link: usize, fate: Fate)
-        ensures settles { (wire : WireValue) → slice_get self.old.side.wires.items link ≡ Some wire → SettlesIf wire.asked fate self.old.cycle self.new.cycle }
+    /// This became of the request that was under way on a connection; then the service goes on.
+    fn settle(&mut self, link: usize, asked: Option<Asked>, fate: Fate)
+        ensures settles { SettlesIf asked fate self.old.cycle self.new.cycle }
         ensures goes { DevicesLeadOn self.old.cycle self.new.cycle }
         ensures links { self.new.lines.links ≡ self.old.lines.links }
+        ensures lines { LinesGo self.old.lines.lines.items self.new.lines.lines.items }
         ensures places { self.new.places.items ≡ self.old.places.items }
         ensures time { self.new.side.now ≡ self.old.side.now }
     {
-        match self.side.end(link) {
+        match asked {
             Some(asked) => self.settle_asked(link, asked, fate),
             None => self.go_on(),
         }
@@ -191,6 +222,7 @@ impl Service {
     fn settle_asked(&mut self, link: usize, asked: Asked, fate: Fate)
         ensures settles { Settles fate asked self.old.cycle self.new.cycle }
         ensures links { self.new.lines.links ≡ self.old.lines.links }
+        ensures lines { LinesGo self.old.lines.lines.items self.new.lines.lines.items }
         ensures places { self.new.places.items ≡ self.old.places.items }
         ensures time { self.new.side.now ≡ self.old.side.now }
     {
@@ -203,12 +235,13 @@ impl Service {
     /// What came over a connection is no frame.
     fn lose_stream(&mut self, link: usize, asked: Asked)
         ensures links { self.new.lines.links ≡ self.old.lines.links }
+        ensures lines { LinesGo self.old.lines.lines.items self.new.lines.lines.items }
         ensures goes { LeadsOn self.old.cycle self.new.cycle }
         ensures places { self.new.places.items ≡ self.old.places.items }
         ensures time { self.new.side.now ≡ self.old.side.now }
     {
         self.side.lose_write(asked.aim);
-        self.side.spoil(link);
+        self.lines.spoil(link);
         self.lose_all(link, Loss::Frame);
         self.go_on();
     }
@@ -216,6 +249,7 @@ impl Service {
     fn settle_told(&mut self, link: usize, asked: Asked, outcome: Outcome)
         ensures settles { AnswersIf (is_answer outcome) asked outcome self.old.cycle self.new.cycle }
         ensures links { self.new.lines.links ≡ self.old.lines.links }
+        ensures lines { LinesGo self.old.lines.lines.items self.new.lines.lines.items }
         ensures places { self.new.places.items ≡ self.old.places.items }
         ensures time { self.new.side.now ≡ self.old.side.now }
     {
@@ -229,6 +263,7 @@ impl Service {
     /// Too many frames came that answer something else.
     fn lose_answer(&mut self, link: usize, asked: Asked)
         ensures links { self.new.lines.links ≡ self.old.lines.links }
+        ensures lines { LinesGo self.old.lines.lines.items self.new.lines.lines.items }
         ensures goes { LeadsOn self.old.cycle self.new.cycle }
         ensures places { self.new.places.items ≡ self.old.places.items }
         ensures time { self.new.side.now ≡ self.old.side.now }
@@ -241,11 +276,13 @@ impl Service {
     fn take_answer(&mut self, link: usize, asked: Asked, outcome: Outcome)
         ensures answers { Answers asked outcome self.old.cycle self.new.cycle }
         ensures links { self.new.lines.links ≡ self.old.lines.links }
+        ensures lines { LinesGo self.old.lines.lines.items self.new.lines.lines.items }
         ensures places { self.new.places.items ≡ self.old.places.items }
         ensures time { self.new.side.now ≡ self.old.side.now }
     {
         let is_mapped = self.cycle.is_mapped(asked.device);
-        self.side.hear(link, asked.device, is_mapped);
+        self.lines.heard(link);
+        self.side.hear(asked.device, is_mapped);
         let foreign = self.take(asked, outcome);
         self.forget_if(foreign, asked.device);
         self.go_on();
@@ -254,6 +291,7 @@ impl Service {
     /// A device whose words are no block of the model that was asked for has other registers than its map says.
     fn forget_if(&mut self, foreign: bool, device: usize)
         ensures links { self.new.lines.links ≡ self.old.lines.links }
+        ensures lines { LinesGo self.old.lines.lines.items self.new.lines.lines.items }
         ensures goes { LeadsOn self.old.cycle self.new.cycle }
         ensures places { self.new.places.items ≡ self.old.places.items }
         ensures time { self.new.side.now ≡ self.old.side.now }
@@ -266,14 +304,16 @@ impl Service {
     /// A device didn't answer: it isn't asked for a while.
     fn miss(&mut self, link: usize, device: usize, loss: Loss)
         ensures links { self.new.lines.links ≡ self.old.lines.links }
+        ensures lines { LinesGo self.old.lines.lines.items self.new.lines.lines.items }
         ensures goes { LeadsOn self.old.cycle self.new.cycle }
         ensures places { self.new.places.items ≡ self.old.places.items }
         ensures time { self.new.side.now ≡ self.old.side.now }
     {
-        self.side.miss(link, device);
-        self.cycle.seek_anew(device);
+        self.side.miss(device);
+        self.lines.missed(link);
+        self.cycle.seek_anew(device, self.lines.number_for(device));
         self.lose(device, loss);
-        if self.side.is_bad(link) {
+        if self.lines.is_bad(link) {
             self.lose_all(link, loss);
         }
     }
@@ -282,12 +322,13 @@ impl Service {
     fn take(&mut self, asked: Asked, outcome: Outcome) -> bool
         ensures ends { EndsOwn asked.aim asked.device outcome (stage_of self.old.cycle) (stage_of self.new.cycle) }
         ensures links { self.new.lines.links ≡ self.old.lines.links }
+        ensures lines { LinesGo self.old.lines.lines.items self.new.lines.lines.items }
         ensures places { self.new.places.items ≡ self.old.places.items }
         ensures time { self.new.side.now ≡ self.old.side.now }
     {
         match asked.aim {
             Aim::Map => {
-                self.cycle.answered(asked.device, &outcome);
+                self.cycle.answered(asked.device, asked.number, &outcome);
                 false
             }
             Aim::Block(want) => self.cycle.close_block(asked.device, want, outcome),
@@ -303,6 +344,7 @@ impl Service {
         ensures told { output < length self.old.side.outputs.items → told_at self.new.side.outputs.items output ≡ Some (state_by outcome) }
         ensures ends { EndsOwn (OutputAim output) device outcome (stage_of self.old.cycle) (stage_of self.new.cycle) }
         ensures links { self.new.lines.links ≡ self.old.lines.links }
+        ensures lines { LinesGo self.old.lines.lines.items self.new.lines.lines.items }
         ensures places { self.new.places.items ≡ self.old.places.items }
         ensures time { self.new.side.now ≡ self.old.side.now }
     {
@@ -315,40 +357,43 @@ impl Service {
     /// The time of each request that is over ends its wait.
     pub(crate) fn end_waits(&mut self)
         ensures links { self.new.lines.links ≡ self.old.lines.links }
+        ensures lines { LinesGo self.old.lines.lines.items self.new.lines.lines.items }
         ensures goes { LeadsOn self.old.cycle self.new.cycle }
         ensures places { self.new.places.items ≡ self.old.places.items }
         ensures time { self.new.side.now ≡ self.old.side.now }
     {
-        for link in 0..self.side.wires.len() {
+        for link in 0..self.lines.count() {
             self.end_wait(link);
         }
     }
 
     fn end_wait(&mut self, link: usize)
         ensures links { self.new.lines.links ≡ self.old.lines.links }
+        ensures lines { LinesGo self.old.lines.lines.items self.new.lines.lines.items }
         ensures goes { LeadsOn self.old.cycle self.new.cycle }
         ensures places { self.new.places.items ≡ self.old.places.items }
         ensures time { self.new.side.now ≡ self.old.side.now }
     {
-        if let Some(asked) = self.side.overdue(link) {
+        if let Some(asked) = self.lines.overdue(link, self.side.now) {
             self.give_up(link, asked);
         }
     }
 
     fn give_up(&mut self, link: usize, asked: Asked)
         ensures links { self.new.lines.links ≡ self.old.lines.links }
+        ensures lines { LinesGo self.old.lines.lines.items self.new.lines.lines.items }
         ensures goes { LeadsOn self.old.cycle self.new.cycle }
         ensures places { self.new.places.items ≡ self.old.places.items }
         ensures time { self.new.side.now ≡ self.old.side.now }
     {
-        self.side.give_up(link, self.lines.is_sent(link));
+        self.lines.give_up(link);
         self.side.lose_write(asked.aim);
         if self.side.had_time(asked.since) {
             self.miss(link, asked.device, Loss::Silent);
         } else if asked.aim != Aim::Map {
             self.lose(asked.device, Loss::NoTime);
         }
-        if self.side.is_bad(link) {
+        if self.lines.is_bad(link) {
             self.lose_all(link, Loss::Silent);
         }
     }

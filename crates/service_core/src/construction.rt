@@ -21,7 +21,7 @@ use gateway::{Core, CoreFault, DEPTH};
 use register_map::Map;
 use scan_vm::Machine;
 use service::Search;
-use service_parts::{ClientPlace, Limits, Lines, Station, Wire};
+use service_parts::{ClientPlace, Limits, Lines, Station};
 use site_model::{Site, SiteDevice};
 use std::alloc::{AllocError, Global};
 
@@ -51,7 +51,7 @@ impl Service {
     {
         let parts = parts_of(alloc, &site, links, stations, limits, now)?;
         let core = Core::new(alloc, site, machine, parts.maps)?;
-        let cycle = ScanCycle::new(alloc, core, parts.round, parts.searches)?;
+        let cycle = ScanCycle::new(alloc, core, parts.round, parts.searches, parts.over)?;
         Ok(Service {
             cycle,
             lines: parts.peers.lines,
@@ -67,6 +67,7 @@ struct Parts {
     maps: Vec<Option<Map>>,
     round: Round,
     searches: Vec<Search>,
+    over: Vec<u64>,
     peers: Peers,
 }
 
@@ -92,11 +93,13 @@ fn parts_of(
     let maps = no_maps(alloc, site.devices())?;
     let round = Round::new(alloc, site)?;
     let searches = searches_for(alloc, site.devices())?;
+    let over = vec![in alloc; 0; site.devices().len()]?;
     let peers = peers_of(alloc, site, links, stations, limits, now)?;
     Ok(Parts {
         maps,
         round,
         searches,
+        over,
         peers,
     })
 }
@@ -125,8 +128,8 @@ fn peers_of(
     ensures time { IfOk result (λ peers. peers.side.now ≡ now) }
     ensures places { IfOk result (λ peers. length peers.places.items ≡ limits.clients) }
 {
-    let lines = Lines::new(alloc, links, stations)?;
-    let side = device_side(alloc, site, links, stations, limits, now)?;
+    let lines = Lines::new(alloc, links, stations, site.devices().len())?;
+    let side = device_side(alloc, site, limits, now)?;
     let places = places_for(alloc, limits.clients)?;
     Ok(Peers {
         lines,
@@ -135,12 +138,10 @@ fn peers_of(
     })
 }
 
-/// The devices and outputs of a site, and so many connections, all of them down.
+/// The devices and outputs of a site.
 fn device_side(
     alloc: Global,
     site: &Site,
-    links: usize,
-    stations: &[Station],
     limits: Limits,
     now: u64,
 ) -> Result<DeviceSide, AllocError>
@@ -149,10 +150,8 @@ fn device_side(
 {
     let devices = devices_of(alloc, site.devices().len())?;
     let outputs = outputs_of(alloc, site.outs())?;
-    let wires = wires_to(alloc, links, stations, devices.len())?;
     let notes = Notes::new(alloc, most_notes(devices.len(), outputs.len()))?;
     Ok(DeviceSide {
-        wires,
         devices,
         outputs,
         notes,
@@ -205,35 +204,6 @@ fn outputs_of(alloc: Global, outs: &[usize]) -> Result<Vec<Output>, AllocError> 
         outputs.push(Output::new())?;
     }
     Ok(outputs)
-}
-
-fn wires_to(
-    alloc: Global,
-    links: usize,
-    stations: &[Station],
-    devices: usize,
-) -> Result<Vec<Wire>, AllocError> {
-    let mut wires = Vec::new(alloc);
-    for link in 0..links {
-        wires.push(Wire::new(devices_on(alloc, link, stations, devices)?))?;
-    }
-    Ok(wires)
-}
-
-/// Which of so many devices are reached over a connection.
-fn devices_on(
-    alloc: Global,
-    link: usize,
-    stations: &[Station],
-    devices: usize,
-) -> Result<Vec<usize>, AllocError> {
-    let mut found = Vec::new(alloc);
-    for (device, station) in stations.iter().enumerate() {
-        if device < devices && station.link == link {
-            found.push(device)?;
-        }
-    }
-    Ok(found)
 }
 
 fn places_for(alloc: Global, clients: usize) -> Result<Vec<ClientPlace>, AllocError>

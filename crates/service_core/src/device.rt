@@ -1,4 +1,7 @@
 //! What is known of a device, apart from its map.
+ghost use Rattle.std.specs.Prelude.{◌≡◌, false, not};
+ghost use Rattle.service_core.specs.Noting.{lost_by};
+
 use crate::counts::Counts;
 use crate::note::Loss;
 use service_parts::{Limits, longer};
@@ -19,7 +22,9 @@ pub struct Device {
 }
 
 impl Device {
-    pub fn new() -> Device {
+    pub fn new() -> Device
+        ensures { result.is_lost ≡ false }
+    {
         Device {
             search_at: 0,
             rest_until: 0,
@@ -57,7 +62,10 @@ impl Device {
     }
 
     /// It is lost; whether it wasn't before.
-    pub fn lose(&mut self, loss: Loss) -> bool {
+    pub fn lose(&mut self, loss: Loss) -> bool
+        ensures lost { self.new ≡ lost_by loss self.old }
+        ensures told { result ≡ not self.old.is_lost }
+    {
         self.counts.lose(loss);
         self.last_loss = Some(loss);
         let was_lost = self.is_lost;
@@ -66,7 +74,9 @@ impl Device {
     }
 
     /// It answered.
-    pub fn heard(&mut self) {
+    pub fn heard(&mut self)
+        ensures { self.new ≡ record self.old { wait = 0; rest_until = 0 } }
+    {
         self.wait = 0;
         self.rest_until = 0;
     }

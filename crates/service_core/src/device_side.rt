@@ -1,8 +1,7 @@
-//! The devices' side of a service, apart from its core and from what goes out: connections, devices and outputs.
-ghost use Rattle.std.specs.Prelude.{◌≡◌, ◌≤◌, ◌<◌, ℕ, Some, length, max, slice_get, take};
-ghost use Rattle.service_parts.specs.declared.wire.Wire.{Wire as WireValue};
-ghost use Rattle.service_parts.specs.Waking.{due_at, is_quiet};
-ghost use Rattle.service_core.specs.Connections.{HearsThere};
+//! The devices' side of a service, apart from its core and its connections: devices, outputs, and the times of rounds.
+ghost use Rattle.std.specs.Prelude.{◌≡◌, ◌<◌, Some, length, max, slice_get};
+ghost use Rattle.service_core.specs.declared.device.Device.{Device as DeviceValue};
+ghost use Rattle.service_core.specs.Noting.{Finds, HearsFrom, Loses};
 ghost use Rattle.service_core.specs.Telling.{told_at};
 
 use crate::device::Device;
@@ -11,8 +10,7 @@ use crate::notes::Notes;
 use crate::output::{Output, OutputState};
 use gateway::{Core, DEPTH, Report};
 use point_writer::{NoWrite, Write};
-use service::Fate;
-use service_parts::{Aim, Asked, Limits, Lines, Wire, sooner};
+use service_parts::{Aim, Limits, sooner};
 
 /// How far a round is.
 #[derive(Clone, Copy)]
@@ -25,11 +23,10 @@ pub(crate) enum Phase {
     Resting,
 }
 
-/// How connections, devices and outputs stand, what is told of them, how far the round is, and when something is to be done
-/// about all that.
+/// How devices and outputs stand, what is told of them, how far the round is, and when something is to be done about all
+/// that.
 #[derive(Drop)]
 pub struct DeviceSide {
-    pub(crate) wires: Vec<Wire>,
     pub(crate) devices: Vec<Device>,
     pub(crate) outputs: Vec<Output>,
     pub(crate) notes: Notes,
@@ -55,182 +52,16 @@ impl DeviceSide {
         self.now = self.now.max(now);
     }
 
-    /// Whether a connection is to be made: it is down, no dial is under way, and its back-off is over.
-    pub(crate) fn wants_dial(&self, link: usize) -> bool {
-        match self.wires.get(link) {
-            Some(wire) => wire.wants_dial(self.now),
-            None => false,
-        }
+    /// Until when a dial that begins now may take: as long as a device may take to answer.
+    pub(crate) fn dial_until(&self) -> u64 {
+        self.now.saturating_add(self.limits.timeout)
     }
 
-    /// A dial begins, which may take as long as a device may take to answer.
-    pub(crate) fn dial(&mut self, link: usize)
-        ensures now { self.new.now ≡ self.old.now }
-    {
-        let until = self.now.saturating_add(self.limits.timeout);
-        if let Some(wire) = self.wires.get_mut(link) {
-            wire.dial(until);
-        }
-    }
-
-    pub(crate) fn come_up(&mut self, link: usize)
-        ensures now { self.new.now ≡ self.old.now }
-    {
-        if let Some(wire) = self.wires.get_mut(link) {
-            wire.come_up();
-        }
-    }
-
-    pub(crate) fn go_down(&mut self, link: usize)
-        ensures now { self.new.now ≡ self.old.now }
-    {
-        if let Some(wire) = self.wires.get_mut(link) {
-            wire.go_down(self.now, &self.limits);
-        }
-    }
-
-    /// What came over a connection is no frame.
-    pub(crate) fn spoil(&mut self, link: usize)
-        ensures now { self.new.now ≡ self.old.now }
-    {
-        if let Some(wire) = self.wires.get_mut(link) {
-            wire.spoil();
-        }
-    }
-
-    /// Whether a connection is to be closed, or its dial to be given up.
-    pub(crate) fn wants_hang_up(&self, link: usize) -> bool {
-        match self.wires.get(link) {
-            Some(wire) => wire.wants_hang_up(self.now),
-            None => false,
-        }
-    }
-
-    pub(crate) fn is_up(&self, link: usize) -> bool {
-        match self.wires.get(link) {
-            Some(wire) => wire.is_up(),
-            None => false,
-        }
-    }
-
-    pub(crate) fn is_bad(&self, link: usize) -> bool {
-        match self.wires.get(link) {
-            Some(wire) => wire.is_bad(),
-            None => false,
-        }
-    }
-
-    pub(crate) fn is_well(&self, link: usize) -> bool {
-        match self.wires.get(link) {
-            Some(wire) => wire.is_well(),
-            None => false,
-        }
-    }
-
-    /// Whether a connection is well, and no request is under way on it.
-    pub(crate) fn is_free(&self, link: usize) -> bool {
-        match self.wires.get(link) {
-            Some(wire) => wire.is_free(),
-            None => false,
-        }
-    }
-
-    /// Whether there may be something to ask over a connection.
-    pub(crate) fn is_stirred(&self, link: usize) -> bool {
-        match self.wires.get(link) {
-            Some(wire) => wire.is_stirred(self.now),
-            None => false,
-        }
-    }
-
-    /// There may be something to ask over each connection.
-    pub(crate) fn stir_all(&mut self)
-        ensures now { self.new.now ≡ self.old.now }
-    {
-        for wire in self.wires.iter_mut() {
-            wire.stir();
-        }
-    }
-
-    /// There is nothing to ask over the connection before one of its devices may be asked again, or something happens.
-    pub(crate) fn rest_link(&mut self, link: usize)
-        ensures now { self.new.now ≡ self.old.now }
-    {
-        let mut until = u64::MAX;
-        for i in 0..self.devices_on(link) {
-            until = self.asked_again_by(link, i, until);
-        }
-        if let Some(wire) = self.wires.get_mut(link) {
-            wire.rest_until(until);
-        }
-    }
-
-    fn asked_again_by(&self, link: usize, i: usize, until: u64) -> u64 {
-        let device = match self.device_at(link, i) {
-            Some(device) => device,
-            None => return until,
-        };
+    /// When a device may be asked and searched again, where that is yet to come and before the given time; else this time.
+    pub(crate) fn asked_again(&self, device: usize, until: u64) -> u64 {
         match self.devices.get(device) {
             Some(found) => sooner(until, found.asked_again_at(), self.now),
             None => until,
-        }
-    }
-
-    /// How many devices a connection has.
-    pub(crate) fn devices_on(&self, link: usize) -> usize {
-        match self.wires.get(link) {
-            Some(wire) => wire.devices().len(),
-            None => 0,
-        }
-    }
-
-    /// The number of a connection's device.
-    pub(crate) fn device_at(&self, link: usize, i: usize) -> Option<usize> {
-        self.wires.get(link)?.devices().get(i).copied()
-    }
-
-    /// The number of the device from which on the next one of a connection is asked.
-    pub(crate) fn turn(&self, link: usize) -> Option<usize> {
-        Some(self.wires.get(link)?.turn())
-    }
-
-    /// Takes bytes of a connection, and tells how many, and what became of the request that is under way.
-    pub(crate) fn take(&mut self, link: usize, bytes: &[u8]) -> (usize, Option<Fate>)
-        ensures hears { (wire : WireValue) → slice_get self.old.wires.items link ≡ Some wire → HearsThere wire (take result.0 bytes.now) result.1 (slice_get self.new.wires.items link) }
-        ensures now { self.new.now ≡ self.old.now }
-    {
-        match self.wires.get_mut(link) {
-            Some(wire) => wire.take(bytes),
-            None => (bytes.len(), None),
-        }
-    }
-
-    /// The request that is under way on a connection is over.
-    pub(crate) fn end(&mut self, link: usize) -> Option<Asked>
-        ensures asked { (wire : WireValue) → slice_get self.old.wires.items link ≡ Some wire → result ≡ wire.asked }
-        ensures now { self.new.now ≡ self.old.now }
-    {
-        let wire = self.wires.get_mut(link)?;
-        wire.stir();
-        wire.end()
-    }
-
-    /// The request that is under way on a connection, where its time is over.
-    pub(crate) fn overdue(&self, link: usize) -> Option<Asked> {
-        let asked = self.wires.get(link)?.asked()?;
-        if self.now < asked.until {
-            return None;
-        }
-        Some(asked)
-    }
-
-    /// A request is given up, of which all was sent, or a part.
-    pub(crate) fn give_up(&mut self, link: usize, is_sent: bool)
-        ensures now { self.new.now ≡ self.old.now }
-    {
-        if let Some(wire) = self.wires.get_mut(link) {
-            wire.stir();
-            wire.give_up(is_sent);
         }
     }
 
@@ -248,18 +79,6 @@ impl DeviceSide {
     pub(crate) fn had_time(&self, since: u64) -> bool {
         let fair = self.limits.timeout.min(self.limits.period / 4);
         self.now >= since.saturating_add(fair)
-    }
-
-    /// Not later than at this time something is to be done about a connection, or at the given one.
-    pub(crate) fn wakes_at(&self, lines: &Lines, at: u64) -> u64
-        ensures most { result ≤ at }
-        ensures links { (link : ℕ) (wire : WireValue) → slice_get self.entry.now.wires.items link ≡ Some wire → result ≤ due_at (is_quiet lines.entry.now link) wire }
-    {
-        let mut at = at;
-        for link in 0..self.wires.len() {
-            at = at.min(self.wires[link].wakes_at(lines.is_sent(link)));
-        }
-        at
     }
 }
 
@@ -291,6 +110,7 @@ impl DeviceSide {
 
     /// A device's map is found.
     pub(crate) fn find(&mut self, device: usize)
+        ensures finds { (own : DeviceValue) → slice_get self.old.devices.items device ≡ Some own → Finds device own self.old self.new }
         ensures now { self.new.now ≡ self.old.now }
     {
         if let Some(found) = self.devices.get_mut(device) {
@@ -321,6 +141,7 @@ impl DeviceSide {
 
     /// A device is lost; it is told where it wasn't before.
     pub(crate) fn lose(&mut self, device: usize, loss: Loss)
+        ensures loses { (own : DeviceValue) → slice_get self.old.devices.items device ≡ Some own → Loses device loss own self.old self.new }
         ensures now { self.new.now ≡ self.old.now }
     {
         if let Some(found) = self.devices.get_mut(device) {
@@ -331,12 +152,10 @@ impl DeviceSide {
     }
 
     /// A device answered, one that has a map or not.
-    pub(crate) fn hear(&mut self, link: usize, device: usize, is_mapped: bool)
+    pub(crate) fn hear(&mut self, device: usize, is_mapped: bool)
+        ensures hears { (own : DeviceValue) → slice_get self.old.devices.items device ≡ Some own → HearsFrom device is_mapped own self.old self.new }
         ensures now { self.new.now ≡ self.old.now }
     {
-        if let Some(wire) = self.wires.get_mut(link) {
-            wire.heard();
-        }
         if let Some(found) = self.devices.get_mut(device) {
             found.heard();
             if found.is_lost && is_mapped {
@@ -347,14 +166,11 @@ impl DeviceSide {
     }
 
     /// A device didn't answer: it isn't asked for a while.
-    pub(crate) fn miss(&mut self, link: usize, device: usize)
+    pub(crate) fn miss(&mut self, device: usize)
         ensures now { self.new.now ≡ self.old.now }
     {
         if let Some(found) = self.devices.get_mut(device) {
             found.rest(self.now, &self.limits);
-        }
-        if let Some(wire) = self.wires.get_mut(link) {
-            wire.missed();
         }
     }
 }
@@ -482,15 +298,6 @@ impl DeviceSide {
         match self.outputs.get(output) {
             Some(found) => found.is_awaited,
             None => false,
-        }
-    }
-
-    /// The requests that are under way are those of a round that is over.
-    pub(crate) fn outlive_all(&mut self)
-        ensures now { self.new.now ≡ self.old.now }
-    {
-        for wire in self.wires.iter_mut() {
-            wire.outlive();
         }
     }
 }

@@ -11,6 +11,7 @@ impl Service {
     /// point read as the number, exactly and in its range.
     pub fn restore(&mut self, tag: usize, number: i64) -> bool
         ensures links { self.new.lines.links ≡ self.old.lines.links }
+        ensures lines { self.new.lines ≡ self.old.lines }
         ensures goes { ClientsLeadOn self.old.cycle self.new.cycle }
         ensures sets { IsTrue result → self.new.cycle.core.value.standing
             ≡ record self.old.cycle.core.value.standing { sets = slice_set self.old.cycle.core.value.standing.sets tag (Some number) } }

@@ -1,6 +1,7 @@
 //! Rounds, by the time.
 ghost use Rattle.std.specs.Prelude.{◌≡◌, map, max};
 ghost use Rattle.service_core.specs.Cycle.{LeadsOn};
+ghost use Rattle.service_parts.specs.Frames.{LinesGo};
 ghost use Rattle.service_parts.specs.Places.{closed_if_idle};
 
 use crate::note::Loss;
@@ -12,6 +13,7 @@ impl Service {
     /// The time is this: ends waits, begins rounds. It is to be called behind each wait.
     pub fn tick(&mut self, now: u64)
         ensures links { self.new.lines.links ≡ self.old.lines.links }
+        ensures lines { LinesGo self.old.lines.lines.items self.new.lines.lines.items }
         ensures goes { LeadsOn self.old.cycle self.new.cycle }
         ensures places { self.new.places.items ≡ map (closed_if_idle (max self.old.side.now now) self.old.side.limits.idle) self.old.places.items }
         ensures time { self.new.side.now ≡ max self.old.side.now now }
@@ -30,6 +32,7 @@ impl Service {
     /// Asks what can be asked, runs the program once all is read, and ends the round once all is written.
     pub(crate) fn go_on(&mut self)
         ensures links { self.new.lines.links ≡ self.old.lines.links }
+        ensures lines { LinesGo self.old.lines.lines.items self.new.lines.lines.items }
         ensures goes { LeadsOn self.old.cycle self.new.cycle }
         ensures places { self.new.places.items ≡ self.old.places.items }
         ensures time { self.new.side.now ≡ self.old.side.now }
@@ -56,6 +59,7 @@ impl Service {
 
     fn cut_off_all(&mut self)
         ensures links { self.new.lines.links ≡ self.old.lines.links }
+        ensures lines { LinesGo self.old.lines.lines.items self.new.lines.lines.items }
         ensures goes { LeadsOn self.old.cycle self.new.cycle }
         ensures places { self.new.places.items ≡ self.old.places.items }
         ensures time { self.new.side.now ≡ self.old.side.now }
@@ -67,6 +71,7 @@ impl Service {
 
     fn cut_off(&mut self, device: usize)
         ensures links { self.new.lines.links ≡ self.old.lines.links }
+        ensures lines { LinesGo self.old.lines.lines.items self.new.lines.lines.items }
         ensures goes { LeadsOn self.old.cycle self.new.cycle }
         ensures places { self.new.places.items ≡ self.old.places.items }
         ensures time { self.new.side.now ≡ self.old.side.now }
@@ -81,6 +86,7 @@ impl Service {
     /// Begins the next round at its time.
     fn begin_round(&mut self)
         ensures links { self.new.lines.links ≡ self.old.lines.links }
+        ensures lines { LinesGo self.old.lines.lines.items self.new.lines.lines.items }
         ensures goes { LeadsOn self.old.cycle self.new.cycle }
         ensures places { self.new.places.items ≡ self.old.places.items }
         ensures time { self.new.side.now ≡ self.old.side.now }
@@ -92,12 +98,13 @@ impl Service {
         self.side.plan_round();
         self.cycle.begin();
         self.leave_out_all();
-        self.side.stir_all();
+        self.lines.stir_all();
     }
 
     /// The last round is over, whatever is left of it.
     fn end_round(&mut self)
         ensures links { self.new.lines.links ≡ self.old.lines.links }
+        ensures lines { LinesGo self.old.lines.lines.items self.new.lines.lines.items }
         ensures goes { LeadsOn self.old.cycle self.new.cycle }
         ensures places { self.new.places.items ≡ self.old.places.items }
         ensures time { self.new.side.now ≡ self.old.side.now }
@@ -111,12 +118,13 @@ impl Service {
             let report = self.report();
             self.side.finish(report);
         }
-        self.side.outlive_all();
+        self.lines.outlive_all();
     }
 
     /// What can't be asked now isn't waited for.
     fn leave_out_all(&mut self)
         ensures links { self.new.lines.links ≡ self.old.lines.links }
+        ensures lines { LinesGo self.old.lines.lines.items self.new.lines.lines.items }
         ensures goes { LeadsOn self.old.cycle self.new.cycle }
         ensures places { self.new.places.items ≡ self.old.places.items }
         ensures time { self.new.side.now ≡ self.old.side.now }
@@ -128,6 +136,7 @@ impl Service {
 
     fn leave_out(&mut self, device: usize)
         ensures links { self.new.lines.links ≡ self.old.lines.links }
+        ensures lines { LinesGo self.old.lines.lines.items self.new.lines.lines.items }
         ensures goes { LeadsOn self.old.cycle self.new.cycle }
         ensures places { self.new.places.items ≡ self.old.places.items }
         ensures time { self.new.side.now ≡ self.old.side.now }
@@ -141,7 +150,7 @@ impl Service {
     fn may_be_asked(&self, device: usize) -> bool {
         match self.lines.station(device) {
             Some(station) => {
-                self.side.is_well(station.link)
+                self.lines.is_well(station.link)
                     && self.side.is_rested(device)
                     && self.cycle.is_mapped(device)
             }
@@ -152,6 +161,7 @@ impl Service {
     /// Runs the program, where all is read; whether it did.
     fn scan(&mut self) -> bool
         ensures links { self.new.lines.links ≡ self.old.lines.links }
+        ensures lines { LinesGo self.old.lines.lines.items self.new.lines.lines.items }
         ensures goes { LeadsOn self.old.cycle self.new.cycle }
         ensures places { self.new.places.items ≡ self.old.places.items }
         ensures time { self.new.side.now ≡ self.old.side.now }
@@ -161,7 +171,7 @@ impl Service {
         }
         self.side.count_scan(self.cycle.core());
         self.leave_out_all();
-        self.side.stir_all();
+        self.lines.stir_all();
         true
     }
 }

@@ -1,5 +1,5 @@
 //! The core with its round and its searches.
-ghost use Rattle.std.specs.Prelude.{◌≡◌, IfOk, length, slice_get, true};
+ghost use Rattle.std.specs.Prelude.{◌≡◌, IfOk, IsTrue, Some, length, slice_get, true};
 ghost use Rattle.service_parts.specs.Course.{IsNew};
 ghost use Rattle.service_parts.specs.Seeking.{AreOf};
 ghost use Rattle.service_core.specs.Maps.{has_map, is_there};
@@ -20,6 +20,8 @@ pub struct ScanCycle {
     pub(crate) round: Round,
     /// One for each device.
     pub(crate) searches: Vec<Search>,
+    /// The number of the connection over which each device is searched.
+    pub(crate) over: Vec<u64>,
     pub(crate) lost: usize,
     /// Whether the client whose turn it is may write.
     pub(crate) may_write: bool,
@@ -36,6 +38,7 @@ impl ScanCycle {
         core: Core<DEPTH>,
         round: Round,
         searches: Vec<Search>,
+        over: Vec<u64>,
     ) -> Result<ScanCycle, AllocError>
         requires opened { IsNew core }
         requires fits { IsRoundFor core.site round }
@@ -49,6 +52,7 @@ impl ScanCycle {
             core,
             round,
             searches,
+            over,
             lost: 0,
             may_write: false,
         })
@@ -77,6 +81,16 @@ impl ScanCycle {
         ensures { result ≡ has_map self.now.core.value device }
     {
         is_there(self.core.maps(), device)
+    }
+
+    /// Whether the device is searched over the connection with this number.
+    pub fn is_sought_over(&self, device: usize, number: u64) -> bool
+        ensures { IsTrue result → slice_get self.now.over.items device ≡ Some number }
+    {
+        match self.over.get(device) {
+            Some(over) => *over == number,
+            None => false,
+        }
     }
 
     /// From now on the turn is a client's that may write, or may not.

@@ -1,6 +1,7 @@
 //! A service of a gateway.
 ghost use Rattle.std.specs.Prelude.{◌≡◌};
 ghost use Rattle.service_core.specs.Cycle.{stage_of};
+ghost use Rattle.service_core.specs.Noting.{TakesOldest};
 ghost use Rattle.service_core.specs.Stages.{IsReached};
 ghost use Rattle.service_parts.specs.Requests.{AreRightfulBy};
 
@@ -22,9 +23,11 @@ pub struct Service {
 }
 
 impl Service {
-    /// What happened, the oldest first.
+    /// What happened, the oldest first, each once.
     pub fn next_note(&mut self) -> Option<Note>
+        ensures oldest { TakesOldest self.old.side.notes.items.items result self.new.side.notes.items.items }
         ensures links { self.new.lines.links ≡ self.old.lines.links }
+        ensures lines { self.new.lines ≡ self.old.lines }
         ensures core { self.new.cycle.core.value ≡ self.old.cycle.core.value }
         ensures places { self.new.places.items ≡ self.old.places.items }
         ensures time { self.new.side.now ≡ self.old.side.now }

@@ -31,7 +31,7 @@ impl Service {
     {
         let found = self.side.devices.get(device)?;
         let is_up = match self.lines.station(device) {
-            Some(station) => self.side.is_up(station.link),
+            Some(station) => self.lines.is_up(station.link),
             None => false,
         };
         Some(DeviceStatus {

@@ -1,9 +1,10 @@
 //! What happens to a core and its round, step by step.
-ghost use Rattle.std.specs.Prelude.{◌≡◌, ◌<◌, length, set, slice_set, IfSome, IsTrue, None, Some, false};
+ghost use Rattle.std.specs.Prelude.{◌≡◌, ◌<◌, ℕ, [], length, set, slice_get, slice_set, IfSome, IsTrue, None, Some, false};
+ghost use Rattle.site_model.specs.declared.device.SiteDevice.{SiteDevice as DeviceValue};
 ghost use Rattle.modbus_frame.specs.Message.{HasQuantity, IsRequest};
 ghost use Rattle.gateway.specs.declared.poller.cycle.Call.{Call as CallValue};
 ghost use Rattle.gateway.specs.event_core.Restoring.{NothingSets, SetsAlone};
-ghost use Rattle.service.specs.Searches.{HasStepQuantity};
+ghost use Rattle.service.specs.Searches.{HasStepQuantity, Sought as SoughtValue};
 ghost use Rattle.service_parts.specs.declared.wire.Aim.{Aim as AimValue};
 ghost use Rattle.service_parts.specs.declared.wire.Aim.TheVariants.{Block as BlockAim, Output as OutputAim};
 ghost use Rattle.service_parts.specs.Calls.{IsCallFor};
@@ -73,18 +74,37 @@ impl ScanCycle {
         Some(search.next())
     }
 
-    /// Takes what came of a read of a device's search.
-    pub fn answered(&mut self, device: usize, outcome: &Outcome)
+    /// Takes what came of a read of a device's search over the connection with this number. A search over another one stays
+    /// as it is.
+    pub fn answered(&mut self, device: usize, number: u64, outcome: &Outcome)
         ensures same { stage_of self.new ≡ stage_of self.old }
+        ensures over { self.new.over ≡ self.old.over }
+        ensures other { (slice_get self.old.over.items device ≡ Some number → ⊥) → self.new ≡ self.old }
     {
+        if !self.is_sought_over(device, number) {
+            return;
+        }
         if let Some(search) = self.searches.get_mut(device) {
             take(search, outcome);
         }
     }
 
-    /// From now on the device's map is searched from the start.
-    pub fn seek_anew(&mut self, device: usize)
+    /// From now on the device's map is searched from the start, over the connection with this number.
+    pub fn seek_anew(&mut self, device: usize, number: u64)
         ensures goes { LeadsOn self.old self.new }
+        ensures begins { (own : DeviceValue) (search : SoughtValue) → slice_get self.old.core.value.site.devices device ≡ Some own → slice_get self.old.searches.items device ≡ Some search
+            → slice_get self.new.searches.items device ≡ Some (record { base = own.base; answers = [] }) }
+        ensures over { (other : ℕ) → slice_get self.old.over.items device ≡ Some other → slice_get self.new.over.items device ≡ Some number }
+    {
+        self.begin_search(device);
+        self.search_over(device, number);
+    }
+
+    fn begin_search(&mut self, device: usize)
+        ensures goes { LeadsOn self.old self.new }
+        ensures begins { (own : DeviceValue) (search : SoughtValue) → slice_get self.old.core.value.site.devices device ≡ Some own → slice_get self.old.searches.items device ≡ Some search
+            → slice_get self.new.searches.items device ≡ Some (record { base = own.base; answers = [] }) }
+        ensures same { self.new.over ≡ self.old.over }
     {
         let base = match self.core.site().devices().get(device) {
             Some(own) => own.base,
@@ -92,6 +112,15 @@ impl ScanCycle {
         };
         if let Some(search) = self.searches.get_mut(device) {
             *search = Search::new(base);
+        }
+    }
+
+    fn search_over(&mut self, device: usize, number: u64)
+        ensures over { (other : ℕ) → slice_get self.old.over.items device ≡ Some other → slice_get self.new.over.items device ≡ Some number }
+        ensures same { self.new ≡ record self.old { over = self.new.over } }
+    {
+        if let Some(over) = self.over.get_mut(device) {
+            *over = number;
         }
     }
 

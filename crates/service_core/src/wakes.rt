@@ -1,9 +1,9 @@
 //! When something is to be done next.
 ghost use Rattle.std.specs.Prelude.{◌≡◌, ◌≤◌, ◌&&◌, not, true, ℕ, Some, slice_get};
 ghost use Rattle.service_parts.specs.declared.client_place.ClientPlace.{ClientPlace as Place};
-ghost use Rattle.service_parts.specs.declared.wire.Wire.{Wire as WireValue};
+ghost use Rattle.service_parts.specs.declared.line.Line.{Line as LineValue};
 ghost use Rattle.service_parts.specs.Places.{after};
-ghost use Rattle.service_parts.specs.Waking.{due_at, is_quiet};
+ghost use Rattle.service_parts.specs.Waking.{due_at};
 
 use crate::service_state::Service;
 use service_parts::ClientPlace;
@@ -14,14 +14,14 @@ impl Service {
     /// made, or to be closed.
     pub fn wakes_at(&self) -> u64
         ensures round { result ≤ self.now.side.next_round }
-        ensures links { (link : ℕ) (wire : WireValue) → slice_get self.now.side.wires.items link ≡ Some wire → result ≤ due_at (is_quiet self.now.lines link) wire }
+        ensures links { (link : ℕ) (line : LineValue) → slice_get self.now.lines.lines.items link ≡ Some line → result ≤ due_at line }
         ensures clients { (place : ℕ) (c : Place) → slice_get self.now.places.items place ≡ Some c → (c.is_taken && not c.is_closing) ≡ true → result ≤ after c.last self.now.side.limits.idle }
     {
         let mut at = self.side.next_round;
         if self.side.is_reading() {
             at = at.min(self.side.deadline);
         }
-        at = self.side.wakes_at(&self.lines, at);
+        at = self.lines.wakes_at(at);
         wakes_for_clients(&self.places, self.side.limits.idle, at)
     }
 }

@@ -1,2 +1,4 @@
 pub mod Rightful
 pub mod Heard
+pub mod Frames
+pub mod Placed

@@ -1,5 +1,6 @@
--- What goes out is a request that may be asked.
-use Rattle.std.proofs.Common.{◌≡◌, ◌≢◌, ◌⊎◌, inl, inr, ℕ, true, false, eqb, zero, suc, List, [], ◌∷◌, ◌++◌, take, drop, set, All, get_or, Option, Some, slice_get, refl, sym, ap, subst, ◌∙◌, append_assoc}
+-- What goes out is a request that may be asked, and it is the one that is noted.
+use Rattle.std.proofs.Common.{◌≡◌, ◌≢◌, ◌⊎◌, inl, inr, ℕ, Bool, true, false, not, ◌&&◌, eqb, List, [], ◌∷◌, ◌++◌, take, drop, length, set, All, get_or, Option, None, Some, slice_get, refl, sym, ap, subst, ◌∙◌, append_assoc}
+use Rattle.std.specs.Prelude.{IsTrue, min}
 use Rattle.std.proofs.Math.Logic.{∥∥₁_elim, ∥∥₁_prop}
 use Rattle.std.proofs.lemmas.Bool.Decides.{eqb_tells}
 use Rattle.std.proofs.lemmas.List.{take-append-drop}
@@ -12,7 +13,10 @@ use Rattle.site_model.proofs.Entries.{set-cases}
 use Rattle.gateway.specs.declared.event_core.event.Event.{Event}
 use Rattle.gateway.specs.declared.poller.cycle.Call.{Call}
 use Rattle.gateway.specs.event_core.Core.{Gateway}
-use Rattle.gateway.specs.poller.LinkRun.{frame_of}
+use Rattle.gateway.specs.poller.LinkRun.{Asked as FrameRequest, frame_of, most_dropped}
+use Rattle.service.specs.declared.fate.Fate.{Fate}
+use Rattle.modbus_frame.specs.declared.fault.FrameFault.{FrameFault}
+use Rattle.service.specs.Hearing.{HearsFor, Takes, TakesUnless, Wait, Wire as Hearing, lost_by, with_bytes}
 use Rattle.service.specs.declared.search.Step.{Step}
 use Rattle.service.specs.declared.search.Step.TheVariants as step
 use Rattle.service_parts.specs.declared.limits.Station.{Station}
@@ -20,10 +24,14 @@ use Rattle.service_parts.specs.declared.line.Line.{Line}
 use Rattle.service_parts.specs.declared.lines.Lines.{Lines}
 use Rattle.service_parts.specs.declared.wire.Aim.{Aim}
 use Rattle.service_parts.specs.declared.wire.Aim.TheVariants as aim
+use Rattle.service_parts.specs.declared.wire.Asked.{Asked}
+use Rattle.service_parts.specs.declared.wire.Wire.{Wire}
 use Rattle.service_parts.specs.Calls.{IsCallFor}
 use Rattle.service_parts.specs.Course.{Goes, GoesBy, IsOfClients, IsOfRounds, LeadsOnBy, Reached, stays, steps, learns}
-use Rattle.service_parts.specs.Requests.{AreRightful, AreRightfulBy, IsFoundOn, IsOfRound, IsRightful, MayBeAsked, MayGoOver}
+use Rattle.service_parts.specs.Frames.{Begins, GivesUp, Hears, IsCut, IsStill, Keeps, Sends, TakesWhere, left_under_way, outlived, past}
+use Rattle.service_parts.specs.Requests.{AreRightful, AreRightfulBy, IsFoundOn, IsMade, IsNoted, IsNotedIf, IsOfRound, IsRightful, IsRightfulLine, IsRightfulOn, MayBeAsked, MayGoOver}
 use Rattle.service_parts.specs.Seeking.{IsSought}
+use Rattle.service_parts.proofs.Frames.{set_other, set_there, unchanged}
 
 -- ---- whatever kinds there are
 
@@ -53,167 +61,322 @@ pub search_over : (g : Gateway) (numbers : List ℕ) (found_on : List (Option �
     → MayGoOver g numbers found_on link aim.Map device request
 search_over g numbers found_on link device next request sought is number at = ∥∥₁_elim sought ∥∥₁_prop (λ s. ∣ inr (refl, subst (IsSought g.site device) is s) ∣₁)
 
--- ---- the bytes of its frame, by the state of now
+-- ---- places of lists
 
-module _ (now : Gateway) where
-  module _ (stations : List Station) (found_on : List (Option ℕ)) where
-    whole_of : (link number device unit id : ℕ) (made_for : Aim) (request : Request) (bytes : List ℕ)
-        → slice_get stations device ≡ Some (record { link = link; unit = unit }) → ∥ Reached now ∥₁ → ∥ MayBeAsked now found_on number made_for device request ∥₁
-        → bytes ≡ frame_bytes (frame_of (record { id = id; unit = unit; request = request })) → ∥ IsRightful now stations found_on link number bytes ∥₁
-    whole_of link number device unit id made_for request bytes station reached asked is = ∥∥₁_elim reached ∥∥₁_prop (λ r. ∥∥₁_elim asked ∥∥₁_prop (λ a. ∣ inr (record {
-      device = device;
-      unit = unit;
-      station = station;
-      core = now;
-      reached = r;
-      since = stays now;
-      request = request;
-      made_for = made_for;
-      asked = a;
-      id = id;
-      gone = [];
-      whole = is;
-    }) ∣₁))
+same_station : {a b : Option Station} {x y : Station} → a ≡ Some x → b ≡ Some y → a ≡ b → x ≡ y
+same_station p q e = cc
 
-    left_of : (link number : ℕ) (bytes : List ℕ) (n : ℕ) → IsRightful now stations found_on link number bytes → IsRightful now stations found_on link number (drop n bytes)
-    left_of link number bytes n (inl none) = inl (ap (drop n) none ∙ drop-nil n)
-    left_of link number bytes n (inr rest) = inr (record {
-      device = rest.device;
-      unit = rest.unit;
-      station = rest.station;
-      core = rest.core;
-      reached = rest.reached;
-      since = rest.since;
-      request = rest.request;
-      made_for = rest.made_for;
-      asked = rest.asked;
-      id = rest.id;
-      gone = rest.gone ++ take n bytes;
-      whole = append_assoc rest.gone (take n bytes) (drop n bytes) ∙ (ap (λ l. rest.gone ++ l) (take-append-drop n bytes) ∙ rest.whole);
-    })
+same_number : {o : Option ℕ} {x y : ℕ} → o ≡ Some x → o ≡ Some y → x ≡ y
+same_number p q = cc
 
-    nothing : (link number : ℕ) (bytes : List ℕ) → bytes ≡ [] → ∥ IsRightful now stations found_on link number bytes ∥₁
-    nothing link number bytes none = ∣ inl none ∣₁
+some_within : (found_on : List (Option ℕ)) (device : ℕ) (x v : Option ℕ) → slice_get found_on device ≡ Some x → slice_get (set found_on device v) device ≡ Some v
+some_within found_on device x v at = set_there found_on device x v at
 
-  -- ---- the same of all links
+-- ---- what bytes leave under way
 
-  pub whole_frame : (stations : List Station) (numbers : List ℕ) (found_on : List (Option ℕ)) (link device unit id : ℕ) (made_for : Aim) (request : Request) (bytes : List ℕ)
-      → slice_get stations device ≡ Some (record { link = link; unit = unit }) → ∥ Reached now ∥₁ → MayGoOver now numbers found_on link made_for device request
-      → bytes ≡ frame_bytes (frame_of (record { id = id; unit = unit; request = request })) → (number : ℕ) → slice_get numbers link ≡ Some number → ∥ IsRightful now stations found_on link number bytes ∥₁
-  whole_frame stations numbers found_on link device unit id made_for request bytes station reached asked is number at = whole_of stations found_on link number device unit id made_for request bytes station reached (asked number at) is
+still_waits : (old new : Hearing) (bytes : List ℕ) (wait : Wait) → old.wait ≡ Some wait → Takes old bytes None new → (w : Wait) × (new.wait ≡ Some w) × (w.asked ≡ wait.asked)
+still_waits old new bytes wait is takes = go old.reading.held.fault takes
+  where
+    go : (f : Option FrameFault) → TakesUnless f old bytes None new → (w : Wait) × (new.wait ≡ Some w) × (w.asked ≡ wait.asked)
+    go (Some fault) lost = absurd (none lost.0 is)
+      where
+        none : {o : Option Wait} → None ≡ lost_by o → o ≡ Some wait → ⊥
+        none e at = cc
+    go None heard =
+        let open_still = subst (λ o. HearsFor o (with_bytes old.reading bytes) None new) is heard in
+        (record { asked = wait.asked; may_drop = open_still.0 }, open_still.2, refl)
 
-  pub all_quiet : (stations : List Station) (numbers : List ℕ) (found_on : List (Option ℕ)) (lines : List Line) → All (λ (line : Line). line.out.items ≡ []) lines → AreRightful now stations numbers found_on lines
-  all_quiet stations numbers found_on lines quiet link number line has at =
-      let is : get_or lines link line ≡ line = get_or_from_slice_get lines link line line at in
-      nothing stations found_on link number line.out.items (subst (λ (x : Line). x.out.items ≡ []) is (All-get_or (λ (x : Line). x.out.items ≡ []) lines link line (slice_get_within lines link line at) quiet))
+past_past : (made_for : Aim) → past (past made_for) ≡ past made_for
+past_past aim.Map = refl
+past_past (aim.Block want) = refl
+past_past (aim.Output output) = refl
+past_past aim.Past = refl
 
-  pub with_line : (stations : List Station) (numbers : List ℕ) (found_on : List (Option ℕ)) (lines : List Line) (link : ℕ) (new : Line) → AreRightful now stations numbers found_on lines
-      → ((number : ℕ) → slice_get numbers link ≡ Some number → ∥ IsRightful now stations found_on link number new.out.items ∥₁) → AreRightful now stations numbers found_on (set lines link new)
-  with_line stations numbers found_on lines link new before own k number line has at = go (set-cases lines link new k line at)
+outlives : (was made_for : Aim) → (was ≡ made_for) ⊎ (was ≡ past made_for) → (past was ≡ made_for) ⊎ (past was ≡ past made_for)
+outlives was made_for (inl is) = inr (ap past is)
+outlives was made_for (inr is) = inr (ap past is ∙ past_past made_for)
+
+-- ---- one line, by the state of now
+
+module _ (now : Gateway) (stations : List Station) (found_on : List (Option ℕ)) (link number : ℕ) where
+  left_of : (bytes : List ℕ) (n : ℕ) → IsRightful now stations found_on link number bytes → IsRightful now stations found_on link number (drop n bytes)
+  left_of bytes n (inl none) = inl (ap (drop n) none ∙ drop-nil n)
+  left_of bytes n (inr rest) = inr (record {
+    device = rest.device;
+    made_for = rest.made_for;
+    frame = rest.frame;
+    made = rest.made;
+    gone = rest.gone ++ take n bytes;
+    whole = append_assoc rest.gone (take n bytes) (drop n bytes) ∙ (ap (λ l. rest.gone ++ l) (take-append-drop n bytes) ∙ rest.whole);
+  })
+
+  cut_line : (line : Line) → IsCut line → IsRightfulLine now stations found_on link number line
+  cut_line line cut = record {
+    waits = inl cut.quiet;
+    noted = subst (λ o. IsNotedIf now stations found_on link number o line) (sym cut.none) tt;
+  }
+
+  kept_line : (old new : Line) → Keeps old new → IsRightfulLine now stations found_on link number old → IsRightfulLine now stations found_on link number new
+  kept_line old new keeps right = record {
+    waits = subst (λ l. IsRightful now stations found_on link number l) (sym keeps.same) right.waits;
+    noted = go old.wire.asked keeps.still right.noted;
+  }
     where
-      go : ((k ≡ link) × (line ≡ new)) ⊎ ((k ≢ link) × (slice_get lines k ≡ Some line)) → ∥ IsRightful now stations found_on k number line.out.items ∥₁
-      go (inl (here, is)) = subst (λ (x : Line). ∥ IsRightful now stations found_on k number x.out.items ∥₁) (sym is) (subst (λ i. ∥ IsRightful now stations found_on i number new.out.items ∥₁) (sym here) (own number (ap (slice_get numbers) (sym here) ∙ has)))
+      with_aim : (asked after : Asked) → after.device ≡ asked.device → after.number ≡ asked.number → ((made_for : Aim) → (asked.aim ≡ made_for) ⊎ (asked.aim ≡ past made_for) → (after.aim ≡ made_for) ⊎ (after.aim ≡ past made_for))
+          → IsNoted now stations found_on link number asked old → IsNoted now stations found_on link number after new
+      with_aim asked after same_device same_number aims n = record {
+        made_for = n.made_for;
+        noted = aims n.made_for n.noted;
+        over = same_number ∙ n.over;
+        wait = n.wait;
+        waits = ap (λ (h : Hearing). h.wait) keeps.heard ∙ n.waits;
+        made = subst (λ d. IsMade now stations found_on link number n.made_for d n.wait.asked) (sym same_device) n.made;
+        gone = n.gone;
+        whole = ap (λ l. n.gone ++ l) keeps.same ∙ n.whole;
+      }
+
+      go : (o : Option Asked) → IsStill o new.wire.asked → IsNotedIf now stations found_on link number o old → IsNotedIf now stations found_on link number new.wire.asked new
+      go None still n = subst (λ o. IsNotedIf now stations found_on link number o new) (sym still) tt
+      go (Some asked) (inl same) n = subst (λ o. IsNotedIf now stations found_on link number o new) (sym same) (with_aim asked asked refl refl (λ made_for is. is) n)
+      go (Some asked) (inr same) n = subst (λ o. IsNotedIf now stations found_on link number o new) (sym same) (with_aim asked (outlived asked) refl refl (λ made_for is. outlives asked.aim made_for is) n)
+
+  given_up_line : (old new : Line) → GivesUp old new → IsRightfulLine now stations found_on link number old → IsRightfulLine now stations found_on link number new
+  given_up_line old new gives right = record {
+    waits = subst (λ l. IsRightful now stations found_on link number l) (sym gives.same) right.waits;
+    noted = subst (λ o. IsNotedIf now stations found_on link number o new) (sym gives.over) tt;
+  }
+
+  sent_line : (old new : Line) (n : ℕ) → Sends n old new → IsRightfulLine now stations found_on link number old → IsRightfulLine now stations found_on link number new
+  sent_line old new n sends right = record {
+    waits = subst (λ l. IsRightful now stations found_on link number l) (sym sends.left) (left_of old.out.items (min n (length old.out.items)) right.waits);
+    noted = subst (λ o. IsNotedIf now stations found_on link number o new) (sym (ap (λ (w : Wire). w.asked) sends.wire)) (go old.wire.asked right.noted);
+  }
+    where
+      go : (o : Option Asked) → IsNotedIf now stations found_on link number o old → IsNotedIf now stations found_on link number o new
+      go None noted = tt
+      go (Some asked) noted = record {
+        made_for = noted.made_for;
+        noted = noted.noted;
+        over = noted.over;
+        wait = noted.wait;
+        waits = ap (λ (w : Wire). w.inquiry.wait) sends.wire ∙ noted.waits;
+        made = noted.made;
+        gone = noted.gone ++ take (min n (length old.out.items)) old.out.items;
+        whole = ap (λ l. (noted.gone ++ take (min n (length old.out.items)) old.out.items) ++ l) sends.left
+            ∙ (append_assoc noted.gone (take (min n (length old.out.items)) old.out.items) (drop (min n (length old.out.items)) old.out.items)
+            ∙ (ap (λ l. noted.gone ++ l) (take-append-drop (min n (length old.out.items)) old.out.items) ∙ noted.whole));
+      }
+
+  heard_line : (old new : Line) (bytes : List ℕ) (fate : Option Fate) → Hears bytes fate old new → IsRightfulLine now stations found_on link number old → IsRightfulLine now stations found_on link number new
+  heard_line old new bytes fate hears right = record {
+    waits = subst (λ l. IsRightful now stations found_on link number l) (sym hears.same) right.waits;
+    noted = subst (λ o. IsNotedIf now stations found_on link number o new) (sym hears.asked) (go fate old.wire.asked (old.wire.is_up && not old.wire.is_bad) hears.takes right.noted);
+  }
+    where
+      goes_on : (asked : Asked) (w : Wait) → new.wire.inquiry.wait ≡ Some w → (noted : IsNoted now stations found_on link number asked old) → w.asked ≡ noted.wait.asked → IsNoted now stations found_on link number asked new
+      goes_on asked w waits noted same = record {
+        made_for = noted.made_for;
+        noted = noted.noted;
+        over = noted.over;
+        wait = w;
+        waits = waits;
+        made = subst (λ (r : FrameRequest). IsMade now stations found_on link number noted.made_for asked.device r) (sym same) noted.made;
+        gone = noted.gone;
+        whole = ap (λ l. noted.gone ++ l) hears.same ∙ (noted.whole ∙ ap (λ (r : FrameRequest). frame_bytes (frame_of r)) (sym same));
+      }
+
+      go : (f : Option Fate) (o : Option Asked) (well : Bool) → TakesWhere well old.wire.inquiry bytes f new.wire.inquiry → IsNotedIf now stations found_on link number o old
+          → IsNotedIf now stations found_on link number (left_under_way f o) new
+      go (Some told) o well takes noted = tt
+      go None None well takes noted = tt
+      go None (Some asked) true takes noted =
+          let after = still_waits old.wire.inquiry new.wire.inquiry bytes noted.wait noted.waits takes in
+          goes_on asked after.0 after.1 noted after.2
+      go None (Some asked) false takes noted = goes_on asked noted.wait (ap (λ (h : Hearing). h.wait) takes.1 ∙ noted.waits) noted refl
+
+  begun_line : (old new : Line) (begins : Begins old new) → begins.asked.number ≡ number → slice_get stations begins.asked.device ≡ Some (record { link = link; unit = begins.request.unit })
+      → Reached now → MayBeAsked now found_on number begins.asked.aim begins.asked.device begins.request.request → IsRightfulLine now stations found_on link number new
+  begun_line old new begins over station reached asked =
+      let made : IsMade now stations found_on link number begins.asked.aim begins.asked.device begins.request = record {
+        station = station;
+        core = now;
+        reached = reached;
+        since = stays now;
+        asked = asked;
+      } in
+      record {
+        waits = inr (record { device = begins.asked.device; made_for = begins.asked.aim; frame = begins.request; made = made; gone = []; whole = begins.frame });
+        noted = subst (λ o. IsNotedIf now stations found_on link number o new) (sym begins.noted) (record {
+          made_for = begins.asked.aim;
+          noted = inl refl;
+          over = over;
+          wait = record { asked = begins.request; may_drop = most_dropped };
+          waits = ap (λ (h : Hearing). h.wait) begins.under_way;
+          made = made;
+          gone = [];
+          whole = begins.frame;
+        });
+      }
+
+-- ---- all lines
+
+module _ (now : Gateway) (stations : List Station) (numbers : List ℕ) (found_on : List (Option ℕ)) (lines : List Line) where
+  pub all_cut : All IsCut lines → AreRightful now stations numbers found_on lines
+  all_cut cut link number line has at =
+      let is : get_or lines link line ≡ line = get_or_from_slice_get lines link line line at in
+      ∣ cut_line now stations found_on link number line (subst IsCut is (All-get_or IsCut lines link line (slice_get_within lines link line at) cut)) ∣₁
+
+  pub with_line : (link : ℕ) (new : Line) → AreRightful now stations numbers found_on lines
+      → ((number : ℕ) → slice_get numbers link ≡ Some number → ∥ IsRightfulLine now stations found_on link number new ∥₁) → AreRightful now stations numbers found_on (set lines link new)
+  with_line link new before own k number line has at = go (set-cases lines link new k line at)
+    where
+      go : ((k ≡ link) × (line ≡ new)) ⊎ ((k ≢ link) × (slice_get lines k ≡ Some line)) → ∥ IsRightfulLine now stations found_on k number line ∥₁
+      go (inl (here, is)) = subst (λ (x : Line). ∥ IsRightfulLine now stations found_on k number x ∥₁) (sym is) (subst (λ i. ∥ IsRightfulLine now stations found_on i number new ∥₁) (sym here) (own number (ap (slice_get numbers) (sym here) ∙ has)))
       go (inr (other, same)) = before k number line has same
 
-  pub with_line_clear : (stations : List Station) (numbers : List ℕ) (found_on : List (Option ℕ)) (lines : List Line) (link : ℕ) (new : Line) → AreRightful now stations numbers found_on lines → new.out.items ≡ []
-      → AreRightful now stations numbers found_on (set lines link new)
-  with_line_clear stations numbers found_on lines link new before none = with_line stations numbers found_on lines link new before (λ number has. nothing stations found_on link number new.out.items none)
+  with_step : (link : ℕ) (old new : Line) → AreRightful now stations numbers found_on lines → slice_get lines link ≡ Some old
+      → ((number : ℕ) → IsRightfulLine now stations found_on link number old → IsRightfulLine now stations found_on link number new) → AreRightful now stations numbers found_on (set lines link new)
+  with_step link old new before at step = with_line link new before (λ number has. ∥∥₁_elim (before link number old has at) ∥∥₁_prop (λ right. ∣ step number right ∣₁))
 
-  pub with_line_left : (stations : List Station) (numbers : List ℕ) (found_on : List (Option ℕ)) (lines : List Line) (link n : ℕ) (old new : Line) → AreRightful now stations numbers found_on lines → slice_get lines link ≡ Some old
-      → new.out.items ≡ drop n old.out.items → AreRightful now stations numbers found_on (set lines link new)
-  with_line_left stations numbers found_on lines link n old new before at is = with_line stations numbers found_on lines link new before
-      (λ number has. ∥∥₁_elim (before link number old has at) ∥∥₁_prop (λ b. ∣ subst (IsRightful now stations found_on link number) (sym is) (left_of stations found_on link number old.out.items n b) ∣₁))
+  pub with_kept : (link : ℕ) (old new : Line) → AreRightful now stations numbers found_on lines → slice_get lines link ≡ Some old → Keeps old new → AreRightful now stations numbers found_on (set lines link new)
+  with_kept link old new before at keeps = with_step link old new before at (λ number right. kept_line now stations found_on link number old new keeps right)
+
+  pub with_given_up : (link : ℕ) (old new : Line) → AreRightful now stations numbers found_on lines → slice_get lines link ≡ Some old → GivesUp old new → AreRightful now stations numbers found_on (set lines link new)
+  with_given_up link old new before at gives = with_step link old new before at (λ number right. given_up_line now stations found_on link number old new gives right)
+
+  pub with_sent : (link n : ℕ) (old new : Line) → AreRightful now stations numbers found_on lines → slice_get lines link ≡ Some old → Sends n old new → AreRightful now stations numbers found_on (set lines link new)
+  with_sent link n old new before at sends = with_step link old new before at (λ number right. sent_line now stations found_on link number old new n sends right)
+
+  pub with_heard : (link : ℕ) (bytes : List ℕ) (fate : Option Fate) (old new : Line) → AreRightful now stations numbers found_on lines → slice_get lines link ≡ Some old → Hears bytes fate old new
+      → AreRightful now stations numbers found_on (set lines link new)
+  with_heard link bytes fate old new before at hears = with_step link old new before at (λ number right. heard_line now stations found_on link number old new bytes fate hears right)
+
+  pub with_cut : (link : ℕ) (new : Line) → AreRightful now stations numbers found_on lines → IsCut new → AreRightful now stations numbers found_on (set lines link new)
+  with_cut link new before cut = with_line link new before (λ number has. ∣ cut_line now stations found_on link number new cut ∣₁)
+
+  -- a request begins that may be asked over the connection that the link has now
+  pub with_begun : (link unit : ℕ) (asked : Asked) (request : Request) (old new : Line) → AreRightful now stations numbers found_on lines → ∥ Reached now ∥₁
+      → slice_get numbers link ≡ Some asked.number → slice_get stations asked.device ≡ Some (record { link = link; unit = unit }) → MayGoOver now numbers found_on link asked.aim asked.device request
+      → ((begins : Begins old new) × (begins.asked ≡ asked) × (begins.request.unit ≡ unit) × (begins.request.request ≡ request)) → AreRightful now stations numbers found_on (set lines link new)
+  with_begun link unit asked request old new before reached numbered station may (begins, is, at_unit, own) = with_line link new before (λ number has.
+      let same : asked.number ≡ number = same_number numbered has in
+      ∥∥₁_elim reached ∥∥₁_prop (λ r. ∥∥₁_elim (may number has) ∥∥₁_prop (λ m. ∣ begun_line now stations found_on link number old new begins (ap (λ (x : Asked). x.number) is ∙ same)
+      (subst (λ (x : Asked). slice_get stations x.device ≡ Some (record { link = link; unit = begins.request.unit })) (sym is) (station ∙ ap (λ u. Some (record { link = link; unit = u })) (sym at_unit)))
+      r (subst (λ (x : Asked). MayBeAsked now found_on number x.aim x.device begins.request.request) (sym is) (subst (λ q. MayBeAsked now found_on number asked.aim asked.device q) (sym own) m)) ∣₁)))
 
   -- ---- a new connection, on which nothing waits
 
-  pub with_next : (stations : List Station) (numbers : List ℕ) (found_on : List (Option ℕ)) (lines : List Line) (link next : ℕ) → AreRightful now stations numbers found_on lines
-      → ((line : Line) → slice_get lines link ≡ Some line → line.out.items ≡ []) → AreRightful now stations (set numbers link next) found_on lines
-  with_next stations numbers found_on lines link next before quiet k number line has at = go (set-cases numbers link next k number has)
+  pub with_next : (link next : ℕ) → AreRightful now stations numbers found_on lines → ((line : Line) → slice_get lines link ≡ Some line → IsCut line) → AreRightful now stations (set numbers link next) found_on lines
+  with_next link next before cut k number line has at = go (set-cases numbers link next k number has)
     where
-      go : ((k ≡ link) × (number ≡ next)) ⊎ ((k ≢ link) × (slice_get numbers k ≡ Some number)) → ∥ IsRightful now stations found_on k number line.out.items ∥₁
-      go (inl (here, is)) = nothing stations found_on k number line.out.items (quiet line (ap (slice_get lines) (sym here) ∙ at))
+      go : ((k ≡ link) × (number ≡ next)) ⊎ ((k ≢ link) × (slice_get numbers k ≡ Some number)) → ∥ IsRightfulLine now stations found_on k number line ∥₁
+      go (inl (here, is)) = ∣ cut_line now stations found_on k number line (cut line (ap (slice_get lines) (sym here) ∙ at)) ∣₁
       go (inr (other, same)) = before k number line same at
 
   -- ---- where a map is found over the connection that stands
 
-  same_station : {a b : Option Station} {x y : Station} → a ≡ Some x → b ≡ Some y → a ≡ b → x ≡ y
-  same_station p q e = cc
-
-  same_number : {o : Option ℕ} {x y : ℕ} → o ≡ Some x → o ≡ Some y → x ≡ y
-  same_number p q = cc
-
-  some_within : (found_on : List (Option ℕ)) (device : ℕ) (x v : Option ℕ) → slice_get found_on device ≡ Some x → slice_get (set found_on device v) device ≡ Some v
-  some_within [] device x v at = absurd (cc)
-  some_within (f ∷ found_on) zero x v at = refl
-  some_within (f ∷ found_on) (suc device) x v at = some_within found_on device x v at
-
-  set_other : (found_on : List (Option ℕ)) (i k : ℕ) (v : Option ℕ) → k ≢ i → slice_get (set found_on i v) k ≡ slice_get found_on k
-  set_other [] i k v other = refl
-  set_other (f ∷ found_on) zero zero v other = absurd (other refl)
-  set_other (f ∷ found_on) zero (suc k) v other = refl
-  set_other (f ∷ found_on) (suc i) zero v other = refl
-  set_other (f ∷ found_on) (suc i) (suc k) v other = set_other found_on i k v (λ e. other (ap suc e))
-
-  pub with_found : (stations : List Station) (numbers : List ℕ) (found_on : List (Option ℕ)) (lines : List Line) (link device unit number : ℕ) → AreRightful now stations numbers found_on lines
+  pub with_found : (link device unit number : ℕ) → AreRightful now stations numbers found_on lines
       → slice_get stations device ≡ Some (record { link = link; unit = unit }) → slice_get numbers link ≡ Some number → AreRightful now stations numbers (set found_on device (Some number)) lines
-  with_found stations numbers found_on lines link device unit number before station here k other line has at = ∥∥₁_elim (before k other line has at) ∥∥₁_prop (λ b. ∣ go b ∣₁)
+  with_found link device unit number before station here k other line has at = ∥∥₁_elim (before k other line has at) ∥∥₁_prop (λ right. ∣ record {
+    waits = bytes right.waits;
+    noted = noted line.wire.asked right.noted;
+  } ∣₁)
     where
-      go : IsRightful now stations found_on k other line.out.items → IsRightful now stations (set found_on device (Some number)) k other line.out.items
-      go (inl none) = inl none
-      go (inr rest) = inr (record {
-        device = rest.device;
-        unit = rest.unit;
-        station = rest.station;
-        core = rest.core;
-        reached = rest.reached;
-        since = rest.since;
-        request = rest.request;
-        made_for = rest.made_for;
-        asked = asked rest.asked;
-        id = rest.id;
-        gone = rest.gone;
-        whole = rest.whole;
-      })
+      made : (made_for : Aim) (asked_of : ℕ) (frame : FrameRequest) → IsMade now stations found_on k other made_for asked_of frame → IsMade now stations (set found_on device (Some number)) k other made_for asked_of frame
+      made made_for asked_of frame m = record { station = m.station; core = m.core; reached = m.reached; since = m.since; asked = asked m.asked }
         where
-          still : IsFoundOn found_on other rest.device → ((eqb rest.device device ≡ true) × (rest.device ≡ device)) ⊎ ((eqb rest.device device ≡ false) × (rest.device ≢ device)) → IsFoundOn (set found_on device (Some number)) other rest.device
-          still found (inr differs) = set_other found_on device rest.device (Some number) differs.1 ∙ found
+          still : IsFoundOn found_on other asked_of → ((eqb asked_of device ≡ true) × (asked_of ≡ device)) ⊎ ((eqb asked_of device ≡ false) × (asked_of ≢ device)) → IsFoundOn (set found_on device (Some number)) other asked_of
+          still found (inr differs) = set_other found_on device asked_of (Some number) differs.1 ∙ found
           still found (inl same) =
-              let stands : record { link = k; unit = rest.unit } ≡ record { link = link; unit = unit } = same_station rest.station station (ap (slice_get stations) same.1) in
+              let stands : record { link = k; unit = frame.unit } ≡ record { link = link; unit = unit } = same_station m.station station (ap (slice_get stations) same.1) in
               let where_is : k ≡ link = ap (λ (s : Station). s.link) stands in
               let is : other ≡ number = same_number has (ap (slice_get numbers) where_is ∙ here) in
               ap (slice_get (set found_on device (Some number))) same.1
               ∙ (some_within found_on device (Some other) (Some number) (ap (slice_get found_on) (sym same.1) ∙ found) ∙ ap (λ x. Some (Some x)) (sym is))
 
-          asked : MayBeAsked rest.core found_on other rest.made_for rest.device rest.request → MayBeAsked rest.core (set found_on device (Some number)) other rest.made_for rest.device rest.request
-          asked (inl (round, found)) = inl (round, still found (eqb_tells rest.device device))
+          asked : MayBeAsked m.core found_on other made_for asked_of frame.request → MayBeAsked m.core (set found_on device (Some number)) other made_for asked_of frame.request
+          asked (inl (round, found)) = inl (round, still found (eqb_tells asked_of device))
           asked (inr sought) = inr sought
+
+      bytes : IsRightful now stations found_on k other line.out.items → IsRightful now stations (set found_on device (Some number)) k other line.out.items
+      bytes (inl none) = inl none
+      bytes (inr rest) = inr (record {
+        device = rest.device;
+        made_for = rest.made_for;
+        frame = rest.frame;
+        made = made rest.made_for rest.device rest.frame rest.made;
+        gone = rest.gone;
+        whole = rest.whole;
+      })
+
+      noted : (o : Option Asked) → IsNotedIf now stations found_on k other o line → IsNotedIf now stations (set found_on device (Some number)) k other o line
+      noted None n = tt
+      noted (Some asked) n = record {
+        made_for = n.made_for;
+        noted = n.noted;
+        over = n.over;
+        wait = n.wait;
+        waits = n.waits;
+        made = made n.made_for asked.device n.wait.asked n.made;
+        gone = n.gone;
+        whole = n.whole;
+      }
+
+-- ---- what waits on one of them
+
+pub waits_on : (now : Gateway) (lines : Lines) (link : ℕ) (line : Line) (bytes : List ℕ) → AreRightfulBy now lines → slice_get lines.lines.items link ≡ Some line → bytes ≡ line.out.items → IsRightfulOn now lines link bytes
+waits_on now lines link line bytes before at is number has = ∥∥₁_elim (before link number line has at) ∥∥₁_prop (λ right.
+    ∣ subst (λ l. IsRightful now lines.links.stations.items lines.found_on.items link number l) (sym is) right.waits ∣₁)
 
 -- ---- the state goes on
 
-pub right_since : (Kinds : Event → Type 0) (old new : Gateway) (stations : List Station) (found_on : List (Option ℕ)) (link number : ℕ) (bytes : List ℕ) → LeadsOnBy Kinds old new → IsRightful old stations found_on link number bytes
-    → ∥ IsRightful new stations found_on link number bytes ∥₁
-right_since Kinds old new stations found_on link number bytes goes (inl none) = ∣ inl none ∣₁
-right_since Kinds old new stations found_on link number bytes goes (inr rest) = ∥∥₁_elim (goes_behind Kinds rest.core old new rest.since goes) ∥∥₁_prop (λ since. ∣ inr (record {
-  device = rest.device;
-  unit = rest.unit;
-  station = rest.station;
-  core = rest.core;
-  reached = rest.reached;
-  since = since;
-  request = rest.request;
-  made_for = rest.made_for;
-  asked = rest.asked;
-  id = rest.id;
-  gone = rest.gone;
-  whole = rest.whole;
-}) ∣₁)
+module _ (Kinds : Event → Type 0) (old new : Gateway) (stations : List Station) (found_on : List (Option ℕ)) (link number : ℕ) (goes : LeadsOnBy Kinds old new) where
+  made_since : (made_for : Aim) (device : ℕ) (frame : FrameRequest) → IsMade old stations found_on link number made_for device frame → ∥ IsMade new stations found_on link number made_for device frame ∥₁
+  made_since made_for device frame m = ∥∥₁_elim (goes_behind Kinds m.core old new m.since goes) ∥∥₁_prop (λ since. ∣ record { station = m.station; core = m.core; reached = m.reached; since = since; asked = m.asked } ∣₁)
 
-right_by : (Kinds : Event → Type 0) (old new : Gateway) (lines : Lines) → LeadsOnBy Kinds old new → AreRightfulBy old lines → AreRightfulBy new lines
+  pub right_since : (bytes : List ℕ) → IsRightful old stations found_on link number bytes → ∥ IsRightful new stations found_on link number bytes ∥₁
+  right_since bytes (inl none) = ∣ inl none ∣₁
+  right_since bytes (inr rest) = ∥∥₁_elim (made_since rest.made_for rest.device rest.frame rest.made) ∥∥₁_prop (λ made. ∣ inr (record {
+    device = rest.device;
+    made_for = rest.made_for;
+    frame = rest.frame;
+    made = made;
+    gone = rest.gone;
+    whole = rest.whole;
+  }) ∣₁)
+
+  noted_since : (line : Line) (o : Option Asked) → IsNotedIf old stations found_on link number o line → ∥ IsNotedIf new stations found_on link number o line ∥₁
+  noted_since line None n = ∣ tt ∣₁
+  noted_since line (Some asked) n = ∥∥₁_elim (made_since n.made_for asked.device n.wait.asked n.made) ∥∥₁_prop (λ made. ∣ record {
+    made_for = n.made_for;
+    noted = n.noted;
+    over = n.over;
+    wait = n.wait;
+    waits = n.waits;
+    made = made;
+    gone = n.gone;
+    whole = n.whole;
+  } ∣₁)
+
+  line_since : (line : Line) → IsRightfulLine old stations found_on link number line → ∥ IsRightfulLine new stations found_on link number line ∥₁
+  line_since line right = ∥∥₁_elim (right_since line.out.items right.waits) ∥∥₁_prop (λ waits. ∥∥₁_elim (noted_since line line.wire.asked right.noted) ∥∥₁_prop (λ noted. ∣ record { waits = waits; noted = noted } ∣₁))
+
+pub right_by : (Kinds : Event → Type 0) (old new : Gateway) (lines : Lines) → LeadsOnBy Kinds old new → AreRightfulBy old lines → AreRightfulBy new lines
 right_by Kinds old new lines goes before link number line has at = ∥∥₁_elim (before link number line has at) ∥∥₁_prop (λ right.
-    right_since Kinds old new lines.links.stations.items lines.found_on.items link number line.out.items goes right)
+    line_since Kinds old new lines.links.stations.items lines.found_on.items link number goes line right)
 
 pub right_on : (old new : Gateway) (lines : Lines) → LeadsOnBy IsOfRounds old new → AreRightfulBy old lines → AreRightfulBy new lines
 right_on old new lines goes before = right_by IsOfRounds old new lines goes before
 
 pub right_behind_clients : (old new : Gateway) (lines : Lines) → LeadsOnBy IsOfClients old new → AreRightfulBy old lines → AreRightfulBy new lines
 right_behind_clients old new lines goes before = right_by IsOfClients old new lines goes before
+
+pub with_begun_if : (now : Gateway) (stations : List Station) (numbers : List ℕ) (found_on : List (Option ℕ)) (lines : List Line) (link unit : ℕ) (asked : Asked) (request : Request) (old new : Line) (did : Bool)
+    → AreRightful now stations numbers found_on lines → ∥ Reached now ∥₁ → slice_get numbers link ≡ Some asked.number → slice_get stations asked.device ≡ Some (record { link = link; unit = unit })
+    → MayGoOver now numbers found_on link asked.aim asked.device request → slice_get lines link ≡ Some old
+    → (IsTrue did → (begins : Begins old new) × (begins.asked ≡ asked) × (begins.request.unit ≡ unit) × (begins.request.request ≡ request)) → (did ≡ false → new ≡ old)
+    → AreRightful now stations numbers found_on (set lines link new)
+with_begun_if now stations numbers found_on lines link unit asked request old new true before reached numbered station may is begun none =
+    with_begun now stations numbers found_on lines link unit asked request old new before reached numbered station may (begun refl)
+with_begun_if now stations numbers found_on lines link unit asked request old new false before reached numbered station may is begun none =
+    subst (λ (l : List Line). AreRightful now stations numbers found_on l) (sym (unchanged lines link old new is (none refl))) before

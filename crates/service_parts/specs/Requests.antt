@@ -1,18 +1,21 @@
 -- What goes out to a device: frames of the requests that it may be asked, and nothing else
 -- (MODBUS Messaging on TCP/IP Implementation Guide, sections 3.1.3 and 4.4.1).
-use Rattle.std.specs.Prelude.{◌≡◌, ◌⊎◌, ℕ, List, [], ◌++◌, Option, Some, slice_get}
+use Rattle.std.specs.Prelude.{◌≡◌, ◌⊎◌, ℕ, List, [], ◌++◌, ⊤, Option, None, Some, slice_get}
 use Rattle.modbus_frame.specs.declared.message.Request.{Request}
 use Rattle.modbus_frame.specs.Frame.{frame_bytes}
 use Rattle.gateway.specs.event_core.Core.{Gateway}
-use Rattle.gateway.specs.poller.LinkRun.{frame_of}
+use Rattle.gateway.specs.poller.LinkRun.{Asked as FrameRequest, frame_of}
 use Rattle.service.specs.declared.search.Step.TheVariants as step
+use Rattle.service.specs.Hearing.{Wait}
 use Rattle.service_parts.specs.declared.limits.Station.{Station}
 use Rattle.service_parts.specs.declared.line.Line.{Line}
 use Rattle.service_parts.specs.declared.lines.Lines.{Lines}
 use Rattle.service_parts.specs.declared.wire.Aim.{Aim}
 use Rattle.service_parts.specs.declared.wire.Aim.TheVariants as aim
+use Rattle.service_parts.specs.declared.wire.Asked.{Asked}
 use Rattle.service_parts.specs.Calls.{IsCallFor}
 use Rattle.service_parts.specs.Course.{Goes, Reached}
+use Rattle.service_parts.specs.Frames.{past}
 use Rattle.service_parts.specs.Seeking.{IsSought}
 
 -- It reads that wanted block of the device, or writes the set point of that output to it, by this state of the core.
@@ -29,30 +32,52 @@ IsFoundOn found_on number device = slice_get found_on device ≡ Some (Some numb
 abbrev pub MayBeAsked : Gateway → List (Option ℕ) → ℕ → Aim → ℕ → Request → Type 0
 MayBeAsked core found_on number made_for device request = (IsOfRound core made_for device request × IsFoundOn found_on number device) ⊎ ((made_for ≡ aim.Map) × IsSought core.site device (step.Ask request))
 
--- These bytes are the rest of the frame of a request that the device may be asked over the connection with this number, by
--- a state of the core from which events and learned maps led to the one of now. The device's station is on this link, and
--- the frame is for its unit there.
-pub record IsRest (now : Gateway) (stations : List Station) (found_on : List (Option ℕ)) (link number : ℕ) (bytes : List ℕ) : Type 0 where
-  pub device : ℕ
-  pub unit : ℕ
-  pub station : slice_get stations device ≡ Some (record { link = link; unit = unit })
+-- A request that the device may be asked over the connection with this number, by a state of the core from which events and
+-- learned maps led to the one of now. The device's station is on this link, and the request is for its unit there.
+pub record IsMade (now : Gateway) (stations : List Station) (found_on : List (Option ℕ)) (link number : ℕ) (made_for : Aim) (device : ℕ) (frame : FrameRequest) : Type 0 where
+  pub station : slice_get stations device ≡ Some (record { link = link; unit = frame.unit })
   pub core : Gateway
   pub reached : Reached core
   pub since : Goes core now
-  pub request : Request
+  pub asked : MayBeAsked core found_on number made_for device frame.request
+
+-- These bytes are the rest of the frame of such a request.
+pub record IsRest (now : Gateway) (stations : List Station) (found_on : List (Option ℕ)) (link number : ℕ) (bytes : List ℕ) : Type 0 where
+  pub device : ℕ
   pub made_for : Aim
-  pub asked : MayBeAsked core found_on number made_for device request
-  pub id : ℕ
+  pub frame : FrameRequest
+  pub made : IsMade now stations found_on link number made_for device frame
   pub gone : List ℕ
-  pub whole : gone ++ bytes ≡ frame_bytes (frame_of (record { id = id; unit = unit; request = request }))
+  pub whole : gone ++ bytes ≡ frame_bytes (frame_of frame)
 
 abbrev pub IsRightful : Gateway → List Station → List (Option ℕ) → ℕ → ℕ → List ℕ → Type 0
 IsRightful now stations found_on link number bytes = (bytes ≡ []) ⊎ IsRest now stations found_on link number bytes
 
--- What is still to be written over each link is so, by the number of the connection that it has now.
+-- The request that is under way on a line is such a one, of the device, and for the wanted block or the output that it is
+-- noted with, until its round is over. Its connection is that with this number, and what waits is the rest of its frame.
+pub record IsNoted (now : Gateway) (stations : List Station) (found_on : List (Option ℕ)) (link number : ℕ) (asked : Asked) (line : Line) : Type 0 where
+  pub made_for : Aim
+  pub noted : (asked.aim ≡ made_for) ⊎ (asked.aim ≡ past made_for)
+  pub over : asked.number ≡ number
+  pub wait : Wait
+  pub waits : line.wire.inquiry.wait ≡ Some wait
+  pub made : IsMade now stations found_on link number made_for asked.device wait.asked
+  pub gone : List ℕ
+  pub whole : gone ++ line.out.items ≡ frame_bytes (frame_of wait.asked)
+
+abbrev pub IsNotedIf : Gateway → List Station → List (Option ℕ) → ℕ → ℕ → Option Asked → Line → Type 0
+IsNotedIf now stations found_on link number None line = ⊤
+IsNotedIf now stations found_on link number (Some asked) line = IsNoted now stations found_on link number asked line
+
+-- What waits on a line is the rest of a rightful frame, and what is noted of the request that is under way is so.
+pub record IsRightfulLine (now : Gateway) (stations : List Station) (found_on : List (Option ℕ)) (link number : ℕ) (line : Line) : Type 0 where
+  pub waits : IsRightful now stations found_on link number line.out.items
+  pub noted : IsNotedIf now stations found_on link number line.wire.asked line
+
+-- Each link's line is so, by the number of the connection that it has now.
 abbrev pub AreRightful : Gateway → List Station → List ℕ → List (Option ℕ) → List Line → Type 0
 AreRightful now stations numbers found_on lines =
-    (link number : ℕ) (line : Line) → slice_get numbers link ≡ Some number → slice_get lines link ≡ Some line → ∥ IsRightful now stations found_on link number line.out.items ∥₁
+    (link number : ℕ) (line : Line) → slice_get numbers link ≡ Some number → slice_get lines link ≡ Some line → ∥ IsRightfulLine now stations found_on link number line ∥₁
 
 abbrev pub IsRightfulOn : Gateway → Lines → ℕ → List ℕ → Type 0
 IsRightfulOn now lines link bytes =

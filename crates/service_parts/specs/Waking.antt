@@ -1,15 +1,13 @@
 -- When something is to be done about a connection or a client, by the time in milliseconds. No standard says it; it is this
 -- project's.
-use Rattle.std.specs.Prelude.{ℕ, ◌-◌, ◌^◌, ◌==◌, Bool, true, false, List, length, Option, None, Some, slice_get, if◌then◌else◌}
-use Rattle.std.specs.Option.{option_map_or}
+use Rattle.std.specs.Prelude.{◌≡◌, ◌≤◌, ℕ, ◌-◌, ◌^◌, ◌==◌, Bool, true, false, List, length, Option, None, Some, if◌then◌else◌}
 use Rattle.service_parts.specs.declared.line.Line.{Line}
-use Rattle.service_parts.specs.declared.lines.Lines.{Lines}
 use Rattle.service_parts.specs.declared.wire.Asked.{Asked}
 use Rattle.service_parts.specs.declared.wire.Wire.{Wire}
 
--- whether nothing waits to be written over a link
-abbrev pub is_quiet : Lines → ℕ → Bool
-is_quiet lines link = option_map_or (λ (line : Line). length line.out.items == 0) (slice_get lines.lines.items link) true
+-- whether nothing waits to be written
+abbrev pub is_quiet : Line → Bool
+is_quiet line = length line.out.items == 0
 
 -- where no request is under way: once all is written, when a device may be asked again
 abbrev pub due_idle : Bool → Wire → ℕ
@@ -25,5 +23,22 @@ due_down (Some until) w = until
 due_down None w = w.dial_at
 
 -- A wait ends, or a device may be asked again; a dial ends, or is due.
-abbrev pub due_at : Bool → Wire → ℕ
-due_at is_sent w = if w.is_up then due_up is_sent w.asked w else due_down w.dial_until w
+abbrev pub due_of : Bool → Wire → ℕ
+due_of is_sent w = if w.is_up then due_up is_sent w.asked w else due_down w.dial_until w
+
+abbrev pub due_at : Line → ℕ
+due_at line = due_of (is_quiet line) line.wire
+
+-- It is down, no dial is under way, and its back-off is over.
+pub record IsToDial (now : ℕ) (w : Wire) : Type 0 where
+  pub down : w.is_up ≡ false
+  pub none : w.dial_until ≡ None
+  pub due : w.dial_at ≤ now
+
+-- The dial that is under way took its time; or, where none is, the connection is up and its stream was spoilt.
+abbrev pub IsToEnd : ℕ → Option ℕ → Wire → Type 0
+IsToEnd now (Some until) w = until ≤ now
+IsToEnd now None w = (w.is_up ≡ true) × (w.is_bad ≡ true)
+
+abbrev pub IsToHangUp : ℕ → Wire → Type 0
+IsToHangUp now w = IsToEnd now w.dial_until w

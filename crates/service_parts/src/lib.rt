@@ -8,7 +8,9 @@ mod limits;
 mod line;
 mod lines;
 mod links;
+mod standing;
 mod times;
+mod traffic;
 mod wire;
 
 // what is asked of a service

@@ -1,35 +1,41 @@
-//! What goes out to devices.
-ghost use Rattle.std.specs.Prelude.{◌≡◌, ◌+◌, ◌<◌, ◌^◌, ℕ, All, drop, min, slice_get, [], length, replicate, set, IfNone, IfOk, IfSome, IsTrue, Some};
+//! Links to devices.
+ghost use Rattle.std.specs.Prelude.{◌≡◌, ◌+◌, ◌<◌, ◌^◌, ℕ, All, slice_get, length, replicate, set, IfNone, IfOk, IfSome, IsTrue, Some};
 ghost use Rattle.service_parts.specs.declared.line.Line.{Line as LineValue};
 ghost use Rattle.gateway.specs.event_core.Core.{Gateway};
-ghost use Rattle.service_parts.specs.Waking.{is_quiet};
-ghost use Rattle.service_parts.specs.Requests.{AreRightfulBy, IsFoundOn, IsRightfulOn, StayRightful};
+ghost use Rattle.service_parts.specs.Frames.{IsCut, OthersGo};
+ghost use Rattle.service_parts.specs.Requests.{AreRightfulBy, IsFoundOn, StayRightful};
 
-use crate::limits::Station;
+use crate::limits::{Limits, Station};
 use crate::line::Line;
 use crate::links::Links;
-use arrayvec::ArrayVec;
 use std::alloc::{AllocError, Global};
 
-/// The links to devices, over which connection the map of each was found, and what goes out over each link.
+/// The links to devices, over which connection the map of each was found, and the connection of each link with what goes out
+/// over it.
 #[derive(Drop)]
 pub struct Lines {
-    links: Links,
+    pub(crate) links: Links,
     /// The number of the connection over which each device's map was found last.
     found_on: Vec<Option<u64>>,
     /// One for each link.
-    lines: Vec<Line>,
+    pub(crate) lines: Vec<Line>,
 }
 
 impl Lines {
-    /// So many links to devices at these stations, on which nothing waits. No map was found yet.
-    #[tactic(auto, using(crate::proofs::Rightful::all_quiet))]
-    pub fn new(alloc: Global, links: usize, stations: &[Station]) -> Result<Lines, AllocError>
+    /// So many links to the devices at these stations, of which the site has so many. All are down, nothing waits, and no map
+    /// was found yet.
+    #[tactic(auto, using(crate::proofs::Rightful::all_cut))]
+    pub fn new(
+        alloc: Global,
+        links: usize,
+        stations: &[Station],
+        devices: usize,
+    ) -> Result<Lines, AllocError>
         ensures rightful { IfOk result (λ lines. (now : Gateway) → AreRightfulBy now lines) }
         ensures stations { IfOk result (λ lines. lines.links.stations.items ≡ stations.now) }
         ensures numbers { IfOk result (λ lines. lines.links.numbers.items ≡ replicate links 0) }
     {
-        let lines = quiet_lines(alloc, links)?;
+        let lines = lines_to(alloc, links, stations, devices)?;
         let numbers = vec![in alloc; 0; links]?;
         let found_on = nothing_found(alloc, stations.len())?;
         let stations = Vec::from_slice(alloc, stations)?;
@@ -38,6 +44,11 @@ impl Lines {
             found_on,
             lines,
         })
+    }
+
+    /// How many links there are.
+    pub fn count(&self) -> usize {
+        self.lines.len()
     }
 
     /// Where a device is reached; none for one without a station.
@@ -71,17 +82,31 @@ impl Lines {
         }
     }
 
-    /// The map of a device on this link is found, over the connection that the link has now.
-    pub fn find(&mut self, link: usize, device: usize)
+    /// The number of the connection that a link has now.
+    pub fn number_of(&self, link: usize) -> Option<u64>
+        ensures { result ≡ slice_get self.now.links.numbers.items link }
+    {
+        self.links.numbers.get(link).copied()
+    }
+
+    /// The number of the connection that a device's link has now; 0 for a device without a link.
+    pub fn number_for(&self, device: usize) -> u64 {
+        match self.station(device) {
+            Some(station) => self.number_of(station.link).unwrap_or(0),
+            None => 0,
+        }
+    }
+
+    /// The map of a device on this link was found over the connection with this number, which is the one that the link has now.
+    pub fn find(&mut self, link: usize, device: usize, number: u64)
+        requires { slice_get self.old.links.numbers.items link ≡ Some number }
         ensures rightful { StayRightful self.old self.new }
         ensures links { self.new.links ≡ self.old.links }
-        ensures found { (number : ℕ) (unit : ℕ) → slice_get self.old.links.numbers.items link ≡ Some number → slice_get self.old.links.stations.items device ≡ Some (record { link = link; unit = unit })
+        ensures lines { self.new.lines ≡ self.old.lines }
+        ensures found { (unit : ℕ) → slice_get self.old.links.stations.items device ≡ Some (record { link = link; unit = unit })
             → device < length self.old.found_on.items → self.new.found_on.items ≡ set self.old.found_on.items device (Some number) }
     {
         let Some(unit) = self.unit_at(device, link) else {
-            return;
-        };
-        let Some(number) = self.number_of(link) else {
             return;
         };
         self.find_on(link, device, unit, number);
@@ -93,60 +118,11 @@ impl Lines {
         requires number { slice_get self.old.links.numbers.items link ≡ Some number }
         ensures rightful { StayRightful self.old self.new }
         ensures links { self.new.links ≡ self.old.links }
+        ensures lines { self.new.lines ≡ self.old.lines }
         ensures found { device < length self.old.found_on.items → self.new.found_on.items ≡ set self.old.found_on.items device (Some number) }
     {
         if device < self.found_on.len() {
             self.found_on[device] = Some(number);
-        }
-    }
-
-    /// The number of the connection that a link has now.
-    fn number_of(&self, link: usize) -> Option<u64>
-        ensures { result ≡ slice_get self.now.links.numbers.items link }
-    {
-        self.links.numbers.get(link).copied()
-    }
-
-    /// What is to be written over a link.
-    pub fn out(&self, link: usize) -> &[u8]
-        ensures { (now : Gateway) → AreRightfulBy now self.now → IsRightfulOn now self.now link result.now }
-    {
-        match self.lines.get(link) {
-            Some(line) => line.out(),
-            None => &[],
-        }
-    }
-
-    /// Whether nothing waits on a link.
-    pub fn is_sent(&self, link: usize) -> bool
-        ensures quiet { IsTrue result → (line : LineValue) → slice_get self.now.lines.items link ≡ Some line → line.out.items ≡ [] }
-        ensures exact { result ≡ is_quiet self.now link }
-    {
-        match self.lines.get(link) {
-            Some(line) => line.is_sent(),
-            None => true,
-        }
-    }
-
-    /// These bytes are to be written over a link, on which nothing waits.
-    pub fn put(&mut self, link: usize, bytes: ArrayVec<u8, 260>)
-        requires { (line : LineValue) → slice_get self.old.lines.items link ≡ Some line → line.out.items ≡ [] }
-        ensures rightful { (now : Gateway) → AreRightfulBy now self.old → IsRightfulOn now self.old link bytes.items → AreRightfulBy now self.new }
-        ensures links { self.new.links ≡ self.old.links }
-    {
-        if let Some(line) = self.lines.get_mut(link) {
-            line.put(bytes);
-        }
-    }
-
-    /// So many bytes are written over a link.
-    pub fn sent(&mut self, link: usize, n: usize)
-        ensures rightful { StayRightful self.old self.new }
-        ensures gone { (line rest : LineValue) → slice_get self.old.lines.items link ≡ Some line → slice_get self.new.lines.items link ≡ Some rest → rest.out.items ≡ drop (min n (length line.out.items)) line.out.items }
-        ensures links { self.new.links ≡ self.old.links }
-    {
-        if let Some(line) = self.lines.get_mut(link) {
-            line.sent(n);
         }
     }
 
@@ -156,6 +132,8 @@ impl Lines {
         ensures stations { self.new.links.stations ≡ self.old.links.stations }
         ensures next { (number : ℕ) → slice_get self.old.links.numbers.items link ≡ Some number → number + 1 < 2 ^ 64
             → IsTrue result × (self.new.links.numbers.items ≡ set self.old.links.numbers.items link (number + 1)) }
+        ensures others { OthersGo link self.old.lines.items self.new.lines.items }
+        ensures anew { IsTrue result → (line : LineValue) → slice_get self.old.lines.items link ≡ Some line → (cut : LineValue) × (slice_get self.new.lines.items link ≡ Some cut) × IsCut cut }
     {
         let Some(number) = self.number_of(link) else {
             return false;
@@ -163,16 +141,29 @@ impl Lines {
         let Some(next) = number.checked_add(1) else {
             return false;
         };
-        self.go_down(link);
+        self.begin_anew(link);
         self.renumber(link, next);
         true
     }
 
+    fn begin_anew(&mut self, link: usize)
+        ensures rightful { StayRightful self.old self.new }
+        ensures links { self.new.links ≡ self.old.links }
+        ensures others { OthersGo link self.old.lines.items self.new.lines.items }
+        ensures ends { (line : LineValue) → slice_get self.old.lines.items link ≡ Some line → (cut : LineValue) × (slice_get self.new.lines.items link ≡ Some cut) × IsCut cut }
+        ensures cut { (line : LineValue) → slice_get self.new.lines.items link ≡ Some line → IsCut line }
+    {
+        if let Some(line) = self.lines.get_mut(link) {
+            line.come_up();
+        }
+    }
+
     #[tactic(auto, using(crate::proofs::Rightful::with_next))]
     fn renumber(&mut self, link: usize, number: u64)
-        requires { (line : LineValue) → slice_get self.old.lines.items link ≡ Some line → line.out.items ≡ [] }
+        requires { (line : LineValue) → slice_get self.old.lines.items link ≡ Some line → IsCut line }
         ensures rightful { StayRightful self.old self.new }
         ensures stations { self.new.links.stations ≡ self.old.links.stations }
+        ensures lines { self.new.lines ≡ self.old.lines }
         ensures next { link < length self.old.links.numbers.items → self.new.links.numbers.items ≡ set self.old.links.numbers.items link number }
     {
         if link < self.links.numbers.len() {
@@ -180,15 +171,15 @@ impl Lines {
         }
     }
 
-    /// The connection of a link ended: nothing waits on it any more.
-    #[tactic(auto, using(crate::proofs::Rightful::with_line_clear))]
-    pub fn go_down(&mut self, link: usize)
+    /// The connection of a link ended: nothing waits on it any more, and it isn't made again for a while.
+    pub fn go_down(&mut self, link: usize, now: u64, limits: &Limits)
         ensures rightful { StayRightful self.old self.new }
         ensures links { self.new.links ≡ self.old.links }
-        ensures quiet { (line : LineValue) → slice_get self.new.lines.items link ≡ Some line → line.out.items ≡ [] }
+        ensures others { OthersGo link self.old.lines.items self.new.lines.items }
+        ensures ends { (line : LineValue) → slice_get self.old.lines.items link ≡ Some line → (cut : LineValue) × (slice_get self.new.lines.items link ≡ Some cut) × IsCut cut }
     {
         if let Some(line) = self.lines.get_mut(link) {
-            line.clear();
+            line.go_down(now, limits);
         }
     }
 }
@@ -212,13 +203,34 @@ fn nothing_found(alloc: Global, devices: usize) -> Result<Vec<Option<u64>>, Allo
     Ok(found)
 }
 
-/// So many on which nothing waits.
-fn quiet_lines(alloc: Global, links: usize) -> Result<Vec<Line>, AllocError>
-    ensures { IfOk result (λ lines. All (λ line. line.out.items ≡ []) lines.items) }
+/// So many that are down, each to the devices whose station it is.
+fn lines_to(
+    alloc: Global,
+    links: usize,
+    stations: &[Station],
+    devices: usize,
+) -> Result<Vec<Line>, AllocError>
+    ensures { IfOk result (λ lines. All IsCut lines.items) }
 {
     let mut lines = Vec::new(alloc);
-    for _ in 0..links {
-        lines.push(Line::new())?;
+    for link in 0..links {
+        lines.push(Line::new(devices_on(alloc, link, stations, devices)?))?;
     }
     Ok(lines)
+}
+
+/// Which of so many devices are reached over a link.
+fn devices_on(
+    alloc: Global,
+    link: usize,
+    stations: &[Station],
+    devices: usize,
+) -> Result<Vec<usize>, AllocError> {
+    let mut found = Vec::new(alloc);
+    for (device, station) in stations.iter().enumerate() {
+        if device < devices && station.link == link {
+            found.push(device)?;
+        }
+    }
+    Ok(found)
 }

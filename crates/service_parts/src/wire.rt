@@ -1,10 +1,11 @@
 //! A connection to devices.
-ghost use Rattle.std.specs.Prelude.{◌≡◌, IfSome, IsSome, None, Some, is_none, is_some, true, false, take, not, ◌&&◌};
-ghost use Rattle.service.specs.Hearing.{Takes, asking, fresh};
+ghost use Rattle.std.specs.Prelude.{◌≡◌, ◌↔◌, IsTrue, IfSome, IsSome, None, Some, is_none, is_some, true, false, take, not, ◌&&◌};
+ghost use Rattle.service.specs.Hearing.{asking, fresh};
 ghost use Rattle.modbus_frame.specs.Frame.{frame_bytes};
 ghost use Rattle.modbus_frame.specs.Message.{HasQuantity};
 ghost use Rattle.gateway.specs.poller.LinkRun.{frame_of};
-ghost use Rattle.service_parts.specs.Waking.{due_at};
+ghost use Rattle.service_parts.specs.Frames.{IsStill, TakesWhere, past};
+ghost use Rattle.service_parts.specs.Waking.{IsToDial, IsToHangUp, due_of};
 
 use crate::limits::Limits;
 use crate::times::longer;
@@ -30,6 +31,8 @@ pub enum Aim {
 pub struct Asked {
     pub device: usize,
     pub aim: Aim,
+    /// The number of the connection over which it is asked.
+    pub number: u64,
     pub since: u64,
     pub until: u64,
 }
@@ -59,7 +62,10 @@ pub struct Wire {
 
 impl Wire {
     /// One to these devices that is down.
-    pub fn new(devices: Vec<usize>) -> Wire {
+    pub fn new(devices: Vec<usize>) -> Wire
+        ensures begins { result.inquiry ≡ fresh }
+        ensures none { result.asked ≡ None }
+    {
         Wire {
             inquiry: Inquiry::new(),
             asked: None,
@@ -95,11 +101,15 @@ impl Wire {
     }
 
     /// Whether it is to be hung up.
-    pub fn is_bad(&self) -> bool {
+    pub fn is_bad(&self) -> bool
+        ensures { result ≡ (self.now.is_up && self.now.is_bad) }
+    {
         self.is_up && self.is_bad
     }
 
-    pub fn asked(&self) -> Option<Asked> {
+    pub fn asked(&self) -> Option<Asked>
+        ensures { result ≡ self.now.asked }
+    {
         self.asked
     }
 
@@ -118,7 +128,9 @@ impl Wire {
     }
 
     /// There is nothing to ask before this time, unless something happens.
-    pub fn rest_until(&mut self, until: u64) {
+    pub fn rest_until(&mut self, until: u64)
+        ensures { self.new ≡ record self.old { rest_until = until } }
+    {
         self.rest_until = until;
     }
 
@@ -130,19 +142,25 @@ impl Wire {
     }
 
     /// Whether it is to be made: it is down, no dial is under way, and its back-off is over.
-    pub fn wants_dial(&self, now: u64) -> bool {
+    pub fn wants_dial(&self, now: u64) -> bool
+        ensures { IsTrue result ↔ IsToDial now self.now }
+    {
         !self.is_up && self.dial_until.is_none() && now >= self.dial_at
     }
 
     /// A dial begins that may take until this time.
-    pub fn dial(&mut self, until: u64) {
+    pub fn dial(&mut self, until: u64)
+        ensures { self.new ≡ record self.old { dial_until = self.new.dial_until } }
+    {
         if !self.is_up {
             self.dial_until = Some(until);
         }
     }
 
     /// Whether it is to be closed, or the dial that is under way to be given up.
-    pub fn wants_hang_up(&self, now: u64) -> bool {
+    pub fn wants_hang_up(&self, now: u64) -> bool
+        ensures { IsTrue result ↔ IsToHangUp now self.now }
+    {
         match self.dial_until {
             Some(until) => now >= until,
             None => self.is_bad(),
@@ -152,7 +170,7 @@ impl Wire {
     /// When something is to be done about it: a wait or a dial ends, a dial is due, or, once all is written, a device may
     /// be asked again.
     pub fn wakes_at(&self, is_sent: bool) -> u64
-        ensures { result ≡ due_at is_sent self.now }
+        ensures { result ≡ due_of is_sent self.now }
     {
         if !self.is_up {
             return self.dial_until.unwrap_or(self.dial_at);
@@ -222,8 +240,8 @@ impl Wire {
 
     /// Takes bytes, as many as have room, and tells how many, and what became of the request.
     pub fn take(&mut self, bytes: &[u8]) -> (usize, Option<Fate>)
-        ensures hears { self.old.is_up ≡ true → self.old.is_bad ≡ false → Takes self.old.inquiry (take result.0 bytes.now) result.1 self.new.inquiry }
-        ensures same { self.new.asked ≡ self.old.asked }
+        ensures hears { TakesWhere (self.old.is_up && not self.old.is_bad) self.old.inquiry (take result.0 bytes.now) result.1 self.new.inquiry }
+        ensures same { self.new ≡ record self.old { inquiry = self.new.inquiry } }
     {
         if !self.is_well() {
             return (bytes.len(), None);
@@ -243,6 +261,7 @@ impl Wire {
     /// The request is given up. A part of its frame that wasn't written spoils the stream.
     pub fn give_up(&mut self, is_sent: bool)
         ensures over { self.new.asked ≡ None }
+        ensures bad { self.old.is_bad ≡ true → self.new.is_bad ≡ true }
         ensures spoils { is_sent ≡ false → self.new.is_bad ≡ true }
     {
         self.asked = None;
@@ -253,14 +272,19 @@ impl Wire {
     }
 
     /// A device answered.
-    pub fn heard(&mut self) {
+    pub fn heard(&mut self)
+        ensures { self.new ≡ record self.old { silent = 0; wait = 0 } }
+    {
         self.silent = 0;
         self.wait = 0;
     }
 
     /// A device didn't answer. After two silent requests in a row for each of its devices and one more, the connection
     /// itself is at fault.
-    pub fn missed(&mut self) {
+    pub fn missed(&mut self)
+        ensures same { self.new ≡ record self.old { silent = self.new.silent; is_bad = self.new.is_bad } }
+        ensures bad { self.old.is_bad ≡ true → self.new.is_bad ≡ true }
+    {
         self.silent = self.silent.saturating_add(1);
         if self.silent >= self.devices.len().saturating_mul(2).saturating_add(1) {
             self.is_bad = true;
@@ -268,7 +292,10 @@ impl Wire {
     }
 
     /// A request of a round that is over ends nothing any more.
-    pub fn outlive(&mut self) {
+    pub fn outlive(&mut self)
+        ensures still { IsStill self.old.asked self.new.asked }
+        ensures same { self.new ≡ record self.old { asked = self.new.asked } }
+    {
         if let Some(asked) = self.asked {
             self.asked = Some(Asked {
                 aim: past(asked.aim),
@@ -279,7 +306,9 @@ impl Wire {
 }
 
 /// What a request is made for once its round is over.
-fn past(aim: Aim) -> Aim {
+fn past(aim: Aim) -> Aim
+    ensures { result ≡ past aim }
+{
     match aim {
         Aim::Map => Aim::Map,
         _ => Aim::Past,

@@ -1,6 +1,6 @@
 use Rattle.std.proofs.Common.{rules, ◌≡◌, ◌≤◌, ◌<◌, length}
 use Rattle.service_parts.specs.declared.client_place.ClientPlace.{ClientPlace}
-use Rattle.service_core.proofs.Placed.{stands, stands_none}
+use Rattle.service_parts.proofs.Placed.{stands, stands_none}
 use Rattle.service_core.proofs.service_state.Service.client_requests.Goals as goal
 
 pub returns-in-Some : goal.returns-in-Some

@@ -2,7 +2,7 @@ use Rattle.std.proofs.Common.{rules, ◌≡◌, ◌≤◌, ◌<◌, length}
 use Rattle.std.specs.Prelude.{◌↔◌, IsTrue}
 use Rattle.service_parts.specs.Clients.{IsDone}
 use Rattle.service_parts.specs.declared.client_place.ClientPlace.{ClientPlace}
-use Rattle.service_core.proofs.Placed.{stands, stands_none}
+use Rattle.service_parts.proofs.Placed.{stands, stands_none}
 use Rattle.service_core.proofs.service_state.Service.wants_close.Goals as goal
 
 pub returns-in-Some : goal.returns-in-Some

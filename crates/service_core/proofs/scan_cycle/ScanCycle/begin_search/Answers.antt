@@ -2,7 +2,7 @@ use Rattle.std.proofs.Common.{rules, ◌≡◌, ◌∙◌, ◌<◌, Some, ap, le
 use Rattle.std.proofs.lemmas.Bool.{ltb-true}
 use Rattle.std.proofs.lemmas.Option.{slice_get_read}
 use Rattle.service_core.proofs.Sought.{with_new}
-use Rattle.service_core.proofs.scan_cycle.ScanCycle.seek_anew.Goals as goal
+use Rattle.service_core.proofs.scan_cycle.ScanCycle.begin_search.Goals as goal
 
 pub invariant_of-self : goal.invariant_of-self
 invariant_of-self c =

@@ -1,0 +1,45 @@
+-- What is told of devices and outputs, and how they stand by it. No standard says what is told; it is this project's.
+use Rattle.std.specs.Prelude.{◌≡◌, ℕ, Bool, true, false, not, ◌&&◌, nat_lt, List, [], ◌∷◌, ◌++◌, set, Option, None, Some, if◌then◌else◌}
+use Rattle.service_core.specs.declared.device.Device.{Device}
+use Rattle.service_core.specs.declared.device_side.DeviceSide.{DeviceSide}
+use Rattle.service_core.specs.declared.note.Loss.{Loss}
+use Rattle.service_core.specs.declared.note.Note.{Note}
+use Rattle.service_core.specs.declared.note.Note.TheVariants as note
+use Rattle.service_core.specs.declared.notes.Notes.{Notes}
+use Rattle.service_core.specs.Counting.{lost_once_more}
+
+-- ---- the notes that weren't taken yet
+
+-- a note behind the others, where there is room for it
+abbrev pub told : Note → Notes → List Note
+told n notes = if nat_lt notes.items.len notes.items.cap then notes.items.items ++ (n ∷ []) else notes.items.items
+
+abbrev pub told_if : Bool → Note → Notes → List Note
+told_if true n notes = told n notes
+told_if false n notes = notes.items.items
+
+-- the oldest is taken, where there is one, and the others stay
+abbrev pub TakesOldest : List Note → Option Note → List Note → Type 0
+TakesOldest [] taken left = (taken ≡ None) × (left ≡ [])
+TakesOldest (n ∷ notes) taken left = (taken ≡ Some n) × (left ≡ notes)
+
+-- ---- devices
+
+-- lost once more, for this
+abbrev pub lost_by : Loss → Device → Device
+lost_by loss own = record own { is_lost = true; last_loss = Some loss; counts = lost_once_more loss own.counts }
+
+-- This device is lost, for this; it is told where it wasn't lost before.
+pub record Loses (device : ℕ) (loss : Loss) (own : Device) (old new : DeviceSide) : Type 0 where
+  pub stands : new.devices.items ≡ set old.devices.items device (lost_by loss own)
+  pub tells : new.notes.items.items ≡ told_if (not own.is_lost) (note.Lost device loss) old.notes
+
+-- Its map is found: it isn't lost any more, which is told each time.
+pub record Finds (device : ℕ) (own : Device) (old new : DeviceSide) : Type 0 where
+  pub stands : new.devices.items ≡ set old.devices.items device (record own { is_lost = false })
+  pub tells : new.notes.items.items ≡ told (note.Found device) old.notes
+
+-- It answered: one that was lost and has a map is back, which is told.
+pub record HearsFrom (device : ℕ) (is_mapped : Bool) (own : Device) (old new : DeviceSide) : Type 0 where
+  pub stands : new.devices.items ≡ set old.devices.items device (record own { wait = 0; rest_until = 0; is_lost = own.is_lost && not is_mapped })
+  pub tells : new.notes.items.items ≡ told_if (own.is_lost && is_mapped) (note.Back device) old.notes

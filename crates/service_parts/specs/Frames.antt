@@ -1,0 +1,140 @@
+-- What goes out over a connection to devices, frame by frame: a request begins where none is under way, and its whole frame
+-- is to be written (MODBUS Messaging on TCP/IP Implementation Guide, sections 3.1.3 and 4.4.1).
+use Rattle.std.specs.Prelude.{◌≡◌, ◌⊎◌, ◌&&◌, not, ℕ, Bool, true, false, List, [], ◌++◌, drop, take, min, length, Option, None, Some, slice_get}
+use Rattle.std.specs.List.{flat_map}
+use Rattle.modbus_frame.specs.Frame.{frame_bytes}
+use Rattle.gateway.specs.poller.LinkRun.{Asked as Request, frame_of}
+use Rattle.service.specs.declared.fate.Fate.{Fate}
+use Rattle.service.specs.Hearing.{Takes, Wire as Hearing, asking, fresh}
+use Rattle.service_parts.specs.declared.line.Line.{Line}
+use Rattle.service_parts.specs.declared.wire.Aim.{Aim}
+use Rattle.service_parts.specs.declared.wire.Aim.TheVariants as aim
+use Rattle.service_parts.specs.declared.wire.Asked.{Asked}
+
+-- what a request is made for once its round is over
+abbrev pub past : Aim → Aim
+past aim.Map = aim.Map
+past (aim.Block want) = aim.Past
+past (aim.Output output) = aim.Past
+past aim.Past = aim.Past
+
+abbrev pub outlived : Asked → Asked
+outlived asked = record asked { aim = past asked.aim }
+
+-- The same request is under way, or none is; its round may be over.
+abbrev pub IsStill : Option Asked → Option Asked → Type 0
+IsStill None new = new ≡ None
+IsStill (Some asked) new = (new ≡ Some asked) ⊎ (new ≡ Some (outlived asked))
+
+-- ---- one step
+
+-- A request begins over a connection that is well, where none is under way and nothing waits: its frame is to be written.
+pub record Begins (old new : Line) : Type 0 where
+  pub up : old.wire.is_up ≡ true
+  pub well : old.wire.is_bad ≡ false
+  pub free : old.wire.asked ≡ None
+  pub quiet : old.out.items ≡ []
+  pub asked : Asked
+  pub request : Request
+  pub noted : new.wire.asked ≡ Some asked
+  pub under_way : new.wire.inquiry ≡ asking old.wire.inquiry request
+  pub frame : new.out.items ≡ frame_bytes (frame_of request)
+
+-- The request that is under way is given up. Over a connection on which a part of a frame waits nothing more begins.
+pub record GivesUp (old new : Line) : Type 0 where
+  pub over : new.wire.asked ≡ None
+  pub same : new.out.items ≡ old.out.items
+  pub bad : old.wire.is_bad ≡ true → new.wire.is_bad ≡ true
+  pub spoils : (old.out.items ≡ [] → ⊥) → new.wire.is_bad ≡ true
+
+-- Nothing happens to the request that is under way.
+pub record Keeps (old new : Line) : Type 0 where
+  pub still : IsStill old.wire.asked new.wire.asked
+  pub heard : new.wire.inquiry ≡ old.wire.inquiry
+  pub same : new.out.items ≡ old.out.items
+  pub bad : old.wire.is_bad ≡ true → new.wire.is_bad ≡ true
+
+-- what is under way behind a fate
+abbrev pub left_under_way : Option Fate → Option Asked → Option Asked
+left_under_way None asked = asked
+left_under_way (Some fate) asked = None
+
+-- Over a connection that is well they are taken; over any other one nothing is heard.
+abbrev pub TakesWhere : Bool → Hearing → List ℕ → Option Fate → Hearing → Type 0
+TakesWhere true old bytes fate new = Takes old bytes fate new
+TakesWhere false old bytes fate new = (fate ≡ None) × (new ≡ old)
+
+-- These bytes are taken of its stream; what they tell became of the request ends it, and nothing else does.
+pub record Hears (bytes : List ℕ) (fate : Option Fate) (old new : Line) : Type 0 where
+  pub takes : TakesWhere (old.wire.is_up && not old.wire.is_bad) old.wire.inquiry bytes fate new.wire.inquiry
+  pub asked : new.wire.asked ≡ left_under_way fate old.wire.asked
+  pub same : new.out.items ≡ old.out.items
+  pub bad : new.wire.is_bad ≡ old.wire.is_bad
+
+-- So many of the bytes that wait are written.
+pub record Sends (n : ℕ) (old new : Line) : Type 0 where
+  pub wire : new.wire ≡ old.wire
+  pub left : new.out.items ≡ drop (min n (length old.out.items)) old.out.items
+
+-- A stream that begins, or that is over: nothing waits, and nothing is under way.
+pub record IsCut (line : Line) : Type 0 where
+  pub begins : line.wire.inquiry ≡ fresh
+  pub none : line.wire.asked ≡ None
+  pub quiet : line.out.items ≡ []
+
+-- ---- kinds of steps
+
+-- What a service does by itself.
+pub data OwnStep (old new : Line) : Type 0 where
+  begins : Begins old new → OwnStep old new
+  gives_up : GivesUp old new → OwnStep old new
+  keeps : Keeps old new → OwnStep old new
+
+-- That, and what is heard over this connection.
+abbrev pub HearingStep : Line → Line → Type 0
+HearingStep old new = OwnStep old new ⊎ ((bytes : List ℕ) × (fate : Option Fate) × Hears bytes fate old new)
+
+-- That, and its stream ends or begins anew.
+abbrev pub CuttingStep : Line → Line → Type 0
+CuttingStep old new = OwnStep old new ⊎ IsCut new
+
+-- ---- one step after another
+
+-- From the one to the other by such steps alone.
+pub data CourseBy (Step : Line → Line → Type 0) : Line → Line → Type 0 where
+  stays : (line : Line) → CourseBy Step line line
+  goes : {old middle : Line} → CourseBy Step old middle → (new : Line) → Step middle new → CourseBy Step old new
+
+-- There is a line at that place, and such steps alone led to it.
+pub record Led (Step : Line → Line → Type 0) (from : Line) (lines : List Line) (link : ℕ) : Type 0 where
+  pub line : Line
+  pub there : slice_get lines link ≡ Some line
+  pub course : CourseBy Step from line
+
+-- Whatever such steps led to a line, they lead to what it is now.
+abbrev pub LinesGoBy : (Line → Line → Type 0) → ℕ → List Line → List Line → Type 0
+LinesGoBy Step link old new = (from : Line) → ∥ Led Step from old link ∥₁ → ∥ Led Step from new link ∥₁
+
+-- each of them by what a service does by itself
+abbrev pub LinesGo : List Line → List Line → Type 0
+LinesGo old new = (link : ℕ) → LinesGoBy OwnStep link old new
+
+-- all but that of one link
+abbrev pub OthersGo : ℕ → List Line → List Line → Type 0
+OthersGo at old new = (link : ℕ) → (link ≡ at → ⊥) → LinesGoBy OwnStep link old new
+
+-- ---- what went out
+
+-- The frames of these requests began, one after another, and these bytes of them went out: the rest waits.
+abbrev pub IsSending : List Request → List ℕ → Line → Type 0
+IsSending requests gone line = gone ++ line.out.items ≡ flat_map (λ (r : Request). frame_bytes (frame_of r)) requests
+
+-- What goes out over a connection are whole frames, one after another: each begins once the one before was written whole, and
+-- the request that it spells is over. Over a stream that a cut frame spoilt nothing more begins.
+pub record FramesGoOutWhole : Type 0 where
+  pub anew : (line : Line) → IsCut line → IsSending [] [] line
+  pub goes_on : (requests : List Request) (gone : List ℕ) (old new : Line) → CourseBy HearingStep old new → IsSending requests gone old
+      → (more : List Request) × IsSending (requests ++ more) gone new
+  pub goes_out : (requests : List Request) (gone : List ℕ) (n : ℕ) (old new : Line) → Sends n old new → IsSending requests gone old
+      → IsSending requests (gone ++ take (min n (length old.out.items)) old.out.items) new
+  pub one_at_a_time : (old new : Line) → Begins old new → (old.wire.asked ≡ None) × (old.out.items ≡ [])

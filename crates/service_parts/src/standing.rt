@@ -1,0 +1,200 @@
+//! How the connections of links stand.
+ghost use Rattle.std.specs.Prelude.{◌≡◌, ◌↔◌, IfNone, IfSome, IsTrue, Some, slice_get};
+ghost use Rattle.service_parts.specs.declared.line.Line.{Line as LineValue};
+ghost use Rattle.service_parts.specs.Frames.{LinesGo};
+ghost use Rattle.service_parts.specs.Requests.{StayRightful};
+ghost use Rattle.service_parts.specs.Waking.{IsToDial, IsToHangUp};
+
+use crate::lines::Lines;
+use crate::wire::Wire;
+
+impl Lines {
+    fn wire(&self, link: usize) -> Option<&Wire>
+        ensures there { IfSome result (λ wire. (line : LineValue) → slice_get self.entry.now.lines.items link ≡ Some line → wire.now ≡ line.wire) }
+        ensures none { IfNone result ((line : LineValue) → slice_get self.entry.now.lines.items link ≡ Some line → ⊥) }
+    {
+        match self.lines.get(link) {
+            Some(line) => Some(line.wire()),
+            None => None,
+        }
+    }
+
+    /// Whether a connection is to be made: it is down, no dial is under way, and its back-off is over.
+    pub fn wants_dial(&self, link: usize, now: u64) -> bool
+        ensures { (line : LineValue) → slice_get self.now.lines.items link ≡ Some line → IsTrue result ↔ IsToDial now line.wire }
+    {
+        match self.wire(link) {
+            Some(wire) => wire.wants_dial(now),
+            None => false,
+        }
+    }
+
+    /// Whether a connection is to be closed, or its dial to be given up.
+    pub fn wants_hang_up(&self, link: usize, now: u64) -> bool
+        ensures { (line : LineValue) → slice_get self.now.lines.items link ≡ Some line → IsTrue result ↔ IsToHangUp now line.wire }
+    {
+        match self.wire(link) {
+            Some(wire) => wire.wants_hang_up(now),
+            None => false,
+        }
+    }
+
+    pub fn is_up(&self, link: usize) -> bool {
+        match self.wire(link) {
+            Some(wire) => wire.is_up(),
+            None => false,
+        }
+    }
+
+    /// Whether a connection is to be hung up.
+    pub fn is_bad(&self, link: usize) -> bool {
+        match self.wire(link) {
+            Some(wire) => wire.is_bad(),
+            None => false,
+        }
+    }
+
+    /// Whether a connection is up, and nothing is wrong with it.
+    pub fn is_well(&self, link: usize) -> bool {
+        match self.wire(link) {
+            Some(wire) => wire.is_well(),
+            None => false,
+        }
+    }
+
+    /// Whether there may be something to ask over a link at this time.
+    pub fn is_stirred(&self, link: usize, now: u64) -> bool {
+        match self.wire(link) {
+            Some(wire) => wire.is_stirred(now),
+            None => false,
+        }
+    }
+
+    /// How many devices a link has.
+    pub fn devices_on(&self, link: usize) -> usize {
+        match self.wire(link) {
+            Some(wire) => wire.devices().len(),
+            None => 0,
+        }
+    }
+
+    /// The number of a link's device.
+    pub fn device_at(&self, link: usize, i: usize) -> Option<usize> {
+        self.wire(link)?.devices().get(i).copied()
+    }
+
+    /// The number of the device from which on the next one of a link is asked.
+    pub fn turn(&self, link: usize) -> Option<usize> {
+        Some(self.wire(link)?.turn())
+    }
+}
+
+impl Lines {
+    /// A dial begins on a link that may take until this time.
+    pub fn dial(&mut self, link: usize, until: u64)
+        ensures rightful { StayRightful self.old self.new }
+        ensures links { self.new.links ≡ self.old.links }
+        ensures found { self.new.found_on ≡ self.old.found_on }
+        ensures lines { LinesGo self.old.lines.items self.new.lines.items }
+    {
+        if let Some(line) = self.lines.get_mut(link) {
+            line.dial(until);
+        }
+    }
+
+    /// A link's connection is to be hung up.
+    pub fn spoil(&mut self, link: usize)
+        ensures rightful { StayRightful self.old self.new }
+        ensures links { self.new.links ≡ self.old.links }
+        ensures found { self.new.found_on ≡ self.old.found_on }
+        ensures lines { LinesGo self.old.lines.items self.new.lines.items }
+    {
+        if let Some(line) = self.lines.get_mut(link) {
+            line.spoil();
+        }
+    }
+
+    /// Something happened: there may be something to ask over a link.
+    fn stir(&mut self, link: usize)
+        ensures rightful { StayRightful self.old self.new }
+        ensures links { self.new.links ≡ self.old.links }
+        ensures found { self.new.found_on ≡ self.old.found_on }
+        ensures lines { LinesGo self.old.lines.items self.new.lines.items }
+    {
+        if let Some(line) = self.lines.get_mut(link) {
+            line.stir();
+        }
+    }
+
+    /// There is nothing to ask over a link before this time, unless something happens.
+    pub fn rest_until(&mut self, link: usize, until: u64)
+        ensures rightful { StayRightful self.old self.new }
+        ensures links { self.new.links ≡ self.old.links }
+        ensures found { self.new.found_on ≡ self.old.found_on }
+        ensures lines { LinesGo self.old.lines.items self.new.lines.items }
+    {
+        if let Some(line) = self.lines.get_mut(link) {
+            line.rest_until(until);
+        }
+    }
+
+    /// A device on a link answered.
+    pub fn heard(&mut self, link: usize)
+        ensures rightful { StayRightful self.old self.new }
+        ensures links { self.new.links ≡ self.old.links }
+        ensures found { self.new.found_on ≡ self.old.found_on }
+        ensures lines { LinesGo self.old.lines.items self.new.lines.items }
+    {
+        if let Some(line) = self.lines.get_mut(link) {
+            line.heard();
+        }
+    }
+
+    /// A device on a link didn't answer.
+    pub fn missed(&mut self, link: usize)
+        ensures rightful { StayRightful self.old self.new }
+        ensures links { self.new.links ≡ self.old.links }
+        ensures found { self.new.found_on ≡ self.old.found_on }
+        ensures lines { LinesGo self.old.lines.items self.new.lines.items }
+    {
+        if let Some(line) = self.lines.get_mut(link) {
+            line.missed();
+        }
+    }
+
+    /// A request on a link that is of a round that is over ends nothing any more.
+    fn outlive(&mut self, link: usize)
+        ensures rightful { StayRightful self.old self.new }
+        ensures links { self.new.links ≡ self.old.links }
+        ensures found { self.new.found_on ≡ self.old.found_on }
+        ensures lines { LinesGo self.old.lines.items self.new.lines.items }
+    {
+        if let Some(line) = self.lines.get_mut(link) {
+            line.outlive();
+        }
+    }
+
+    /// There may be something to ask over each link.
+    pub fn stir_all(&mut self)
+        ensures rightful { StayRightful self.old self.new }
+        ensures links { self.new.links ≡ self.old.links }
+        ensures found { self.new.found_on ≡ self.old.found_on }
+        ensures lines { LinesGo self.old.lines.items self.new.lines.items }
+    {
+        for link in 0..self.lines.len() {
+            self.stir(link);
+        }
+    }
+
+    /// The requests that are under way are those of a round that is over.
+    pub fn outlive_all(&mut self)
+        ensures rightful { StayRightful self.old self.new }
+        ensures links { self.new.links ≡ self.old.links }
+        ensures found { self.new.found_on ≡ self.old.found_on }
+        ensures lines { LinesGo self.old.lines.items self.new.lines.items }
+    {
+        for link in 0..self.lines.len() {
+            self.outlive(link);
+        }
+    }
+}
