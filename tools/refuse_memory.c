@@ -1,5 +1,5 @@
 /* Put before the C library by the loader (LD_PRELOAD): refuses allocations of the program that it is loaded with.
-   REFUSE_FROM=N refuses the N-th alone, with REFUSE_ALL also all behind it; REFUSE_COUNT=FILE writes to the file, as the
+   REFUSE_FROM=N refuses the N-th alone, with REFUSE_ALL also all after it; REFUSE_COUNT=FILE writes to the file, as the
    program ends, how many there were; REFUSE_WATCH=FILE keeps their number in the first eight bytes of the file, while the
    program runs. Programs that it starts have neither these words nor this file. */
 #define _GNU_SOURCE

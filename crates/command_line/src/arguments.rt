@@ -5,7 +5,7 @@ use clap::builder::ValueParser;
 use clap::{Arg, ArgAction, Command};
 use std::alloc::{AllocError, Global};
 
-/// The words that a command line may have, behind the program's own.
+/// The words that a command line may have, after the program's own.
 pub fn command<'a>(alloc: Global) -> Result<Command<'a>, AllocError> {
     let command = Command::new(alloc, "sunsite")
         .about(
@@ -122,7 +122,7 @@ fn connections_option<'a>(alloc: Global) -> Arg<'a> {
         alloc,
         "connections",
         "N",
-        "ends behind so many connections, several of them at once; 0: without an end",
+        "ends after so many connections, several of them at once; 0: without an end",
     )
     .value_parser(ValueParser::unsigned(0, 1_000_000_000))
 }

@@ -1,10 +1,10 @@
-//! What the helps of the commands say behind their words and options.
+//! What the helps of the commands say after their words and options.
 
 /// The version of the program, and the kit that proves and builds it.
 pub(crate) const VERSION: &str = "0.1.0 (rattle-kit-13f logic dac8208d650f15bf)";
 
 pub const PROGRAM: &str =
-    "Without arguments it reads a program (Instruction List) from standard input, and behind END_PROGRAM a
+    "Without arguments it reads a program (Instruction List) from standard input, and after END_PROGRAM a
 line NAME=VALUE for each input that has a value, and runs one scan:
   sunsite < examples/average.il
 
@@ -41,8 +41,8 @@ standard input:
 Status: 0 well; 1 refused; 2 no such command line; 3 a link failed";
 
 pub(crate) const SERVE: &str =
-    "Prints 'accepted', 'budget N' and 'listening ADDR', and then a line for each change, behind the seconds since the start.
-It ends behind --scans N, or by a signal. SITE or PROGRAM can be '-', standard input:
+    "Prints 'accepted', 'budget N' and 'listening ADDR', and then a line for each change, which begins with the
+seconds since the start. It ends after --scans N, or by a signal. SITE or PROGRAM can be '-', standard input:
   sunsite serve examples/site.toml examples/limiter.il --plant examples/plant.toml
 
 Status: 0 well; 1 refused; 2 no such command line; 3 the clock or a socket can't be had";

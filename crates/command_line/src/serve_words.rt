@@ -106,7 +106,7 @@ fn status_option<'a>(alloc: Global) -> Arg<'a> {
         alloc,
         "status-file",
         "PATH",
-        "the file (JSON) that says how the service stands, replaced behind each scan",
+        "the file (JSON) that says how the service stands, replaced after each scan",
     )
 }
 
@@ -128,7 +128,7 @@ fn timeout_option<'a>(alloc: Global) -> Arg<'a> {
 }
 
 fn scans_option<'a>(alloc: Global) -> Arg<'a> {
-    option(alloc, "scans", "N", "ends behind so many scans").value_parser(ValueParser::unsigned(
+    option(alloc, "scans", "N", "ends after so many scans").value_parser(ValueParser::unsigned(
         1,
         1_000_000_000,
     ))

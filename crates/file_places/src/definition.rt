@@ -106,7 +106,7 @@ fn of_whole(fault: DefFault) -> Option<Finding<'static>> {
         )),
         DefFault::TooLong => Some(Finding::of(
             "group.points",
-            "have more than 123 registers behind ID and L",
+            "have more than 123 registers after ID and L",
         )),
         DefFault::Repeating => Some(Finding::of("group.groups", "is no empty list")),
         _ => None,

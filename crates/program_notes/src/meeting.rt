@@ -12,7 +12,7 @@ const NOTHING: &str = "nothing was loaded before";
 
 const NOTHING_INSIDE: &str = "nothing was loaded before inside the parentheses";
 
-const FORGOTTEN: &str = "behind the label of a counted jump the result is forgotten";
+const FORGOTTEN: &str = "after the label of a counted jump the result is forgotten";
 
 /// A way to an instruction.
 #[derive(Clone, Copy)]
@@ -26,7 +26,7 @@ struct Incoming {
 }
 
 /// Why there is no result at an instruction, where these are the rows of the program: which types come from which lines
-/// where its ways meet, that it is forgotten behind a label, or that nothing was loaded.
+/// where its ways meet, that it is forgotten after a label, or that nothing was loaded.
 pub(crate) fn missing_text(
     alloc: Global,
     image: &Image,
@@ -139,7 +139,7 @@ fn holds(span: Span, number: i64) -> bool {
     }
 }
 
-/// The type of the result behind an instruction, where this one is before it.
+/// The type of the result after an instruction, where this one is before it.
 pub(crate) fn brought(image: &Image, op: Op, before: Option<Shown>) -> Option<IlType> {
     match op {
         Op::LoadVariable(v) => {

@@ -113,13 +113,13 @@ fn fact_text(
 /// Why an input may be missing.
 fn absent_words(instructions: &[(usize, Op)], number: usize) -> &'static str {
     if is_behind_repeated(instructions, number) {
-        "an input without a default; what is known before the label of a counted jump is forgotten there, and nothing behind it says that it is present"
+        "an input without a default; what is known before the label of a counted jump is forgotten there, and nothing after it says that it is present"
     } else {
         "an input without a default, and nothing before says that it is present"
     }
 }
 
-/// Whether an instruction stands at the label of a counted jump or behind it.
+/// Whether an instruction stands at the label of a counted jump or after it.
 fn is_behind_repeated(instructions: &[(usize, Op)], number: usize) -> bool {
     let Some((address, _)) = instructions.get(number) else {
         return false;

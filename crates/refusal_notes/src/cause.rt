@@ -187,7 +187,7 @@ impl Cause {
         if !self.detail.is_empty() {
             self.detail.push_str("; ")?;
         }
-        let place = format!(in alloc; "it acts at the ) behind line {last}")?;
+        let place = format!(in alloc; "it acts at the ) after line {last}")?;
         self.detail.push_str(place.as_str())
     }
 

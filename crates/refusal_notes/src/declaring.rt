@@ -11,12 +11,12 @@ use std::alloc::{AllocError, Global};
 
 const NO_NAME: Hint = Hint {
     meaning: "a declaration begins with a name",
-    help: "write name : TYPE; and END_VAR behind the last declaration",
+    help: "write name : TYPE; and END_VAR after the last declaration",
 };
 
 const NO_OTHER_NAME: Hint = Hint {
-    meaning: "a name must stand behind the comma",
-    help: "write name, name : TYPE; without a comma behind the last name",
+    meaning: "a name must stand after the comma",
+    help: "write name, name : TYPE; without a comma after the last name",
 };
 
 const NO_COLON: Hint = Hint {
@@ -26,11 +26,11 @@ const NO_COLON: Hint = Hint {
 
 const NO_END_VAR: Hint = Hint {
     meaning: "the block of declarations isn't ended",
-    help: "write END_VAR in front of the first instruction",
+    help: "write END_VAR before the first instruction",
 };
 
 const NO_QUALIFIER: Hint = Hint {
-    meaning: "VAR has no such word behind it",
+    meaning: "VAR has no such word after it",
     help: "leave it out: variables keep their values between scans anyway, and begin anew with each start; what clients set is kept with serve --state",
 };
 
@@ -40,7 +40,7 @@ const NO_CONSTANT: Hint = Hint {
 };
 
 const NO_WORD_OF_EXTERNALS: Hint = Hint {
-    meaning: "VAR_EXTERNAL has no such word behind it",
+    meaning: "VAR_EXTERNAL has no such word after it",
     help: "leave it out: the site file says what a tag holds, and what clients set is kept with serve --state",
 };
 
@@ -51,7 +51,7 @@ const ONE_WORD: Hint = Hint {
 
 const UNENDED: Hint = Hint {
     meaning: "the declaration isn't ended",
-    help: "write a semicolon behind it",
+    help: "write a semicolon after it",
 };
 
 const NO_RANGE_HERE: Hint = Hint {
@@ -75,7 +75,7 @@ const NO_CLOSE: Hint = Hint {
 };
 
 const UNEXPECTED: Hint = Hint {
-    meaning: "behind a type stand a range, a start value, or a semicolon",
+    meaning: "after a type stand a range, a start value, or a semicolon",
     help: "write name : TYPE (low..high) := start; where the range and the start may be left out",
 };
 
@@ -110,7 +110,7 @@ fn no_name(alloc: Global, met: &Met<'_, '_>, hint: Hint) -> Result<Told, AllocEr
     }
 }
 
-/// What is told where a colon must stand behind the names.
+/// What is told where a colon must stand after the names.
 fn no_colon(
     alloc: Global,
     met: &Met<'_, '_>,
@@ -130,7 +130,7 @@ fn no_colon(
     Ok(Told::new(alloc, NO_COLON))
 }
 
-/// What is told of a word behind VAR: on it, where it stands on the line at fault, and else there.
+/// What is told of a word after VAR: on it, where it stands on the line at fault, and else there.
 fn on_qualifier(
     alloc: Global,
     met: &Met<'_, '_>,
@@ -142,11 +142,11 @@ fn on_qualifier(
         return Ok(Told::on(alloc, word, hint));
     }
     let qualifier = word.text;
-    let text = format!(in alloc; "behind {qualifier} of line {line}")?;
+    let text = format!(in alloc; "after {qualifier} of line {line}")?;
     Told::new(alloc, hint).knowing(text.as_str())
 }
 
-/// The hint on a word behind VAR or VAR_EXTERNAL.
+/// The hint on a word after VAR or VAR_EXTERNAL.
 fn hint_on_qualifier(met: &Met<'_, '_>, word: Piece<'_>) -> Option<Hint> {
     if word.is("EXTERNAL") {
         return Some(ONE_WORD);
@@ -173,7 +173,7 @@ fn is_like_end(met: &Met<'_, '_>, word: Piece<'_>) -> bool {
     is_alone && (word.is("VAR_END") || rank("END_VAR", word.text).is_some())
 }
 
-/// Where a word ends that may be meant as END_VAR: behind VAR, where that is its second part.
+/// Where a word ends that may be meant as END_VAR: after VAR, where that is its second part.
 fn end_behind(met: &Met<'_, '_>, word: Piece<'_>) -> usize {
     match met.piece() {
         Some(second)
@@ -183,7 +183,7 @@ fn end_behind(met: &Met<'_, '_>, word: Piece<'_>) -> usize {
     }
 }
 
-/// What is told behind a type.
+/// What is told after a type.
 fn behind_type(
     alloc: Global,
     met: &Met<'_, '_>,
@@ -213,7 +213,7 @@ fn is_unended(met: &Met<'_, '_>, last: Piece<'_>) -> bool {
     begins_line || met.next() == ":" || met.next() == ","
 }
 
-/// A semicolon is missing behind a piece.
+/// A semicolon is missing after a piece.
 fn unended(alloc: Global, last: Piece<'_>) -> Result<Told, AllocError> {
     let mut told = Told::new(alloc, UNENDED).knowing("a semicolon is missing")?;
     told.span = Some((last.behind(), last.behind().saturating_add(1)));

@@ -18,21 +18,21 @@ const NO_CONVERSION: Hint = Hint {
 
 const NO_LABEL_COLON: Hint = Hint {
     meaning: "no operator stands where one must",
-    help: "write a colon behind {} where it is a label; else begin the line with an operator, as LD",
+    help: "write a colon after {} where it is a label; else begin the line with an operator, as LD",
 };
 
 const LABEL_ENDS: Hint = Hint {
     meaning: "the label {} has no colon",
-    help: "a label ends with a colon: write {}: in front of an instruction, or on a line of its own",
+    help: "a label ends with a colon: write {}: before an instruction, or on a line of its own",
 };
 
 const NAME_BEFORE: Hint = Hint {
-    meaning: "{} stands in front of an operator, and is none",
-    help: "write a colon behind {} where it is a label; else take it away",
+    meaning: "{} stands before an operator, and is none",
+    help: "write a colon after {} where it is a label; else take it away",
 };
 
 const NO_JUMP: Hint = Hint {
-    meaning: "only a jump stands behind {LOOP n}, on its line",
+    meaning: "only a jump stands after {LOOP n}, on its line",
     help: "write {LOOP n} JMP label, JMPC or JMPCN on one line",
 };
 
@@ -53,7 +53,7 @@ const NO_OPERATOR: Hint = Hint {
 
 const NO_OPERAND: Hint = Hint {
     meaning: "{} wants an operand",
-    help: "write a name, a number, TRUE or FALSE behind it",
+    help: "write a name, a number, TRUE or FALSE after it",
 };
 
 const NO_NAME_TO_STORE: Hint = Hint {
@@ -88,12 +88,12 @@ const NO_PARENTHESIS: Hint = Hint {
 
 const OWN_LINE: Hint = Hint {
     meaning: "the closing parenthesis stands on a line of its own",
-    help: "write ADD( a, then the lines of what is inside, then ) alone; for one operand leave both away",
+    help: "write ADD( a, then the lines of what is inside, then ) alone; for one operand leave both out",
 };
 
 const NOTHING_INSIDE: Hint = Hint {
     meaning: "nothing stands inside the parentheses",
-    help: "write an operand behind the opening one, or a line with LD below it",
+    help: "write an operand after the opening one, or a line with LD below it",
 };
 
 const NO_LABEL: Hint = Hint {
@@ -103,7 +103,7 @@ const NO_LABEL: Hint = Hint {
 
 const NOT_INSIDE: Hint = Hint {
     meaning: "{} may not stand inside parentheses",
-    help: "close them before, by ) on a line of its own; store, jump and return behind it",
+    help: "close them before, by ) on a line of its own; store, jump and return after it",
 };
 
 const STAYS_OPEN: Hint = Hint {
@@ -211,7 +211,7 @@ fn jump_in<'a>(pieces: &[Piece<'a>], label: &str) -> Option<Piece<'a>> {
     None
 }
 
-/// The hint on what stands behind a count, or on a label behind another one.
+/// The hint on what stands after a count, or on a label after another one.
 fn hint_before(met: &Met<'_, '_>) -> Option<Hint> {
     let before = met.line().last()?;
     if before.text == "}" {
@@ -253,7 +253,7 @@ fn on_named(alloc: Global, piece: Piece<'_>, hint: Hint) -> Result<Told, AllocEr
     Ok(told)
 }
 
-/// What stands on a line behind its label and a count.
+/// What stands on a line after its label and a count.
 fn instruction_of<'p, 'a>(line: &'p [Piece<'a>]) -> &'p [Piece<'a>] {
     let mut rest = line;
     if let [_, second, behind @ ..] = rest {

@@ -89,7 +89,7 @@ static BY_BITS: [(&str, &str); 7] = [
 ];
 
 const NO_TYPE: Hint = Hint {
-    meaning: "a type must stand behind the colon",
+    meaning: "a type must stand after the colon",
     help: "use BOOL, SINT, INT, DINT, LINT, USINT, UINT or UDINT",
 };
 

@@ -23,7 +23,7 @@ pub(crate) fn help_on(mend: Mend) -> &'static str {
         Way::Convert(_, _) => help_on_conversion(mend.place),
         Way::Choose(_) => help_on_choice(mend.place),
         Way::Compare => help_on_comparison(mend.place),
-        Way::LeaveAway => "leave the conversion away: what it converts has that type",
+        Way::LeaveAway => "leave the conversion out: what it converts has that type",
         Way::Store => "store by ST: S and R set a BOOL",
     }
 }

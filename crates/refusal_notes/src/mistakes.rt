@@ -11,7 +11,7 @@ struct Mistake {
 
 const SEMICOLON: Hint = Hint {
     meaning: "no semicolon stands here",
-    help: "leave the semicolon out; it stands behind declarations alone",
+    help: "leave the semicolon out; it stands after declarations alone",
 };
 
 /// Where a word or a mark is met that nothing begins with.
@@ -19,7 +19,7 @@ static WORDS: [Mistake; 12] = [
     Mistake {
         signs: &["\u{feff}"],
         hint: Hint {
-            meaning: "a byte order mark stands in front of the text",
+            meaning: "a byte order mark stands before the text",
             help: "save the file as UTF-8 without it",
         },
     },
@@ -116,7 +116,7 @@ static OPERATORS: [Mistake; 18] = [
         signs: &["VAR", "VAR_EXTERNAL"],
         hint: Hint {
             meaning: "declarations stand before the instructions",
-            help: "move the block up, behind PROGRAM or another block",
+            help: "move the block up, after PROGRAM or another block",
         },
     },
     Mistake {
@@ -139,7 +139,7 @@ static OPERATORS: [Mistake; 18] = [
         signs: &["END_VAR"],
         hint: Hint {
             meaning: "no block of declarations is open",
-            help: "write VAR or VAR_EXTERNAL in front of the declarations, once for each END_VAR",
+            help: "write VAR or VAR_EXTERNAL before the declarations, once for each END_VAR",
         },
     },
     Mistake {
@@ -204,7 +204,7 @@ static OPERATORS: [Mistake; 18] = [
         signs: &["MUX"],
         hint: Hint {
             meaning: "{} is no operator",
-            help: "choose between two by SEL, as LD b / SEL INT#0, INT#1; between more by one SEL behind the other",
+            help: "choose between two by SEL, as LD b / SEL INT#0, INT#1; between more by one SEL after the other",
         },
     },
     Mistake {
@@ -225,7 +225,7 @@ static OPERATORS: [Mistake; 18] = [
         signs: &["JMPNC", "RETNC"],
         hint: Hint {
             meaning: "{} is no operator",
-            help: "write the N behind the C, as JMPCN or RETCN",
+            help: "write the N after the C, as JMPCN or RETCN",
         },
     },
     Mistake {
@@ -272,7 +272,7 @@ static HEADERS: [Mistake; 2] = [
         ],
         hint: Hint {
             meaning: "a text has one program and nothing else",
-            help: "write PROGRAM and a name in front of the declarations, and END_PROGRAM behind the instructions",
+            help: "write PROGRAM and a name before the declarations, and END_PROGRAM after the instructions",
         },
     },
 ];
@@ -281,7 +281,7 @@ static HEADERS: [Mistake; 2] = [
 static DECLARATIONS: [Mistake; 1] = [Mistake {
     signs: &["AT"],
     hint: Hint {
-        meaning: "a declaration has no address behind AT",
+        meaning: "a declaration has no address after AT",
         help: "declare the tag by its name in VAR_EXTERNAL; the site file says which point of which device it is",
     },
 }];

@@ -34,12 +34,12 @@ const SIGNED_BASE: Hint = Hint {
 
 const NO_DIGITS: Hint = Hint {
     meaning: "what begins with a digit is a number, and this is none",
-    help: "write all its digits, as 1000, or digits of the base behind 16#, 8# or 2#; a name begins with a letter",
+    help: "write all its digits, as 1000, or digits of the base after 16#, 8# or 2#; a name begins with a letter",
 };
 
 const NONE_BEHIND: Hint = Hint {
-    meaning: "no number stands behind the #",
-    help: "write its digits right behind it, as INT#5 or INT#-5",
+    meaning: "no number stands after the #",
+    help: "write its digits right after it, as INT#5 or INT#-5",
 };
 
 /// A number that is met.
@@ -51,9 +51,9 @@ struct Number<'a> {
     is_typed: bool,
     has_sign: bool,
     is_negative: bool,
-    /// What stands behind the type and the sign.
+    /// What stands after the type and the sign.
     digits: &'a str,
-    /// The place behind it.
+    /// The place after it.
     behind: usize,
 }
 

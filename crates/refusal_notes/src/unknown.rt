@@ -6,7 +6,7 @@ use point_types::Name;
 use program_notes::{Use, uses_in};
 use std::alloc::{AllocError, Global};
 
-/// What stands behind the name of an external whose presence is meant.
+/// What stands after the name of an external whose presence is meant.
 const PRESENCE: &str = "_ok";
 
 const UNDECLARED: Hint = Hint {
@@ -16,7 +16,7 @@ const UNDECLARED: Hint = Hint {
 
 const NO_PRESENCE: Hint = Hint {
     meaning: "{} would be the presence of a variable, which has none",
-    help: "a variable always has a value; only an external that is loaded has a presence, its name with _OK behind it",
+    help: "a variable always has a value; only an external that is loaded has a presence, its name with _OK after it",
 };
 
 const NOT_STORED: Hint = Hint {

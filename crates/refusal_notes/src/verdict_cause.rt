@@ -49,7 +49,7 @@ pub fn cause_of_refusal(alloc: Global, program: &Program, site: &Site, refused: 
 }
 
 /// The help on a divisor that is always 0.
-const NO_DIVISOR: &str = "divide by another number: no scan could go on behind this";
+const NO_DIVISOR: &str = "divide by another number: no scan could go on after this";
 
 /// Puts in that another divisor is wanted, where it is always 0.
 fn put_divisor(alloc: Global, cause: &mut Cause, site: &Site, refused: &Refused) {

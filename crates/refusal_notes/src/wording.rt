@@ -13,12 +13,12 @@ const NO_POINT: Hint = Hint {
 };
 
 const NO_PARTS: Hint = Hint {
-    meaning: "there are no function blocks, and names have no parts behind a point",
+    meaning: "there are no function blocks, and names have no parts after a point",
     help: "keep what a block would hold in variables of the program",
 };
 
 const ASSIGNED: Hint = Hint {
-    meaning: "a start value stands behind :=",
+    meaning: "a start value stands after :=",
     help: "write := in place of =",
 };
 
@@ -88,22 +88,22 @@ const PRESENCE: Hint = Hint {
 
 const NOT_BEGUN: Hint = Hint {
     meaning: "the text doesn't begin with PROGRAM",
-    help: "write PROGRAM and a name in front of it; only comments stand before",
+    help: "write PROGRAM and a name before it; only comments may stand there",
 };
 
 const UNNAMED: Hint = Hint {
     meaning: "the program has no name",
-    help: "write a name behind PROGRAM",
+    help: "write a name after PROGRAM",
 };
 
 const NOT_ENDED: Hint = Hint {
     meaning: "END_PROGRAM is missing",
-    help: "write END_PROGRAM on a line behind the last instruction",
+    help: "write END_PROGRAM on a line after the last instruction",
 };
 
 const NOT_OVER: Hint = Hint {
-    meaning: "something stands behind END_PROGRAM",
-    help: "take it away: a text has one program, and only comments behind it",
+    meaning: "something stands after END_PROGRAM",
+    help: "take it away: a text has one program, and only comments after it",
 };
 
 /// What is told of a comment that isn't closed.
@@ -211,7 +211,7 @@ pub(crate) fn no_frame(alloc: Global, met: &Met<'_, '_>) -> Result<Told, AllocEr
     }
 }
 
-/// The text ends with this word, its first one, without a name behind it.
+/// The text ends with this word, its first one, without a name after it.
 fn ends_unnamed(alloc: Global, word: Piece<'_>) -> Result<Told, AllocError> {
     let mut told = Told::new(alloc, UNNAMED).knowing("the text ends here")?;
     told.span = Some((word.behind(), word.behind().saturating_add(1)));
