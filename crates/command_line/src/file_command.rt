@@ -5,7 +5,7 @@ ghost use Rattle.command_line.specs.Asked.{ObeysFiles};
 use crate::plant_run::{PlantRun, run_plant};
 use crate::plant_server::{PlantPort, simulate};
 use crate::probe_link::{ProbeRun, probe_over};
-use crate::shown::warn_of_shown;
+use crate::shown::warn_beside;
 use commands::TextCommand;
 use refusal_notes::Notes;
 use std::alloc::Global;
@@ -112,7 +112,7 @@ fn checked<W: Write>(
 {
     let status = told(rt, command, notes, out);
     if status == 0 {
-        warn_of_shown(rt, notes);
+        warn_beside(rt, notes);
     }
     status
 }

@@ -26,6 +26,7 @@ mod source;
 mod sources;
 mod standard_input;
 mod trial_input;
+mod unreached;
 mod unwritten;
 mod watched_link;
 

@@ -1,23 +1,26 @@
-//! Warnings of what clients may not be shown.
+//! Warnings beside an acceptance: what clients may not be shown, and which places of devices `serve` would refuse.
+use crate::unreached::warn_of_places;
 use commands::definitions::definitions;
 use refusal_notes::Notes;
 use served_notes::shown_warnings;
 use site_model::Site;
 
-/// Warns on standard error of what clients may not be shown of the site that a command's texts stand for. Where they stand
-/// for none, the warnings can't be printed, or memory for them is refused, nothing comes of it.
-pub(crate) fn warn_of_shown(rt: &(impl Eprint + AllocGlobal), notes: &Notes<'_>) {
+/// Warns on standard error of what clients may not be shown of the site that a command's texts stand for, and of a device's
+/// place that `serve` would refuse. Where they stand for no site, the warnings can't be printed, or memory for them is
+/// refused, nothing comes of it.
+pub(crate) fn warn_beside(rt: &(impl Eprint + AllocGlobal), notes: &Notes<'_>) {
     if notes.quiet {
         return;
     }
     if let Ok(models) = definitions(rt.alloc(), notes.defs) {
         if let Ok(site) = Site::read(rt.alloc(), notes.site, models.as_slice()) {
+            warn_of_places(rt, notes, &site);
             warn_on_site(rt, notes, &site);
         }
     }
 }
 
-/// The same of a site.
+/// Warns of what clients may not be shown of a site.
 pub(crate) fn warn_on_site(rt: &(impl Eprint + AllocGlobal), notes: &Notes<'_>, site: &Site) {
     if notes.quiet {
         return;

@@ -16,6 +16,7 @@ use Rattle.service.specs.Tasks.{IsDone}
 use Rattle.service_parts.specs.Course.{IsNew}
 use Rattle.service_parts.specs.Seeking.{IsFound}
 use Rattle.service_core.specs.declared.round.Turn.{Turn}
+use Rattle.service_core.specs.Maps.{has_map}
 use Rattle.service_core.specs.Rounds.{ArePlanned, Closes, IsRoundFor, Opens, Progress, begun, event_told}
 
 -- a core, and the round that is under way
@@ -58,8 +59,9 @@ pub record Learns (device : ℕ) (found : Option Layout) (old new : Stage) : Typ
   pub own : IsFound old.core.site device found
   pub same : new ≡ record old { core = record old.core { maps = set old.core.maps device found } }
 
--- A wanted block is known no more, since its device's map isn't.
+-- A wanted block is known no more, since its device has no map.
 pub record Forgets (want : Want) (old new : Stage) : Type 0 where
+  pub none : has_map old.core want.device ≡ false
   pub told : TakesEvent (Some (event.Lost want)) old.core new.core
   pub round : new.round ≡ old.round
 

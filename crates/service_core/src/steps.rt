@@ -12,6 +12,7 @@ ghost use Rattle.service_parts.specs.Requests.{IsOfRound};
 ghost use Rattle.service_parts.specs.Seeking.{IsFound, IsSought};
 ghost use Rattle.service_core.specs.declared.round.Turn.TheVariants.{Ask as AskTurn};
 ghost use Rattle.service_core.specs.Cycle.{ClientsLeadOn, EndsOwn, LeadsOn, stage_of};
+ghost use Rattle.service_core.specs.Maps.{has_map};
 ghost use Rattle.service_core.specs.Rounds.{IsSendable, event_told};
 ghost use Rattle.service_core.specs.Stages.{Ends, TakesEvent};
 
@@ -54,12 +55,13 @@ impl ScanCycle {
             Some(want) => *want,
             None => return,
         };
-        if want.device == device {
+        if want.device == device && !self.is_mapped(device) {
             self.forget_want(want);
         }
     }
 
     fn forget_want(&mut self, want: Want)
+        requires { has_map self.old.core.value want.device ≡ false }
         ensures goes { LeadsOn self.old self.new }
     {
         tell(&mut self.core, Some(Event::Lost(want)));
