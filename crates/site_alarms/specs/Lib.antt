@@ -1,0 +1,3 @@
+pub mod Alarms
+pub mod Lines
+pub mod Meeting
