@@ -1,5 +1,5 @@
 -- All that is wrong at a site, one alarm each. No standard says what is told; it is this project's.
-use Rattle.std.specs.Prelude.{ℕ, ◌+◌, Bool, true, false, List, [], ◌∷◌, ◌++◌, Option, Some, None, slice_get, if◌then◌else◌}
+use Rattle.std.specs.Prelude.{◌≡◌, ℕ, ◌+◌, Bool, true, false, List, [], ◌∷◌, ◌++◌, length, Option, Some, None, slice_get, if◌then◌else◌}
 use Rattle.std.specs.List.{flat_map}
 use Rattle.point_types.specs.declared.reading.Reading.{Reading}
 use Rattle.point_types.specs.declared.reading.Reading.TheVariants as reading
@@ -13,8 +13,10 @@ use Rattle.gateway.specs.event_core.Core.{Gateway}
 use Rattle.service_core.specs.declared.output.OutputState.{OutputState}
 use Rattle.service_core.specs.declared.output.OutputState.TheVariants as state
 use Rattle.service_core.specs.declared.status.DeviceStatus.{DeviceStatus}
+use Rattle.site_alarms.specs.Hiding.{AreStoredHidden, AreSumsHidden}
 use Rattle.site_alarms.specs.declared.alarm.Alarm.{Alarm}
 use Rattle.site_alarms.specs.declared.alarm.Alarm.TheVariants as alarm
+use Rattle.site_alarms.specs.declared.standing.Standing.{Standing}
 
 -- what each item of a list makes with its number, from this number on
 abbrev pub of_each : {X : Type 0} → (ℕ → X → List Alarm) → ℕ → List X → List Alarm
@@ -29,6 +31,10 @@ one_if holds a = if holds then a ∷ [] else []
 
 abbrev pub of_device : ℕ → DeviceStatus → List Alarm
 of_device i d = if d.is_lost then alarm.DeviceLost i d.last_loss ∷ [] else (if d.is_mapped then [] else alarm.DeviceUnmapped i ∷ [])
+
+-- whether it has one of these
+abbrev pub is_amiss : DeviceStatus → Bool
+is_amiss d = if d.is_lost then true else (if d.is_mapped then false else true)
 
 abbrev pub devices_amiss : List DeviceStatus → List Alarm
 devices_amiss devices = of_each of_device 0 devices
@@ -85,11 +91,39 @@ outputs_unwritten outputs = of_each of_output 0 outputs
 
 -- ---- all of them, each kind in the site's order
 
-abbrev pub wrong_now : Gateway → List DeviceStatus → List (Option OutputState) → (is_late is_unkept : Bool) → List Alarm
-wrong_now core devices outputs is_late is_unkept =
+-- of the devices, their models, the inputs and the outputs
+abbrev pub wrong_beside : Gateway → List DeviceStatus → List (Option OutputState) → List Alarm
+wrong_beside core devices outputs =
     devices_amiss devices
     ++ models_missing core.maps core.site.wants
     ++ inputs_missing core.standing.last.readings core.site.tags
     ++ outputs_unwritten outputs
-    ++ one_if is_late alarm.RoundLate
-    ++ one_if is_unkept alarm.StateUnwritten
+
+-- of the service itself
+abbrev pub wrong_itself : (is_late is_unkept : Bool) → List Alarm
+wrong_itself is_late is_unkept = one_if is_late alarm.RoundLate ++ one_if is_unkept alarm.StateUnwritten
+
+-- the sums and the `site` tags that clients aren't shown
+pub record AreServedMissing (core : Gateway) (alarms : List Alarm) : Type 0 where
+  pub sums : List Alarm
+  pub stored : List Alarm
+  pub are_sums : AreSumsHidden core.site core.standing.last.readings (length core.site.served) sums
+  pub are_stored : AreStoredHidden core.site core.standing.last.outputs (length core.site.tags) stored
+  pub all : alarms ≡ sums ++ stored
+
+-- all that is wrong, and nothing else
+pub record IsAllWrong (core : Gateway) (devices : List DeviceStatus) (outputs : List (Option OutputState)) (is_late is_unkept : Bool) (alarms : List Alarm) : Type 0 where
+  pub served : List Alarm
+  pub are_served : AreServedMissing core served
+  pub all : alarms ≡ wrong_beside core devices outputs ++ served ++ wrong_itself is_late is_unkept
+
+-- what of that the core alone says of numbers
+pub record IsAllMissing (core : Gateway) (alarms : List Alarm) : Type 0 where
+  pub served : List Alarm
+  pub are_served : AreServedMissing core served
+  pub all : alarms ≡ inputs_missing core.standing.last.readings core.site.tags ++ served
+
+-- ---- since when
+
+abbrev pub alarm_of : Standing → Alarm
+alarm_of s = s.alarm

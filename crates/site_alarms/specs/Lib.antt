@@ -1,3 +1,4 @@
 pub mod Alarms
+pub mod Hiding
 pub mod Lines
 pub mod Meeting

@@ -14,7 +14,7 @@ pub struct Changes {
 }
 
 /// What changed from what stood to these alarms.
-pub(crate) fn changes(
+pub(crate) fn changes_to(
     alloc: Global,
     stood: &[Standing],
     alarms: &[Alarm],

@@ -1,6 +1,6 @@
 //! What is wrong with devices.
 ghost use Rattle.std.specs.Prelude.{◌≡◌, ◌++◌, OnOk, slice_get};
-ghost use Rattle.site_alarms.specs.Alarms.{devices_amiss, has_no, is_lacking, is_lacking_in, models_missing, of_device, of_want};
+ghost use Rattle.site_alarms.specs.Alarms.{devices_amiss, has_no, is_amiss, is_lacking, is_lacking_in, models_missing, of_device, of_want};
 
 use crate::alarm::Alarm;
 use point_types::Items;
@@ -34,7 +34,9 @@ fn push_device(alarms: &mut Items<Alarm>, i: usize, device: &DeviceStatus) -> Re
 }
 
 /// Whether a device has an alarm of its own: it is lost, or has no map.
-pub fn is_amiss(device: &DeviceStatus) -> bool {
+pub fn is_amiss(device: &DeviceStatus) -> bool
+    ensures { result ≡ is_amiss device.now }
+{
     device.is_lost || !device.is_mapped
 }
 

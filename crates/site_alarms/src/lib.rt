@@ -7,6 +7,7 @@ mod changes;
 mod devices;
 mod inputs;
 mod lines;
+mod mending;
 mod met;
 mod names;
 mod outputs;
@@ -28,7 +29,9 @@ pub use standing::{Standing, Watch};
 pub use changes::Changes;
 // in words
 pub use lines::{begun_line, lacks_text, missing_text, over_line};
+pub use mending::mend;
 pub use names::{device_name, output_name, tag_name};
-pub use points::shown_point;
 pub use sentences::{push_models, sentence, why_hidden, why_missing};
-pub use words::{cause_text, kind_word, loss_word, missing_word, name_text, unwritten_word};
+pub use words::{
+    cause_text, kind_word, loss_word, missing_word, name_text, subject_text, unwritten_word,
+};

@@ -4,8 +4,8 @@ use crate::devices::is_lacking;
 use crate::lines::is_of_number;
 use crate::met::{Met, met_at};
 use crate::names::{device_name, output_name, tag_name};
-use crate::points::{demand_at, shown_point};
-use crate::words::unwritten_word;
+use crate::points::demand_at;
+use crate::words::{subject_text, unwritten_word};
 use escaped_text::escaped;
 use gateway::{Core, DEPTH};
 use point_types::Cause;
@@ -100,12 +100,9 @@ fn hidden_sentence(
     alarm: Alarm,
     why: Hidden,
 ) -> Result<String, AllocError> {
-    let Some((model, point)) = shown_point(site, alarm) else {
-        return Ok(String::new(alloc));
-    };
-    let point = escaped(alloc, point)?;
-    let mut text = format!(in alloc; "{point} of model {model} isn't shown: ")?;
+    let mut text = subject_text(alloc, site, alarm)?;
     let rest = why_hidden(alloc, site, alarm, why)?;
+    text.push_str(" isn't shown: ")?;
     text.push_str(rest.as_str())?;
     Ok(text)
 }

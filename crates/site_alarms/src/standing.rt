@@ -1,6 +1,9 @@
 //! Since when something is wrong.
+ghost use Rattle.std.specs.Prelude.{◌≡◌, [], map, IfOk, OnErr, OnOk};
+ghost use Rattle.site_alarms.specs.Alarms.{alarm_of};
+
 use crate::alarm::Alarm;
-use crate::changes::{Changes, changes};
+use crate::changes::{Changes, changes_to};
 use point_types::Items;
 use std::alloc::{AllocError, Global};
 
@@ -19,25 +22,27 @@ pub struct Watch {
 
 impl Watch {
     /// Nothing was seen yet.
-    pub fn new(alloc: Global) -> Watch {
+    pub fn new(alloc: Global) -> Watch
+        ensures { result.standing ≡ [] }
+    {
         Watch {
             standing: Items::new(alloc),
         }
     }
 
     /// What is wrong, in the order of the list that was seen last.
-    pub fn standing(&self) -> &[Standing] {
+    pub fn standing(&self) -> &[Standing]
+        ensures { result.now ≡ self.now.standing }
+    {
         self.standing.as_slice()
     }
 
     /// From now on these are the alarms, and this changed; where memory is refused, all stays as it was.
-    pub fn see(
-        &mut self,
-        alloc: Global,
-        alarms: &[Alarm],
-        now: u64,
-    ) -> Result<Changes, AllocError> {
-        let changed = changes(alloc, self.standing.as_slice(), alarms)?;
+    pub fn see(&mut self, alloc: Global, alarms: &[Alarm], now: u64) -> Result<Changes, AllocError>
+        ensures seen { OnOk result (map alarm_of self.new.standing ≡ alarms.now) }
+        ensures refused { OnErr result (self.new ≡ self.old) }
+    {
+        let changed = changes_to(alloc, self.standing.as_slice(), alarms)?;
         self.standing = standing_of(alloc, self.standing.as_slice(), alarms, now)?;
         Ok(changed)
     }
@@ -49,7 +54,9 @@ fn standing_of(
     stood: &[Standing],
     alarms: &[Alarm],
     now: u64,
-) -> Result<Items<Standing>, AllocError> {
+) -> Result<Items<Standing>, AllocError>
+    ensures { IfOk result (λ standing. map alarm_of standing ≡ alarms.now) }
+{
     let mut standing = Items::new(alloc);
     for alarm in alarms {
         standing.push(Standing {

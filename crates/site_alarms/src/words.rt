@@ -36,6 +36,16 @@ pub fn name_text(alloc: Global, site: &Site, alarm: Alarm) -> Result<String, All
     escaped(alloc, name)
 }
 
+/// What an alarm is of, in a sentence: a name, or `POINT of model ID`.
+pub fn subject_text(alloc: Global, site: &Site, alarm: Alarm) -> Result<String, AllocError> {
+    let Some((model, point)) = shown_point(site, alarm) else {
+        return name_text(alloc, site, alarm);
+    };
+    let point = escaped(alloc, point)?;
+    let text = format!(in alloc; "{point} of model {model}")?;
+    Ok(text)
+}
+
 /// The cause of an alarm, as it is told; for a model its ID.
 pub fn cause_text(alloc: Global, site: &Site, alarm: Alarm) -> Result<String, AllocError> {
     let word = match alarm {

@@ -1,7 +1,7 @@
 //! All that is wrong now.
-ghost use Rattle.std.specs.Prelude.{◌≡◌, ◌++◌, [], IfOk, OnOk};
-ghost use Rattle.site_alarms.specs.Alarms.{one_if, wrong_now};
-ghost use Rattle.site_alarms.specs.declared.alarm.Alarm.TheVariants as alarm;
+ghost use Rattle.std.specs.Prelude.{◌≡◌, ◌++◌, IfOk, List, OnOk};
+ghost use Rattle.site_alarms.specs.Alarms.{AreServedMissing, IsAllMissing, IsAllWrong, one_if, wrong_beside, wrong_itself};
+ghost use Rattle.site_alarms.specs.declared.alarm.Alarm.{Alarm as AlarmValue};
 
 use crate::alarm::Alarm;
 use crate::devices::{push_devices, push_models};
@@ -33,27 +33,54 @@ pub fn wrong_now(
     core: &Core<DEPTH>,
     seen: &Seen<'_>,
 ) -> Result<Items<Alarm>, AllocError>
-    ensures { IfOk result (λ alarms. alarms ≡ wrong_now core.now seen.now.devices.now seen.now.outputs.now seen.now.is_late seen.now.is_unkept) }
+    ensures { IfOk result (IsAllWrong core.now seen.now.devices.now seen.now.outputs.now seen.now.is_late seen.now.is_unkept) }
 {
     let mut alarms = Items::new(alloc);
-    push_devices(&mut alarms, seen.devices)?;
-    push_models(&mut alarms, core.maps(), core.site().wants())?;
-    push_inputs(&mut alarms, core.readings(), core.site().tags())?;
-    push_outputs(&mut alarms, seen.outputs)?;
-    push_sums(&mut alarms, core.site(), core.readings())?;
-    push_stored(&mut alarms, core.site(), core.outputs())?;
-    push_if(&mut alarms, seen.is_late, Alarm::RoundLate)?;
-    push_if(&mut alarms, seen.is_unkept, Alarm::StateUnwritten)?;
+    push_beside(&mut alarms, core, seen.devices, seen.outputs)?;
+    push_served(&mut alarms, core)?;
+    push_itself(&mut alarms, seen.is_late, seen.is_unkept)?;
     Ok(alarms)
 }
 
 /// What of that the core alone says of numbers: the inputs, the sums and the `site` tags.
-pub fn missing_now(alloc: Global, core: &Core<DEPTH>) -> Result<Items<Alarm>, AllocError> {
+pub fn missing_now(alloc: Global, core: &Core<DEPTH>) -> Result<Items<Alarm>, AllocError>
+    ensures { IfOk result (IsAllMissing core.now) }
+{
     let mut alarms = Items::new(alloc);
     push_inputs(&mut alarms, core.readings(), core.site().tags())?;
-    push_sums(&mut alarms, core.site(), core.readings())?;
-    push_stored(&mut alarms, core.site(), core.outputs())?;
+    push_served(&mut alarms, core)?;
     Ok(alarms)
+}
+
+/// Appends what is wrong with devices, models, inputs and outputs.
+fn push_beside(
+    alarms: &mut Items<Alarm>,
+    core: &Core<DEPTH>,
+    devices: &[DeviceStatus],
+    outputs: &[Option<OutputState>],
+) -> Result<(), AllocError>
+    ensures { OnOk result (alarms.new ≡ alarms.old ++ wrong_beside core.now devices.now outputs.now) }
+{
+    push_devices(alarms, devices)?;
+    push_models(alarms, core.maps(), core.site().wants())?;
+    push_inputs(alarms, core.readings(), core.site().tags())?;
+    push_outputs(alarms, outputs)
+}
+
+/// Appends what clients aren't shown of sums and `site` tags.
+fn push_served(alarms: &mut Items<Alarm>, core: &Core<DEPTH>) -> Result<(), AllocError>
+    ensures { OnOk result ((served : List AlarmValue) × AreServedMissing core.now served × (alarms.new ≡ alarms.old ++ served)) }
+{
+    push_sums(alarms, core.site(), core.readings())?;
+    push_stored(alarms, core.site(), core.outputs())
+}
+
+/// Appends what is wrong with the service itself.
+fn push_itself(alarms: &mut Items<Alarm>, is_late: bool, is_unkept: bool) -> Result<(), AllocError>
+    ensures { OnOk result (alarms.new ≡ alarms.old ++ wrong_itself is_late is_unkept) }
+{
+    push_if(alarms, is_late, Alarm::RoundLate)?;
+    push_if(alarms, is_unkept, Alarm::StateUnwritten)
 }
 
 fn push_if(alarms: &mut Items<Alarm>, holds: bool, alarm: Alarm) -> Result<(), AllocError>

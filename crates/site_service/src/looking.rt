@@ -11,6 +11,9 @@ const LATE_FOR: u64 = 60_000;
 #[derive(Drop)]
 pub(crate) struct Lookout {
     watch: Watch,
+    /// Room for how the devices stand, and for what became of the outputs.
+    devices: Vec<DeviceStatus>,
+    outputs: Vec<Option<OutputState>>,
     /// Whether that is what was wrong after the last scan: memory for it may be refused.
     is_of_now: bool,
     /// When a round began late last, in milliseconds since the start.
@@ -22,6 +25,8 @@ impl Lookout {
     pub(crate) fn new(alloc: Global) -> Lookout {
         Lookout {
             watch: Watch::new(alloc),
+            devices: Vec::new(alloc),
+            outputs: Vec::new(alloc),
             is_of_now: true,
             late_at: None,
         }
@@ -52,16 +57,36 @@ impl Lookout {
         files: &KeptFiles<'_>,
         now: u64,
     ) -> Result<Changes, AllocError> {
-        let devices = devices_of(alloc, service)?;
-        let outputs = outputs_of(alloc, service)?;
+        self.see_devices(service)?;
+        self.see_outputs(service)?;
         let seen = Seen {
-            devices: devices.as_slice(),
-            outputs: outputs.as_slice(),
+            devices: self.devices.as_slice(),
+            outputs: self.outputs.as_slice(),
             is_late: is_late(self.late_at, now),
             is_unkept: files.is_unkept(),
         };
         let alarms = wrong_now(alloc, service.core(), &seen)?;
         self.watch.see(alloc, alarms.as_slice(), now / 1000)
+    }
+
+    // How the devices stand. Memory is taken at the first scan alone.
+    fn see_devices(&mut self, service: &Service) -> Result<(), AllocError> {
+        self.devices.clear();
+        for device in 0..service.core().site().devices().len() {
+            if let Some(status) = service.device_status(device) {
+                self.devices.push(status)?;
+            }
+        }
+        Ok(())
+    }
+
+    // What became of the outputs.
+    fn see_outputs(&mut self, service: &Service) -> Result<(), AllocError> {
+        self.outputs.clear();
+        for output in 0..service.core().site().outs().len() {
+            self.outputs.push(service.output_state(output))?;
+        }
+        Ok(())
     }
 
     /// What was wrong after the last scan; AllocError where memory for it was refused.
@@ -79,22 +104,4 @@ fn is_late(late_at: Option<u64>, now: u64) -> bool {
         Some(at) => now < at.saturating_add(LATE_FOR),
         None => false,
     }
-}
-
-fn devices_of(alloc: Global, service: &Service) -> Result<Vec<DeviceStatus>, AllocError> {
-    let mut devices = Vec::new(alloc);
-    for device in 0..service.core().site().devices().len() {
-        if let Some(status) = service.device_status(device) {
-            devices.push(status)?;
-        }
-    }
-    Ok(devices)
-}
-
-fn outputs_of(alloc: Global, service: &Service) -> Result<Vec<Option<OutputState>>, AllocError> {
-    let mut outputs = Vec::new(alloc);
-    for output in 0..service.core().site().outs().len() {
-        outputs.push(service.output_state(output))?;
-    }
-    Ok(outputs)
 }
