@@ -16,7 +16,6 @@ use Rattle.service_core.specs.declared.status.DeviceStatus.{DeviceStatus}
 use Rattle.site_alarms.specs.Hiding.{AreStoredHidden, AreSumsHidden}
 use Rattle.site_alarms.specs.declared.alarm.Alarm.{Alarm}
 use Rattle.site_alarms.specs.declared.alarm.Alarm.TheVariants as alarm
-use Rattle.site_alarms.specs.declared.standing.Standing.{Standing}
 
 -- what each item of a list makes with its number, from this number on
 abbrev pub of_each : {X : Type 0} → (ℕ → X → List Alarm) → ℕ → List X → List Alarm
@@ -122,8 +121,3 @@ pub record IsAllMissing (core : Gateway) (alarms : List Alarm) : Type 0 where
   pub served : List Alarm
   pub are_served : AreServedMissing core served
   pub all : alarms ≡ inputs_missing core.standing.last.readings core.site.tags ++ served
-
--- ---- since when
-
-abbrev pub alarm_of : Standing → Alarm
-alarm_of s = s.alarm

@@ -1,4 +1,7 @@
 //! Something that is wrong.
+ghost use Rattle.std.specs.Prelude.{◌≡◌, Decides};
+ghost use Rattle.site_alarms.specs.Changing.{subject_of};
+
 use point_types::Cause;
 use service_core::{Loss, Unwritten};
 use site_model::Want;
@@ -64,7 +67,9 @@ pub enum Subject {
 
 impl Alarm {
     /// What it is of.
-    pub fn subject(self) -> Subject {
+    pub fn subject(self) -> Subject
+        ensures { result ≡ subject_of self }
+    {
         match self {
             Alarm::DeviceLost(device, _) | Alarm::DeviceUnmapped(device) => Subject::Device(device),
             Alarm::ModelMissing(want) => Subject::Model(want),
@@ -76,4 +81,18 @@ impl Alarm {
             Alarm::StateUnwritten => Subject::State,
         }
     }
+}
+
+/// Whether two alarms are one, with its cause.
+pub(crate) fn is_one(one: Alarm, other: Alarm) -> bool
+    ensures { Decides result (one ≡ other) }
+{
+    one == other
+}
+
+/// Whether two subjects are one.
+pub(crate) fn is_same(one: Subject, other: Subject) -> bool
+    ensures { Decides result (one ≡ other) }
+{
+    one == other
 }

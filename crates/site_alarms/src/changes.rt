@@ -1,5 +1,8 @@
 //! What changed in what is wrong.
-use crate::alarm::Alarm;
+ghost use Rattle.std.specs.Prelude.{◌≡◌, Decides, IfOk, OnOk, length, slice_get};
+ghost use Rattle.site_alarms.specs.Changing.{AreBegun, AreOf, AreOver, IsChange, NextBegun, NextOver, Stood};
+
+use crate::alarm::{Alarm, Subject, is_one, is_same};
 use crate::standing::Standing;
 use point_types::Items;
 use std::alloc::{AllocError, Global};
@@ -18,46 +21,81 @@ pub(crate) fn changes_to(
     alloc: Global,
     stood: &[Standing],
     alarms: &[Alarm],
-) -> Result<Changes, AllocError> {
+) -> Result<Changes, AllocError>
+    ensures { IfOk result (λ changes. IsChange stood.now alarms.now changes.begun changes.over) }
+{
     Ok(Changes {
         begun: begun(alloc, stood, alarms)?,
         over: over(alloc, stood, alarms)?,
     })
 }
 
-fn begun(alloc: Global, stood: &[Standing], alarms: &[Alarm]) -> Result<Items<Alarm>, AllocError> {
+fn begun(alloc: Global, stood: &[Standing], alarms: &[Alarm]) -> Result<Items<Alarm>, AllocError>
+    ensures { IfOk result (λ begun. AreBegun stood.now alarms.now (length alarms.now) begun) }
+{
     let mut begun = Items::new(alloc);
-    for alarm in alarms {
-        if !stands(stood, *alarm) {
-            begun.push(*alarm)?;
-        }
+    for i in 0..alarms.len() {
+        push_begun(&mut begun, stood, alarms, i)?;
     }
     Ok(begun)
 }
 
-fn over(alloc: Global, stood: &[Standing], alarms: &[Alarm]) -> Result<Items<Alarm>, AllocError> {
+fn push_begun(
+    begun: &mut Items<Alarm>,
+    stood: &[Standing],
+    alarms: &[Alarm],
+    i: usize,
+) -> Result<(), AllocError>
+    ensures { OnOk result (NextBegun stood.now (slice_get alarms.now i) begun.old begun.new) }
+{
+    match alarms.get(i) {
+        Some(alarm) if !has_stood(stood, *alarm) => begun.push(*alarm),
+        _ => Ok(()),
+    }
+}
+
+fn over(alloc: Global, stood: &[Standing], alarms: &[Alarm]) -> Result<Items<Alarm>, AllocError>
+    ensures { IfOk result (λ over. AreOver stood.now alarms.now (length stood.now) over) }
+{
     let mut over = Items::new(alloc);
-    for before in stood {
-        if !is_wrong_with(alarms, before.alarm) {
-            over.push(before.alarm)?;
-        }
+    for i in 0..stood.len() {
+        push_over(&mut over, stood, alarms, i)?;
     }
     Ok(over)
 }
 
-fn stands(stood: &[Standing], alarm: Alarm) -> bool {
+fn push_over(
+    over: &mut Items<Alarm>,
+    stood: &[Standing],
+    alarms: &[Alarm],
+    i: usize,
+) -> Result<(), AllocError>
+    ensures { OnOk result (NextOver alarms.now (slice_get stood.now i) over.old over.new) }
+{
+    match stood.get(i) {
+        Some(before) if !are_of(alarms, before.alarm.subject()) => over.push(before.alarm),
+        _ => Ok(()),
+    }
+}
+
+/// Whether an alarm stood, with its cause.
+fn has_stood(stood: &[Standing], alarm: Alarm) -> bool
+    ensures { Decides result (Stood stood.now alarm) }
+{
     for before in stood {
-        if before.alarm == alarm {
+        if is_one(before.alarm, alarm) {
             return true;
         }
     }
     false
 }
 
-/// Whether something is wrong with what an alarm is of.
-fn is_wrong_with(alarms: &[Alarm], one: Alarm) -> bool {
+/// Whether some of the alarms is of a subject.
+fn are_of(alarms: &[Alarm], subject: Subject) -> bool
+    ensures { Decides result (AreOf alarms.now subject) }
+{
     for alarm in alarms {
-        if alarm.subject() == one.subject() {
+        if is_same(alarm.subject(), subject) {
             return true;
         }
     }

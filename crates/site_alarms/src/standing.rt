@@ -1,8 +1,8 @@
 //! Since when something is wrong.
-ghost use Rattle.std.specs.Prelude.{◌≡◌, [], map, IfOk, OnErr, OnOk};
-ghost use Rattle.site_alarms.specs.Alarms.{alarm_of};
+ghost use Rattle.std.specs.Prelude.{◌≡◌, [], IfOk, OnErr, OnOk, length, slice_get};
+ghost use Rattle.site_alarms.specs.Changing.{AreStanding, IsChange, IsSince, NextStanding};
 
-use crate::alarm::Alarm;
+use crate::alarm::{Alarm, Subject, is_same};
 use crate::changes::{Changes, changes_to};
 use point_types::Items;
 use std::alloc::{AllocError, Global};
@@ -39,7 +39,8 @@ impl Watch {
 
     /// From now on these are the alarms, and this changed; where memory is refused, all stays as it was.
     pub fn see(&mut self, alloc: Global, alarms: &[Alarm], now: u64) -> Result<Changes, AllocError>
-        ensures seen { OnOk result (map alarm_of self.new.standing ≡ alarms.now) }
+        ensures seen { OnOk result (AreStanding self.old.standing alarms.now now (length alarms.now) self.new.standing) }
+        ensures changed { IfOk result (λ changes. IsChange self.old.standing alarms.now changes.begun changes.over) }
         ensures refused { OnErr result (self.new ≡ self.old) }
     {
         let changed = changes_to(alloc, self.standing.as_slice(), alarms)?;
@@ -55,21 +56,38 @@ fn standing_of(
     alarms: &[Alarm],
     now: u64,
 ) -> Result<Items<Standing>, AllocError>
-    ensures { IfOk result (λ standing. map alarm_of standing ≡ alarms.now) }
+    ensures { IfOk result (AreStanding stood.now alarms.now now (length alarms.now)) }
 {
     let mut standing = Items::new(alloc);
-    for alarm in alarms {
-        standing.push(Standing {
-            alarm: *alarm,
-            since: since_of(stood, *alarm, now),
-        })?;
+    for i in 0..alarms.len() {
+        push_standing(&mut standing, stood, alarms, now, i)?;
     }
     Ok(standing)
 }
 
-fn since_of(stood: &[Standing], alarm: Alarm, now: u64) -> u64 {
+fn push_standing(
+    standing: &mut Items<Standing>,
+    stood: &[Standing],
+    alarms: &[Alarm],
+    now: u64,
+    i: usize,
+) -> Result<(), AllocError>
+    ensures { OnOk result (NextStanding stood.now now (slice_get alarms.now i) standing.old standing.new) }
+{
+    match alarms.get(i) {
+        Some(alarm) => standing.push(Standing {
+            alarm: *alarm,
+            since: since_of(stood, alarm.subject(), now),
+        }),
+        None => Ok(()),
+    }
+}
+
+fn since_of(stood: &[Standing], subject: Subject, now: u64) -> u64
+    ensures { IsSince stood.now now subject result }
+{
     for before in stood {
-        if before.alarm.subject() == alarm.subject() {
+        if is_same(before.alarm.subject(), subject) {
             return before.since;
         }
     }

@@ -71,10 +71,9 @@ impl Lookout {
 
     // How the devices stand. Memory is taken at the first scan alone.
     fn see_devices(&mut self, service: &Service) -> Result<(), AllocError> {
-        self.devices.clear();
         for device in 0..service.core().site().devices().len() {
             if let Some(status) = service.device_status(device) {
-                self.devices.push(status)?;
+                put_at(&mut self.devices, device, status)?;
             }
         }
         Ok(())
@@ -82,9 +81,8 @@ impl Lookout {
 
     // What became of the outputs.
     fn see_outputs(&mut self, service: &Service) -> Result<(), AllocError> {
-        self.outputs.clear();
         for output in 0..service.core().site().outs().len() {
-            self.outputs.push(service.output_state(output))?;
+            put_at(&mut self.outputs, output, service.output_state(output))?;
         }
         Ok(())
     }
@@ -104,4 +102,13 @@ fn is_late(late_at: Option<u64>, now: u64) -> bool {
         Some(at) => now < at.saturating_add(LATE_FOR),
         None => false,
     }
+}
+
+/// Puts an item in the place of the one of this number, or at the end where there is none yet.
+fn put_at<T: Copy + Drop>(items: &mut Vec<T>, number: usize, item: T) -> Result<(), AllocError> {
+    match items.get_mut(number) {
+        Some(place) => *place = item,
+        None => items.push(item)?,
+    }
+    Ok(())
 }

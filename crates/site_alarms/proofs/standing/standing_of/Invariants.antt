@@ -1,7 +1,5 @@
-use Rattle.std.proofs.Common.{◌≡◌, ◌++◌, drop, map}
-use Rattle.site_alarms.specs.Alarms.{alarm_of}
+use Rattle.site_alarms.specs.Changing.{AreStanding}
 use Rattle.site_alarms.proofs.standing.standing_of.Given as goal
 
--- those that stand, and then what remains
-abbrev pub invariant-loop-alarm : goal.invariant-loop-alarm
-invariant-loop-alarm l = map alarm_of l.standing ++ drop l.alarm-index l.alarms ≡ l.alarms
+abbrev pub invariant-loop-i : goal.invariant-loop-i
+invariant-loop-i l = AreStanding l.stood l.alarms l.now l.i l.standing
