@@ -2,7 +2,7 @@
 use commands::{DEPTH, ScanWatch};
 use gateway::Core;
 use site_alarms::{
-    Alarm, Changes, Watch, cause_text, mend, missing_now, subject_text, why_hidden, why_missing,
+    Alarm, Row, Watch, cause_text, mend, missing_now, subject_text, why_hidden, why_missing,
 };
 use std::alloc::{AllocError, Global};
 
@@ -13,6 +13,8 @@ pub struct MissingWatch<'r, R> {
     rt: &'r R,
     alloc: Global,
     quiet: bool,
+    /// Room for what is missing.
+    missing: Row<Alarm>,
     watch: Watch,
 }
 
@@ -23,18 +25,19 @@ impl<'r, R: Eprint> MissingWatch<'r, R> {
             rt,
             alloc,
             quiet,
+            missing: Row::new(alloc),
             watch: Watch::new(alloc),
         }
     }
 
-    /// What changed since the scan before.
-    fn look(&mut self, core: &Core<DEPTH>, scan: u32) -> Result<Changes, AllocError> {
-        let missing = missing_now(self.alloc, core)?;
-        self.watch
-            .see(self.alloc, missing.as_slice(), u64::from(scan))
+    /// Looks what is missing after a scan.
+    fn look(&mut self, core: &Core<DEPTH>, scan: u32) -> Result<(), AllocError> {
+        missing_now(&mut self.missing, core)?;
+        self.watch.see(self.missing.as_slice(), u64::from(scan))
     }
 
-    fn tell(&self, core: &Core<DEPTH>, scan: u32, changes: &Changes) {
+    fn tell(&self, core: &Core<DEPTH>, scan: u32) {
+        let changes = self.watch.changes();
         for alarm in changes.begun.as_slice() {
             self.print(missing_note(self.alloc, core, scan, *alarm));
         }
@@ -56,8 +59,8 @@ impl<R: Eprint> ScanWatch for MissingWatch<'_, R> {
         if self.quiet {
             return;
         }
-        if let Ok(changes) = self.look(core, scan) {
-            self.tell(core, scan, &changes);
+        if self.look(core, scan).is_ok() {
+            self.tell(core, scan);
         }
     }
 }

@@ -1,47 +1,65 @@
 //! What changed in what is wrong.
-ghost use Rattle.std.specs.Prelude.{◌≡◌, Decides, IfOk, OnOk, length, slice_get};
+ghost use Rattle.std.specs.Prelude.{◌≡◌, Decides, OnOk, length, slice_get};
 ghost use Rattle.site_alarms.specs.Changing.{AreBegun, AreOf, AreOver, IsChange, NextBegun, NextOver, Stood};
 
 use crate::alarm::{Alarm, Subject, is_one, is_same};
+use crate::row::Row;
 use crate::standing::Standing;
-use point_types::Items;
 use std::alloc::{AllocError, Global};
 
 /// What changed from one list of alarms to the next one.
 #[derive(Drop)]
 pub struct Changes {
     /// The alarms that didn't stand before, with this cause.
-    pub begun: Items<Alarm>,
+    pub begun: Row<Alarm>,
     /// Those that stood before, of which nothing is wrong any more.
-    pub over: Items<Alarm>,
+    pub over: Row<Alarm>,
 }
 
-/// What changed from what stood to these alarms.
-pub(crate) fn changes_to(
-    alloc: Global,
+impl Changes {
+    /// Nothing changed.
+    pub fn new(alloc: Global) -> Changes {
+        Changes {
+            begun: Row::new(alloc),
+            over: Row::new(alloc),
+        }
+    }
+
+    /// From now on it is what changed from what stood to these alarms.
+    pub(crate) fn see(&mut self, stood: &[Standing], alarms: &[Alarm]) -> Result<(), AllocError>
+        ensures { OnOk result (IsChange stood.now alarms.now self.new.begun self.new.over) }
+    {
+        fill_begun(&mut self.begun, stood, alarms)?;
+        fill_over(&mut self.over, stood, alarms)
+    }
+}
+
+fn fill_begun(
+    begun: &mut Row<Alarm>,
     stood: &[Standing],
     alarms: &[Alarm],
-) -> Result<Changes, AllocError>
-    ensures { IfOk result (λ changes. IsChange stood.now alarms.now changes.begun changes.over) }
+) -> Result<(), AllocError>
+    ensures { OnOk result (AreBegun stood.now alarms.now (length alarms.now) begun.new) }
 {
-    Ok(Changes {
-        begun: begun(alloc, stood, alarms)?,
-        over: over(alloc, stood, alarms)?,
-    })
+    begun.clear();
+    for i in 0..alarms.len() {
+        push_begun(begun, stood, alarms, i)?;
+    }
+    Ok(())
 }
 
-fn begun(alloc: Global, stood: &[Standing], alarms: &[Alarm]) -> Result<Items<Alarm>, AllocError>
-    ensures { IfOk result (λ begun. AreBegun stood.now alarms.now (length alarms.now) begun) }
+fn fill_over(over: &mut Row<Alarm>, stood: &[Standing], alarms: &[Alarm]) -> Result<(), AllocError>
+    ensures { OnOk result (AreOver stood.now alarms.now (length stood.now) over.new) }
 {
-    let mut begun = Items::new(alloc);
-    for i in 0..alarms.len() {
-        push_begun(&mut begun, stood, alarms, i)?;
+    over.clear();
+    for i in 0..stood.len() {
+        push_over(over, stood, alarms, i)?;
     }
-    Ok(begun)
+    Ok(())
 }
 
 fn push_begun(
-    begun: &mut Items<Alarm>,
+    begun: &mut Row<Alarm>,
     stood: &[Standing],
     alarms: &[Alarm],
     i: usize,
@@ -54,18 +72,8 @@ fn push_begun(
     }
 }
 
-fn over(alloc: Global, stood: &[Standing], alarms: &[Alarm]) -> Result<Items<Alarm>, AllocError>
-    ensures { IfOk result (λ over. AreOver stood.now alarms.now (length stood.now) over) }
-{
-    let mut over = Items::new(alloc);
-    for i in 0..stood.len() {
-        push_over(&mut over, stood, alarms, i)?;
-    }
-    Ok(over)
-}
-
 fn push_over(
-    over: &mut Items<Alarm>,
+    over: &mut Row<Alarm>,
     stood: &[Standing],
     alarms: &[Alarm],
     i: usize,

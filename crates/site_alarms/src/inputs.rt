@@ -3,13 +3,14 @@ ghost use Rattle.std.specs.Prelude.{◌≡◌, ◌++◌, OnOk, slice_get};
 ghost use Rattle.site_alarms.specs.Alarms.{inputs_missing, of_access, of_input, of_reading};
 
 use crate::alarm::Alarm;
-use point_types::{Items, Reading};
+use crate::row::Row;
+use point_types::Reading;
 use site_model::{Access, SiteTag};
 use std::alloc::AllocError;
 
 /// Appends an alarm for each `in` tag that had no value of its own in these readings.
 pub(crate) fn push_inputs(
-    alarms: &mut Items<Alarm>,
+    alarms: &mut Row<Alarm>,
     readings: &[Reading],
     tags: &[SiteTag],
 ) -> Result<(), AllocError>
@@ -22,7 +23,7 @@ pub(crate) fn push_inputs(
 }
 
 fn push_input(
-    alarms: &mut Items<Alarm>,
+    alarms: &mut Row<Alarm>,
     readings: &[Reading],
     i: usize,
     tag: &SiteTag,
@@ -36,7 +37,7 @@ fn push_input(
 }
 
 fn push_missing(
-    alarms: &mut Items<Alarm>,
+    alarms: &mut Row<Alarm>,
     i: usize,
     reading: Option<Reading>,
 ) -> Result<(), AllocError>

@@ -1,10 +1,10 @@
 //! Since when something is wrong.
-ghost use Rattle.std.specs.Prelude.{◌≡◌, [], IfOk, OnErr, OnOk, length, slice_get};
+ghost use Rattle.std.specs.Prelude.{◌≡◌, [], OnErr, OnOk, length, slice_get};
 ghost use Rattle.site_alarms.specs.Changing.{AreStanding, IsChange, IsSince, NextStanding};
 
 use crate::alarm::{Alarm, Subject, is_same};
-use crate::changes::{Changes, changes_to};
-use point_types::Items;
+use crate::changes::Changes;
+use crate::row::Row;
 use std::alloc::{AllocError, Global};
 
 /// An alarm, and since when something is wrong with what it is of, in seconds of whoever looks; the cause may be a later one.
@@ -14,10 +14,14 @@ pub struct Standing {
     pub since: u64,
 }
 
-/// What is wrong, and since when, by the list that was seen last.
+/// What is wrong, and since when, by the list that was seen last, and what that list changed. It takes memory only where a
+/// list is longer than any before.
 #[derive(Drop)]
 pub struct Watch {
-    standing: Items<Standing>,
+    standing: Row<Standing>,
+    /// Room for those that come next.
+    next: Row<Standing>,
+    changes: Changes,
 }
 
 impl Watch {
@@ -26,7 +30,9 @@ impl Watch {
         ensures { result.standing ≡ [] }
     {
         Watch {
-            standing: Items::new(alloc),
+            standing: Row::new(alloc),
+            next: Row::new(alloc),
+            changes: Changes::new(alloc),
         }
     }
 
@@ -37,36 +43,44 @@ impl Watch {
         self.standing.as_slice()
     }
 
-    /// From now on these are the alarms, and this changed; where memory is refused, all stays as it was.
-    pub fn see(&mut self, alloc: Global, alarms: &[Alarm], now: u64) -> Result<Changes, AllocError>
-        ensures seen { OnOk result (AreStanding self.old.standing alarms.now now (length alarms.now) self.new.standing) }
-        ensures changed { IfOk result (λ changes. IsChange self.old.standing alarms.now changes.begun changes.over) }
-        ensures refused { OnErr result (self.new ≡ self.old) }
+    /// What the list that was seen last changed.
+    pub fn changes(&self) -> &Changes
+        ensures { result.now ≡ self.now.changes }
     {
-        let changed = changes_to(alloc, self.standing.as_slice(), alarms)?;
-        self.standing = standing_of(alloc, self.standing.as_slice(), alarms, now)?;
-        Ok(changed)
+        &self.changes
+    }
+
+    /// From now on these are the alarms, and this changed; where memory is refused, what stands stays.
+    pub fn see(&mut self, alarms: &[Alarm], now: u64) -> Result<(), AllocError>
+        ensures seen { OnOk result (AreStanding self.old.standing alarms.now now (length alarms.now) self.new.standing) }
+        ensures changed { OnOk result (IsChange self.old.standing alarms.now self.new.changes.begun self.new.changes.over) }
+        ensures refused { OnErr result (self.new.standing ≡ self.old.standing) }
+    {
+        self.changes.see(self.standing.as_slice(), alarms)?;
+        fill_standing(&mut self.next, self.standing.as_slice(), alarms, now)?;
+        std::mem::swap(&mut self.standing, &mut self.next);
+        Ok(())
     }
 }
 
 /// These alarms, each since when its subject had one, or since now.
-fn standing_of(
-    alloc: Global,
+fn fill_standing(
+    standing: &mut Row<Standing>,
     stood: &[Standing],
     alarms: &[Alarm],
     now: u64,
-) -> Result<Items<Standing>, AllocError>
-    ensures { IfOk result (AreStanding stood.now alarms.now now (length alarms.now)) }
+) -> Result<(), AllocError>
+    ensures { OnOk result (AreStanding stood.now alarms.now now (length alarms.now) standing.new) }
 {
-    let mut standing = Items::new(alloc);
+    standing.clear();
     for i in 0..alarms.len() {
-        push_standing(&mut standing, stood, alarms, now, i)?;
+        push_standing(standing, stood, alarms, now, i)?;
     }
-    Ok(standing)
+    Ok(())
 }
 
 fn push_standing(
-    standing: &mut Items<Standing>,
+    standing: &mut Row<Standing>,
     stood: &[Standing],
     alarms: &[Alarm],
     now: u64,

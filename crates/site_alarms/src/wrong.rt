@@ -1,5 +1,5 @@
 //! All that is wrong now.
-ghost use Rattle.std.specs.Prelude.{◌≡◌, ◌++◌, IfOk, List, OnOk};
+ghost use Rattle.std.specs.Prelude.{◌≡◌, ◌++◌, List, OnOk};
 ghost use Rattle.site_alarms.specs.Alarms.{AreServedMissing, IsAllMissing, IsAllWrong, one_if, wrong_beside, wrong_itself};
 ghost use Rattle.site_alarms.specs.declared.alarm.Alarm.{Alarm as AlarmValue};
 
@@ -7,11 +7,11 @@ use crate::alarm::Alarm;
 use crate::devices::{push_devices, push_models};
 use crate::inputs::push_inputs;
 use crate::outputs::push_outputs;
+use crate::row::Row;
 use crate::served::{push_stored, push_sums};
 use gateway::{Core, DEPTH};
-use point_types::Items;
 use service_core::{DeviceStatus, OutputState};
-use std::alloc::{AllocError, Global};
+use std::alloc::AllocError;
 
 /// What is looked at beside the core.
 #[derive(Clone, Copy)]
@@ -26,35 +26,33 @@ pub struct Seen<'a> {
     pub is_unkept: bool,
 }
 
-/// All that is wrong now: of the devices, the models that are wanted of them, the inputs, the outputs, the sums and the `site`
-/// tags that clients are shown, each in the site's order, of the rounds and of the file of set values.
+/// From now on `alarms` is all that is wrong now: of the devices, the models that are wanted of them, the inputs, the outputs,
+/// the sums and the `site` tags that clients are shown, each in the site's order, of the rounds and of the file of set values.
 pub fn wrong_now(
-    alloc: Global,
+    alarms: &mut Row<Alarm>,
     core: &Core<DEPTH>,
     seen: &Seen<'_>,
-) -> Result<Items<Alarm>, AllocError>
-    ensures { IfOk result (IsAllWrong core.now seen.now.devices.now seen.now.outputs.now seen.now.is_late seen.now.is_unkept) }
+) -> Result<(), AllocError>
+    ensures { OnOk result (IsAllWrong core.now seen.now.devices.now seen.now.outputs.now seen.now.is_late seen.now.is_unkept alarms.new) }
 {
-    let mut alarms = Items::new(alloc);
-    push_beside(&mut alarms, core, seen.devices, seen.outputs)?;
-    push_served(&mut alarms, core)?;
-    push_itself(&mut alarms, seen.is_late, seen.is_unkept)?;
-    Ok(alarms)
+    alarms.clear();
+    push_beside(alarms, core, seen.devices, seen.outputs)?;
+    push_served(alarms, core)?;
+    push_itself(alarms, seen.is_late, seen.is_unkept)
 }
 
 /// What of that the core alone says of numbers: the inputs, the sums and the `site` tags.
-pub fn missing_now(alloc: Global, core: &Core<DEPTH>) -> Result<Items<Alarm>, AllocError>
-    ensures { IfOk result (IsAllMissing core.now) }
+pub fn missing_now(alarms: &mut Row<Alarm>, core: &Core<DEPTH>) -> Result<(), AllocError>
+    ensures { OnOk result (IsAllMissing core.now alarms.new) }
 {
-    let mut alarms = Items::new(alloc);
-    push_inputs(&mut alarms, core.readings(), core.site().tags())?;
-    push_served(&mut alarms, core)?;
-    Ok(alarms)
+    alarms.clear();
+    push_inputs(alarms, core.readings(), core.site().tags())?;
+    push_served(alarms, core)
 }
 
 /// Appends what is wrong with devices, models, inputs and outputs.
 fn push_beside(
-    alarms: &mut Items<Alarm>,
+    alarms: &mut Row<Alarm>,
     core: &Core<DEPTH>,
     devices: &[DeviceStatus],
     outputs: &[Option<OutputState>],
@@ -68,7 +66,7 @@ fn push_beside(
 }
 
 /// Appends what clients aren't shown of sums and `site` tags.
-fn push_served(alarms: &mut Items<Alarm>, core: &Core<DEPTH>) -> Result<(), AllocError>
+fn push_served(alarms: &mut Row<Alarm>, core: &Core<DEPTH>) -> Result<(), AllocError>
     ensures { OnOk result ((served : List AlarmValue) × AreServedMissing core.now served × (alarms.new ≡ alarms.old ++ served)) }
 {
     push_sums(alarms, core.site(), core.readings())?;
@@ -76,14 +74,14 @@ fn push_served(alarms: &mut Items<Alarm>, core: &Core<DEPTH>) -> Result<(), Allo
 }
 
 /// Appends what is wrong with the service itself.
-fn push_itself(alarms: &mut Items<Alarm>, is_late: bool, is_unkept: bool) -> Result<(), AllocError>
+fn push_itself(alarms: &mut Row<Alarm>, is_late: bool, is_unkept: bool) -> Result<(), AllocError>
     ensures { OnOk result (alarms.new ≡ alarms.old ++ wrong_itself is_late is_unkept) }
 {
     push_if(alarms, is_late, Alarm::RoundLate)?;
     push_if(alarms, is_unkept, Alarm::StateUnwritten)
 }
 
-fn push_if(alarms: &mut Items<Alarm>, holds: bool, alarm: Alarm) -> Result<(), AllocError>
+fn push_if(alarms: &mut Row<Alarm>, holds: bool, alarm: Alarm) -> Result<(), AllocError>
     ensures { OnOk result (alarms.new ≡ alarms.old ++ one_if holds alarm) }
 {
     if holds {

@@ -138,8 +138,8 @@ impl<'a, W: Write> Desk<'a, W> {
     // Looks what is wrong after a scan, and tells what changed.
     fn look(&mut self, service: &Service, files: &KeptFiles<'_>) {
         let now = self.journal.now();
-        match self.lookout.look(self.alloc, service, files, now) {
-            Ok(changes) => tell_changes(self.alloc, &changes, service.core(), &mut self.journal),
+        match self.lookout.look(service, files, now) {
+            Ok(changes) => tell_changes(self.alloc, changes, service.core(), &mut self.journal),
             Err(AllocError) => self.journal.tell(Err(AllocError)),
         }
     }

@@ -1,7 +1,7 @@
 //! What is looked at to see what is wrong.
 use crate::kept_files::KeptFiles;
 use service_core::{DeviceStatus, OutputState, Service};
-use site_alarms::{Changes, Seen, Standing, Watch, wrong_now};
+use site_alarms::{Alarm, Changes, Row, Seen, Standing, Watch, wrong_now};
 use std::alloc::{AllocError, Global};
 
 /// How long a round that began late is an alarm, in milliseconds.
@@ -11,9 +11,11 @@ const LATE_FOR: u64 = 60_000;
 #[derive(Drop)]
 pub(crate) struct Lookout {
     watch: Watch,
-    /// Room for how the devices stand, and for what became of the outputs.
-    devices: Vec<DeviceStatus>,
-    outputs: Vec<Option<OutputState>>,
+    /// Room for how the devices stand, for what became of the outputs, and for what is wrong: memory is taken only where a
+    /// list is longer than any before.
+    devices: Row<DeviceStatus>,
+    outputs: Row<Option<OutputState>>,
+    alarms: Row<Alarm>,
     /// Whether that is what was wrong after the last scan: memory for it may be refused.
     is_of_now: bool,
     /// When a round began late last, in milliseconds since the start.
@@ -25,8 +27,9 @@ impl Lookout {
     pub(crate) fn new(alloc: Global) -> Lookout {
         Lookout {
             watch: Watch::new(alloc),
-            devices: Vec::new(alloc),
-            outputs: Vec::new(alloc),
+            devices: Row::new(alloc),
+            outputs: Row::new(alloc),
+            alarms: Row::new(alloc),
             is_of_now: true,
             late_at: None,
         }
@@ -40,23 +43,24 @@ impl Lookout {
     /// Looks what is wrong after a scan, and gives what changed. Where memory is refused the next scan is told of in its place.
     pub(crate) fn look(
         &mut self,
-        alloc: Global,
         service: &Service,
         files: &KeptFiles<'_>,
         now: u64,
-    ) -> Result<Changes, AllocError> {
-        let changes = self.changes(alloc, service, files, now);
-        self.is_of_now = changes.is_ok();
-        changes
+    ) -> Result<&Changes, AllocError> {
+        let seen = self.see(service, files, now);
+        self.is_of_now = seen.is_ok();
+        match seen {
+            Ok(()) => Ok(self.watch.changes()),
+            Err(AllocError) => Err(AllocError),
+        }
     }
 
-    fn changes(
+    fn see(
         &mut self,
-        alloc: Global,
         service: &Service,
         files: &KeptFiles<'_>,
         now: u64,
-    ) -> Result<Changes, AllocError> {
+    ) -> Result<(), AllocError> {
         self.see_devices(service)?;
         self.see_outputs(service)?;
         let seen = Seen {
@@ -65,15 +69,16 @@ impl Lookout {
             is_late: is_late(self.late_at, now),
             is_unkept: files.is_unkept(),
         };
-        let alarms = wrong_now(alloc, service.core(), &seen)?;
-        self.watch.see(alloc, alarms.as_slice(), now / 1000)
+        wrong_now(&mut self.alarms, service.core(), &seen)?;
+        self.watch.see(self.alarms.as_slice(), now / 1000)
     }
 
-    // How the devices stand. Memory is taken at the first scan alone.
+    // How the devices stand.
     fn see_devices(&mut self, service: &Service) -> Result<(), AllocError> {
+        self.devices.clear();
         for device in 0..service.core().site().devices().len() {
             if let Some(status) = service.device_status(device) {
-                put_at(&mut self.devices, device, status)?;
+                self.devices.push(status)?;
             }
         }
         Ok(())
@@ -81,8 +86,9 @@ impl Lookout {
 
     // What became of the outputs.
     fn see_outputs(&mut self, service: &Service) -> Result<(), AllocError> {
+        self.outputs.clear();
         for output in 0..service.core().site().outs().len() {
-            put_at(&mut self.outputs, output, service.output_state(output))?;
+            self.outputs.push(service.output_state(output))?;
         }
         Ok(())
     }
@@ -102,13 +108,4 @@ fn is_late(late_at: Option<u64>, now: u64) -> bool {
         Some(at) => now < at.saturating_add(LATE_FOR),
         None => false,
     }
-}
-
-/// Puts an item in the place of the one of this number, or at the end where there is none yet.
-fn put_at<T: Copy + Drop>(items: &mut Vec<T>, number: usize, item: T) -> Result<(), AllocError> {
-    match items.get_mut(number) {
-        Some(place) => *place = item,
-        None => items.push(item)?,
-    }
-    Ok(())
 }
