@@ -1,7 +1,6 @@
 -- What changed from the alarms that stood to a list of alarms, and since when each stands. No standard says it; it is this
 -- project's.
 use Rattle.std.specs.Prelude.{◌≡◌, ◌⊎◌, ℕ, zero, suc, List, [], ◌∷◌, ◌++◌, length, Option, Some, None, slice_get}
-use Rattle.site_model.specs.declared.want.Want.{Want}
 use Rattle.site_alarms.specs.declared.alarm.Alarm.{Alarm}
 use Rattle.site_alarms.specs.declared.alarm.Alarm.TheVariants as alarm
 use Rattle.site_alarms.specs.declared.alarm.Subject.{Subject}

@@ -2,7 +2,7 @@
 use Rattle.std.specs.Prelude.{ℕ, List, ◌++◌, codes}
 use Rattle.std.specs.Fmt.{decimal}
 
--- input NAME missing CAUSE, where CAUSE is a word and may have behind it what was met
+-- input NAME missing CAUSE, where CAUSE is a word and may have after it what was met
 abbrev pub missing_line : (name cause : List ℕ) → List ℕ
 missing_line name cause = codes "input " ++ name ++ codes " missing " ++ cause
 
@@ -18,6 +18,6 @@ served_line point cause = codes "served " ++ point ++ codes " missing " ++ cause
 abbrev pub shown_line : (point : List ℕ) → List ℕ
 shown_line point = codes "served " ++ point ++ codes " shown"
 
--- NAME lacks ID, which stands behind the word device
+-- NAME lacks ID, which stands after the word device
 abbrev pub lacks_text : ℕ → List ℕ
 lacks_text model = codes "lacks " ++ decimal model

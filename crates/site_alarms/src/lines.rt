@@ -40,7 +40,7 @@ pub fn over_line(
     }
 }
 
-// `input NAME missing CAUSE`, and behind it what was met.
+// `input NAME missing CAUSE`, and after it what was met.
 fn input_line(
     alloc: Global,
     core: &Core<DEPTH>,
@@ -64,7 +64,7 @@ fn again_line(alloc: Global, core: &Core<DEPTH>, alarm: Alarm) -> Result<String,
     shown_line(alloc, point.as_str())
 }
 
-/// A cause, and where it is by the number that was met, ` raw R factor F` behind it, or ` raw R` where there is no factor.
+/// A cause, and where it is by the number that was met, ` raw R factor F` after it, or ` raw R` where there is no factor.
 pub fn missing_text(alloc: Global, cause: Cause, met: Option<Met>) -> Result<String, AllocError> {
     let mut text = String::from_str(alloc, missing_word(cause))?;
     if let (true, Some(met)) = (is_of_number(cause), met) {

@@ -71,7 +71,7 @@ fn lacking_text(alloc: Global, core: &Core<DEPTH>, want: Want) -> Result<String,
     Ok(text)
 }
 
-/// Appends the IDs of a map's models, each behind a blank.
+/// Appends the IDs of a map's models, each after a blank.
 pub fn push_models(alloc: Global, text: &mut String, map: &Map) -> Result<(), AllocError> {
     for block in map.blocks() {
         let model = block.id;
