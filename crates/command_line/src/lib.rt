@@ -12,10 +12,12 @@ mod failing;
 mod file_command;
 mod help;
 mod link_cause;
+mod missing;
 mod plant_lines;
 mod plant_run;
 mod plant_server;
 mod probe_link;
+mod run_watch;
 mod second_process;
 mod serve_words;
 mod service_places;
@@ -47,7 +49,9 @@ pub use plant_lines::{NoPort, told_port};
 pub use probe_link::{ProbeAddress, ProbeRun};
 // a service on a site
 pub use service_run::{ServiceRun, run_service};
-// what a run tells of outputs that it doesn't write, and why a link failed
+// what a run tells of what is missing and of outputs that it doesn't write, and why a link failed
 pub use link_cause::cause_of_link;
+pub use missing::MissingWatch;
+pub use run_watch::RunWatch;
 pub use unwritten::UnwrittenWatch;
 pub use watched_link::WatchedLink;

@@ -6,10 +6,10 @@ ghost use Rattle.command_line.specs.Ran.{EndsBehind, RunsOnce, RunsOver, ScansBy
 use crate::failing::{no_start, tell_lost, tell_unreached};
 use crate::link_cause::cause_of_link;
 use crate::plant_lines::told_port;
+use crate::run_watch::RunWatch;
 use crate::second_process::{start_plant, start_probe, tell_no_port};
 use crate::shown::warn_on_site;
 use crate::socket::{SocketLink, link_over, loopback};
-use crate::unwritten::UnwrittenWatch;
 use crate::watched_link::WatchedLink;
 use commands::{DEPTH, FAILED_LINK, LinkCommand, ObeyedOver, ScanWatch, obey_over, write_lines};
 use gateway::{Core, Poller, serve_client};
@@ -124,7 +124,7 @@ fn scans_over<R: Eprint, L: Link, W: Write>(
         (W.contents out.old) (W.contents out.new) result.0.core result.0.status }
 {
     let mut poller = Poller::new(WatchedLink::new(alloc, link));
-    let mut watch = UnwrittenWatch::new(rt, alloc, run.notes.quiet);
+    let mut watch = RunWatch::new(rt, alloc, run.notes.quiet);
     let ran = scans_by(alloc, run, &mut poller, &mut watch, out);
     (ran, poller.into_link().into_link())
 }

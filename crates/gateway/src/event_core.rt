@@ -220,6 +220,14 @@ impl<const DEPTH: usize> Core<DEPTH> {
         self.known.readings.as_slice()
     }
 
+    /// The words of the site's wanted blocks by which the last scan read its tags; None where none were known.
+    pub fn scanned(&self) -> &[Option<Words>]
+        ensures blocks { result.now ≡ self.now.standing.last.blocks }
+        ensures sized { length result.now ≡ length self.now.site.wants }
+    {
+        self.known.scanned.as_slice()
+    }
+
     /// What the program stored in the last scan, for each of the site's tags; None where it stored nothing.
     pub fn outputs(&self) -> &[Option<i64>]
         ensures { result.now ≡ self.now.standing.last.outputs }

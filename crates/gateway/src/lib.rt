@@ -13,5 +13,6 @@ pub use poller::{
     Call, MOST_DROPPED, Outcome, Poller, Report, event_by, is_reply, read_of, request_frame,
     run_scan, write_of,
 };
-// the clients
+// the clients, and what is shown to them of readings
 pub use event_core::serve_client;
+pub use served::{own_value, total_of};

@@ -9,7 +9,7 @@ mod points;
 mod words;
 
 use crate::event_core::Memory;
-pub(crate) use amount::own_value;
+pub use amount::{own_value, total_of};
 pub(crate) use point::{OwnPoint, Source};
 pub(crate) use points::own_points;
 use site_model::Site;

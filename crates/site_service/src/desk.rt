@@ -2,11 +2,12 @@
 use crate::journal::Journal;
 use crate::keeping::Keeping;
 use crate::kept_files::KeptFiles;
+use crate::looking::Lookout;
 use crate::room::Room;
 use crate::serving::{End, Serving};
 use crate::sockets::Sockets;
 use crate::status::status_text;
-use crate::telling::{tell, tell_scan};
+use crate::telling::{tell, tell_changes, tell_scan};
 use service_core::{Note, Service};
 use service_texts::{Addresses, late_line, listening_line};
 use std::alloc::{AllocError, Global};
@@ -27,6 +28,8 @@ pub(crate) struct Desk<'a, W: Write> {
     start: Instant,
     /// How many rounds began late.
     late: u64,
+    /// What is wrong.
+    lookout: Lookout,
 }
 
 impl<'a, W: Write> Desk<'a, W> {
@@ -58,6 +61,7 @@ impl<'a, W: Write> Desk<'a, W> {
             journal: Journal::new(alloc, out, Room::new(rt, alloc)?),
             start: Instant::now(rt)?,
             late: 0,
+            lookout: Lookout::new(alloc),
         })
     }
 
@@ -119,14 +123,25 @@ impl<'a, W: Write> Desk<'a, W> {
             let Some(note) = service.next_note() else {
                 return false;
             };
+            let is_done = self.tell_note(serving, service, &note);
             if let Note::Scanned(_) = note {
                 files.scanned();
+                self.look(service, files);
             }
-            if self.tell_note(serving, service, &note) {
+            if is_done {
                 return true;
             }
         }
         false
+    }
+
+    // Looks what is wrong after a scan, and tells what changed.
+    fn look(&mut self, service: &Service, files: &KeptFiles<'_>) {
+        let now = self.journal.now();
+        match self.lookout.look(service, files, now) {
+            Ok(changes) => tell_changes(self.alloc, changes, service.core(), &mut self.journal),
+            Err(AllocError) => self.journal.tell(Err(AllocError)),
+        }
     }
 
     fn tell_note(&mut self, serving: &Serving<'_>, service: &Service, note: &Note) -> bool {
@@ -140,6 +155,7 @@ impl<'a, W: Write> Desk<'a, W> {
             }
             Note::Late(_) => {
                 self.late = self.late.saturating_add(1);
+                self.lookout.came_late(self.journal.now());
                 self.journal.tell(late_line(self.alloc, self.late));
                 false
             }
@@ -160,6 +176,7 @@ impl<'a, W: Write> Desk<'a, W> {
                 service,
                 self.addresses,
                 self.sockets.clients(),
+                &self.lookout,
             );
             files.keep_status(rt, text, &mut self.journal);
         }

@@ -79,6 +79,14 @@ impl<'a> KeptFiles<'a> {
         Kept { _by_files: () }
     }
 
+    /// Whether the file of set values couldn't be written when that was tried last.
+    pub(crate) fn is_unkept(&self) -> bool {
+        match &self.state {
+            Some(state) => state.has_failed(),
+            None => false,
+        }
+    }
+
     /// Whether the file that says how the service stands is to be written.
     pub(crate) fn wants_status(&self) -> bool {
         match &self.status {

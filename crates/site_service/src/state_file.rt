@@ -38,6 +38,11 @@ impl<'a> StateFile<'a> {
         })
     }
 
+    /// Whether its last write failed.
+    pub(crate) fn has_failed(&self) -> bool {
+        self.writes.has_failed()
+    }
+
     /// A scan is over: a write that failed is tried once more.
     pub(crate) fn scanned(&mut self) {
         self.is_due = self.writes.has_failed();

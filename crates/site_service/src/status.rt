@@ -1,6 +1,8 @@
 //! How a service stands, as JSON.
 use crate::clients::Clients;
+use crate::looking::Lookout;
 use crate::members::{put_list, put_number, put_text};
+use crate::status_alarms::alarms_value;
 use crate::status_devices::devices_value;
 use crate::status_tags::{outputs_value, set_value, tags_value, variables_value};
 use serde_json::{Map, Value, put};
@@ -16,8 +18,16 @@ pub(crate) fn status_text(
     service: &Service,
     addresses: &Addresses,
     clients: &Clients,
+    lookout: &Lookout,
 ) -> Result<String, AllocError> {
     let mut status = Map::new(alloc);
+    let standing = lookout.standing()?;
+    put_list(
+        &mut status,
+        alloc,
+        "alarms",
+        alarms_value(alloc, service.core(), standing)?,
+    )?;
     put_number(&mut status, alloc, "seconds", seconds)?;
     put_number(&mut status, alloc, "scans", service.scans())?;
     put_number(&mut status, alloc, "late", late)?;

@@ -1,10 +1,10 @@
 //! How the devices of a service stand, as JSON.
 use crate::members::{put_list, put_number, put_text, put_truth};
-use crate::telling::{device_name, loss_word};
 use gateway::{Core, DEPTH};
 use serde_json::{Map, Value, put};
 use service_core::{Counts, DeviceStatus, Loss, Service};
 use service_texts::Addresses;
+use site_alarms::{device_name, is_amiss, loss_word};
 use std::alloc::{AllocError, Global};
 
 /// Each device, in the order of the site file.
@@ -84,7 +84,7 @@ fn put_status(
 ) -> Result<(), AllocError> {
     put_text(value, alloc, "connection", connection_word(status.is_up))?;
     put_truth(value, alloc, "mapped", status.is_mapped)?;
-    put_truth(value, alloc, "lost", status.is_lost)?;
+    put_truth(value, alloc, "lost", is_amiss(status))?;
     put_loss(value, alloc, status.last_loss)?;
     put_number(value, alloc, "requests", status.counts.requests)?;
     put(value, alloc, "losses", losses_value(alloc, &status.counts)?)

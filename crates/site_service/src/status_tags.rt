@@ -1,11 +1,11 @@
 //! The numbers of a service, as JSON.
 use crate::members::{put_signed, put_text};
-use crate::telling::cause_word;
 use gateway::{Core, DEPTH};
 use point_types::{Cause, Reading};
 use serde_json::{Map, Value, put};
 use service_core::{OutputState, Service};
-use site_model::SiteTag;
+use site_alarms::{missing_word, unwritten_word};
+use site_model::{Access, SiteTag};
 use std::alloc::{AllocError, Global};
 
 /// What each tag was in the last scan, by its name.
@@ -20,27 +20,39 @@ pub(crate) fn tags_value(alloc: Global, core: &Core<DEPTH>) -> Result<Value, All
 
 fn tag_value(alloc: Global, tag: &SiteTag, reading: Reading) -> Result<Value, AllocError> {
     let mut value = Map::new(alloc);
+    put_text(&mut value, alloc, "access", access_word(tag.access))?;
     put_signed(&mut value, alloc, "exponent", Some(i64::from(tag.exponent)))?;
     match reading {
         Reading::Value(number) => put_signed(&mut value, alloc, "value", Some(number))?,
         Reading::Default(number, cause) => {
             put_signed(&mut value, alloc, "default", Some(number))?;
-            put_text(&mut value, alloc, "cause", missing_word(cause))?;
+            put_cause(&mut value, alloc, tag.access, cause)?;
         }
-        Reading::Absent(cause) => put_text(&mut value, alloc, "cause", missing_word(cause))?,
+        Reading::Absent(cause) => put_cause(&mut value, alloc, tag.access, cause)?,
     }
     Ok(Value::Object(value))
 }
 
-/// Why a tag has no value of its own.
-fn missing_word(cause: Cause) -> &'static str {
-    match cause {
-        Cause::NotImplemented => "NotImplemented",
-        Cause::BadScale => "BadScale",
-        Cause::Inexact => "Inexact",
-        Cause::OutOfRange => "OutOfRange",
-        Cause::ShortModel => "ShortModel",
-        Cause::NoBlock => "NoBlock",
+/// Puts why a tag has no value of its own, where one is wanted: of an `in` tag.
+fn put_cause(
+    value: &mut Map<String, Value>,
+    alloc: Global,
+    access: Access,
+    cause: Cause,
+) -> Result<(), AllocError> {
+    if access == Access::Input {
+        put_text(value, alloc, "cause", missing_word(cause))?;
+    }
+    Ok(())
+}
+
+/// The word of an access, as site files have it.
+fn access_word(access: Access) -> &'static str {
+    match access {
+        Access::Input => "in",
+        Access::Output => "out",
+        Access::Setting => "set",
+        Access::Shown => "site",
     }
 }
 
@@ -76,7 +88,7 @@ fn output_value(
         Some(OutputState::Written) => put_text(&mut value, alloc, "state", "written")?,
         Some(OutputState::Unwritten(cause)) => {
             put_text(&mut value, alloc, "state", "unwritten")?;
-            put_text(&mut value, alloc, "cause", cause_word(cause))?;
+            put_text(&mut value, alloc, "cause", unwritten_word(cause))?;
         }
         None => put(&mut value, alloc, "state", Value::Null)?,
     }

@@ -3,9 +3,13 @@ use crate::journal::Journal;
 use escaped_text::escaped;
 use gateway::{Core, DEPTH, Report};
 use register_map::Map;
-use service_core::{Loss, Note, Unwritten};
+use service_core::Note;
 use service_texts::{device_line, lost_line, unwritten_line, written_line};
-use site_model::Site;
+use site_alarms::{
+    Changes, begun_line, device_name, is_lacking, lacks_text, loss_word, output_name, over_line,
+    push_models, unwritten_word,
+};
+use site_model::{Site, Want};
 use std::alloc::{AllocError, Global};
 use std::io::Write;
 
@@ -22,6 +26,48 @@ pub(crate) fn tell<W: Write>(
     if let Some(line) = line_of(alloc, note, core) {
         journal.tell(line);
     }
+    if let Note::Found(device) = note {
+        tell_lacking(alloc, core, *device, journal);
+    }
+}
+
+/// Tells which models that the site wants of a device its map lacks.
+fn tell_lacking<W: Write>(
+    alloc: Global,
+    core: &Core<DEPTH>,
+    device: usize,
+    journal: &mut Journal<'_, W>,
+) {
+    for want in core.site().wants() {
+        if want.device == device && is_lacking(core.maps(), *want) {
+            journal.tell(lacks_line(alloc, core.site(), *want));
+        }
+    }
+}
+
+// `device NAME lacks ID`.
+fn lacks_line(alloc: Global, site: &Site, want: Want) -> Result<String, AllocError> {
+    let what = lacks_text(alloc, want.model)?;
+    told(alloc, site, want.device, what.as_str())
+}
+
+/// Tells what changed in what is wrong, where no note tells it.
+pub(crate) fn tell_changes<W: Write>(
+    alloc: Global,
+    changes: &Changes,
+    core: &Core<DEPTH>,
+    journal: &mut Journal<'_, W>,
+) {
+    for alarm in changes.begun.as_slice() {
+        if let Some(line) = begun_line(alloc, core, *alarm) {
+            journal.tell(line);
+        }
+    }
+    for alarm in changes.over.as_slice() {
+        if let Some(line) = over_line(alloc, core, *alarm) {
+            journal.tell(line);
+        }
+    }
 }
 
 /// The line of a note, where it has one of its own.
@@ -35,7 +81,7 @@ fn line_of(alloc: Global, note: &Note, core: &Core<DEPTH>) -> Option<Result<Stri
         Note::Unwritten(output, cause) => Some(unwritten_line(
             alloc,
             output_name(site, *output),
-            cause_word(*cause),
+            unwritten_word(*cause),
         )),
         Note::Written(output) => Some(written_line(alloc, output_name(site, *output))),
         Note::Late(_) | Note::Scanned(_) => None,
@@ -71,15 +117,8 @@ fn shown_name(alloc: Global, site: &Site, device: usize) -> Result<String, Alloc
 // `found MODELS`.
 fn found_models(alloc: Global, map: &Map) -> Result<String, AllocError> {
     let mut models = String::from_str(alloc, "found")?;
-    for block in map.blocks() {
-        models.push_str(model_word(alloc, block.id)?.as_str())?;
-    }
+    push_models(alloc, &mut models, map)?;
     Ok(models)
-}
-
-fn model_word(alloc: Global, id: u16) -> Result<String, AllocError> {
-    let text = format!(in alloc; " {id}")?;
-    Ok(text)
 }
 
 /// The line of a scan, as `run` has it.
@@ -90,46 +129,4 @@ pub(crate) fn tell_scan<W: Write>(
     journal: &mut Journal<'_, W>,
 ) {
     journal.tell_plain(report.told(alloc, scan));
-}
-
-/// The word by which a loss is told.
-pub(crate) fn loss_word(loss: Loss) -> &'static str {
-    match loss {
-        Loss::Down => "Down",
-        Loss::Silent => "Silent",
-        Loss::Frame => "Frame",
-        Loss::Stale => "Stale",
-        Loss::NoTime => "NoTime",
-    }
-}
-
-/// The word by which it is told why an output isn't written.
-pub(crate) fn cause_word(cause: Unwritten) -> &'static str {
-    match cause {
-        Unwritten::NoSetPoint(cause) => cause.word(),
-        Unwritten::Refused => "Refused",
-        Unwritten::Unanswered => "Unanswered",
-    }
-}
-
-pub(crate) fn device_name(site: &Site, device: usize) -> &str {
-    match site.devices().get(device) {
-        Some(device) => device.name.as_str(),
-        None => "",
-    }
-}
-
-// The name of an output's tag.
-fn output_name(site: &Site, output: usize) -> &str {
-    match site.outs().get(output) {
-        Some(tag) => tag_name(site, *tag),
-        None => "",
-    }
-}
-
-fn tag_name(site: &Site, tag: usize) -> &str {
-    match site.tags().get(tag) {
-        Some(tag) => tag.name.as_str(),
-        None => "",
-    }
 }

@@ -98,7 +98,7 @@ fn sum_with(
 }
 
 /// The total of some tags' readings, where each has a value of its own and the total lies in LINT's range.
-fn total_of(readings: &[Reading], parts: &[usize]) -> Option<i64>
+pub fn total_of(readings: &[Reading], parts: &[usize]) -> Option<i64>
     ensures { result ≡ total_of readings.now parts.now }
 {
     in_lint(whole_total(readings, parts)?)
@@ -137,7 +137,7 @@ fn value_at(readings: &[Reading], i: usize) -> Option<i64>
 }
 
 /// A value of its own, which a default isn't.
-pub(crate) fn own_value(reading: Reading) -> Option<i64>
+pub fn own_value(reading: Reading) -> Option<i64>
     ensures { result ≡ own_value reading }
 {
     match reading {

@@ -1,0 +1,40 @@
+//! What is wrong now at a site that is served: one list, which the core and what a service says of its devices and outputs
+//! make, and since when each of it is so. Lines and the status file tell it in words.
+#![tactic(auto)]
+
+mod alarm;
+mod changes;
+mod devices;
+mod inputs;
+mod lines;
+mod mending;
+mod met;
+mod names;
+mod outputs;
+mod points;
+mod row;
+mod sentences;
+mod served;
+mod standing;
+mod words;
+mod wrong;
+
+// what is wrong
+pub use alarm::{Alarm, Hidden, Subject};
+pub use devices::{is_amiss, is_lacking};
+pub use met::{Met, met_at, met_of};
+pub use wrong::{Seen, missing_now, wrong_now};
+// lists that are filled anew
+pub use row::Row;
+// since when
+pub use standing::{Standing, Watch};
+// what changed
+pub use changes::Changes;
+// in words
+pub use lines::{begun_line, lacks_text, missing_text, over_line};
+pub use mending::mend;
+pub use names::{device_name, output_name, tag_name};
+pub use sentences::{push_models, sentence, why_hidden, why_missing};
+pub use words::{
+    cause_text, kind_word, loss_word, missing_word, name_text, subject_text, unwritten_word,
+};

@@ -1,0 +1,53 @@
+//! What was met at a point.
+ghost use Rattle.std.specs.Prelude.{◌≡◌, option_copied};
+ghost use Rattle.site_alarms.specs.Meeting.{met_by, met_in, met_of};
+ghost use Rattle.site_model.specs.Readings.{scale_for};
+
+use gateway::{Core, DEPTH};
+use point_types::value;
+use site_model::readings::known_block;
+use site_model::registers::{registers_at, scale_at};
+use site_model::{Sf, SiteTag};
+
+/// What was met at a point: its raw number, and the factor by which that counts, as the device gives it; None where it gives
+/// none.
+#[derive(Clone, Copy, Debug, PartialEq, Eq)]
+pub struct Met {
+    pub raw: i128,
+    pub factor: Option<i16>,
+}
+
+/// What the last scan met at the point of a tag. None where no words of it are known, or they say that there is no value.
+pub fn met_at(core: &Core<DEPTH>, tag: &SiteTag) -> Option<Met> {
+    met_of(tag, known_block(tag, core.site().wants(), core.scanned()))
+}
+
+/// What is met at the point of a tag in the words of its block, which begin with the model's ID (SunSpec Device Information
+/// Model Specification, points and scale factors).
+pub fn met_of(tag: &SiteTag, block: Option<&[u16]>) -> Option<Met>
+    ensures { result ≡ met_of tag.now (option_copied block.entry) }
+{
+    match block {
+        Some(words) => met_in(tag, words),
+        None => None,
+    }
+}
+
+fn met_in(tag: &SiteTag, words: &[u16]) -> Option<Met>
+    ensures { result ≡ met_in tag.now words.now }
+{
+    let registers = registers_at(words, tag.offset, tag.point.size())?;
+    let raw = value(tag.point, registers)?;
+    let factor = scale_for(tag.bit, words, tag.sf)?;
+    Some(Met { raw, factor })
+}
+
+/// What scales a tag's point; a bit has no factor.
+fn scale_for(bit: Option<u8>, words: &[u16], sf: Sf) -> Option<Option<i16>>
+    ensures { result ≡ scale_for bit words.now sf }
+{
+    match bit {
+        Some(_) => Some(Some(0)),
+        None => scale_at(words, sf),
+    }
+}

@@ -1,0 +1,109 @@
+//! Since when something is wrong.
+ghost use Rattle.std.specs.Prelude.{◌≡◌, [], OnErr, OnOk, length, slice_get};
+ghost use Rattle.site_alarms.specs.Changing.{AreStanding, IsChange, IsSince, NextStanding};
+
+use crate::alarm::{Alarm, Subject, is_same};
+use crate::changes::Changes;
+use crate::row::Row;
+use std::alloc::{AllocError, Global};
+
+/// An alarm, and since when something is wrong with what it is of, in seconds of whoever looks; the cause may be a later one.
+#[derive(Clone, Copy, Debug, PartialEq, Eq)]
+pub struct Standing {
+    pub alarm: Alarm,
+    pub since: u64,
+}
+
+/// What is wrong, and since when, by the list that was seen last, and what that list changed. It takes memory only where a
+/// list is longer than any before.
+#[derive(Drop)]
+pub struct Watch {
+    standing: Row<Standing>,
+    /// Room for those that come next.
+    next: Row<Standing>,
+    changes: Changes,
+}
+
+impl Watch {
+    /// Nothing was seen yet.
+    pub fn new(alloc: Global) -> Watch
+        ensures { result.standing ≡ [] }
+    {
+        Watch {
+            standing: Row::new(alloc),
+            next: Row::new(alloc),
+            changes: Changes::new(alloc),
+        }
+    }
+
+    /// What is wrong, in the order of the list that was seen last.
+    pub fn standing(&self) -> &[Standing]
+        ensures { result.now ≡ self.now.standing }
+    {
+        self.standing.as_slice()
+    }
+
+    /// What the list that was seen last changed.
+    pub fn changes(&self) -> &Changes
+        ensures { result.now ≡ self.now.changes }
+    {
+        &self.changes
+    }
+
+    /// From now on these are the alarms, and this changed; where memory is refused, what stands stays.
+    pub fn see(&mut self, alarms: &[Alarm], now: u64) -> Result<(), AllocError>
+        ensures seen { OnOk result (AreStanding self.old.standing alarms.now now (length alarms.now) self.new.standing) }
+        ensures changed { OnOk result (IsChange self.old.standing alarms.now self.new.changes.begun self.new.changes.over) }
+        ensures refused { OnErr result (self.new.standing ≡ self.old.standing) }
+    {
+        self.changes.see(self.standing.as_slice(), alarms)?;
+        fill_standing(&mut self.next, self.standing.as_slice(), alarms, now)?;
+        std::mem::swap(&mut self.standing, &mut self.next);
+        Ok(())
+    }
+}
+
+/// These alarms, each since when its subject had one, or since now.
+fn fill_standing(
+    standing: &mut Row<Standing>,
+    stood: &[Standing],
+    alarms: &[Alarm],
+    now: u64,
+) -> Result<(), AllocError>
+    ensures { OnOk result (AreStanding stood.now alarms.now now (length alarms.now) standing.new) }
+{
+    standing.clear();
+    for i in 0..alarms.len() {
+        push_standing(standing, stood, alarms, now, i)?;
+    }
+    Ok(())
+}
+
+fn push_standing(
+    standing: &mut Row<Standing>,
+    stood: &[Standing],
+    alarms: &[Alarm],
+    now: u64,
+    i: usize,
+) -> Result<(), AllocError>
+    ensures { OnOk result (NextStanding stood.now now (slice_get alarms.now i) standing.old standing.new) }
+{
+    match alarms.get(i) {
+        Some(alarm) => standing.push(Standing {
+            alarm: *alarm,
+            since: since_of(stood, alarm.subject(), now),
+        }),
+        None => Ok(()),
+    }
+}
+
+fn since_of(stood: &[Standing], subject: Subject, now: u64) -> u64
+    ensures { IsSince stood.now now subject result }
+{
+    for before in stood {
+        if is_same(before.alarm.subject(), subject) {
+            return before.since;
+        }
+    }
+    now
+}

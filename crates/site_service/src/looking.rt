@@ -1,0 +1,111 @@
+//! What is looked at to see what is wrong.
+use crate::kept_files::KeptFiles;
+use service_core::{DeviceStatus, OutputState, Service};
+use site_alarms::{Alarm, Changes, Row, Seen, Standing, Watch, wrong_now};
+use std::alloc::{AllocError, Global};
+
+/// How long a round that began late is an alarm, in milliseconds.
+const LATE_FOR: u64 = 60_000;
+
+/// What is wrong at a service, as it was after the last scan.
+#[derive(Drop)]
+pub(crate) struct Lookout {
+    watch: Watch,
+    /// Room for how the devices stand, for what became of the outputs, and for what is wrong: memory is taken only where a
+    /// list is longer than any before.
+    devices: Row<DeviceStatus>,
+    outputs: Row<Option<OutputState>>,
+    alarms: Row<Alarm>,
+    /// Whether that is what was wrong after the last scan: memory for it may be refused.
+    is_of_now: bool,
+    /// When a round began late last, in milliseconds since the start.
+    late_at: Option<u64>,
+}
+
+impl Lookout {
+    /// Nothing was looked at yet.
+    pub(crate) fn new(alloc: Global) -> Lookout {
+        Lookout {
+            watch: Watch::new(alloc),
+            devices: Row::new(alloc),
+            outputs: Row::new(alloc),
+            alarms: Row::new(alloc),
+            is_of_now: true,
+            late_at: None,
+        }
+    }
+
+    /// A round began late.
+    pub(crate) fn came_late(&mut self, now: u64) {
+        self.late_at = Some(now);
+    }
+
+    /// Looks what is wrong after a scan, and gives what changed. Where memory is refused the next scan is told of in its place.
+    pub(crate) fn look(
+        &mut self,
+        service: &Service,
+        files: &KeptFiles<'_>,
+        now: u64,
+    ) -> Result<&Changes, AllocError> {
+        let seen = self.see(service, files, now);
+        self.is_of_now = seen.is_ok();
+        match seen {
+            Ok(()) => Ok(self.watch.changes()),
+            Err(AllocError) => Err(AllocError),
+        }
+    }
+
+    fn see(
+        &mut self,
+        service: &Service,
+        files: &KeptFiles<'_>,
+        now: u64,
+    ) -> Result<(), AllocError> {
+        self.see_devices(service)?;
+        self.see_outputs(service)?;
+        let seen = Seen {
+            devices: self.devices.as_slice(),
+            outputs: self.outputs.as_slice(),
+            is_late: is_late(self.late_at, now),
+            is_unkept: files.is_unkept(),
+        };
+        wrong_now(&mut self.alarms, service.core(), &seen)?;
+        self.watch.see(self.alarms.as_slice(), now / 1000)
+    }
+
+    // How the devices stand.
+    fn see_devices(&mut self, service: &Service) -> Result<(), AllocError> {
+        self.devices.clear();
+        for device in 0..service.core().site().devices().len() {
+            if let Some(status) = service.device_status(device) {
+                self.devices.push(status)?;
+            }
+        }
+        Ok(())
+    }
+
+    // What became of the outputs.
+    fn see_outputs(&mut self, service: &Service) -> Result<(), AllocError> {
+        self.outputs.clear();
+        for output in 0..service.core().site().outs().len() {
+            self.outputs.push(service.output_state(output))?;
+        }
+        Ok(())
+    }
+
+    /// What was wrong after the last scan; AllocError where memory for it was refused.
+    pub(crate) fn standing(&self) -> Result<&[Standing], AllocError> {
+        if self.is_of_now {
+            Ok(self.watch.standing())
+        } else {
+            Err(AllocError)
+        }
+    }
+}
+
+fn is_late(late_at: Option<u64>, now: u64) -> bool {
+    match late_at {
+        Some(at) => now < at.saturating_add(LATE_FOR),
+        None => false,
+    }
+}

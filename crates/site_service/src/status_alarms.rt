@@ -1,0 +1,32 @@
+//! What is wrong at a service, as JSON.
+use crate::members::{put_number, put_text};
+use gateway::{Core, DEPTH};
+use serde_json::{Map, Value};
+use site_alarms::{Standing, cause_text, kind_word, name_text, sentence};
+use std::alloc::{AllocError, Global};
+
+/// Each alarm, in the order of the list.
+pub(crate) fn alarms_value(
+    alloc: Global,
+    core: &Core<DEPTH>,
+    standing: &[Standing],
+) -> Result<Vec<Value>, AllocError> {
+    let mut values = Vec::new(alloc);
+    for one in standing {
+        values.push(alarm_value(alloc, core, *one)?)?;
+    }
+    Ok(values)
+}
+
+fn alarm_value(alloc: Global, core: &Core<DEPTH>, one: Standing) -> Result<Value, AllocError> {
+    let mut value = Map::new(alloc);
+    let name = name_text(alloc, core.site(), one.alarm)?;
+    let cause = cause_text(alloc, core.site(), one.alarm)?;
+    let text = sentence(alloc, core, one.alarm)?;
+    put_text(&mut value, alloc, "kind", kind_word(one.alarm))?;
+    put_text(&mut value, alloc, "name", name.as_str())?;
+    put_text(&mut value, alloc, "cause", cause.as_str())?;
+    put_number(&mut value, alloc, "since", one.since)?;
+    put_text(&mut value, alloc, "text", text.as_str())?;
+    Ok(Value::Object(value))
+}
