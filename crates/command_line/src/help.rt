@@ -54,7 +54,8 @@ Status: 0 well; 1 refused; 2 no such command line; 3 a link failed";
 
 pub(crate) const SERVE: &str =
     "Prints 'started TIME ..', 'accepted', 'budget N' and 'listening ADDR', and then a line for each change, which begins with
-the seconds since the start, or with --times utc with the time of day. It ends behind --scans N, or by a signal. SITE or PROGRAM can be '-', standard input:
+the seconds since the start, or with --times utc with the time of day. It ends behind --scans N, or by a signal. SITE or
+PROGRAM can be '-', standard input:
   sunsite serve examples/site.toml examples/limiter.il --plant examples/plant.toml
 
 Status: 0 well; 1 refused; 2 no such command line; 3 the clock or a socket can't be had";

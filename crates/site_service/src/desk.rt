@@ -79,7 +79,10 @@ impl<'a, W: Write> Desk<'a, W> {
         service: &mut Service,
     ) -> Result<KeptFiles<'k>, End> {
         match KeptFiles::restored(self.alloc, keeping, service, &mut self.journal) {
-            Ok(files) => Ok(files),
+            Ok(files) => match self.sockets.begin(service.core().settings()) {
+                Ok(()) => Ok(files),
+                Err(AllocError) => Err(End::OutOfMemory),
+            },
             Err(AllocError) => Err(End::OutOfMemory),
         }
     }

@@ -87,6 +87,14 @@ impl<'a, W: Write> Journal<'a, W> {
         self.tell(client_line(self.alloc, address, what));
     }
 
+    /// Tells what a client did, where there is memory for that.
+    pub(crate) fn tell_what(&mut self, address: SocketAddr, what: Result<String, AllocError>) {
+        match what {
+            Ok(what) => self.tell_client(address, what.as_str()),
+            Err(AllocError) => self.tell(Err(AllocError)),
+        }
+    }
+
     fn tell_left_out(&mut self) {
         if self.left_out > 0 {
             let written = match left_out_line(self.alloc, self.left_out) {

@@ -4,6 +4,7 @@
 #![tactic(auto)]
 
 mod client;
+mod client_watch;
 mod clients;
 mod desk;
 mod door;
