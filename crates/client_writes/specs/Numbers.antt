@@ -15,7 +15,7 @@ is_model id model = model.id == id
 abbrev pub is_at : ℕ → Point → Bool
 is_at offset point = point.offset == offset
 
--- the factor by which the point of a model is served that stands so many registers behind the model's ID
+-- the factor by which the point of a model is served that stands so many registers after the model's ID
 abbrev pub factor_in : List Served → (id offset : ℕ) → ModelDef → Option ℤ
 factor_in served id offset model = option_and_then (λ i. option_and_then (λ point. served_factor served id point.sf) (slice_get model.points i)) (position (is_at offset) model.points)
 

@@ -8,12 +8,12 @@ use Rattle.client_writes.specs.declared.outcome.WriteOutcome.TheVariants.{NoWrit
 abbrev pub is_write : ℕ → Bool
 is_write function = function == 6 || function == 16
 
--- the code of the exception that a frame is: behind seven bytes a function with its highest bit set, and the code
+-- the code of the exception that a frame is: after seven bytes a function with its highest bit set, and the code
 abbrev pub exception_in : List ℕ → Option ℕ
 exception_in (t1 ∷ t2 ∷ p1 ∷ p2 ∷ l1 ∷ l2 ∷ unit ∷ function ∷ code ∷ rest) = if nat_le 128 function then Some code else None
 exception_in other = None
 
--- the first register that a request is for: the two bytes behind its function
+-- the first register that a request is for: the two bytes after its function
 abbrev pub address_in : List ℕ → Option ℕ
 address_in (function ∷ high ∷ low ∷ rest) = Some (256 * high + low)
 address_in other = None

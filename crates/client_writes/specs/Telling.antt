@@ -20,7 +20,7 @@ address_text None = codes "-"
 abbrev pub refused_text : RefusedWrite → List ℕ
 refused_text refused = codes "refused " ++ decimal refused.function ++ codes " " ++ address_text refused.address ++ codes " " ++ decimal refused.exception
 
--- NAME NUMBER LOW..HIGH, behind a blank
+-- NAME NUMBER LOW..HIGH, after a blank
 abbrev pub number_text : (name : List ℕ) (number : Option ℤ) (low high : ℤ) → List ℕ
 number_text name number low high = codes " " ++ name ++ codes " " ++ number_or (codes "-") number ++ codes " " ++ signed_decimal low ++ codes ".." ++ signed_decimal high
 

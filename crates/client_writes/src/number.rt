@@ -58,7 +58,7 @@ fn model_for(models: &[ModelDef], id: u16) -> Option<usize>
     models.iter().position(|model| model.id == id)
 }
 
-/// The factor by which the point of a model is served that stands so many registers behind its ID.
+/// The factor by which the point of a model is served that stands so many registers after its ID.
 fn factor_in(served: &[Served], model: &ModelDef, id: u16, offset: u16) -> Option<i16>
     ensures { result ≡ factor_in served.now id offset model.now }
 {

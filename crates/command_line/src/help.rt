@@ -1,5 +1,5 @@
 //! What the helps of the commands say behind their words and options.
-ghost use Rattle.std.specs.Prelude.{◌≡◌, ◌==◌, ◌++◌};
+ghost use Rattle.std.specs.Prelude.{◌≡◌, ◌==◌};
 ghost use Rattle.std.specs.List.{before_first};
 
 /// The version of the program, its first word, and the kit that proves and builds it.

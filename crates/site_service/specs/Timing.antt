@@ -5,7 +5,7 @@ use Rattle.start_texts.specs.Starting.{IsTimed}
 use Rattle.start_texts.specs.declared.clock_times.Times.{Times}
 use Rattle.start_texts.specs.declared.clock_times.Times.TheVariants.{Seconds, Utc}
 
--- a text is a line behind its time: the milliseconds since the start, or the seconds since 1970-01-01T00:00:00Z, where they
+-- a text is a line after its time: the milliseconds since the start, or the seconds since 1970-01-01T00:00:00Z, where they
 -- are known, as the time of day
 abbrev pub IsLineAt : Times → ℕ → Option ℕ → (line text : List ℕ) → Type 0
 IsLineAt Seconds now seconds line text = text ≡ stamped_line now line

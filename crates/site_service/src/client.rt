@@ -54,12 +54,7 @@ impl Client {
         place: usize,
         now: u64,
     ) -> Option<Frame> {
-        self.connection.hand_over(&mut FromClient {
-            service,
-            ear: &mut self.ear,
-            place,
-            now,
-        });
+        hand_over(&mut self.connection, &mut self.ear, service, place, now);
         self.ear.take_frame()
     }
 
@@ -74,6 +69,21 @@ impl Client {
             || self.connection.is_broken()
             || self.connection.is_over() && service.to_client(place).is_empty()
     }
+}
+
+fn hand_over(
+    connection: &mut Connection<TcpStream>,
+    ear: &mut Ear,
+    service: &mut Service,
+    place: usize,
+    now: u64,
+) {
+    connection.hand_over(&mut FromClient {
+        service,
+        ear,
+        place,
+        now,
+    });
 }
 
 /// Takes what a client sends, one frame at most: the next one is taken once the answer is gone.

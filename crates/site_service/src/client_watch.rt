@@ -166,7 +166,7 @@ fn change_line(
     )
 }
 
-/// `refused FUNCTION ADDRESS EXCEPTION`, and where a point is known there `NAME NUMBER LOW..HIGH` behind it.
+/// `refused FUNCTION ADDRESS EXCEPTION`, and where a point is known there `NAME NUMBER LOW..HIGH` after it.
 fn refusal_text(
     alloc: Global,
     frame: &Frame,

@@ -9,7 +9,7 @@ use std::alloc::{AllocError, Global};
 use std::io::Write;
 use std::net::SocketAddr;
 
-/// Writes lines behind their time. One that can't be written without a wait, or for which memory is
+/// Writes lines after their time. One that can't be written without a wait, or for which memory is
 /// refused, is left out and counted, and the count is told once a line can be written again: the service goes on.
 #[derive(Drop)]
 pub(crate) struct Journal<'a, W: Write> {
@@ -62,7 +62,7 @@ impl<'a, W: Write> Journal<'a, W> {
         time_of_day(self.alloc, self.seconds)
     }
 
-    /// Writes a line, behind the time.
+    /// Writes a line, after the time.
     pub(crate) fn tell(&mut self, line: Result<String, AllocError>) {
         self.tell_left_out();
         let written = match line {
@@ -125,7 +125,7 @@ impl<'a, W: Write> Journal<'a, W> {
     }
 }
 
-/// A line behind its time: the milliseconds since the start, or the time of day after so many seconds.
+/// A line after its time: the milliseconds since the start, or the time of day after so many seconds.
 fn line_at(
     alloc: Global,
     times: Times,

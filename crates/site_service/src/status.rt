@@ -9,7 +9,7 @@ use service_texts::Addresses;
 use start_texts::Start;
 use std::alloc::{AllocError, Global};
 
-/// The text of how a service stands at a time of day, so many seconds behind its start, with so many rounds that began late.
+/// The text of how a service stands at a time of day, so many seconds after its start, with so many rounds that began late.
 pub(crate) fn status_text(
     alloc: Global,
     start: &Start,
