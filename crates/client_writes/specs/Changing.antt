@@ -1,5 +1,5 @@
 -- Which set values change.
-use Rattle.std.specs.Prelude.{◌≡◌, ℕ, ◌<◌, ℤ, List, length, take, slice_index_or, slice_set, Option, Some, None}
+use Rattle.std.specs.Prelude.{◌≡◌, ◌<◌, ℤ, List, length, take, slice_index_or, slice_set, Option, Some, None}
 use Rattle.client_writes.specs.declared.settings.Change.{Change}
 
 -- A change is the first one from what was told to what is set, and then it is told too.

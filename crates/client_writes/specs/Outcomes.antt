@@ -1,6 +1,5 @@
 -- How a write ends (Modbus Application Protocol V1.1b3, sections 6.6, 6.12 and 7).
-use Rattle.std.specs.Prelude.{ℕ, ◌+◌, ◌*◌, ◌==◌, ◌||◌, nat_le, Bool, true, false, List, [], ◌∷◌, Option, Some, None, if◌then◌else◌}
-use Rattle.client_writes.specs.declared.outcome.RefusedWrite.{RefusedWrite}
+use Rattle.std.specs.Prelude.{ℕ, ◌+◌, ◌*◌, ◌==◌, ◌||◌, nat_le, Bool, List, [], ◌∷◌, Option, Some, None, if◌then◌else◌}
 use Rattle.client_writes.specs.declared.outcome.WriteOutcome.{WriteOutcome}
 use Rattle.client_writes.specs.declared.outcome.WriteOutcome.TheVariants.{NoWrite, Done, Refused}
 

@@ -1,5 +1,5 @@
 -- How often something is told of one address. No standard says it; it is this project's.
-use Rattle.std.specs.Prelude.{◌≡◌, ℕ, ◌+◌, ◌-◌, ◌^◌, ◌<◌, ◌≤◌, ◌==◌, nat_lt, nat_le, min, Bool, true, false, List, [], ◌∷◌, ◌++◌, length, slice_index_or, slice_set, position, remove, Option, Some, None, if◌then◌else◌}
+use Rattle.std.specs.Prelude.{◌≡◌, ℕ, ◌+◌, ◌-◌, ◌^◌, ◌<◌, ◌==◌, nat_lt, nat_le, min, Bool, true, false, [], ◌∷◌, ◌++◌, length, slice_index_or, slice_set, position, remove, Option, Some, None, if◌then◌else◌}
 use Rattle.line_rations.specs.declared.ration.Over.{Over}
 use Rattle.line_rations.specs.declared.ration.Ration.{Ration}
 use Rattle.line_rations.specs.declared.share.Share.{Share}
