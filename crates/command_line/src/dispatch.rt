@@ -2,6 +2,7 @@
 use crate::arguments::command;
 use crate::command_words::{file_command, probe_address};
 use crate::file_command::{obey_on, warn_of_site};
+use crate::help;
 use crate::serve_words::{Misuse, keeping_of, service_limits, service_words, serving_of};
 use crate::service_run::{ServiceRun, run_service};
 use crate::sources::{Refusal, Sources, read_sources, read_state};
@@ -12,6 +13,8 @@ use clap::{ArgMatches, Error};
 use commands::tell_no_memory;
 use refusal_notes::{Notes, escaped, explain_unusable};
 use service_texts::Devices;
+use site_service::seconds_of_day;
+use start_texts::Start;
 use std::alloc::{AllocError, Global};
 use std::io::Write;
 use std::net::Net;
@@ -244,19 +247,21 @@ fn served_with<W: Write>(
     state: &str,
     out: &mut W,
 ) -> u8 {
+    let seconds = seconds_of_day(rt);
+    let Ok(start) = Start::of(alloc, seconds, help::version(), notes.site, notes.program) else {
+        return tell_no_memory(out);
+    };
     match service_words(rt, alloc, matches) {
         Ok(words) => {
-            let exe = matches.get_str("exe").unwrap_or(itself);
-            let devices = words.devices;
             let run = ServiceRun {
                 notes: *notes,
-                devices,
-                exe,
+                devices: words.devices,
+                exe: matches.get_str("exe").unwrap_or(itself),
                 limits: service_limits(matches),
-                serving: serving_of(matches, words.listen, words.writers.as_slice()),
+                serving: serving_of(matches, &words, &start),
                 keeping: keeping_of(matches, state),
             };
-            match devices {
+            match words.devices {
                 Devices::Plant(_) => warn_of_site(rt, notes),
                 _ => notes.warn(rt),
             }

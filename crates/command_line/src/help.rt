@@ -1,7 +1,19 @@
 //! What the helps of the commands say after their words and options.
+ghost use Rattle.std.specs.Prelude.{◌≡◌, ◌==◌};
+ghost use Rattle.std.specs.List.{before_first};
 
-/// The version of the program, and the kit that proves and builds it.
+/// The version of the program, its first word, and the kit that proves and builds it.
 pub(crate) const VERSION: &str = "0.1.0 (rattle-kit-13f logic dac8208d650f15bf)";
+
+/// The version of the program alone.
+pub(crate) fn version() -> &'static str
+    ensures { result.now ≡ before_first (λ b. b == 32) VERSION.now }
+{
+    match VERSION.split_once(' ') {
+        Some((version, _)) => version,
+        None => VERSION,
+    }
+}
 
 pub const PROGRAM: &str =
     "Without arguments it reads a program (Instruction List) from standard input, and after END_PROGRAM a
@@ -41,8 +53,9 @@ standard input:
 Status: 0 well; 1 refused; 2 no such command line; 3 a link failed";
 
 pub(crate) const SERVE: &str =
-    "Prints 'accepted', 'budget N' and 'listening ADDR', and then a line for each change, which begins with the
-seconds since the start. It ends after --scans N, or by a signal. SITE or PROGRAM can be '-', standard input:
+    "Prints 'started TIME ..', 'accepted', 'budget N' and 'listening ADDR', and then a line for each change, which begins with
+the seconds since the start, or with --times utc with the time of day. It ends after --scans N, or by a signal. SITE or
+PROGRAM can be '-', standard input:
   sunsite serve examples/site.toml examples/limiter.il --plant examples/plant.toml
 
 Status: 0 well; 1 refused; 2 no such command line; 3 the clock or a socket can't be had";

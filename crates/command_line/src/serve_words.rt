@@ -7,11 +7,15 @@ use point_types::Items;
 use service_core::Limits;
 use service_texts::{Devices, DevicesFault, Writer, WriterFault, devices_of, limits, writers_of};
 use site_service::{Keeping, KeptState, Serving};
+use start_texts::{Start, Times, times_of};
 use std::alloc::{AllocError, Global};
 use std::net::{Net, SocketAddr, ToSocketAddrs};
 
 /// Where clients come to, where no other address is asked for.
 const USUAL_DOOR: &str = "127.0.0.1:1502";
+
+/// By which time lines are told, where nothing else is asked for.
+const USUAL_TIMES: &str = "seconds";
 
 /// What is wrong with another address.
 const UNKNOWN_LISTEN: Misuse = Misuse::Words("'--listen' is no HOST:PORT that is known");
@@ -48,6 +52,7 @@ fn with_files<'a>(alloc: Global, command: Command<'a>) -> Result<Command<'a>, Al
 fn with_ways<'a>(alloc: Global, command: Command<'a>) -> Result<Command<'a>, AllocError> {
     command
         .arg(scans_option(alloc))?
+        .arg(times_option(alloc))?
         .arg(verbose_flag(alloc))?
         .arg(exe_option(alloc))?
         .arg(quiet_flag(alloc))?
@@ -134,6 +139,16 @@ fn scans_option<'a>(alloc: Global) -> Arg<'a> {
     ))
 }
 
+fn times_option<'a>(alloc: Global) -> Arg<'a> {
+    option(
+        alloc,
+        "times",
+        "TIMES",
+        "how lines begin: 'seconds' since the start, or 'utc', the time of day",
+    )
+    .default_value(USUAL_TIMES)
+}
+
 fn verbose_flag<'a>(alloc: Global) -> Arg<'a> {
     Arg::new(alloc, "verbose")
         .long("verbose")
@@ -149,6 +164,8 @@ pub(crate) struct ServiceWords<'a> {
     /// The clients that may write.
     pub writers: Items<Writer>,
     pub devices: Devices<'a>,
+    /// By which time lines are told.
+    pub times: Times,
 }
 
 /// Why the words ask for nothing that can be done, or memory was refused.
@@ -189,11 +206,21 @@ pub(crate) fn service_words<'a, R: Net>(
     let listen = listen_address(rt, matches)?;
     let writers = writers_of(alloc, matches.get_strs("write-from").unwrap_or(&[]))?;
     let devices = devices_of(matches.get_str("devices"), matches.get_str("plant"))?;
+    let times = times_in(matches)?;
     Ok(ServiceWords {
         listen,
         writers,
         devices,
+        times,
     })
+}
+
+/// By which time lines are told.
+fn times_in(matches: &ArgMatches<'_>) -> Result<Times, Misuse> {
+    match times_of(matches.get_str("times").unwrap_or(USUAL_TIMES)) {
+        Some(times) => Ok(times),
+        None => Err(Misuse::Words("'--times' is neither 'seconds' nor 'utc'")),
+    }
 }
 
 /// How long the service waits.
@@ -213,16 +240,18 @@ fn most_clients(matches: &ArgMatches<'_>) -> usize {
     matches.get_one("clients").unwrap_or(32)
 }
 
-/// What the service is to do, for clients that come to this address.
+/// What the service is to do after this start, by these words.
 pub(crate) fn serving_of<'a>(
     matches: &ArgMatches<'_>,
-    listen: SocketAddr,
-    writers: &'a [Writer],
+    words: &'a ServiceWords<'_>,
+    start: &'a Start,
 ) -> Serving<'a> {
     Serving {
-        listen,
+        start,
+        times: words.times,
+        listen: words.listen,
         clients: most_clients(matches),
-        writers,
+        writers: words.writers.as_slice(),
         scans: matches.get_one("scans"),
         is_verbose: matches.get_flag("verbose"),
     }

@@ -98,7 +98,7 @@ fn prepared<R: Print + Eprint + AllocGlobal, W: Write>(
     out: &mut W,
 ) -> Result<Addresses, u8> {
     match addresses_of(alloc, run.devices, run.notes.site, given.site.devices()) {
-        Ok(addresses) => match tell_accepted(alloc, given.verified.budget(), out) {
+        Ok(addresses) => match tell_begun(alloc, &run.serving, given.verified.budget(), out) {
             0 => {
                 tell_unkept(rt, run);
                 warn_on_site(rt, &run.notes, &given.site);
@@ -107,6 +107,18 @@ fn prepared<R: Print + Eprint + AllocGlobal, W: Write>(
             status => Err(status),
         },
         Err(fault) => Err(tell_unreachable(rt, alloc, &given.site, fault, out)),
+    }
+}
+
+/// Tells which program begins with what, and that it is accepted, and gives the status.
+fn tell_begun<W: Write>(alloc: Global, serving: &Serving<'_>, budget: u32, out: &mut W) -> u8 {
+    let told = match serving.start.line(alloc) {
+        Ok(line) => write_lines(out, line.as_bytes(), 0),
+        Err(AllocError) => tell_no_memory(out),
+    };
+    match told {
+        0 => tell_accepted(alloc, budget, out),
+        status => status,
     }
 }
 

@@ -23,9 +23,7 @@ pub(crate) fn warn_of_places(rt: &(impl Eprint + AllocGlobal), notes: &Notes<'_>
 fn refused_place(fault: AddressFault) -> Option<(usize, &'static str)> {
     match fault {
         AddressFault::NoPort(device) => Some((device, "an 'address' that is no HOST:PORT")),
-        AddressFault::BadUnit(device) => {
-            Some((device, "a 'remote_unit' that isn't in 0..255"))
-        }
+        AddressFault::BadUnit(device) => { Some((device, "a 'remote_unit' that isn't in 0..255")) }
         AddressFault::Missing(device) if device > 0 => {
             Some((device, "no 'address', as the first one has"))
         }
@@ -46,6 +44,8 @@ fn warning(
     };
     let name = escaped(alloc, name)?;
     let path = escaped(alloc, path)?;
-    let line = format!(in alloc; "{path}: warning: device '{name}' has {why}: 'serve' refuses it\n")?;
+    let line = format!(in alloc;
+        "{path}: warning: device '{name}' has {why}: 'serve' refuses it\n"
+    )?;
     Ok(line)
 }

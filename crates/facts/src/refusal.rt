@@ -120,7 +120,7 @@ impl RefusalKind {
             RefusalKind::TagAccess =>
                 "load tags of access in and set, store those of out and site; keep what you store in a variable too, where you need it again",
             RefusalKind::NoResult => {
-                "load first; behind a label each way to it has to bring a result of one type"
+                "load first; after a label each way to it has to bring a result of one type"
             }
             RefusalKind::OutOfMemory => "give the program more memory, and run the command again",
             RefusalKind::OverBudget =>

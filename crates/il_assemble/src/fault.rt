@@ -90,7 +90,7 @@ impl AsmFaultKind {
                 "shorten the program: 65,535 bytes of code and 256 counted jumps are the most"
             }
             AsmFaultKind::OutOfMemory => "give the program more memory, and run the command again",
-            AsmFaultKind::ForwardLoop => "leave {LOOP n} away: jumps forward aren't counted",
+            AsmFaultKind::ForwardLoop => "leave {LOOP n} out: jumps forward aren't counted",
         }
     }
 }

@@ -10,7 +10,7 @@ use thiserror::Error;
 pub enum ReadFaultKind {
     /// Bytes that are no token, a word that is no name, or a comment that is never closed.
     Word,
-    /// PROGRAM, its name or END_PROGRAM is missing, or text stands behind END_PROGRAM.
+    /// PROGRAM, its name or END_PROGRAM is missing, or text stands after END_PROGRAM.
     Header,
     /// A declaration that isn't one, or a start value outside its type.
     Declaration,
@@ -86,7 +86,7 @@ impl ReadFaultKind {
                 "write names in letters, digits and single underscores, at most 32 of them; close each comment (* .. *)"
             }
             ReadFaultKind::Header => {
-                "begin with PROGRAM and a name, end with END_PROGRAM, and write nothing behind it"
+                "begin with PROGRAM and a name, end with END_PROGRAM, and write nothing after it"
             }
             ReadFaultKind::Declaration => {
                 "write name : TYPE; with (low..high) or := start inside the type; look for a missing semicolon in the line before"
@@ -99,10 +99,10 @@ impl ReadFaultKind {
             }
             ReadFaultKind::Label => "name a label that stands before a line, as JMP done",
             ReadFaultKind::Parenthesis => {
-                "give each op( a ) on a line of its own, and store, jump and return behind it"
+                "give each op( a ) on a line of its own, and store, jump and return after it"
             }
             ReadFaultKind::Literal => {
-                "write a decimal within the type, or digits of the base behind 16#, 8# or 2#"
+                "write a decimal within the type, or digits of the base after 16#, 8# or 2#"
             }
             ReadFaultKind::Duplicate => "rename one of the two; case makes no difference",
             ReadFaultKind::TooLong => {

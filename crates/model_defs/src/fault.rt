@@ -24,7 +24,7 @@ pub enum DefFault {
     BadScalePoint,
     /// The group has groups of its own.
     Repeating,
-    /// More than 123 registers behind ID and L.
+    /// More than 123 registers after ID and L.
     TooLong,
     /// The first two points aren't ID and L, both uint16.
     BadHeader,
@@ -71,7 +71,7 @@ impl DefFault {
                 "a scale factor that is no point of type sunssf, or a number outside -10..10"
             }
             DefFault::Repeating => "the group has groups of its own",
-            DefFault::TooLong => "more than 123 registers behind ID and L",
+            DefFault::TooLong => "more than 123 registers after ID and L",
             DefFault::BadHeader => "the first two points aren't ID and L, both uint16",
             DefFault::OutOfMemory => "memory was refused",
         }

@@ -1,3 +1,4 @@
 pub mod Admitting
 pub mod Setting
+pub mod Timing
 pub mod Tokens

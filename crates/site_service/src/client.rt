@@ -2,8 +2,10 @@
 ghost use Rattle.std.specs.Prelude.{◌<◌};
 ghost use Rattle.service_parts.specs.Clients.{DoesAt, Sends};
 
+use client_writes::Ear;
 use mio::net::TcpStream;
 use mio::{Interest, Registry, Token};
+use modbus_frame::Frame;
 use polled_stream::{Connection, Giver, Taker};
 use service_core::Service;
 use std::net::SocketAddr;
@@ -13,6 +15,7 @@ use std::net::SocketAddr;
 pub(crate) struct Client {
     pub(crate) address: SocketAddr,
     connection: Connection<TcpStream>,
+    ear: Ear,
 }
 
 impl Client {
@@ -30,6 +33,7 @@ impl Client {
         Some(Client {
             address,
             connection: Connection::new(stream),
+            ear: Ear::new(),
         })
     }
 
@@ -43,13 +47,15 @@ impl Client {
         self.connection.is_busy(waiting)
     }
 
-    /// Hands over what came.
-    pub(crate) fn receive(&mut self, service: &mut Service, place: usize, now: u64) {
-        self.connection.hand_over(&mut FromClient {
-            service,
-            place,
-            now,
-        });
+    /// Hands over what came, up to the end of a frame; that frame, where one was answered.
+    pub(crate) fn receive(
+        &mut self,
+        service: &mut Service,
+        place: usize,
+        now: u64,
+    ) -> Option<Frame> {
+        hand_over(&mut self.connection, &mut self.ear, service, place, now);
+        self.ear.take_frame()
     }
 
     /// Sends what waits.
@@ -65,21 +71,43 @@ impl Client {
     }
 }
 
-/// Takes what a client sends.
+fn hand_over(
+    connection: &mut Connection<TcpStream>,
+    ear: &mut Ear,
+    service: &mut Service,
+    place: usize,
+    now: u64,
+) {
+    connection.hand_over(&mut FromClient {
+        service,
+        ear,
+        place,
+        now,
+    });
+}
+
+/// Takes what a client sends, one frame at most: the next one is taken once the answer is gone.
 #[derive(Drop)]
-struct FromClient<'s> {
+struct FromClient<'s, 'e> {
     service: &'s mut Service,
+    ear: &'e mut Ear,
     place: usize,
     now: u64,
 }
 
-impl Taker for FromClient<'_> {
+impl Taker for FromClient<'_, '_> {
     ghost use Rattle.std.specs.Prelude.{None};
 
     ghost taken = { λ _. None };
 
     fn take(&mut self, bytes: &[u8]) -> usize {
-        self.service.from_client(self.place, bytes, self.now)
+        // what is given while an answer waits isn't used
+        let piece = if self.service.to_client(self.place).is_empty() {
+            self.ear.front_of(bytes)
+        } else {
+            bytes
+        };
+        self.service.from_client(self.place, piece, self.now)
     }
 }
 

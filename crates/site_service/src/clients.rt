@@ -3,6 +3,7 @@ ghost use Rattle.std.specs.Prelude.{IfSome};
 ghost use Rattle.site_service.specs.Admitting.{HasRight};
 
 use crate::client::Client;
+use crate::client_watch::ClientWatch;
 use crate::door::Door;
 use crate::journal::Journal;
 use crate::tokens::Tokens;
@@ -22,16 +23,31 @@ const MOST_TAKEN: u32 = 64;
 pub(crate) struct Clients {
     tokens: Tokens,
     places: Vec<Option<Client>>,
+    watch: ClientWatch,
 }
 
 impl Clients {
-    /// Places for so many, all of them free.
-    pub(crate) fn new(alloc: Global, tokens: Tokens, most: usize) -> Result<Clients, AllocError> {
+    /// Places for so many, all of them free; whether each client that comes or leaves is told.
+    pub(crate) fn new(
+        alloc: Global,
+        tokens: Tokens,
+        most: usize,
+        tells_moves: bool,
+    ) -> Result<Clients, AllocError> {
         let mut places = Vec::new(alloc);
         for _ in 0..most {
             places.push(None)?;
         }
-        Ok(Clients { tokens, places })
+        Ok(Clients {
+            tokens,
+            places,
+            watch: ClientWatch::new(alloc, tells_moves)?,
+        })
+    }
+
+    /// This is set at the start, and needn't be told.
+    pub(crate) fn begin(&mut self, settings: &[Option<i64>]) -> Result<(), AllocError> {
+        self.watch.begin(settings)
     }
 
     /// The system says of the client at a place that there is something to do.
@@ -62,6 +78,7 @@ impl Clients {
         service: &mut Service,
         journal: &mut Journal<'_, W>,
     ) {
+        self.watch.tell_over(journal);
         for _ in 0..MOST_TAKEN {
             let Some((stream, address)) = door.next() else {
                 return;
@@ -100,7 +117,7 @@ impl Clients {
         journal: &mut Journal<'_, W>,
     ) {
         match &client {
-            Some(client) => journal.tell_client(client.address, "joined"),
+            Some(client) => self.watch.tell_joined(client.address, journal),
             None => service.client_gone(place),
         }
         self.set(place, client);
@@ -116,7 +133,7 @@ impl Clients {
     fn leave<W: Write>(&mut self, place: usize, journal: &mut Journal<'_, W>) {
         if let Some(address) = self.address_at(place) {
             self.set(place, None);
-            journal.tell_client(address, "left");
+            self.watch.tell_left(address, journal);
         }
     }
 
@@ -133,11 +150,16 @@ impl Clients {
         }
     }
 
-    /// Hands over what came.
-    pub(crate) fn receive(&mut self, service: &mut Service, now: u64) {
+    /// Hands over what came, a frame of each client at most, and tells what they set, before it is told that it is done.
+    pub(crate) fn receive<W: Write>(
+        &mut self,
+        service: &mut Service,
+        journal: &mut Journal<'_, W>,
+    ) {
+        let watch = &mut self.watch;
         for (place, client) in self.places.iter_mut().enumerate() {
             if let Some(client) = client {
-                client.receive(service, place, now);
+                receive_at(client, place, watch, service, journal);
             }
         }
     }
@@ -175,4 +197,18 @@ fn admitted(service: &mut Service, writers: &[Writer], address: IpAddr, now: u64
     ensures { IfSome result (HasRight writers.now address service.new.places.items) }
 {
     service.client_came(may_write(writers, address), now)
+}
+
+/// Hands over what came of a client, and tells what it set.
+fn receive_at<W: Write>(
+    client: &mut Client,
+    place: usize,
+    watch: &mut ClientWatch,
+    service: &mut Service,
+    journal: &mut Journal<'_, W>,
+) {
+    if let Some(frame) = client.receive(service, place, journal.now()) {
+        let reply = service.to_client(place);
+        watch.tell_frame(client.address, &frame, reply, service.core(), journal);
+    }
 }

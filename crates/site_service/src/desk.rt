@@ -8,6 +8,7 @@ use crate::serving::{End, Serving};
 use crate::sockets::Sockets;
 use crate::status::status_text;
 use crate::telling::{tell, tell_changes, tell_scan};
+use crate::wall_clock::seconds_of_day;
 use service_core::{Note, Service};
 use service_texts::{Addresses, late_line, listening_line};
 use std::alloc::{AllocError, Global};
@@ -41,7 +42,7 @@ impl<'a, W: Write> Desk<'a, W> {
         out: &'a mut W,
     ) -> Result<Desk<'a, W>, End> {
         let sockets = Sockets::new(rt, alloc, serving, addresses.links.as_slice())?;
-        match Desk::over(rt, alloc, addresses, sockets, out) {
+        match Desk::over(rt, alloc, serving, addresses, sockets, out) {
             Ok(desk) => Ok(desk),
             Err(fault) => Err(End::by(&fault)),
         }
@@ -50,15 +51,18 @@ impl<'a, W: Write> Desk<'a, W> {
     fn over<R: Net + Clock>(
         rt: &R,
         alloc: Global,
+        serving: &Serving<'_>,
         addresses: &'a Addresses,
         sockets: Sockets,
         out: &'a mut W,
     ) -> io::Result<Desk<'a, W>> {
+        let room = Room::new(rt, alloc)?;
+        let journal = Journal::new(alloc, out, room, serving.times, seconds_of_day(rt));
         Ok(Desk {
             alloc,
             addresses,
             sockets,
-            journal: Journal::new(alloc, out, Room::new(rt, alloc)?),
+            journal,
             start: Instant::now(rt)?,
             late: 0,
             lookout: Lookout::new(alloc),
@@ -79,7 +83,10 @@ impl<'a, W: Write> Desk<'a, W> {
         service: &mut Service,
     ) -> Result<KeptFiles<'k>, End> {
         match KeptFiles::restored(self.alloc, keeping, service, &mut self.journal) {
-            Ok(files) => Ok(files),
+            Ok(files) => match self.sockets.begin(service.core().settings()) {
+                Ok(()) => Ok(files),
+                Err(AllocError) => Err(End::OutOfMemory),
+            },
             Err(AllocError) => Err(End::OutOfMemory),
         }
     }
@@ -93,14 +100,14 @@ impl<'a, W: Write> Desk<'a, W> {
         files: &mut KeptFiles<'_>,
     ) -> Result<bool, End> {
         let now = self.now(rt)?;
-        self.journal.turn_to(now);
+        self.journal.turn_to(now, seconds_of_day(rt));
         service.tick(now);
         let taken = self.sockets.take(rt, serving, service, &mut self.journal);
         // what was taken in may set values, and giving out says so
         let kept = files.keep_state(taken, rt, service.core(), &mut self.journal);
         self.sockets.give(kept, service, &mut self.journal);
         let is_done = self.tell(serving, service, files);
-        self.keep_status(rt, service, files);
+        self.keep_status(rt, serving, service, files);
         Ok(is_done)
     }
 
@@ -167,10 +174,18 @@ impl<'a, W: Write> Desk<'a, W> {
     }
 
     // Says in a file how the service stands, where a scan is over.
-    fn keep_status<R: Files>(&mut self, rt: &R, service: &Service, files: &mut KeptFiles<'_>) {
+    fn keep_status<R: Files>(
+        &mut self,
+        rt: &R,
+        serving: &Serving<'_>,
+        service: &Service,
+        files: &mut KeptFiles<'_>,
+    ) {
         if files.wants_status() {
             let text = status_text(
                 self.alloc,
+                serving.start,
+                self.journal.time_of_day(),
                 self.journal.now() / 1000,
                 self.late,
                 service,

@@ -4,6 +4,7 @@
 #![tactic(auto)]
 
 mod client;
+mod client_watch;
 mod clients;
 mod desk;
 mod door;
@@ -30,11 +31,13 @@ mod status_tags;
 mod telling;
 mod tokens;
 mod turns;
+mod wall_clock;
 
 // what is kept over a restart
 pub use keeping::{Keeping, KeptState};
 // the service itself
 pub use serving::{End, Serving};
 pub use turns::serve_site;
+pub use wall_clock::seconds_of_day;
 // a simulated plant behind a port, for several connections at once
 pub use plant_door::PlantDoor;

@@ -1,5 +1,6 @@
 //! What a service is to do, and how it ends.
 use service_texts::Writer;
+use start_texts::{Start, Times};
 use std::io;
 use std::io::ErrorKind;
 use std::net::SocketAddr;
@@ -7,6 +8,10 @@ use std::net::SocketAddr;
 /// What a service is to do.
 #[derive(Clone, Copy)]
 pub struct Serving<'a> {
+    /// What is told of its start.
+    pub start: &'a Start,
+    /// By which time lines are told.
+    pub times: Times,
     /// Where clients come to.
     pub listen: SocketAddr,
     /// The most clients at once.

@@ -9,7 +9,7 @@ use crate::tokens::{DOOR, Owner, Tokens};
 use mio::{Events, Poll, Token};
 use service_core::Service;
 use site_model::Text;
-use std::alloc::Global;
+use std::alloc::{AllocError, Global};
 use std::io;
 use std::io::Write;
 use std::net::{Net, SocketAddr};
@@ -45,7 +45,7 @@ impl Sockets {
     ) -> Result<Sockets, End> {
         let poll = poll_of(rt)?;
         let door = door_of(rt, &poll, serving.listen)?;
-        match Sockets::over(alloc, poll, door, serving.clients, links) {
+        match Sockets::over(alloc, poll, door, serving, links) {
             Ok(sockets) => Ok(sockets),
             Err(fault) => Err(End::by(&fault)),
         }
@@ -55,13 +55,13 @@ impl Sockets {
         alloc: Global,
         poll: Poll,
         door: Door,
-        clients: usize,
+        serving: &Serving<'_>,
         links: &[Text],
     ) -> io::Result<Sockets> {
         let tokens = Tokens::new(links.len());
-        let most = tokens.of_client(clients);
+        let most = tokens.of_client(serving.clients);
         let links = Links::new(alloc, tokens, links)?;
-        let clients = Clients::new(alloc, tokens, clients)?;
+        let clients = Clients::new(alloc, tokens, serving.clients, serving.is_verbose)?;
         Ok(Sockets {
             events: Events::with_capacity(alloc, most)?,
             poll,
@@ -75,6 +75,11 @@ impl Sockets {
     /// The address that clients come to.
     pub(crate) fn address(&self) -> io::Result<SocketAddr> {
         self.door.address()
+    }
+
+    /// This is set at the start.
+    pub(crate) fn begin(&mut self, settings: &[Option<i64>]) -> Result<(), AllocError> {
+        self.clients.begin(settings)
     }
 
     /// The clients' connections.
@@ -94,7 +99,7 @@ impl Sockets {
         let registry = self.poll.registry();
         self.clients.take_in(registry, &mut self.door, serving.writers, service, journal);
         self.links.receive(service, now);
-        self.clients.receive(service, now);
+        self.clients.receive(service, journal);
         self.links.hang_up(service, now);
         self.links.dial(rt, registry, service, now);
         Taken { _by_sockets: () }

@@ -8,11 +8,14 @@ use crate::status_tags::{outputs_value, set_value, tags_value, variables_value};
 use serde_json::{Map, Value, put};
 use service_core::Service;
 use service_texts::Addresses;
+use start_texts::Start;
 use std::alloc::{AllocError, Global};
 
-/// The text of how a service stands, so many seconds behind its start, with so many rounds that began late.
+/// The text of how a service stands at a time of day, so many seconds after its start, with so many rounds that began late.
 pub(crate) fn status_text(
     alloc: Global,
+    start: &Start,
+    time: Result<String, AllocError>,
     seconds: u64,
     late: u64,
     service: &Service,
@@ -28,6 +31,8 @@ pub(crate) fn status_text(
         "alarms",
         alarms_value(alloc, service.core(), standing)?,
     )?;
+    put(&mut status, alloc, "started", started_value(alloc, start)?)?;
+    put_text(&mut status, alloc, "time", time?.as_str())?;
     put_number(&mut status, alloc, "seconds", seconds)?;
     put_number(&mut status, alloc, "scans", service.scans())?;
     put_number(&mut status, alloc, "late", late)?;
@@ -41,6 +46,16 @@ pub(crate) fn status_text(
     let mut text = Value::Object(status).to_string(alloc)?;
     text.push_str("\n")?;
     Ok(text)
+}
+
+/// What runs since when.
+fn started_value(alloc: Global, start: &Start) -> Result<Value, AllocError> {
+    let mut started = Map::new(alloc);
+    put_text(&mut started, alloc, "time", start.time.as_str())?;
+    put_text(&mut started, alloc, "version", start.version)?;
+    put_text(&mut started, alloc, "site", start.site.as_str())?;
+    put_text(&mut started, alloc, "program", start.program.as_str())?;
+    Ok(Value::Object(started))
 }
 
 /// Puts what the site's parts are to it.

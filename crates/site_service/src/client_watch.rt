@@ -1,0 +1,224 @@
+//! What is told of clients.
+use crate::journal::Journal;
+use client_writes::{
+    Change, KnownSettings, RefusedNumber, RefusedWrite, WriteOutcome, number_text, outcome_of,
+    refused_more_line, refused_number, refused_text, set_line,
+};
+use gateway::{Core, DEPTH};
+use line_rations::{Over, Ration, address_of, key_of};
+use modbus_frame::{Exception, Frame, parse_request};
+use site_model::Site;
+use std::alloc::{AllocError, Global};
+use std::io::Write;
+use std::net::{IpAddr, SocketAddr};
+
+/// How many of an address's writes that are refused are told, in `MINUTE`.
+const MOST_REFUSED: u64 = 10;
+
+/// How often an address is told to have come, and to have left, in `HOUR`.
+const MOST_MOVES: u64 = 1;
+
+/// Milliseconds.
+const MINUTE: u64 = 60_000;
+
+const HOUR: u64 = 3_600_000;
+
+/// The most shares that are over in one turn: all that there are.
+const MOST_OVER: u32 = 65;
+
+/// Tells what clients do, as often as it is worth a line.
+#[derive(Drop)]
+pub(crate) struct ClientWatch {
+    alloc: Global,
+    /// Whether each client that comes or leaves is told.
+    tells_moves: bool,
+    joined: Ration,
+    left: Ration,
+    refused: Ration,
+    known: KnownSettings,
+}
+
+impl ClientWatch {
+    /// Nothing is told yet, and nothing is set.
+    pub(crate) fn new(alloc: Global, tells_moves: bool) -> Result<ClientWatch, AllocError> {
+        Ok(ClientWatch {
+            alloc,
+            tells_moves,
+            joined: Ration::new(MOST_MOVES, HOUR),
+            left: Ration::new(MOST_MOVES, HOUR),
+            refused: Ration::new(MOST_REFUSED, MINUTE),
+            known: KnownSettings::new(alloc, &[])?,
+        })
+    }
+
+    /// This is set at the start, and needn't be told.
+    pub(crate) fn begin(&mut self, settings: &[Option<i64>]) -> Result<(), AllocError> {
+        self.known = KnownSettings::new(self.alloc, settings)?;
+        Ok(())
+    }
+
+    /// A client came.
+    pub(crate) fn tell_joined<W: Write>(
+        &mut self,
+        address: SocketAddr,
+        journal: &mut Journal<'_, W>,
+    ) {
+        if self.joined.ask(key_of(address.ip()), journal.now()) || self.tells_moves {
+            journal.tell_client(address, "joined");
+        }
+    }
+
+    /// A client's connection is closed.
+    pub(crate) fn tell_left<W: Write>(
+        &mut self,
+        address: SocketAddr,
+        journal: &mut Journal<'_, W>,
+    ) {
+        if self.left.ask(key_of(address.ip()), journal.now()) || self.tells_moves {
+            journal.tell_client(address, "left");
+        }
+    }
+
+    /// A client's frame was answered by these bytes, which are still to go out: tells what it set, or that it was refused.
+    pub(crate) fn tell_frame<W: Write>(
+        &mut self,
+        address: SocketAddr,
+        frame: &Frame,
+        reply: &[u8],
+        core: &Core<DEPTH>,
+        journal: &mut Journal<'_, W>,
+    ) {
+        match outcome_of(&frame.pdu, reply) {
+            WriteOutcome::NoWrite => {}
+            WriteOutcome::Done => self.tell_changes(address, core, journal),
+            WriteOutcome::Refused(refused) => {
+                self.tell_refused(address, frame, refused, core, journal);
+            }
+        }
+    }
+
+    fn tell_changes<W: Write>(
+        &mut self,
+        address: SocketAddr,
+        core: &Core<DEPTH>,
+        journal: &mut Journal<'_, W>,
+    ) {
+        for _ in 0..core.settings().len() {
+            let Some(change) = self.known.next_change(core.settings()) else {
+                return;
+            };
+            journal.tell(change_line(self.alloc, core.site(), change, address));
+        }
+    }
+
+    fn tell_refused<W: Write>(
+        &mut self,
+        address: SocketAddr,
+        frame: &Frame,
+        refused: RefusedWrite,
+        core: &Core<DEPTH>,
+        journal: &mut Journal<'_, W>,
+    ) {
+        if self.refused.ask(key_of(address.ip()), journal.now()) {
+            let what = refusal_text(self.alloc, frame, refused, core);
+            journal.tell_what(address, what);
+        }
+    }
+
+    /// Tells how many writes of an address weren't told, whose minute is over, and begins hours anew.
+    pub(crate) fn tell_over<W: Write>(&mut self, journal: &mut Journal<'_, W>) {
+        let now = journal.now();
+        forget_over(&mut self.joined, now);
+        forget_over(&mut self.left, now);
+        for _ in 0..MOST_OVER {
+            let Some(over) = self.refused.over(now) else {
+                return;
+            };
+            if over.more > 0 {
+                journal.tell(more_line(self.alloc, over));
+            }
+        }
+    }
+}
+
+fn forget_over(ration: &mut Ration, now: u64) {
+    for _ in 0..MOST_OVER {
+        if ration.over(now).is_none() {
+            return;
+        }
+    }
+}
+
+/// `set NAME NUMBER was NUMBER by ADDR`.
+fn change_line(
+    alloc: Global,
+    site: &Site,
+    change: Change,
+    address: SocketAddr,
+) -> Result<String, AllocError> {
+    let by = address.to_string(alloc)?;
+    set_line(
+        alloc,
+        tag_name(site, change.tag),
+        change.after,
+        change.before,
+        by.as_str(),
+    )
+}
+
+/// `refused FUNCTION ADDRESS EXCEPTION`, and where a point is known there `NAME NUMBER LOW..HIGH` after it.
+fn refusal_text(
+    alloc: Global,
+    frame: &Frame,
+    refused: RefusedWrite,
+    core: &Core<DEPTH>,
+) -> Result<String, AllocError> {
+    let mut text = refused_text(alloc, refused)?;
+    if let Some(hit) = number_refused(frame, refused, core) {
+        text.push_str(hit_text(alloc, core.site(), hit)?.as_str())?;
+    }
+    Ok(text)
+}
+
+/// What the write would have set; none where it was for another unit.
+fn number_refused(
+    frame: &Frame,
+    refused: RefusedWrite,
+    core: &Core<DEPTH>,
+) -> Option<RefusedNumber> {
+    if refused.exception == Exception::GATEWAY_TARGET_FAILED.0 {
+        return None;
+    }
+    match parse_request(&frame.pdu) {
+        Ok(request) => refused_number(core, &request, refused.exception),
+        Err(_) => None,
+    }
+}
+
+fn hit_text(alloc: Global, site: &Site, hit: RefusedNumber) -> Result<String, AllocError> {
+    match site.tags().get(hit.tag) {
+        Some(tag) => number_text(alloc, tag.name.as_str(), hit.number, tag.low, tag.high),
+        None => Ok(String::new(alloc)),
+    }
+}
+
+/// `refused N more from ADDR`, or `from others`.
+fn more_line(alloc: Global, over: Over) -> Result<String, AllocError> {
+    let from = match over.key {
+        Some(key) => address_text(alloc, address_of(key))?,
+        None => String::from_str(alloc, "others")?,
+    };
+    refused_more_line(alloc, over.more, from.as_str())
+}
+
+fn address_text(alloc: Global, address: IpAddr) -> Result<String, AllocError> {
+    let text = format!(in alloc; "{address}")?;
+    Ok(text)
+}
+
+fn tag_name(site: &Site, tag: usize) -> &str {
+    match site.tags().get(tag) {
+        Some(tag) => tag.name.as_str(),
+        None => "",
+    }
+}
