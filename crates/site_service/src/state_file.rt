@@ -20,7 +20,8 @@ pub(crate) struct StateFile<'a> {
 }
 
 impl<'a> StateFile<'a> {
-    /// The file at a path, which needn't be written before something else is set than these.
+    /// The file at a path, where these are set. It is written at once, so that a folder that can't be written is told before
+    /// any device is asked.
     pub(crate) fn new(
         alloc: Global,
         path: &'a str,
@@ -34,7 +35,7 @@ impl<'a> StateFile<'a> {
             path,
             tried,
             writes: WriteRecord::new(),
-            is_due: false,
+            is_due: true,
         })
     }
 
