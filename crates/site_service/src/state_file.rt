@@ -20,8 +20,7 @@ pub(crate) struct StateFile<'a> {
 }
 
 impl<'a> StateFile<'a> {
-    /// The file at a path, where these are set. It is written at once, so that a folder that can't be written is told before
-    /// any device is asked.
+    /// The file at a path, which needn't be written before something else is set than these.
     pub(crate) fn new(
         alloc: Global,
         path: &'a str,
@@ -35,7 +34,7 @@ impl<'a> StateFile<'a> {
             path,
             tried,
             writes: WriteRecord::new(),
-            is_due: true,
+            is_due: false,
         })
     }
 
