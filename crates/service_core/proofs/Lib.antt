@@ -14,3 +14,4 @@ pub mod Stays
 pub mod Mapped
 pub mod Planned
 pub mod Carried
+pub mod ByNotes

@@ -8,4 +8,5 @@ pub mod Rounds
 pub mod Stages
 pub mod Standing
 pub mod Telling
+pub mod Told
 pub mod Whole

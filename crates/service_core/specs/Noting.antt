@@ -39,7 +39,11 @@ pub record Finds (device : ℕ) (own : Device) (old new : DeviceSide) : Type 0 w
   pub stands : new.devices.items ≡ set old.devices.items device (record own { is_lost = false })
   pub tells : new.notes.items.items ≡ told (note.Found device) old.notes
 
+-- it answered: one that has a map isn't lost any more
+abbrev pub heard_by : Bool → Device → Device
+heard_by is_mapped own = record own { wait = 0; rest_until = 0; is_lost = own.is_lost && not is_mapped }
+
 -- It answered: one that was lost and has a map is back, which is told.
 pub record HearsFrom (device : ℕ) (is_mapped : Bool) (own : Device) (old new : DeviceSide) : Type 0 where
-  pub stands : new.devices.items ≡ set old.devices.items device (record own { wait = 0; rest_until = 0; is_lost = own.is_lost && not is_mapped })
+  pub stands : new.devices.items ≡ set old.devices.items device (heard_by is_mapped own)
   pub tells : new.notes.items.items ≡ told_if (own.is_lost && is_mapped) (note.Back device) old.notes

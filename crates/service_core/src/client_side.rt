@@ -1,5 +1,6 @@
 //! The clients' side.
 ghost use Rattle.std.specs.Prelude.{◌≡◌, ◌≤◌, ◌<◌, ◌↔◌, [], length, max, take, slice_get, Some, IfNone, IfSome, IsTrue, false};
+ghost use Rattle.service_core.specs.Told.{Goes};
 ghost use Rattle.service_core.specs.Cycle.{ClientsLeadOn};
 ghost use Rattle.service_parts.specs.declared.client_place.ClientPlace.{ClientPlace as Place};
 ghost use Rattle.service_parts.specs.Clients.{DoesAt, Hears, IsDeaf, IsDone, IsOpen, OthersStay, Sends, ready_of};
@@ -19,6 +20,7 @@ impl Service {
         ensures lines { self.new.lines ≡ self.old.lines }
         ensures core { self.new.cycle.core.value ≡ self.old.cycle.core.value }
         ensures time { self.new.side.now ≡ max self.old.side.now now }
+        ensures stands { Goes self.old.side self.new.side }
         ensures given { result ≡ given_place self.new.side.now self.old.places.items }
         ensures refused { IfNone result (self.new.places.items ≡ self.old.places.items) }
         ensures open { IfSome result (λ place. (c : Place) × (slice_get self.new.places.items place ≡ Some c) × IsOpen may_write self.new.side.now c) }
@@ -38,6 +40,7 @@ impl Service {
         ensures core { self.new.cycle.core.value ≡ self.old.cycle.core.value }
         ensures gone { DoesAt (λ c d. d.is_taken ≡ false) self.old.places.items place self.new.places.items }
         ensures time { self.new.side.now ≡ self.old.side.now }
+        ensures stands { Goes self.old.side self.new.side }
     {
         if let Some(client) = self.places.get_mut(place) {
             client.leave();
@@ -51,6 +54,7 @@ impl Service {
         ensures lines { self.new.lines ≡ self.old.lines }
         ensures goes { ClientsLeadOn self.old.cycle self.new.cycle }
         ensures time { self.new.side.now ≡ max self.old.side.now now }
+        ensures stands { Goes self.old.side self.new.side }
         ensures used { result ≤ length bytes.now }
         ensures takes { (c : Place) → slice_get self.old.places.items place ≡ Some c → (IsDeaf c → ⊥) → ready_of c ≡ [] → 0 < length bytes.now → 0 < result }
         ensures deaf { DoesAt (λ c d. IsDeaf c → (d ≡ c) × (self.new.cycle.core.value ≡ self.old.cycle.core.value)) self.old.places.items place self.new.places.items }
@@ -95,6 +99,7 @@ impl Service {
         ensures core { self.new.cycle.core.value ≡ self.old.cycle.core.value }
         ensures sends { DoesAt (λ c d. Sends c n d) self.old.places.items place self.new.places.items }
         ensures time { self.new.side.now ≡ self.old.side.now }
+        ensures stands { Goes self.old.side self.new.side }
     {
         if let Some(client) = self.places.get_mut(place) {
             client.sent(n);

@@ -5,6 +5,7 @@ ghost use Rattle.service_parts.specs.declared.wire.Aim.TheVariants.{Output as Ou
 ghost use Rattle.service_parts.specs.Frames.{LinesGo, OthersGo};
 ghost use Rattle.service_parts.specs.Requests.{IsRightfulOn};
 ghost use Rattle.service_parts.specs.Waking.{IsToDial, IsToHangUp};
+ghost use Rattle.service_core.specs.Told.{Goes};
 ghost use Rattle.service_core.specs.Connections.{GoesBehindSent, GoesFromCut, Hears};
 ghost use Rattle.service_core.specs.Cycle.{Answers, AnswersIf, DevicesLeadOn, EndsOwn, LeadsOn, Settles, SettlesIf, is_answer, stage_of};
 ghost use Rattle.service_core.specs.Telling.{state_by, told_at};
@@ -31,6 +32,7 @@ impl Service {
         ensures core { self.new.cycle.core.value ≡ self.old.cycle.core.value }
         ensures places { self.new.places.items ≡ self.old.places.items }
         ensures time { self.new.side.now ≡ max self.old.side.now now }
+        ensures stands { Goes self.old.side self.new.side }
     {
         self.side.turn_to(now);
         self.lines.dial(link, self.side.dial_until());
@@ -47,6 +49,7 @@ impl Service {
             → self.new.lines.links.numbers.items ≡ set self.old.lines.links.numbers.items link (number + 1) }
         ensures places { self.new.places.items ≡ self.old.places.items }
         ensures time { self.new.side.now ≡ max self.old.side.now now }
+        ensures stands { Goes self.old.side self.new.side }
     {
         self.side.turn_to(now);
         if self.lines.come_up(link) {
@@ -61,6 +64,7 @@ impl Service {
         ensures goes { LeadsOn self.old.cycle self.new.cycle }
         ensures places { self.new.places.items ≡ self.old.places.items }
         ensures time { self.new.side.now ≡ self.old.side.now }
+        ensures stands { Goes self.old.side self.new.side }
     {
         self.forget_all(link);
         self.go_on();
@@ -73,6 +77,7 @@ impl Service {
         ensures goes { LeadsOn self.old.cycle self.new.cycle }
         ensures places { self.new.places.items ≡ self.old.places.items }
         ensures time { self.new.side.now ≡ self.old.side.now }
+        ensures stands { Goes self.old.side self.new.side }
     {
         for device in 0..self.cycle.devices() {
             if self.lines.is_at(device, link) {
@@ -89,6 +94,7 @@ impl Service {
         ensures goes { LeadsOn self.old.cycle self.new.cycle }
         ensures places { self.new.places.items ≡ self.old.places.items }
         ensures time { self.new.side.now ≡ max self.old.side.now now }
+        ensures stands { Goes self.old.side self.new.side }
     {
         self.side.turn_to(now);
         self.lines.go_down(link, self.side.now, &self.side.limits);
@@ -112,6 +118,7 @@ impl Service {
         ensures goes { DevicesLeadOn self.old.cycle self.new.cycle }
         ensures places { self.new.places.items ≡ self.old.places.items }
         ensures time { self.new.side.now ≡ max self.old.side.now now }
+        ensures stands { Goes self.old.side self.new.side }
     {
         self.side.turn_to(now);
         self.hear(link, bytes)
@@ -124,6 +131,7 @@ impl Service {
         ensures goes { DevicesLeadOn self.old.cycle self.new.cycle }
         ensures places { self.new.places.items ≡ self.old.places.items }
         ensures time { self.new.side.now ≡ self.old.side.now }
+        ensures stands { Goes self.old.side self.new.side }
     {
         let asked = self.lines.asked(link);
         let (used, fate) = self.lines.take(link, bytes);
@@ -140,7 +148,7 @@ impl Service {
         ensures rightful { IsRightfulOn self.entry.now.cycle.core.value self.entry.now.lines link result.now }
         ensures waits { (line : LineValue) → slice_get self.entry.now.lines.lines.items link ≡ Some line → result.now ≡ line.out.items }
     {
-        self.lines.out(link)
+        self.lines.to_send(link)
     }
 
     /// So many bytes are written to a connection, and the rest of them waits. Once a request is written whole, what came
@@ -152,6 +160,7 @@ impl Service {
         ensures goes { DevicesLeadOn self.old.cycle self.new.cycle }
         ensures places { self.new.places.items ≡ self.old.places.items }
         ensures time { self.new.side.now ≡ self.old.side.now }
+        ensures stands { Goes self.old.side self.new.side }
     {
         self.lines.sent(link, n);
         if self.lines.is_asked(link) {
@@ -170,6 +179,7 @@ impl Service {
         ensures goes { LeadsOn self.old.cycle self.new.cycle }
         ensures places { self.new.places.items ≡ self.old.places.items }
         ensures time { self.new.side.now ≡ self.old.side.now }
+        ensures stands { Goes self.old.side self.new.side }
     {
         self.cycle.forget(device);
         self.cycle.give_up(device);
@@ -184,6 +194,7 @@ impl Service {
         ensures goes { LeadsOn self.old.cycle self.new.cycle }
         ensures places { self.new.places.items ≡ self.old.places.items }
         ensures time { self.new.side.now ≡ self.old.side.now }
+        ensures stands { Goes self.old.side self.new.side }
     {
         for device in 0..self.cycle.devices() {
             if self.lines.is_at(device, link) {
@@ -199,6 +210,7 @@ impl Service {
         ensures goes { LeadsOn self.old.cycle self.new.cycle }
         ensures places { self.new.places.items ≡ self.old.places.items }
         ensures time { self.new.side.now ≡ self.old.side.now }
+        ensures stands { Goes self.old.side self.new.side }
     {
         self.cycle.give_up(device);
         self.side.lose(device, loss);
@@ -212,6 +224,7 @@ impl Service {
         ensures lines { LinesGo self.old.lines.lines.items self.new.lines.lines.items }
         ensures places { self.new.places.items ≡ self.old.places.items }
         ensures time { self.new.side.now ≡ self.old.side.now }
+        ensures stands { Goes self.old.side self.new.side }
     {
         match asked {
             Some(asked) => self.settle_asked(link, asked, fate),
@@ -225,6 +238,7 @@ impl Service {
         ensures lines { LinesGo self.old.lines.lines.items self.new.lines.lines.items }
         ensures places { self.new.places.items ≡ self.old.places.items }
         ensures time { self.new.side.now ≡ self.old.side.now }
+        ensures stands { Goes self.old.side self.new.side }
     {
         match fate {
             Fate::Lost => self.lose_stream(link, asked),
@@ -239,6 +253,7 @@ impl Service {
         ensures goes { LeadsOn self.old.cycle self.new.cycle }
         ensures places { self.new.places.items ≡ self.old.places.items }
         ensures time { self.new.side.now ≡ self.old.side.now }
+        ensures stands { Goes self.old.side self.new.side }
     {
         self.side.lose_write(asked.aim);
         self.lines.spoil(link);
@@ -252,6 +267,7 @@ impl Service {
         ensures lines { LinesGo self.old.lines.lines.items self.new.lines.lines.items }
         ensures places { self.new.places.items ≡ self.old.places.items }
         ensures time { self.new.side.now ≡ self.old.side.now }
+        ensures stands { Goes self.old.side self.new.side }
     {
         if is_answer(&outcome) {
             self.take_answer(link, asked, outcome);
@@ -267,6 +283,7 @@ impl Service {
         ensures goes { LeadsOn self.old.cycle self.new.cycle }
         ensures places { self.new.places.items ≡ self.old.places.items }
         ensures time { self.new.side.now ≡ self.old.side.now }
+        ensures stands { Goes self.old.side self.new.side }
     {
         self.side.lose_write(asked.aim);
         self.miss(link, asked.device, Loss::Stale);
@@ -279,6 +296,7 @@ impl Service {
         ensures lines { LinesGo self.old.lines.lines.items self.new.lines.lines.items }
         ensures places { self.new.places.items ≡ self.old.places.items }
         ensures time { self.new.side.now ≡ self.old.side.now }
+        ensures stands { Goes self.old.side self.new.side }
     {
         let is_mapped = self.cycle.is_mapped(asked.device);
         self.lines.heard(link);
@@ -295,6 +313,7 @@ impl Service {
         ensures goes { LeadsOn self.old.cycle self.new.cycle }
         ensures places { self.new.places.items ≡ self.old.places.items }
         ensures time { self.new.side.now ≡ self.old.side.now }
+        ensures stands { Goes self.old.side self.new.side }
     {
         if foreign {
             self.forget(device);
@@ -308,6 +327,7 @@ impl Service {
         ensures goes { LeadsOn self.old.cycle self.new.cycle }
         ensures places { self.new.places.items ≡ self.old.places.items }
         ensures time { self.new.side.now ≡ self.old.side.now }
+        ensures stands { Goes self.old.side self.new.side }
     {
         self.side.miss(device);
         self.lines.missed(link);
@@ -325,6 +345,7 @@ impl Service {
         ensures lines { LinesGo self.old.lines.lines.items self.new.lines.lines.items }
         ensures places { self.new.places.items ≡ self.old.places.items }
         ensures time { self.new.side.now ≡ self.old.side.now }
+        ensures stands { Goes self.old.side self.new.side }
     {
         match asked.aim {
             Aim::Map => {
@@ -347,6 +368,7 @@ impl Service {
         ensures lines { LinesGo self.old.lines.lines.items self.new.lines.lines.items }
         ensures places { self.new.places.items ≡ self.old.places.items }
         ensures time { self.new.side.now ≡ self.old.side.now }
+        ensures stands { Goes self.old.side self.new.side }
     {
         let state = state_by(&outcome);
         self.side.wrote(state == OutputState::Written);
@@ -361,6 +383,7 @@ impl Service {
         ensures goes { LeadsOn self.old.cycle self.new.cycle }
         ensures places { self.new.places.items ≡ self.old.places.items }
         ensures time { self.new.side.now ≡ self.old.side.now }
+        ensures stands { Goes self.old.side self.new.side }
     {
         for link in 0..self.lines.count() {
             self.end_wait(link);
@@ -373,6 +396,7 @@ impl Service {
         ensures goes { LeadsOn self.old.cycle self.new.cycle }
         ensures places { self.new.places.items ≡ self.old.places.items }
         ensures time { self.new.side.now ≡ self.old.side.now }
+        ensures stands { Goes self.old.side self.new.side }
     {
         if let Some(asked) = self.lines.overdue(link, self.side.now) {
             self.give_up(link, asked);
@@ -385,6 +409,7 @@ impl Service {
         ensures goes { LeadsOn self.old.cycle self.new.cycle }
         ensures places { self.new.places.items ≡ self.old.places.items }
         ensures time { self.new.side.now ≡ self.old.side.now }
+        ensures stands { Goes self.old.side self.new.side }
     {
         self.lines.give_up(link);
         self.side.lose_write(asked.aim);

@@ -1,6 +1,6 @@
 //! What is known of a device, apart from its map.
-ghost use Rattle.std.specs.Prelude.{◌≡◌, false, not};
-ghost use Rattle.service_core.specs.Noting.{lost_by};
+ghost use Rattle.std.specs.Prelude.{◌≡◌, ◌&&◌, false, not};
+ghost use Rattle.service_core.specs.Noting.{heard_by, lost_by};
 
 use crate::counts::Counts;
 use crate::note::Loss;
@@ -51,12 +51,16 @@ impl Device {
     }
 
     /// From this time on it is searched.
-    pub fn seek_from(&mut self, at: u64) {
+    pub fn seek_from(&mut self, at: u64)
+        ensures { self.new ≡ record self.old { search_at = at } }
+    {
         self.search_at = at;
     }
 
     /// It didn't answer: it isn't asked for a while.
-    pub fn rest(&mut self, now: u64, limits: &Limits) {
+    pub fn rest(&mut self, now: u64, limits: &Limits)
+        ensures { self.new ≡ record self.old { wait = self.new.wait; rest_until = self.new.rest_until } }
+    {
         self.wait = longer(self.wait, limits.period, limits.back_off_most);
         self.rest_until = now.saturating_add(self.wait);
     }
@@ -73,11 +77,22 @@ impl Device {
         !was_lost
     }
 
-    /// It answered.
-    pub fn heard(&mut self)
-        ensures { self.new ≡ record self.old { wait = 0; rest_until = 0 } }
+    /// It answered, one that has a map or not; whether it was lost and is back.
+    pub fn heard(&mut self, is_mapped: bool) -> bool
+        ensures heard { self.new ≡ heard_by is_mapped self.old }
+        ensures back { result ≡ (self.old.is_lost && is_mapped) }
     {
         self.wait = 0;
         self.rest_until = 0;
+        let is_back = self.is_lost && is_mapped;
+        self.is_lost = self.is_lost && !is_mapped;
+        is_back
+    }
+
+    /// Its map is found.
+    pub fn found(&mut self)
+        ensures { self.new ≡ record self.old { is_lost = false } }
+    {
+        self.is_lost = false;
     }
 }

@@ -1,8 +1,10 @@
 //! The devices' side of a service, apart from its core and its connections: devices, outputs, and the times of rounds.
-ghost use Rattle.std.specs.Prelude.{◌≡◌, ◌<◌, Some, length, max, slice_get};
+ghost use Rattle.std.specs.Prelude.{◌≡◌, ◌<◌, ℕ, Bool, Option, Some, length, max, slice_get};
 ghost use Rattle.service_core.specs.declared.device.Device.{Device as DeviceValue};
 ghost use Rattle.service_core.specs.Noting.{Finds, HearsFrom, Loses};
 ghost use Rattle.service_core.specs.Telling.{told_at};
+ghost use Rattle.service_core.specs.declared.output.OutputState.{OutputState as StateValue};
+ghost use Rattle.service_core.specs.Told.{Goes, lost_then, note_of, state_then};
 
 use crate::device::Device;
 use crate::note::{Loss, Note, Unwritten};
@@ -46,8 +48,10 @@ pub struct DeviceSide {
 
 impl DeviceSide {
     /// Time goes up.
+    #[tactic(auto, using(crate::proofs::ByNotes::same_goes))]
     pub(crate) fn turn_to(&mut self, now: u64)
-        ensures { self.new ≡ record self.old { now = max self.old.now now } }
+        ensures now { self.new ≡ record self.old { now = max self.old.now now } }
+        ensures stands { Goes self.old self.new }
     {
         self.now = self.now.max(now);
     }
@@ -102,37 +106,60 @@ impl DeviceSide {
     /// A device is searched from now on.
     pub(crate) fn seek(&mut self, device: usize)
         ensures now { self.new.now ≡ self.old.now }
+        ensures stands { Goes self.old self.new }
+    {
+        self.seek_at(device, self.now);
+    }
+
+    fn seek_at(&mut self, device: usize, at: u64)
+        ensures now { self.new.now ≡ self.old.now }
+        ensures stands { Goes self.old self.new }
     {
         if let Some(found) = self.devices.get_mut(device) {
-            found.seek_from(self.now);
+            found.seek_from(at);
         }
+    }
+
+    /// Tells what is no loss of a device, and nothing of an output.
+    #[tactic(auto, using(crate::proofs::ByNotes::other_goes))]
+    fn tell(&mut self, note: Note)
+        requires device { (device : ℕ) (was : Bool) → lost_then note device was ≡ was }
+        requires output { (output : ℕ) (was : Option StateValue) → state_then note output was ≡ was }
+        ensures now { self.new.now ≡ self.old.now }
+        ensures stands { Goes self.old self.new }
+    {
+        self.notes.add(note);
     }
 
     /// A device's map is found.
     pub(crate) fn find(&mut self, device: usize)
         ensures finds { (own : DeviceValue) → slice_get self.old.devices.items device ≡ Some own → Finds device own self.old self.new }
         ensures now { self.new.now ≡ self.old.now }
+        ensures stands { Goes self.old self.new }
     {
-        if let Some(found) = self.devices.get_mut(device) {
-            found.is_lost = false;
+        match self.devices.get_mut(device) {
+            Some(found) => {
+                found.found();
+                self.notes.add(Note::Found(device));
+            }
+            None => self.notes.add(Note::Found(device)),
         }
-        self.notes.add(Note::Found(device));
     }
 
     /// A search found no map: the next one begins later.
     pub(crate) fn find_none(&mut self, device: usize)
         ensures now { self.new.now ≡ self.old.now }
+        ensures stands { Goes self.old self.new }
     {
         let again = self.now.saturating_add(self.limits.search_again);
-        if let Some(found) = self.devices.get_mut(device) {
-            found.seek_from(again);
-        }
-        self.notes.add(Note::NoMap(device));
+        self.seek_at(device, again);
+        self.tell(Note::NoMap(device));
     }
 
     /// A request to a device is counted.
     pub(crate) fn count(&mut self, device: usize)
         ensures now { self.new.now ≡ self.old.now }
+        ensures stands { Goes self.old self.new }
     {
         if let Some(found) = self.devices.get_mut(device) {
             found.counts.ask();
@@ -143,6 +170,7 @@ impl DeviceSide {
     pub(crate) fn lose(&mut self, device: usize, loss: Loss)
         ensures loses { (own : DeviceValue) → slice_get self.old.devices.items device ≡ Some own → Loses device loss own self.old self.new }
         ensures now { self.new.now ≡ self.old.now }
+        ensures stands { Goes self.old self.new }
     {
         if let Some(found) = self.devices.get_mut(device) {
             if found.lose(loss) {
@@ -155,11 +183,10 @@ impl DeviceSide {
     pub(crate) fn hear(&mut self, device: usize, is_mapped: bool)
         ensures hears { (own : DeviceValue) → slice_get self.old.devices.items device ≡ Some own → HearsFrom device is_mapped own self.old self.new }
         ensures now { self.new.now ≡ self.old.now }
+        ensures stands { Goes self.old self.new }
     {
         if let Some(found) = self.devices.get_mut(device) {
-            found.heard();
-            if found.is_lost && is_mapped {
-                found.is_lost = false;
+            if found.heard(is_mapped) {
                 self.notes.add(Note::Back(device));
             }
         }
@@ -168,6 +195,7 @@ impl DeviceSide {
     /// A device didn't answer: it isn't asked for a while.
     pub(crate) fn miss(&mut self, device: usize)
         ensures now { self.new.now ≡ self.old.now }
+        ensures stands { Goes self.old self.new }
     {
         if let Some(found) = self.devices.get_mut(device) {
             found.rest(self.now, &self.limits);
@@ -197,18 +225,31 @@ impl DeviceSide {
     }
 
     /// A round begins now: its deadline, and when the next one begins. A round that begins late is told, and the next one
-    /// begins a period behind it.
+    /// begins a period after it.
     pub(crate) fn plan_round(&mut self)
         ensures now { self.new.now ≡ self.old.now }
+        ensures stands { Goes self.old self.new }
+    {
+        self.begin_reading();
+        self.tell_late();
+        self.set_times();
+    }
+
+    #[tactic(auto, using(crate::proofs::ByNotes::same_goes))]
+    fn begin_reading(&mut self)
+        ensures now { self.new.now ≡ self.old.now }
+        ensures stands { Goes self.old self.new }
     {
         self.phase = Phase::Reading;
         self.writes = 0;
         self.refused = 0;
-        if self.now > self.next_round.saturating_add(self.limits.period) {
-            let late = self.now.saturating_sub(self.next_round);
-            self.notes.add(Note::Late(late));
-            self.next_round = self.now;
-        }
+    }
+
+    #[tactic(auto, using(crate::proofs::ByNotes::same_goes))]
+    fn set_times(&mut self)
+        ensures now { self.new.now ≡ self.old.now }
+        ensures stands { Goes self.old self.new }
+    {
         self.deadline = self.now.saturating_add(self.limits.period / 2);
         self.next_round = self.next_round.saturating_add(self.limits.period);
         if self.next_round <= self.now {
@@ -216,9 +257,29 @@ impl DeviceSide {
         }
     }
 
+    fn tell_late(&mut self)
+        ensures now { self.new.now ≡ self.old.now }
+        ensures stands { Goes self.old self.new }
+    {
+        if self.now > self.next_round.saturating_add(self.limits.period) {
+            self.tell(Note::Late(self.now.saturating_sub(self.next_round)));
+            self.begin_at_once();
+        }
+    }
+
+    #[tactic(auto, using(crate::proofs::ByNotes::same_goes))]
+    fn begin_at_once(&mut self)
+        ensures now { self.new.now ≡ self.old.now }
+        ensures stands { Goes self.old self.new }
+    {
+        self.next_round = self.now;
+    }
+
     /// The program ran, and this is planned for each output.
+    #[tactic(auto, using(crate::proofs::ByNotes::same_goes))]
     pub(crate) fn count_scan(&mut self, core: &Core<DEPTH>)
         ensures now { self.new.now ≡ self.old.now }
+        ensures stands { Goes self.old self.new }
     {
         self.phase = Phase::Writing;
         self.scans = self.scans.saturating_add(1);
@@ -230,13 +291,10 @@ impl DeviceSide {
     /// An output's write is waited for from now on, where there is one.
     fn await_output(&mut self, output: usize, plan: &Result<Write, NoWrite>)
         ensures now { self.new.now ≡ self.old.now }
+        ensures stands { Goes self.old self.new }
     {
         match plan {
-            Ok(_) => {
-                if let Some(found) = self.outputs.get_mut(output) {
-                    found.is_awaited = true;
-                }
-            }
+            Ok(_) => self.await_write(output),
             Err(cause) => {
                 let state = OutputState::Unwritten(Unwritten::NoSetPoint(*cause));
                 self.settle_output(output, state);
@@ -244,26 +302,33 @@ impl DeviceSide {
         }
     }
 
+    fn await_write(&mut self, output: usize)
+        ensures now { self.new.now ≡ self.old.now }
+        ensures stands { Goes self.old self.new }
+    {
+        if let Some(found) = self.outputs.get_mut(output) {
+            found.wait();
+        }
+    }
+
     /// This became of an output; it is told where it is new.
     pub(crate) fn settle_output(&mut self, output: usize, state: OutputState)
-        ensures told { output < length self.old.outputs.items → told_at self.new.outputs.items output ≡ Some state }
+        ensures state { output < length self.old.outputs.items → told_at self.new.outputs.items output ≡ Some state }
         ensures now { self.new.now ≡ self.old.now }
+        ensures stands { Goes self.old self.new }
     {
-        let is_new = match self.outputs.get_mut(output) {
-            Some(found) => found.settle(state),
-            None => false,
-        };
-        if is_new {
-            self.notes.add(match state {
-                OutputState::Written => Note::Written(output),
-                OutputState::Unwritten(cause) => Note::Unwritten(output, cause),
-            });
+        if let Some(found) = self.outputs.get_mut(output) {
+            if found.settle(state) {
+                self.notes.add(note_of(output, state));
+            }
         }
     }
 
     /// A write went out, and this came of it.
+    #[tactic(auto, using(crate::proofs::ByNotes::same_goes))]
     pub(crate) fn wrote(&mut self, is_done: bool)
-        ensures { self.new ≡ record self.old { writes = self.new.writes; refused = self.new.refused } }
+        ensures now { self.new ≡ record self.old { writes = self.new.writes; refused = self.new.refused } }
+        ensures stands { Goes self.old self.new }
     {
         self.writes = self.writes.saturating_add(1);
         if !is_done {
@@ -272,8 +337,10 @@ impl DeviceSide {
     }
 
     /// A request had no answer: where it wrote, that came to nothing.
+    #[tactic(auto, using(crate::proofs::ByNotes::same_goes))]
     pub(crate) fn lose_write(&mut self, aim: Aim)
         ensures now { self.new.now ≡ self.old.now }
+        ensures stands { Goes self.old self.new }
     {
         if let Aim::Output(_) = aim {
             self.wrote(false);
@@ -281,8 +348,10 @@ impl DeviceSide {
     }
 
     /// A round is over: what was still to be written isn't.
+    #[tactic(auto, using(crate::proofs::ByNotes::same_goes))]
     pub(crate) fn finish(&mut self, report: Report)
         ensures now { self.new.now ≡ self.old.now }
+        ensures stands { Goes self.old self.new }
     {
         self.phase = Phase::Resting;
         for output in 0..self.outputs.len() {
@@ -291,7 +360,7 @@ impl DeviceSide {
                 self.settle_output(output, state);
             }
         }
-        self.notes.add(Note::Scanned(report));
+        self.tell(Note::Scanned(report));
     }
 
     fn is_awaited(&self, output: usize) -> bool {
@@ -299,5 +368,15 @@ impl DeviceSide {
             Some(found) => found.is_awaited,
             None => false,
         }
+    }
+}
+
+/// What is told of an output that this became of.
+fn note_of(output: usize, state: OutputState) -> Note
+    ensures { result ≡ note_of output state }
+{
+    match state {
+        OutputState::Written => Note::Written(output),
+        OutputState::Unwritten(cause) => Note::Unwritten(output, cause),
     }
 }

@@ -1,5 +1,5 @@
 //! What was told of an output.
-ghost use Rattle.std.specs.Prelude.{◌≡◌, Some, false};
+ghost use Rattle.std.specs.Prelude.{◌≡◌, Some, false, true};
 
 use crate::note::Unwritten;
 
@@ -33,9 +33,17 @@ impl Output {
         self.told
     }
 
+    /// Its write is waited for in this round.
+    pub fn wait(&mut self)
+        ensures { self.new ≡ record self.old { is_awaited = true } }
+    {
+        self.is_awaited = true;
+    }
+
     /// This became of it in this round; whether that is to be told.
     pub fn settle(&mut self, state: OutputState) -> bool
-        ensures { self.new ≡ record self.old { told = Some state; is_awaited = false } }
+        ensures state { self.new ≡ record self.old { told = Some state; is_awaited = false } }
+        ensures differs { result ≡ false → self.old.told ≡ Some state }
     {
         self.is_awaited = false;
         let is_new = self.told != Some(state);

@@ -1,6 +1,7 @@
 //! What clients set is set again behind a restart.
 ghost use Rattle.std.specs.Prelude.{◌≡◌, IsTrue, Some, false, slice_set};
 ghost use Rattle.gateway.specs.event_core.Restoring.{NothingSets};
+ghost use Rattle.service_core.specs.Told.{Goes};
 ghost use Rattle.service_core.specs.Cycle.{ClientsLeadOn};
 
 use crate::service_state::Service;
@@ -18,6 +19,7 @@ impl Service {
         ensures refused { result ≡ false → (self.new.cycle.core.value ≡ self.old.cycle.core.value) × NothingSets self.old.cycle.core.value.site tag number }
         ensures places { self.new.places.items ≡ self.old.places.items }
         ensures time { self.new.side.now ≡ self.old.side.now }
+        ensures stands { Goes self.old.side self.new.side }
     {
         self.cycle.restore(tag, number)
     }

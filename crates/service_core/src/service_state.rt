@@ -31,6 +31,8 @@ impl Service {
         ensures core { self.new.cycle.core.value ≡ self.old.cycle.core.value }
         ensures places { self.new.places.items ≡ self.old.places.items }
         ensures time { self.new.side.now ≡ self.old.side.now }
+        ensures devices { self.new.side.devices ≡ self.old.side.devices }
+        ensures outputs { self.new.side.outputs ≡ self.old.side.outputs }
     {
         self.side.notes.next()
     }

@@ -15,7 +15,7 @@ use service::Fate;
 
 impl Lines {
     /// What is to be written over a link.
-    pub fn out(&self, link: usize) -> &[u8]
+    pub fn to_send(&self, link: usize) -> &[u8]
         ensures rightful { (now : Gateway) → AreRightfulBy now self.now → IsRightfulOn now self.now link result.now }
         ensures waits { (line : LineValue) → slice_get self.now.lines.items link ≡ Some line → result.now ≡ line.out.items }
     {
