@@ -253,15 +253,17 @@ fn served_with<W: Write>(
     };
     match service_words(rt, alloc, matches) {
         Ok(words) => {
+            let exe = matches.get_str("exe").unwrap_or(itself);
+            let devices = words.devices;
             let run = ServiceRun {
                 notes: *notes,
-                devices: words.devices,
-                exe: matches.get_str("exe").unwrap_or(itself),
+                devices,
+                exe,
                 limits: service_limits(matches),
                 serving: serving_of(matches, &words, &start),
                 keeping: keeping_of(matches, state),
             };
-            match words.devices {
+            match devices {
                 Devices::Plant(_) => warn_of_site(rt, notes),
                 _ => notes.warn(rt),
             }
