@@ -1,13 +1,12 @@
 //! What number of a tag the words of its point would be.
 ghost use Rattle.std.specs.Prelude.{◌≡◌, position, IfSome};
-ghost use Rattle.gateway.specs.served.Points.{entry_for, raw_for, raw_in, served_factor};
-ghost use Rattle.point_types.specs.Reading.{factor_of};
 ghost use Rattle.point_types.specs.declared.reading.Reading.TheVariants as reading;
 ghost use Rattle.client_writes.specs.Numbers.{IsNumberBy, factor_in, is_at, is_model, tag_factor};
 
-use model_defs::{ModelDef, Point, Sf};
+use gateway::served_factor;
+use model_defs::{ModelDef, Point};
 use point_types::{Kind, Reading, scaled, value};
-use site_model::{Served, Site, SiteTag, Source};
+use site_model::{Served, Site, SiteTag};
 
 /// The number of a tag of the gateway's own, in the unit of its exponent, that words of its point would be, whatever its range.
 /// None where they are those of no number, or of none that has 64 bits.
@@ -71,50 +70,4 @@ fn point_for(points: &[Point], offset: u16) -> Option<usize>
     ensures { result ≡ position (is_at offset) points.now }
 {
     points.iter().position(|point| point.offset == offset)
-}
-
-/// The factor by which a point is served: None where it is absent or outside -10..10.
-fn served_factor(served: &[Served], model: u16, sf: Sf) -> Option<i16>
-    ensures { result ≡ served_factor served.now model sf }
-{
-    match sf {
-        Sf::None => Some(0),
-        Sf::Fixed(power) => Some(i16::from(power)),
-        Sf::At(i) => factor_of(raw_for(served, model, i)),
-    }
-}
-
-fn factor_of(raw: Option<i64>) -> Option<i16>
-    ensures { result ≡ factor_of raw }
-{
-    match raw {
-        Some(power @ -10..=10) => Some(power as i16),
-        _ => None,
-    }
-}
-
-/// The raw number that the site file gives a point.
-fn raw_for(served: &[Served], model: u16, i: usize) -> Option<i64>
-    ensures { result ≡ raw_for served.now model i }
-{
-    let n = entry_for(served, model, i)?;
-    raw_in(&served.get(n)?.source)
-}
-
-/// The number of the site file's entry for a point.
-fn entry_for(served: &[Served], model: u16, i: usize) -> Option<usize>
-    ensures { result ≡ entry_for served.now model i }
-{
-    served
-        .iter()
-        .position(|entry| entry.model == model && entry.point == i)
-}
-
-fn raw_in(given: &Source) -> Option<i64>
-    ensures { result ≡ raw_in given.now }
-{
-    match given {
-        Source::Raw(n) => Some(*n),
-        Source::Text(_) | Source::Sum(_) => None,
-    }
 }

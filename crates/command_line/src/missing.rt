@@ -1,8 +1,9 @@
 //! What the scans of a run didn't read, and what they don't show.
 use commands::{DEPTH, ScanWatch};
 use gateway::Core;
+use point_types::Items;
 use site_alarms::{
-    Alarm, Row, Watch, cause_text, mend, missing_now, subject_text, why_hidden, why_missing,
+    Alarm, Watch, cause_text, mend, missing_now, subject_text, why_hidden, why_missing,
 };
 use std::alloc::{AllocError, Global};
 
@@ -14,7 +15,7 @@ pub struct MissingWatch<'r, R> {
     alloc: Global,
     quiet: bool,
     /// Room for what is missing.
-    missing: Row<Alarm>,
+    missing: Items<Alarm>,
     watch: Watch,
 }
 
@@ -25,7 +26,7 @@ impl<'r, R: Eprint> MissingWatch<'r, R> {
             rt,
             alloc,
             quiet,
-            missing: Row::new(alloc),
+            missing: Items::new(alloc),
             watch: Watch::new(alloc),
         }
     }

@@ -15,4 +15,4 @@ pub use poller::{
 };
 // the clients, and what is shown to them of readings
 pub use event_core::serve_client;
-pub use served::{own_value, total_of};
+pub use served::{own_value, served_factor, total_of};

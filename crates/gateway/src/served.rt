@@ -12,6 +12,7 @@ use crate::event_core::Memory;
 pub use amount::{own_value, total_of};
 pub(crate) use point::{OwnPoint, Source};
 pub(crate) use points::own_points;
+pub use points::served_factor;
 use site_model::Site;
 use words::put_point;
 pub(crate) use words::words_to_read;

@@ -3,10 +3,10 @@ ghost use Rattle.std.specs.Prelude.{◌≡◌, ◌-◌, ◌≤ℤ◌, neg_ℤ, p
 ghost use Rattle.point_types.specs.Reading.{IsExponent};
 ghost use Rattle.served_ranges.specs.Shown.{AllAreShown, AlwaysShowsStored, AlwaysShowsTotal, demand_at, demand_of_stored, demand_of_total};
 
-use crate::factor::served_factor;
 use crate::numbers::all_are_shown;
 use crate::points::{point_of_entry, point_of_tag};
 use crate::totals::{exponent_of, highest_total, lowest_total};
+use gateway::served_factor;
 use model_defs::Point;
 use point_types::Kind;
 use site_model::{Served, Site, SiteTag};

@@ -6,7 +6,7 @@ use Rattle.service_parts.specs.declared.wire.Asked.{Asked}
 use Rattle.service_parts.specs.Frames as frames
 use Rattle.service_parts.specs.Frames.{IsCut, Led, LinesGo, OwnStep, Sends, stays}
 use Rattle.service_core.specs.declared.scan_cycle.ScanCycle.{ScanCycle}
-use Rattle.service_core.specs.Connections.{GoesBehindSent, GoesFromCut, Hears}
+use Rattle.service_core.specs.Connections.{GoesAfterSent, GoesFromCut, Hears}
 use Rattle.service_core.specs.Cycle.{LeadsOn, SettlesIf}
 
 pub not_both : {A : Type 0} {b : Bool} → b ≡ true → b ≡ false → A
@@ -42,7 +42,7 @@ heard_nothing link line bytes result cycle lines told (heard, at, hears) = recor
 }
 
 pub sent_and_on : (link n : ℕ) (line : Line) (old new : ScanCycle) (before lines : List Line) → ((left : Line) × (slice_get before link ≡ Some left) × Sends n line left) → LeadsOn old new → LinesGo before lines
-    → GoesBehindSent link n line old new lines
+    → GoesAfterSent link n line old new lines
 sent_and_on link n line old new before lines (left, at, sends) led goes = record { left = left; sends = sends; goes = inl (led, carried before lines link left at goes) }
 
 abbrev nothing : List ℕ
@@ -54,7 +54,7 @@ take_none (suc n) = refl
 
 pub sent_and_heard : (link n : ℕ) (line : Line) (old new : ScanCycle) (before lines : List Line) (used : ℕ) → ((left : Line) × (slice_get before link ≡ Some left) × Sends n line left)
     → ((left : Line) → slice_get before link ≡ Some left → left.out.items ≡ []) → ((left : Line) → slice_get before link ≡ Some left → Hears link left (take used []) old new lines)
-    → GoesBehindSent link n line old new lines
+    → GoesAfterSent link n line old new lines
 sent_and_heard link n line old new before lines used (left, at, sends) quiet hears = record {
   left = left;
   sends = sends;

@@ -19,7 +19,7 @@ pub record Hears (link : ℕ) (line : Line) (bytes : List ℕ) (old new : ScanCy
 
 -- So many bytes of what waits on a link are written. Then the service goes on by itself, or, where a request is written whole,
 -- what came before it is looked at.
-pub record GoesBehindSent (link n : ℕ) (line : Line) (old new : ScanCycle) (lines : List Line) : Type 0 where
+pub record GoesAfterSent (link n : ℕ) (line : Line) (old new : ScanCycle) (lines : List Line) : Type 0 where
   pub left : Line
   pub sends : Sends n line left
   pub goes : (LeadsOn old new × ∥ Led OwnStep left lines link ∥₁) ⊎ ((left.out.items ≡ []) × Hears link left [] old new lines)

@@ -6,7 +6,7 @@ ghost use Rattle.service_parts.specs.Frames.{LinesGo, OthersGo};
 ghost use Rattle.service_parts.specs.Requests.{IsRightfulOn};
 ghost use Rattle.service_parts.specs.Waking.{IsToDial, IsToHangUp};
 ghost use Rattle.service_core.specs.Told.{Goes};
-ghost use Rattle.service_core.specs.Connections.{GoesBehindSent, GoesFromCut, Hears};
+ghost use Rattle.service_core.specs.Connections.{GoesAfterSent, GoesFromCut, Hears};
 ghost use Rattle.service_core.specs.Cycle.{Answers, AnswersIf, DevicesLeadOn, EndsOwn, LeadsOn, Settles, SettlesIf, is_answer, stage_of};
 ghost use Rattle.service_core.specs.Telling.{state_by, told_at};
 
@@ -154,7 +154,7 @@ impl Service {
     /// So many bytes are written to a connection, and the rest of them waits. Once a request is written whole, what came
     /// before is looked at.
     pub fn sent_to_link(&mut self, link: usize, n: usize)
-        ensures sends { (line : LineValue) → slice_get self.old.lines.lines.items link ≡ Some line → GoesBehindSent link n line self.old.cycle self.new.cycle self.new.lines.lines.items }
+        ensures sends { (line : LineValue) → slice_get self.old.lines.lines.items link ≡ Some line → GoesAfterSent link n line self.old.cycle self.new.cycle self.new.lines.lines.items }
         ensures links { self.new.lines.links ≡ self.old.lines.links }
         ensures others { OthersGo link self.old.lines.lines.items self.new.lines.lines.items }
         ensures goes { DevicesLeadOn self.old.cycle self.new.cycle }

@@ -3,25 +3,25 @@ ghost use Rattle.std.specs.Prelude.{◌≡◌, Decides, OnOk, length, slice_get}
 ghost use Rattle.site_alarms.specs.Changing.{AreBegun, AreOf, AreOver, IsChange, NextBegun, NextOver, Stood};
 
 use crate::alarm::{Alarm, Subject, is_one, is_same};
-use crate::row::Row;
 use crate::standing::Standing;
+use point_types::Items;
 use std::alloc::{AllocError, Global};
 
 /// What changed from one list of alarms to the next one.
 #[derive(Drop)]
 pub struct Changes {
     /// The alarms that didn't stand before, with this cause.
-    pub begun: Row<Alarm>,
+    pub begun: Items<Alarm>,
     /// Those that stood before, of which nothing is wrong any more.
-    pub over: Row<Alarm>,
+    pub over: Items<Alarm>,
 }
 
 impl Changes {
     /// Nothing changed.
     pub fn new(alloc: Global) -> Changes {
         Changes {
-            begun: Row::new(alloc),
-            over: Row::new(alloc),
+            begun: Items::new(alloc),
+            over: Items::new(alloc),
         }
     }
 
@@ -35,7 +35,7 @@ impl Changes {
 }
 
 fn fill_begun(
-    begun: &mut Row<Alarm>,
+    begun: &mut Items<Alarm>,
     stood: &[Standing],
     alarms: &[Alarm],
 ) -> Result<(), AllocError>
@@ -48,7 +48,7 @@ fn fill_begun(
     Ok(())
 }
 
-fn fill_over(over: &mut Row<Alarm>, stood: &[Standing], alarms: &[Alarm]) -> Result<(), AllocError>
+fn fill_over(over: &mut Items<Alarm>, stood: &[Standing], alarms: &[Alarm]) -> Result<(), AllocError>
     ensures { OnOk result (AreOver stood.now alarms.now (length stood.now) over.new) }
 {
     over.clear();
@@ -59,7 +59,7 @@ fn fill_over(over: &mut Row<Alarm>, stood: &[Standing], alarms: &[Alarm]) -> Res
 }
 
 fn push_begun(
-    begun: &mut Row<Alarm>,
+    begun: &mut Items<Alarm>,
     stood: &[Standing],
     alarms: &[Alarm],
     i: usize,
@@ -73,7 +73,7 @@ fn push_begun(
 }
 
 fn push_over(
-    over: &mut Row<Alarm>,
+    over: &mut Items<Alarm>,
     stood: &[Standing],
     alarms: &[Alarm],
     i: usize,

@@ -3,7 +3,7 @@ ghost use Rattle.std.specs.Prelude.{◌≡◌, ◌++◌, OnOk, slice_get};
 ghost use Rattle.site_alarms.specs.Alarms.{devices_amiss, has_no, is_amiss, is_lacking, is_lacking_in, models_missing, of_device, of_want};
 
 use crate::alarm::Alarm;
-use crate::row::Row;
+use point_types::Items;
 use register_map::{Block, Map};
 use service_core::DeviceStatus;
 use site_model::Want;
@@ -11,7 +11,7 @@ use std::alloc::AllocError;
 
 /// Appends an alarm for each device that is lost, or else has no map.
 pub(crate) fn push_devices(
-    alarms: &mut Row<Alarm>,
+    alarms: &mut Items<Alarm>,
     devices: &[DeviceStatus],
 ) -> Result<(), AllocError>
     ensures { OnOk result (alarms.new ≡ alarms.old ++ devices_amiss devices.now) }
@@ -22,7 +22,7 @@ pub(crate) fn push_devices(
     Ok(())
 }
 
-fn push_device(alarms: &mut Row<Alarm>, i: usize, device: &DeviceStatus) -> Result<(), AllocError>
+fn push_device(alarms: &mut Items<Alarm>, i: usize, device: &DeviceStatus) -> Result<(), AllocError>
     ensures { OnOk result (alarms.new ≡ alarms.old ++ of_device i device.now) }
 {
     if device.is_lost {
@@ -42,7 +42,7 @@ pub fn is_amiss(device: &DeviceStatus) -> bool
 
 /// Appends an alarm for each model that is wanted of a device whose map lacks it.
 pub(crate) fn push_models(
-    alarms: &mut Row<Alarm>,
+    alarms: &mut Items<Alarm>,
     maps: &[Option<Map>],
     wants: &[Want],
 ) -> Result<(), AllocError>
@@ -54,7 +54,7 @@ pub(crate) fn push_models(
     Ok(())
 }
 
-fn push_model(alarms: &mut Row<Alarm>, maps: &[Option<Map>], want: Want) -> Result<(), AllocError>
+fn push_model(alarms: &mut Items<Alarm>, maps: &[Option<Map>], want: Want) -> Result<(), AllocError>
     ensures { OnOk result (alarms.new ≡ alarms.old ++ of_want maps.now want) }
 {
     if is_lacking(maps, want) {

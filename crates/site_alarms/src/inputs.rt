@@ -3,14 +3,13 @@ ghost use Rattle.std.specs.Prelude.{◌≡◌, ◌++◌, OnOk, slice_get};
 ghost use Rattle.site_alarms.specs.Alarms.{inputs_missing, of_access, of_input, of_reading};
 
 use crate::alarm::Alarm;
-use crate::row::Row;
-use point_types::Reading;
+use point_types::{Items, Reading};
 use site_model::{Access, SiteTag};
 use std::alloc::AllocError;
 
 /// Appends an alarm for each `in` tag that had no value of its own in these readings.
 pub(crate) fn push_inputs(
-    alarms: &mut Row<Alarm>,
+    alarms: &mut Items<Alarm>,
     readings: &[Reading],
     tags: &[SiteTag],
 ) -> Result<(), AllocError>
@@ -23,7 +22,7 @@ pub(crate) fn push_inputs(
 }
 
 fn push_input(
-    alarms: &mut Row<Alarm>,
+    alarms: &mut Items<Alarm>,
     readings: &[Reading],
     i: usize,
     tag: &SiteTag,
@@ -37,7 +36,7 @@ fn push_input(
 }
 
 fn push_missing(
-    alarms: &mut Row<Alarm>,
+    alarms: &mut Items<Alarm>,
     i: usize,
     reading: Option<Reading>,
 ) -> Result<(), AllocError>

@@ -12,7 +12,6 @@ mod met;
 mod names;
 mod outputs;
 mod points;
-mod row;
 mod sentences;
 mod served;
 mod standing;
@@ -24,8 +23,6 @@ pub use alarm::{Alarm, Hidden, Subject};
 pub use devices::{is_amiss, is_lacking};
 pub use met::{Met, met_at, met_of};
 pub use wrong::{Seen, missing_now, wrong_now};
-// lists that are filled anew
-pub use row::Row;
 // since when
 pub use standing::{Standing, Watch};
 // what changed

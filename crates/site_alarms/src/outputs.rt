@@ -3,13 +3,13 @@ ghost use Rattle.std.specs.Prelude.{◌≡◌, ◌++◌, OnOk};
 ghost use Rattle.site_alarms.specs.Alarms.{of_output, outputs_unwritten};
 
 use crate::alarm::Alarm;
-use crate::row::Row;
+use point_types::Items;
 use service_core::OutputState;
 use std::alloc::AllocError;
 
 /// Appends an alarm for each output that isn't written.
 pub(crate) fn push_outputs(
-    alarms: &mut Row<Alarm>,
+    alarms: &mut Items<Alarm>,
     outputs: &[Option<OutputState>],
 ) -> Result<(), AllocError>
     ensures { OnOk result (alarms.new ≡ alarms.old ++ outputs_unwritten outputs.now) }
@@ -21,7 +21,7 @@ pub(crate) fn push_outputs(
 }
 
 fn push_output(
-    alarms: &mut Row<Alarm>,
+    alarms: &mut Items<Alarm>,
     i: usize,
     output: Option<OutputState>,
 ) -> Result<(), AllocError>

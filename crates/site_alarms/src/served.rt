@@ -11,9 +11,8 @@ ghost use Rattle.site_alarms.specs.declared.alarm.Alarm.{Alarm as AlarmValue};
 ghost use Rattle.site_alarms.specs.declared.alarm.Alarm.TheVariants as alarm;
 
 use crate::alarm::{Alarm, Hidden};
-use crate::row::Row;
 use gateway::{own_value, total_of};
-use point_types::{Kind, Reading, Unencodable};
+use point_types::{Items, Kind, Reading, Unencodable};
 use point_writer::plan::words_for;
 use served_ranges::{Demand, demand_of_stored, demand_of_total};
 use site_model::{Access, Served, Site, SiteTag, Source};
@@ -21,7 +20,7 @@ use std::alloc::AllocError;
 
 /// Appends an alarm for each sum that its point doesn't show, by these readings of the site's tags.
 pub(crate) fn push_sums(
-    alarms: &mut Row<Alarm>,
+    alarms: &mut Items<Alarm>,
     site: &Site,
     readings: &[Reading],
 ) -> Result<(), AllocError>
@@ -33,7 +32,7 @@ pub(crate) fn push_sums(
     Ok(())
 }
 
-fn push_sum(alarms: &mut Row<Alarm>, i: usize, hidden: Option<Hidden>) -> Result<(), AllocError>
+fn push_sum(alarms: &mut Items<Alarm>, i: usize, hidden: Option<Hidden>) -> Result<(), AllocError>
     ensures { OnOk result (alarms.new ≡ alarms.old ++ alarm_if (alarm.SumHidden i) hidden) }
 {
     match hidden {
@@ -161,7 +160,7 @@ fn is_numeric(kind: Kind) -> bool
 
 /// Appends an alarm for each `site` tag whose point doesn't show what the program stored in it.
 pub(crate) fn push_stored(
-    alarms: &mut Row<Alarm>,
+    alarms: &mut Items<Alarm>,
     site: &Site,
     outputs: &[Option<i64>],
 ) -> Result<(), AllocError>
@@ -174,7 +173,7 @@ pub(crate) fn push_stored(
 }
 
 fn push_one_stored(
-    alarms: &mut Row<Alarm>,
+    alarms: &mut Items<Alarm>,
     i: usize,
     hidden: Option<Hidden>,
 ) -> Result<(), AllocError>

@@ -4,7 +4,7 @@ ghost use Rattle.site_alarms.specs.Changing.{AreStanding, IsChange, IsSince, Nex
 
 use crate::alarm::{Alarm, Subject, is_same};
 use crate::changes::Changes;
-use crate::row::Row;
+use point_types::Items;
 use std::alloc::{AllocError, Global};
 
 /// An alarm, and since when something is wrong with what it is of, in seconds of whoever looks; the cause may be a later one.
@@ -18,9 +18,9 @@ pub struct Standing {
 /// list is longer than any before.
 #[derive(Drop)]
 pub struct Watch {
-    standing: Row<Standing>,
+    standing: Items<Standing>,
     /// Room for those that come next.
-    next: Row<Standing>,
+    next: Items<Standing>,
     changes: Changes,
 }
 
@@ -30,8 +30,8 @@ impl Watch {
         ensures { result.standing ≡ [] }
     {
         Watch {
-            standing: Row::new(alloc),
-            next: Row::new(alloc),
+            standing: Items::new(alloc),
+            next: Items::new(alloc),
             changes: Changes::new(alloc),
         }
     }
@@ -65,7 +65,7 @@ impl Watch {
 
 /// These alarms, each since when its subject had one, or since now.
 fn fill_standing(
-    standing: &mut Row<Standing>,
+    standing: &mut Items<Standing>,
     stood: &[Standing],
     alarms: &[Alarm],
     now: u64,
@@ -80,7 +80,7 @@ fn fill_standing(
 }
 
 fn push_standing(
-    standing: &mut Row<Standing>,
+    standing: &mut Items<Standing>,
     stood: &[Standing],
     alarms: &[Alarm],
     now: u64,

@@ -7,9 +7,9 @@ use crate::alarm::Alarm;
 use crate::devices::{push_devices, push_models};
 use crate::inputs::push_inputs;
 use crate::outputs::push_outputs;
-use crate::row::Row;
 use crate::served::{push_stored, push_sums};
 use gateway::{Core, DEPTH};
+use point_types::Items;
 use service_core::{DeviceStatus, OutputState};
 use std::alloc::AllocError;
 
@@ -29,7 +29,7 @@ pub struct Seen<'a> {
 /// From now on `alarms` is all that is wrong now: of the devices, the models that are wanted of them, the inputs, the outputs,
 /// the sums and the `site` tags that clients are shown, each in the site's order, of the rounds and of the file of set values.
 pub fn wrong_now(
-    alarms: &mut Row<Alarm>,
+    alarms: &mut Items<Alarm>,
     core: &Core<DEPTH>,
     seen: &Seen<'_>,
 ) -> Result<(), AllocError>
@@ -42,7 +42,7 @@ pub fn wrong_now(
 }
 
 /// What of that the core alone says of numbers: the inputs, the sums and the `site` tags.
-pub fn missing_now(alarms: &mut Row<Alarm>, core: &Core<DEPTH>) -> Result<(), AllocError>
+pub fn missing_now(alarms: &mut Items<Alarm>, core: &Core<DEPTH>) -> Result<(), AllocError>
     ensures { OnOk result (IsAllMissing core.now alarms.new) }
 {
     alarms.clear();
@@ -52,7 +52,7 @@ pub fn missing_now(alarms: &mut Row<Alarm>, core: &Core<DEPTH>) -> Result<(), Al
 
 /// Appends what is wrong with devices, models, inputs and outputs.
 fn push_beside(
-    alarms: &mut Row<Alarm>,
+    alarms: &mut Items<Alarm>,
     core: &Core<DEPTH>,
     devices: &[DeviceStatus],
     outputs: &[Option<OutputState>],
@@ -66,7 +66,7 @@ fn push_beside(
 }
 
 /// Appends what clients aren't shown of sums and `site` tags.
-fn push_served(alarms: &mut Row<Alarm>, core: &Core<DEPTH>) -> Result<(), AllocError>
+fn push_served(alarms: &mut Items<Alarm>, core: &Core<DEPTH>) -> Result<(), AllocError>
     ensures { OnOk result ((served : List AlarmValue) × AreServedMissing core.now served × (alarms.new ≡ alarms.old ++ served)) }
 {
     push_sums(alarms, core.site(), core.readings())?;
@@ -74,14 +74,14 @@ fn push_served(alarms: &mut Row<Alarm>, core: &Core<DEPTH>) -> Result<(), AllocE
 }
 
 /// Appends what is wrong with the service itself.
-fn push_itself(alarms: &mut Row<Alarm>, is_late: bool, is_unkept: bool) -> Result<(), AllocError>
+fn push_itself(alarms: &mut Items<Alarm>, is_late: bool, is_unkept: bool) -> Result<(), AllocError>
     ensures { OnOk result (alarms.new ≡ alarms.old ++ wrong_itself is_late is_unkept) }
 {
     push_if(alarms, is_late, Alarm::RoundLate)?;
     push_if(alarms, is_unkept, Alarm::StateUnwritten)
 }
 
-fn push_if(alarms: &mut Row<Alarm>, holds: bool, alarm: Alarm) -> Result<(), AllocError>
+fn push_if(alarms: &mut Items<Alarm>, holds: bool, alarm: Alarm) -> Result<(), AllocError>
     ensures { OnOk result (alarms.new ≡ alarms.old ++ one_if holds alarm) }
 {
     if holds {

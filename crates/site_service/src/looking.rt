@@ -1,7 +1,8 @@
 //! What is looked at to see what is wrong.
 use crate::kept_files::KeptFiles;
+use point_types::Items;
 use service_core::{DeviceStatus, OutputState, Service};
-use site_alarms::{Alarm, Changes, Row, Seen, Standing, Watch, wrong_now};
+use site_alarms::{Alarm, Changes, Seen, Standing, Watch, wrong_now};
 use std::alloc::{AllocError, Global};
 
 /// How long a round that began late is an alarm, in milliseconds.
@@ -13,9 +14,9 @@ pub(crate) struct Lookout {
     watch: Watch,
     /// Room for how the devices stand, for what became of the outputs, and for what is wrong: memory is taken only where a
     /// list is longer than any before.
-    devices: Row<DeviceStatus>,
-    outputs: Row<Option<OutputState>>,
-    alarms: Row<Alarm>,
+    devices: Items<DeviceStatus>,
+    outputs: Items<Option<OutputState>>,
+    alarms: Items<Alarm>,
     /// Whether that is what was wrong after the last scan: memory for it may be refused.
     is_of_now: bool,
     /// When a round began late last, in milliseconds since the start.
@@ -27,9 +28,9 @@ impl Lookout {
     pub(crate) fn new(alloc: Global) -> Lookout {
         Lookout {
             watch: Watch::new(alloc),
-            devices: Row::new(alloc),
-            outputs: Row::new(alloc),
-            alarms: Row::new(alloc),
+            devices: Items::new(alloc),
+            outputs: Items::new(alloc),
+            alarms: Items::new(alloc),
             is_of_now: true,
             late_at: None,
         }

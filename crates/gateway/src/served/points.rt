@@ -132,7 +132,7 @@ fn is_own(access: Access) -> bool
 }
 
 /// The factor by which a point is served: None where it is absent or outside -10..10.
-fn served_factor(served: &[Served], model: u16, sf: Sf) -> Option<i16>
+pub fn served_factor(served: &[Served], model: u16, sf: Sf) -> Option<i16>
     ensures { result ≡ served_factor served.now model sf }
 {
     match sf {
