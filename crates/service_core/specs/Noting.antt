@@ -10,7 +10,7 @@ use Rattle.service_core.specs.Counting.{lost_once_more}
 
 -- ---- the notes that weren't taken yet
 
--- a note behind the others, where there is room for it
+-- a note after the others, where there is room for it
 abbrev pub told : Note → Notes → List Note
 told n notes = if nat_lt notes.items.len notes.items.cap then notes.items.items ++ (n ∷ []) else notes.items.items
 

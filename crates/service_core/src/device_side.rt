@@ -210,7 +210,7 @@ impl DeviceSide {
     }
 
     /// Whether wanted blocks aren't waited for any more.
-    pub(crate) fn is_behind_deadline(&self) -> bool {
+    pub(crate) fn is_past_deadline(&self) -> bool {
         self.now >= self.deadline
     }
 

@@ -15,7 +15,7 @@ pub enum Note {
     Back(usize),
     /// A round is over.
     Scanned(Report),
-    /// A round began so many milliseconds behind its time.
+    /// A round began so many milliseconds after its time.
     Late(u64),
     /// An output isn't written any more, or for another cause than before.
     Unwritten(usize, Unwritten),

@@ -1,4 +1,4 @@
-//! What clients set is set again behind a restart.
+//! What clients set is set again after a restart.
 ghost use Rattle.std.specs.Prelude.{◌≡◌, IsTrue, Some, false, slice_set};
 ghost use Rattle.gateway.specs.event_core.Restoring.{NothingSets};
 ghost use Rattle.service_core.specs.Told.{Goes};

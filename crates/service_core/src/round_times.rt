@@ -11,7 +11,7 @@ use gateway::Report;
 use service_parts::close_idle;
 
 impl Service {
-    /// The time is this: ends waits, begins rounds. It is to be called behind each wait.
+    /// The time is this: ends waits, begins rounds. It is to be called after each wait.
     pub fn tick(&mut self, now: u64)
         ensures links { self.new.lines.links ≡ self.old.lines.links }
         ensures lines { LinesGo self.old.lines.lines.items self.new.lines.lines.items }
@@ -24,7 +24,7 @@ impl Service {
         close_idle(&mut self.places, self.side.now, self.side.limits.idle);
         self.end_waits();
         // at its deadline a round waits for nothing more
-        if self.side.is_reading() && self.side.is_behind_deadline() {
+        if self.side.is_reading() && self.side.is_past_deadline() {
             self.cut_off_all();
         }
         self.begin_round();
@@ -116,7 +116,7 @@ impl Service {
         ensures time { self.new.side.now ≡ self.old.side.now }
         ensures stands { Goes self.old.side self.new.side }
     {
-        // a round whose deadline is behind the next one's start
+        // a round whose deadline comes after the next one's start
         if self.side.is_reading() {
             self.cut_off_all();
             self.scan();

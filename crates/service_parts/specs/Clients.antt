@@ -39,7 +39,7 @@ pub record IsSame (old new : ClientPlace) : Type 0 where
   pub closing : new.is_closing ≡ old.is_closing
   pub right : new.may_write ≡ old.may_write
 
--- So many of the ready bytes went out, and the session may have put more behind them.
+-- So many of the ready bytes went out, and the session may have put more after them.
 pub record Sends (old : ClientPlace) (n : ℕ) (new : ClientPlace) : Type 0 where
   pub same : IsSame old new
   pub since : new.last ≡ old.last
@@ -53,7 +53,7 @@ abbrev pub heard_at : ℕ → ℕ → ℕ → ℕ
 heard_at now zero last = last
 heard_at now (suc frames) last = now
 
--- `Answers` says which bytes answer a frame, whether more may be answered behind them, and what that leaves.
+-- `Answers` says which bytes answer a frame, whether more may be answered after them, and what that leaves.
 module _ {S : Type 0} (Answers : S → Frame → List ℕ → Bool → S → Type 0) where
   -- So far: the turns of its frames, the bytes that were taken of it, those that went out to it, and what answers now.
   abbrev pub IsServed : List (Turn S) → (stream gone : List ℕ) → S → ClientPlace → Type 0

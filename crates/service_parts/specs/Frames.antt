@@ -54,7 +54,7 @@ pub record Keeps (old new : Line) : Type 0 where
   pub same : new.out.items ≡ old.out.items
   pub bad : old.wire.is_bad ≡ true → new.wire.is_bad ≡ true
 
--- what is under way behind a fate
+-- what is under way after a fate
 abbrev pub left_under_way : Option Fate → Option Asked → Option Asked
 left_under_way None asked = asked
 left_under_way (Some fate) asked = None

@@ -2,7 +2,7 @@
 ghost use Rattle.std.specs.Prelude.{◌≡◌};
 ghost use Rattle.service_parts.specs.Clients.{heard_at};
 
-/// The wait behind one of this length: it doubles, from the least on.
+/// The wait after one of this length: it doubles, from the least on.
 pub fn longer(wait: u64, least: u64, most: u64) -> u64 {
     wait.saturating_mul(2).max(least).min(most.max(least))
 }

@@ -48,7 +48,11 @@ fn fill_begun(
     Ok(())
 }
 
-fn fill_over(over: &mut Items<Alarm>, stood: &[Standing], alarms: &[Alarm]) -> Result<(), AllocError>
+fn fill_over(
+    over: &mut Items<Alarm>,
+    stood: &[Standing],
+    alarms: &[Alarm],
+) -> Result<(), AllocError>
     ensures { OnOk result (AreOver stood.now alarms.now (length stood.now) over.new) }
 {
     over.clear();
