@@ -1,6 +1,6 @@
 -- Requests to devices that are still to be made, under way, or over. No standard says how they are marked; it is this
 -- project's.
-use Rattle.std.specs.Prelude.{◌≡◌, ℕ, ◌==◌, Bool, true, false, List, slice_get, slice_set, Option, None, Some}
+use Rattle.std.specs.Prelude.{◌≡◌, ℕ, ◌==◌, Bool, true, false, List, slice_get, slice_set, Option, None, Some, if◌then◌else◌}
 use Rattle.std.specs.List.{position}
 use Rattle.std.specs.Option.{option_map_or}
 use Rattle.site_model.specs.declared.want.Want.{Want}
@@ -46,3 +46,15 @@ due_unless (Some i) device tasks = None
 -- the place of the device's next request: none while one is under way, else the first that is still to be made
 abbrev pub next_place : ℕ → List Task → Option ℕ
 next_place device tasks = due_unless (position (is_asked device) tasks) device tasks
+
+-- whether the one at a place is to the device, and under way
+abbrev pub is_asked_at : ℕ → ℕ → List Task → Bool
+is_asked_at i device tasks = option_map_or (is_asked device) (slice_get tasks i) false
+
+-- whether the one at a place is to the device, and still to be made
+abbrev pub is_due_at : ℕ → ℕ → List Task → Bool
+is_due_at i device tasks = option_map_or (is_due device) (slice_get tasks i) false
+
+-- One to a device of these is over from now on, any other stays as it is.
+abbrev pub given_up : (ℕ → Bool) → Task → Task
+given_up is_one t = if is_one t.device then record t { mark = mark.Done } else t

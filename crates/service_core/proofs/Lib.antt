@@ -15,3 +15,4 @@ pub mod Mapped
 pub mod Planned
 pub mod Carried
 pub mod ByNotes
+pub mod GivingUp

@@ -39,6 +39,14 @@ pub record IsRoundFor (site : Site) (p : Progress) : Type 0 where
   pub reads : map device_of p.reads ≡ map device_wanted site.wants
   pub writes : length p.writes ≡ length site.outs
 
+abbrev pub requests_at : Bool → Progress → List Task
+requests_at false p = p.reads
+requests_at true p = p.writes
+
+-- the requests of the stage that a round is at: before its scan those for wanted blocks, after it those for outputs
+abbrev pub requests_now : Progress → List Task
+requests_now p = requests_at p.scanned p
+
 -- all requests for wanted blocks are still to be made
 abbrev pub begun : Site → Progress → Progress
 begun site p = record p { reads = map (λ (want : Want). record { device = want.device; mark = mark.Due }) site.wants; scanned = false }

@@ -1,5 +1,5 @@
 //! What is known of a device, apart from its map.
-ghost use Rattle.std.specs.Prelude.{◌≡◌, ◌&&◌, false, not};
+ghost use Rattle.std.specs.Prelude.{◌≡◌, ◌&&◌, false, nat_le, not};
 ghost use Rattle.service_core.specs.Noting.{heard_by, lost_by};
 
 use crate::counts::Counts;
@@ -36,7 +36,9 @@ impl Device {
     }
 
     /// Whether it may be asked, by its back-off.
-    pub fn is_rested(&self, now: u64) -> bool {
+    pub fn is_rested(&self, now: u64) -> bool
+        ensures { result ≡ nat_le self.now.rest_until now }
+    {
         now >= self.rest_until
     }
 

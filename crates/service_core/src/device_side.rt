@@ -2,6 +2,7 @@
 ghost use Rattle.std.specs.Prelude.{◌≡◌, ◌<◌, ℕ, Bool, Option, Some, length, max, slice_get};
 ghost use Rattle.service_core.specs.declared.device.Device.{Device as DeviceValue};
 ghost use Rattle.service_core.specs.Noting.{Finds, HearsFrom, Loses};
+ghost use Rattle.service_core.specs.GivingUp.{is_rested};
 ghost use Rattle.service_core.specs.Telling.{told_at};
 ghost use Rattle.service_core.specs.declared.output.OutputState.{OutputState as StateValue};
 ghost use Rattle.service_core.specs.Told.{Goes, lost_then, note_of, state_then};
@@ -88,7 +89,9 @@ impl DeviceSide {
 
 impl DeviceSide {
     /// Whether a device may be asked, by its back-off.
-    pub(crate) fn is_rested(&self, device: usize) -> bool {
+    pub(crate) fn is_rested(&self, device: usize) -> bool
+        ensures { result ≡ is_rested self.entry.now device }
+    {
         match self.devices.get(device) {
             Some(found) => found.is_rested(self.now),
             None => false,

@@ -6,10 +6,10 @@ ghost use Rattle.gateway.specs.declared.event_core.event.Event.TheVariants.{Scan
 ghost use Rattle.gateway.specs.declared.event_core.event.Answer.TheVariants.{Writes as WritesAnswer};
 ghost use Rattle.gateway.specs.event_core.Control.{IsPlanned};
 ghost use Rattle.gateway.specs.event_core.Driving.{Happens};
-ghost use Rattle.service.specs.Tasks.{IsDone, is_asked, next_place};
+ghost use Rattle.service.specs.Tasks.{IsDone, is_asked, is_asked_at, is_due_at, next_place};
 ghost use Rattle.service_parts.specs.Calls.{write_to};
 ghost use Rattle.service_parts.specs.declared.wire.Aim.TheVariants.{Block as BlockAim, Output as OutputAim};
-ghost use Rattle.service_core.specs.Rounds.{ArePlanned, Closes, ClosesRead, IsUnderWay, ClosesWrite, IsRoundFor, IsSendable, Opens, OpensRead, OpensWrite, begun, event_of, task_of};
+ghost use Rattle.service_core.specs.Rounds.{ArePlanned, Closes, ClosesRead, IsUnderWay, ClosesWrite, IsRoundFor, IsSendable, Opens, OpensRead, OpensWrite, begun, event_of, requests_now, task_of};
 
 use gateway::{Call, Core, DEPTH, Event, event_by, read_of, write_of};
 use point_writer::{NoWrite, Write};
@@ -193,9 +193,36 @@ impl Round {
         self.reads.are_done()
     }
 
-    /// How many requests there are, to all devices.
-    pub fn requests(&self) -> usize {
-        self.reads.len().saturating_add(self.writes.len())
+    /// The requests of its stage: before the scan those for wanted blocks, after it those for outputs.
+    fn current(&self) -> &Tasks
+        ensures { result.now ≡ requests_now self.now }
+    {
+        if self.scanned {
+            &self.writes
+        } else {
+            &self.reads
+        }
+    }
+
+    /// How many requests there are at its stage, to all devices.
+    pub fn requests(&self) -> usize
+        ensures { result ≡ length (requests_now self.now) }
+    {
+        self.current().len()
+    }
+
+    /// Whether the request of this number, at its stage, is to the device and under way.
+    pub fn is_asked_at(&self, i: usize, device: usize) -> bool
+        ensures { result ≡ is_asked_at i device (requests_now self.now) }
+    {
+        self.current().is_asked_at(i, device)
+    }
+
+    /// Whether the request of this number, at its stage, is to the device and still to be made.
+    pub fn is_due_at(&self, i: usize, device: usize) -> bool
+        ensures { result ≡ is_due_at i device (requests_now self.now) }
+    {
+        self.current().is_due_at(i, device)
     }
 
     /// Whether the program ran.

@@ -1,7 +1,8 @@
 //! Rounds, by the time.
-ghost use Rattle.std.specs.Prelude.{◌≡◌, map, max};
+ghost use Rattle.std.specs.Prelude.{◌≡◌, ◌==◌, ◌&&◌, not, length, map, max, nat_lt};
 ghost use Rattle.service_core.specs.Told.{Goes};
 ghost use Rattle.service_core.specs.Cycle.{LeadsOn};
+ghost use Rattle.service_core.specs.GivingUp.{GivesUp, may_be_asked};
 ghost use Rattle.service_parts.specs.Frames.{LinesGo};
 ghost use Rattle.service_parts.specs.Places.{closed_if_idle};
 
@@ -60,7 +61,10 @@ impl Service {
         }
     }
 
+    /// Each device is asked nothing more before the scan.
+    #[tactic(auto, using(crate::proofs::GivingUp::before_all))]
     fn cut_off_all(&mut self)
+        ensures over { GivesUp (λ device. nat_lt device (length self.old.cycle.core.value.site.devices)) self.old.cycle self.new.cycle }
         ensures links { self.new.lines.links ≡ self.old.lines.links }
         ensures lines { LinesGo self.old.lines.lines.items self.new.lines.lines.items }
         ensures goes { LeadsOn self.old.cycle self.new.cycle }
@@ -74,6 +78,7 @@ impl Service {
     }
 
     fn cut_off(&mut self, device: usize)
+        ensures over { GivesUp (λ other. other == device) self.old.cycle self.new.cycle }
         ensures links { self.new.lines.links ≡ self.old.lines.links }
         ensures lines { LinesGo self.old.lines.lines.items self.new.lines.lines.items }
         ensures goes { LeadsOn self.old.cycle self.new.cycle }
@@ -130,6 +135,7 @@ impl Service {
 
     /// What can't be asked now isn't waited for.
     fn leave_out_all(&mut self)
+        ensures over { GivesUp (λ device. nat_lt device (length self.old.cycle.core.value.site.devices) && not (may_be_asked self.old.lines self.old.side self.old.cycle.core.value device)) self.old.cycle self.new.cycle }
         ensures links { self.new.lines.links ≡ self.old.lines.links }
         ensures lines { LinesGo self.old.lines.lines.items self.new.lines.lines.items }
         ensures goes { LeadsOn self.old.cycle self.new.cycle }
@@ -142,7 +148,11 @@ impl Service {
         }
     }
 
+    #[tactic(auto, using(crate::proofs::GivingUp::left_out))]
     fn leave_out(&mut self, device: usize)
+        ensures over { GivesUp (λ other. other == device && not (may_be_asked self.old.lines self.old.side self.old.cycle.core.value other)) self.old.cycle self.new.cycle }
+        ensures same_lines { self.new.lines ≡ self.old.lines }
+        ensures same_side { self.new.side ≡ self.old.side }
         ensures links { self.new.lines.links ≡ self.old.lines.links }
         ensures lines { LinesGo self.old.lines.lines.items self.new.lines.lines.items }
         ensures goes { LeadsOn self.old.cycle self.new.cycle }
@@ -156,7 +166,9 @@ impl Service {
     }
 
     /// Whether a device may be asked: its connection is well, it has a map, and its back-off is over.
-    fn may_be_asked(&self, device: usize) -> bool {
+    fn may_be_asked(&self, device: usize) -> bool
+        ensures { result ≡ may_be_asked self.now.lines self.now.side self.now.cycle.core.value device }
+    {
         match self.lines.station(device) {
             Some(station) => {
                 self.lines.is_well(station.link)

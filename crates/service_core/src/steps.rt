@@ -1,9 +1,11 @@
 //! What happens to a core and its round, step by step.
-ghost use Rattle.std.specs.Prelude.{◌≡◌, ◌<◌, ℕ, [], length, set, slice_get, slice_set, IfSome, IsTrue, None, Some, false};
+ghost use Rattle.std.specs.Prelude.{◌≡◌, ◌<◌, ◌+◌, ◌==◌, ℕ, List, [], length, map, set, slice_get, slice_set, IfSome, IsTrue, None, Some, false};
 ghost use Rattle.site_model.specs.declared.device.SiteDevice.{SiteDevice as DeviceValue};
 ghost use Rattle.modbus_frame.specs.Message.{HasQuantity, IsRequest};
 ghost use Rattle.gateway.specs.declared.poller.cycle.Call.{Call as CallValue};
 ghost use Rattle.gateway.specs.event_core.Restoring.{NothingSets, SetsAlone};
+ghost use Rattle.service.specs.declared.fate.Fate.TheVariants.{Lost};
+ghost use Rattle.service.specs.declared.task.Task.{Task as TaskValue};
 ghost use Rattle.service.specs.Searches.{HasStepQuantity, Sought as SoughtValue};
 ghost use Rattle.service_parts.specs.declared.wire.Aim.{Aim as AimValue};
 ghost use Rattle.service_parts.specs.declared.wire.Aim.TheVariants.{Block as BlockAim, Output as OutputAim};
@@ -12,9 +14,10 @@ ghost use Rattle.service_parts.specs.Requests.{IsOfRound};
 ghost use Rattle.service_parts.specs.Seeking.{IsFound, IsSought};
 ghost use Rattle.service_core.specs.declared.round.Turn.TheVariants.{Ask as AskTurn};
 ghost use Rattle.service_core.specs.Cycle.{ClientsLeadOn, EndsOwn, LeadsOn, stage_of};
+ghost use Rattle.service_core.specs.GivingUp.{AreNotAsked, GivesUp, HasRequests, dropped, gone_through, skipped};
 ghost use Rattle.service_core.specs.Maps.{has_map};
-ghost use Rattle.service_core.specs.Rounds.{IsSendable, event_told};
-ghost use Rattle.service_core.specs.Stages.{Ends, TakesEvent};
+ghost use Rattle.service_core.specs.Rounds.{IsSendable, event_told, requests_now};
+ghost use Rattle.service_core.specs.Stages.{Ends, OpensNext, TakesEvent};
 
 use crate::round::Turn;
 use crate::scan_cycle::ScanCycle;
@@ -158,6 +161,7 @@ impl ScanCycle {
 
     /// What comes next for the device. A wanted block that there is no request for is told as lost.
     fn open(&mut self, device: usize) -> Turn
+        ensures opens { OpensNext device result (stage_of self.old) (stage_of self.new) }
         ensures goes { LeadsOn self.old self.new }
         ensures called { (aim : AimValue) (call : CallValue) → result ≡ AskTurn aim call → IsCallFor self.new.core.value aim device call }
         ensures quantity { IsSendable result }
@@ -202,34 +206,62 @@ impl ScanCycle {
 
     /// The device's request that is under way is given up.
     fn drop_request(&mut self, device: usize)
+        ensures ends { Ends device Lost (stage_of self.old) (stage_of self.new) }
         ensures goes { LeadsOn self.old self.new }
     {
         self.close(device, Fate::Lost);
     }
 
-    /// All that the round still has for a device is given up: what is wanted of it is lost, and it is written nothing.
+    /// All that the round has for a device at its stage is given up: what is wanted of it is lost, or it is written nothing.
     pub fn give_up(&mut self, device: usize)
+        ensures over { GivesUp (λ other. other == device) self.old self.new }
         ensures goes { LeadsOn self.old self.new }
     {
-        self.drop_request(device);
-        for _ in 0..self.round.requests() {
-            if !self.give_up_next(device) {
-                return;
-            }
+        self.drop_all(device);
+        self.skip_all(device);
+    }
+
+    /// What is under way for the device is dropped.
+    #[tactic(auto, using(crate::proofs::GivingUp::has_now, crate::proofs::GivingUp::one_further))]
+    fn drop_all(&mut self, device: usize)
+        ensures dropped { HasRequests (map (dropped device) (requests_now self.old.round)) (stage_of self.old) (stage_of self.new) }
+        ensures goes { LeadsOn self.old self.new }
+    {
+        for i in 0..self.round.requests() {
+            self.drop_at(device, i);
         }
     }
 
-    // Whether there may be more.
-    fn give_up_next(&mut self, device: usize) -> bool
+    fn drop_at(&mut self, device: usize, i: usize)
+        ensures dropped { (before : List TaskValue) → requests_now self.old.round ≡ gone_through (dropped device) i before
+            → HasRequests (gone_through (dropped device) (i + 1) before) (stage_of self.old) (stage_of self.new) }
         ensures goes { LeadsOn self.old self.new }
     {
-        match self.open(device) {
-            Turn::Lack(_) => true,
-            Turn::Ask(..) => {
-                self.drop_request(device);
-                true
-            }
-            Turn::Rest => self.round.is_scanned() && !self.round.is_complete(),
+        if self.round.is_asked_at(i, device) {
+            self.drop_request(device);
+        }
+    }
+
+    /// What is still to be made for the device is left out.
+    #[tactic(auto, using(crate::proofs::GivingUp::has_now, crate::proofs::GivingUp::one_further))]
+    fn skip_all(&mut self, device: usize)
+        ensures skipped { AreNotAsked device (requests_now self.old.round)
+            → HasRequests (map (skipped device) (requests_now self.old.round)) (stage_of self.old) (stage_of self.new) }
+        ensures goes { LeadsOn self.old self.new }
+    {
+        for i in 0..self.round.requests() {
+            self.skip_at(device, i);
+        }
+    }
+
+    fn skip_at(&mut self, device: usize, i: usize)
+        ensures skipped { (before : List TaskValue) → AreNotAsked device before → requests_now self.old.round ≡ gone_through (skipped device) i before
+            → HasRequests (gone_through (skipped device) (i + 1) before) (stage_of self.old) (stage_of self.new) }
+        ensures goes { LeadsOn self.old self.new }
+    {
+        if self.round.is_due_at(i, device) {
+            self.open(device);
+            self.drop_request(device);
         }
     }
 

@@ -1,6 +1,7 @@
 -- When something is to be done about a connection or a client, by the time in milliseconds. No standard says it; it is this
 -- project's.
-use Rattle.std.specs.Prelude.{◌≡◌, ◌≤◌, ℕ, ◌-◌, ◌^◌, ◌==◌, Bool, true, false, List, length, Option, None, Some, if◌then◌else◌}
+use Rattle.std.specs.Prelude.{◌≡◌, ◌≤◌, ℕ, ◌-◌, ◌^◌, ◌==◌, Bool, true, false, not, ◌&&◌, List, length, slice_get, Option, None, Some, if◌then◌else◌}
+use Rattle.std.specs.Option.{option_map_or}
 use Rattle.service_parts.specs.declared.line.Line.{Line}
 use Rattle.service_parts.specs.declared.wire.Asked.{Asked}
 use Rattle.service_parts.specs.declared.wire.Wire.{Wire}
@@ -42,3 +43,7 @@ IsToEnd now None w = (w.is_up ≡ true) × (w.is_bad ≡ true)
 
 abbrev pub IsToHangUp : ℕ → Wire → Type 0
 IsToHangUp now w = IsToEnd now w.dial_until w
+
+-- whether the connection of a link is up, and nothing is wrong with it
+abbrev pub is_well_at : List Line → ℕ → Bool
+is_well_at lines link = option_map_or (λ (line : Line). line.wire.is_up && not line.wire.is_bad) (slice_get lines link) false

@@ -52,7 +52,9 @@ impl Lines {
     }
 
     /// Where a device is reached; none for one without a station.
-    pub fn station(&self, device: usize) -> Option<Station> {
+    pub fn station(&self, device: usize) -> Option<Station>
+        ensures { result ≡ slice_get self.now.links.stations.items device }
+    {
         self.links.stations.get(device).copied()
     }
 

@@ -3,7 +3,7 @@ ghost use Rattle.std.specs.Prelude.{◌≡◌, ◌↔◌, IfNone, IfSome, IsTrue
 ghost use Rattle.service_parts.specs.declared.line.Line.{Line as LineValue};
 ghost use Rattle.service_parts.specs.Frames.{LinesGo};
 ghost use Rattle.service_parts.specs.Requests.{StayRightful};
-ghost use Rattle.service_parts.specs.Waking.{IsToDial, IsToHangUp};
+ghost use Rattle.service_parts.specs.Waking.{IsToDial, IsToHangUp, is_well_at};
 
 use crate::lines::Lines;
 use crate::wire::Wire;
@@ -55,9 +55,11 @@ impl Lines {
     }
 
     /// Whether a connection is up, and nothing is wrong with it.
-    pub fn is_well(&self, link: usize) -> bool {
-        match self.wire(link) {
-            Some(wire) => wire.is_well(),
+    pub fn is_well(&self, link: usize) -> bool
+        ensures { result ≡ is_well_at self.now.lines.items link }
+    {
+        match self.lines.get(link) {
+            Some(line) => line.wire().is_well(),
             None => false,
         }
     }

@@ -1,0 +1,11 @@
+use Rattle.std.proofs.Common.{rules, ◌≡◌, length}
+use Rattle.service_core.specs.Cycle.{stage_of}
+use Rattle.service_core.specs.GivingUp.{skipped}
+use Rattle.service_core.specs.Rounds.{requests_now}
+use Rattle.service_core.proofs.GivingUp.{all_through}
+use Rattle.service_core.proofs.scan_cycle.ScanCycle.skip_all.Goals as goal
+
+pub returns-clause-skipped : goal.returns-clause-skipped
+returns-clause-skipped c none =
+    let all : c.loop-i.i ≡ length (requests_now c.args.self.now.round) = search rules in
+    all_through (skipped c.args.device) c.loop-i.i (requests_now c.args.self.now.round) (stage_of c.args.self.now) (stage_of c.loop-i.self) all (c.loop-i.invariant.1 none)
