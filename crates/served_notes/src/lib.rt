@@ -1,11 +1,12 @@
-//! Warnings of what clients may not be shown: a sum that its point can't say in each case, or what the program may store in
-//! a `site` tag. Which these are is proved below (served_ranges); of the words nothing is proved but that they end and are
-//! safe.
+//! Warnings of what a site's points can't say in each case: a sum or what the program may store in a `site` tag, to clients,
+//! and what it may store in an `out` tag, to a device. Which these are is proved below (served_ranges); of the words nothing
+//! is proved but that they end and are safe.
 #![tactic(auto)]
 
 mod limits;
 mod mending;
 mod reason;
+mod set_points;
 mod subject;
 mod warnings;
 mod words;

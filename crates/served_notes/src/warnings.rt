@@ -1,11 +1,13 @@
-//! Warnings of the points that don't always show what they are to.
+//! Warnings of the points that don't always say what they are to.
 use crate::mending::mend_of;
 use crate::reason::reason_of;
+use crate::set_points::told_of_output;
 use crate::subject::{Shown, Subject};
 use crate::words::wrong_with;
 use file_places::{EntryName, entry_shown};
 use served_ranges::{
     Demand, always_shows_stored, always_shows_total, demand_of_stored, demand_of_total,
+    factor_for_range,
 };
 use site_model::{Access, Served, Site, SiteTag, Source};
 use source_notes::escaped;
@@ -22,8 +24,8 @@ struct Warnings {
     count: usize,
 }
 
-/// Warnings of the sums and the `site` tags of a site that their points don't always show, by the ranges of the file at a
-/// path; empty where each is.
+/// Warnings of the sums, the `site` tags and the `out` tags of a site whose numbers their points can't say in each case, by
+/// the ranges of the file at a path; empty where each can.
 pub fn shown_warnings(alloc: Global, path: &str, site: &Site) -> Result<String, AllocError> {
     let mut warnings = Warnings {
         path: escaped(alloc, path)?,
@@ -32,6 +34,7 @@ pub fn shown_warnings(alloc: Global, path: &str, site: &Site) -> Result<String, 
     };
     warnings.push_sums(alloc, site)?;
     warnings.push_stored(alloc, site)?;
+    warnings.push_outputs(alloc, site)?;
     warnings.told(alloc)
 }
 
@@ -94,6 +97,20 @@ impl Warnings {
         self.push(alloc, name, subject, demand)
     }
 
+    fn push_outputs(&mut self, alloc: Global, site: &Site) -> Result<(), AllocError> {
+        for (number, tag) in site.tags().iter().enumerate() {
+            if tag.access == Access::Output && factor_for_range(tag).is_none() {
+                let number = number.saturating_add(1);
+                let name = EntryName::Named("[[tag]]", tag.name.as_str(), number);
+                if self.count_one() {
+                    let text = told_of_output(alloc, tag)?;
+                    self.push_text(alloc, name, text.as_str())?;
+                }
+            }
+        }
+        Ok(())
+    }
+
     /// Appends a warning, where not too many are told.
     fn push(
         &mut self,
@@ -105,13 +122,27 @@ impl Warnings {
         let (Some(subject), Some(demand)) = (subject, demand) else {
             return Ok(());
         };
-        self.count = self.count.saturating_add(1);
-        if self.count > MOST_TOLD {
+        if !self.count_one() {
             return Ok(());
         }
-        let entry = entry_shown(alloc, name)?;
         let text = told_of(alloc, subject, &demand)?;
-        let (path, entry, text) = (self.path.as_str(), entry.as_str(), text.as_str());
+        self.push_text(alloc, name, text.as_str())
+    }
+
+    /// Counts one more, and says whether it is told.
+    fn count_one(&mut self) -> bool {
+        self.count = self.count.saturating_add(1);
+        self.count <= MOST_TOLD
+    }
+
+    fn push_text(
+        &mut self,
+        alloc: Global,
+        name: EntryName<'_>,
+        text: &str,
+    ) -> Result<(), AllocError> {
+        let entry = entry_shown(alloc, name)?;
+        let (path, entry) = (self.path.as_str(), entry.as_str());
         let lines = format!(in alloc; "{path}: warning: {entry}: {text}\n")?;
         self.lines.push_str(lines.as_str())
     }
@@ -127,7 +158,7 @@ impl Warnings {
         if more > 0 {
             let path = path.as_str();
             let line = format!(in alloc;
-                "{path}: warning: {more} more points don't always show what they are to\n"
+                "{path}: warning: {more} more points don't always say what they are to\n"
             )?;
             lines.push_str(line.as_str())?;
         }

@@ -26,7 +26,7 @@ fn what_is_shown(shown: Shown) -> &'static str {
     }
 }
 
-/// What is wrong, behind what is to be shown.
+/// What is wrong, after what is to be shown.
 fn rest_of(
     alloc: Global,
     subject: Subject<'_>,
@@ -65,7 +65,7 @@ fn rest_of(
 }
 
 /// The word of a kind.
-fn kind_word(kind: Kind) -> &'static str {
+pub(crate) fn kind_word(kind: Kind) -> &'static str {
     match kind {
         Kind::Int16 => "int16",
         Kind::Uint16 => "uint16",

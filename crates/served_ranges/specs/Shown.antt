@@ -1,7 +1,7 @@
 -- What the gateway's own points that show a total, or what the program stored, may have to say, and when they always say
 -- it: by the served image.
 -- SunSpec Device Information Model Specification, points and scale factors, the table of types.
-use Rattle.std.specs.Prelude.{ℕ, nat_eq, List, [], ◌∷◌, All, find, slice_get, ℤ, pos, ◌+ℤ◌, ◌≤ℤ◌, Option, Some, None, IsSome, IsSomeAnd, option_map, option_and_then}
+use Rattle.std.specs.Prelude.{◌≡◌, ℕ, nat_eq, List, [], ◌∷◌, All, find, slice_get, ℤ, pos, ◌+ℤ◌, ◌≤ℤ◌, Option, Some, None, IsSome, IsSomeAnd, option_map, option_and_then}
 use Rattle.point_types.specs.declared.kind.Kind.{Kind}
 use Rattle.point_types.specs.declared.reading.Reading.{Reading}
 use Rattle.model_defs.specs.declared.model.ModelDef.{ModelDef}
@@ -10,6 +10,9 @@ use Rattle.site_model.specs.declared.served.Served.{Served}
 use Rattle.site_model.specs.declared.site.Site.{Site}
 use Rattle.site_model.specs.declared.tag.SiteTag.{SiteTag}
 use Rattle.site_model.specs.Readings.{AreUsable}
+use Rattle.point_types.specs.Reading.{IsExponent}
+use Rattle.site_model.specs.declared.tag.Sf.{Sf}
+use Rattle.site_model.specs.declared.tag.Sf.TheVariants as factors
 use Rattle.gateway.specs.served.Points.{served_factor}
 use Rattle.gateway.specs.served.ServedImage.{ReadsAs, amount, own_value, sum_of}
 use Rattle.served_ranges.specs.declared.shown.Demand.{Demand}
@@ -90,3 +93,22 @@ demand_of_total site s parts =
 -- of a `site` tag
 abbrev pub demand_of_stored : Site → SiteTag → Option Demand
 demand_of_stored site t = option_map (demand_at site t.model t.exponent t.low t.high) (point_of_tag site.models t)
+
+-- ---- the points of outputs
+
+-- a factor that the point of a tag may have: the one that the definition fixes, 0 where there is none, or any that a device
+-- may have
+abbrev pub MayHaveFactor : Sf → ℤ → Type 0
+MayHaveFactor factors.None factor = factor ≡ pos 0
+MayHaveFactor (factors.Fixed power) factor = factor ≡ power
+MayHaveFactor (factors.At offset) factor = IsExponent factor
+
+-- the factor that is fixed, or else the coarsest that is as fine as the tag's numbers
+abbrev pub factor_by : Sf → (exponent : ℤ) → ℤ
+factor_by factors.None exponent = pos 0
+factor_by (factors.Fixed power) exponent = power
+factor_by (factors.At offset) exponent = exponent
+
+-- what the point of an `out` tag may have to say
+abbrev pub demand_of_set : SiteTag → Demand
+demand_of_set t = record { kind = t.point; factor = Some (factor_by t.sf t.exponent); exponent = t.exponent; low = t.low; high = t.high }
