@@ -1,5 +1,5 @@
 -- What becomes of a link by a call, of what its parts say.
-use Rattle.std.proofs.Common.{◌≡◌, inl, inr, ℕ, zero, suc, Bool, true, false, List, [], take, Option, None, Some, slice_get, refl, sym, subst}
+use Rattle.std.proofs.Common.{◌≡◌, inl, inr, ℕ, zero, suc, Bool, true, false, List, [], take, Option, None, Some, slice_get, refl, subst}
 use Rattle.service.specs.declared.fate.Fate.{Fate}
 use Rattle.service_parts.specs.declared.line.Line.{Line}
 use Rattle.service_parts.specs.declared.wire.Asked.{Asked}

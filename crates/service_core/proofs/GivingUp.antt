@@ -1,13 +1,10 @@
 -- Requests that are given up, one after another.
-use Rattle.std.proofs.Common.{◌≡◌, ◌≢◌, ◌⊎◌, inl, inr, ℕ, zero, suc, ◌+◌, ◌<◌, ◌==◌, nat_lt, Bool, true, false, not, ◌&&◌, ◌||◌, List, [], ◌∷◌, map, length, get_or, slice_get, slice_set, position, Option, None, Some, refl, sym, ap, ◌∙◌, subst, arith, eq-eqb, eqb-true, ltb-true, ltb-false, lt-ltb, if◌then◌else◌}
-use Rattle.std.proofs.lemmas.List.Quantifiers.{position-Some}
+use Rattle.std.proofs.Common.{◌≡◌, ◌⊎◌, inl, inr, ℕ, zero, suc, ◌+◌, ◌<◌, ◌==◌, nat_lt, Bool, true, false, not, ◌&&◌, ◌||◌, List, [], ◌∷◌, map, length, slice_get, slice_set, position, Option, None, Some, refl, sym, ap, ◌∙◌, subst, arith, eqb-true, ltb-true, lt-ltb, if◌then◌else◌}
 use Rattle.std.specs.List.{position_or_len}
 use Rattle.std.specs.Option.{option_map_or}
 use Rattle.gateway.specs.declared.event_core.event.Event.{Event}
 use Rattle.gateway.specs.event_core.Core.{Gateway}
-use Rattle.gateway.specs.poller.Cycle.{read_of}
 use Rattle.gateway.specs.declared.poller.cycle.Call.{Call}
-use Rattle.point_writer.specs.declared.write.Write.{Write}
 use Rattle.site_model.specs.declared.want.Want.{Want}
 use Rattle.service.specs.declared.fate.Fate.{Fate}
 use Rattle.service.specs.declared.fate.Fate.TheVariants as fate
@@ -23,7 +20,7 @@ use Rattle.service_core.specs.declared.scan_cycle.ScanCycle.{ScanCycle}
 use Rattle.service_core.specs.GivingUp.{AreNotAsked, GivesUp, HasRequests, dropped, gone_through, may_be_asked, skipped}
 use Rattle.service_core.specs.Rounds.{AsksRead, AsksWrite, ClosesBy, ClosesRead, ClosesWrite, OpensBy, OpensRead, OpensWrite, Progress, event_told, requests_at, requests_now}
 use Rattle.service_core.specs.Stages.{Ends, OpensNext, Stage, TakesEvent}
-use Rattle.service_core.proofs.Once.{at_place, next_is_due, some_task, with_mark-at}
+use Rattle.service_core.proofs.Once.{with_mark-at}
 
 -- ---- lists that are gone through
 

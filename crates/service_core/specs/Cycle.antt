@@ -1,5 +1,5 @@
 -- What the calls of a service do to its core and its round.
-use Rattle.std.specs.Prelude.{◌≡◌, ◌⊎◌, ℕ, Bool, true, false, List, Option, None, Some}
+use Rattle.std.specs.Prelude.{◌≡◌, ◌⊎◌, ℕ, Bool, true, false, Option, None, Some}
 use Rattle.gateway.specs.declared.poller.outcome.Outcome.{Outcome}
 use Rattle.gateway.specs.declared.poller.outcome.Outcome.TheVariants as outcome
 use Rattle.service.specs.declared.fate.Fate.{Fate}

@@ -1,5 +1,5 @@
 -- What becomes of a round where a device is asked nothing more.
-use Rattle.std.specs.Prelude.{◌≡◌, ℕ, suc, zero, ◌==◌, nat_le, Bool, true, false, not, ◌&&◌, List, [], ◌∷◌, map, slice_get, ⊤, if◌then◌else◌}
+use Rattle.std.specs.Prelude.{◌≡◌, ℕ, suc, zero, nat_le, Bool, false, ◌&&◌, List, [], ◌∷◌, map, slice_get, ⊤, if◌then◌else◌}
 use Rattle.std.specs.Option.{option_map_or}
 use Rattle.gateway.specs.event_core.Core.{Gateway}
 use Rattle.service.specs.declared.task.Mark.TheVariants as mark

@@ -1,5 +1,5 @@
-use Rattle.std.proofs.Common.{rules, ◌≡◌, ◌≤◌, ◌<◌, true, false, Some, None, length, refl, set, slice_get, ap, sym, ◌∙◌}
-use Rattle.std.proofs.lemmas.Option.{slice_get_past, slice_get_read}
+use Rattle.std.proofs.Common.{rules, ◌≡◌, ◌≤◌, ◌<◌, true, false, Some, length, refl, set, slice_get, ap, sym, ◌∙◌}
+use Rattle.std.proofs.lemmas.Option.{slice_get_read}
 use Rattle.service_parts.proofs.Placed.{none_there}
 use Rattle.service_core.proofs.ByNotes.{heard_goes, hears_so}
 use Rattle.service_core.proofs.device_side.DeviceSide.hear.Goals as goal

@@ -1,5 +1,5 @@
-use Rattle.std.proofs.Common.{rules, ◌≡◌, ◌≤◌, ◌<◌, true, false, Some, None, length, refl, slice_get, ap, sym, ◌∙◌}
-use Rattle.std.proofs.lemmas.Option.{slice_get_past, slice_get_read}
+use Rattle.std.proofs.Common.{rules, ◌≡◌, ◌<◌, Some, length, refl, slice_get, ap}
+use Rattle.std.proofs.lemmas.Option.{slice_get_read}
 use Rattle.service_core.proofs.ByNotes.{device_goes}
 use Rattle.service_core.proofs.device_side.DeviceSide.miss.Goals as goal
 

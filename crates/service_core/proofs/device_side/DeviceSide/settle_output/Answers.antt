@@ -1,6 +1,5 @@
-use Rattle.std.proofs.Common.{rules, ◌≡◌, ◌≤◌, ◌<◌, true, false, Some, None, length, refl, set, slice_get, ap, sym, ◌∙◌}
-use Rattle.std.proofs.lemmas.Option.{slice_get_past, slice_get_read}
-use Rattle.service_core.specs.declared.output.Output.{Output}
+use Rattle.std.proofs.Common.{rules, ◌≡◌, ◌<◌, Some, length, refl, slice_get, ap, sym, ◌∙◌}
+use Rattle.std.proofs.lemmas.Option.{slice_get_read}
 use Rattle.service_core.proofs.ByNotes.{output_goes, settled_goes, state_there}
 use Rattle.service_core.proofs.device_side.DeviceSide.settle_output.Goals as goal
 

@@ -1,5 +1,5 @@
 use Rattle.service_core.specs.Cycle.{LeadsOn, stage_of}
-use Rattle.service_core.specs.GivingUp.{AreNotAsked, HasRequests, dropped, gone_through}
+use Rattle.service_core.specs.GivingUp.{HasRequests, dropped, gone_through}
 use Rattle.service_core.specs.Rounds.{requests_now}
 use Rattle.service_core.proofs.scan_cycle.ScanCycle.drop_all.Given as goal
 

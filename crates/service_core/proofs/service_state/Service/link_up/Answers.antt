@@ -1,4 +1,3 @@
-use Rattle.std.proofs.Common.{◌≡◌, true, false}
 use Rattle.service_core.proofs.Carried.{from_cut, not_both}
 use Rattle.service_core.proofs.service_state.Service.link_up.Goals as goal
 
