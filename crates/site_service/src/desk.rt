@@ -6,6 +6,7 @@ use crate::looking::Lookout;
 use crate::room::Room;
 use crate::serving::{End, Serving};
 use crate::sockets::Sockets;
+use crate::state_lock::StateLock;
 use crate::status::status_text;
 use crate::telling::{tell, tell_changes, tell_scan};
 use crate::wall_clock::seconds_of_day;
@@ -76,13 +77,15 @@ impl<'a, W: Write> Desk<'a, W> {
         }
     }
 
-    /// The files that are kept, where what the one of set values says is set, and told where it isn't.
+    /// The files that are kept, where what the one of set values says is set, and told where it isn't. The lock is that of
+    /// this file.
     pub(crate) fn restore<'k>(
         &mut self,
         keeping: &Keeping<'k, '_>,
+        lock: Option<StateLock>,
         service: &mut Service,
     ) -> Result<KeptFiles<'k>, End> {
-        match KeptFiles::restored(self.alloc, keeping, service, &mut self.journal) {
+        match KeptFiles::restored(self.alloc, keeping, lock, service, &mut self.journal) {
             Ok(files) => match self.sockets.begin(service.core().settings()) {
                 Ok(()) => Ok(files),
                 Err(AllocError) => Err(End::OutOfMemory),

@@ -22,7 +22,9 @@ mod restoring;
 mod room;
 mod serving;
 mod sockets;
+mod state_fault;
 mod state_file;
+mod state_lock;
 mod status;
 mod status_alarms;
 mod status_devices;
@@ -37,6 +39,7 @@ mod wall_clock;
 pub use keeping::{Keeping, KeptState};
 // the service itself
 pub use serving::{End, Serving};
+pub use state_fault::StateFault;
 pub use turns::serve_site;
 pub use wall_clock::seconds_of_day;
 // a simulated plant behind a port, for several connections at once
