@@ -16,7 +16,7 @@ use std::alloc::{AllocError, Global};
 use std::fs::File;
 use std::io::{Read, Write};
 use std::net::Net;
-use std::process::Processes;
+use std::process::{Processes, SystemProcess};
 use std::rt::Files;
 use std::time::Clock;
 
@@ -41,7 +41,13 @@ pub struct ServiceRun<'n, 'a, 's, 'k, 't> {
 /// Serves a site, and gives the status: 0 after the last scan that was asked for, 1 for a refusal or a failed write, 2
 /// where it isn't said where a device is, 3 where the clock or a socket can't be had.
 pub fn run_service<
-    R: Net + Clock + Processes + Print + Eprint + AllocGlobal + Files<File = File>,
+    R: Net
+        + Clock
+        + Processes<Started = SystemProcess>
+        + Print
+        + Eprint
+        + AllocGlobal
+        + Files<File = File>,
     W: Write,
 >(rt: &R, alloc: Global, run: &ServiceRun<'_, '_, '_, '_, '_>, out: &mut W) -> u8 {
     let notes = &run.notes;
@@ -57,7 +63,13 @@ pub fn run_service<
 }
 
 fn serve_accepted<
-    R: Net + Clock + Processes + Print + Eprint + AllocGlobal + Files<File = File>,
+    R: Net
+        + Clock
+        + Processes<Started = SystemProcess>
+        + Print
+        + Eprint
+        + AllocGlobal
+        + Files<File = File>,
     W: Write,
 >(rt: &R, alloc: Global, run: &ServiceRun<'_, '_, '_, '_, '_>, given: Accepted, out: &mut W) -> u8 {
     match prepared(rt, alloc, run, &given, out) {
@@ -137,7 +149,10 @@ fn tell_no_core<W: Write>(alloc: Global, fault: CoreFault, out: &mut W) -> u8 {
 }
 
 /// Serves a site over connections to these addresses.
-fn serve_over<R: Net + Clock + Eprint + AllocGlobal + Files<File = File>, W: Write>(
+fn serve_over<
+    R: Net + Clock + Processes<Started = SystemProcess> + Eprint + AllocGlobal + Files<File = File>,
+    W: Write,
+>(
     rt: &R,
     alloc: Global,
     run: &ServiceRun<'_, '_, '_, '_, '_>,
@@ -175,7 +190,10 @@ fn state_path<'k>(keeping: &Keeping<'k, '_>) -> &'k str {
 }
 
 /// Starts a plant, serves the site over it, and ends it: one that nobody came to would wait for ever.
-fn serve_plant<R: Net + Clock + Processes + Eprint + AllocGlobal + Files<File = File>, W: Write>(
+fn serve_plant<
+    R: Net + Clock + Processes<Started = SystemProcess> + Eprint + AllocGlobal + Files<File = File>,
+    W: Write,
+>(
     rt: &R,
     alloc: Global,
     run: &ServiceRun<'_, '_, '_, '_, '_>,
@@ -195,7 +213,11 @@ fn serve_plant<R: Net + Clock + Processes + Eprint + AllocGlobal + Files<File = 
 }
 
 /// Serves the site over the plant that says its port in the first of these lines, which stay open to its end.
-fn serve_started<R: Net + Clock + Eprint + AllocGlobal + Files<File = File>, P: Read, W: Write>(
+fn serve_started<
+    R: Net + Clock + Processes<Started = SystemProcess> + Eprint + AllocGlobal + Files<File = File>,
+    P: Read,
+    W: Write,
+>(
     rt: &R,
     alloc: Global,
     run: &ServiceRun<'_, '_, '_, '_, '_>,

@@ -16,6 +16,7 @@ use std::alloc::{AllocError, Global};
 use std::io;
 use std::io::Write;
 use std::net::Net;
+use std::process::{Processes, SystemProcess};
 use std::rt::Files;
 use std::time::{Clock, Duration, Instant};
 
@@ -95,7 +96,7 @@ impl<'a, W: Write> Desk<'a, W> {
     }
 
     /// One turn; whether the last scan is done.
-    pub(crate) fn turn<R: Net + Clock + Files>(
+    pub(crate) fn turn<R: Net + Clock + Files + Processes<Started = SystemProcess>>(
         &mut self,
         rt: &R,
         serving: &Serving<'_>,
@@ -208,6 +209,11 @@ impl<'a, W: Write> Desk<'a, W> {
             Ok(()) => Ok(()),
             Err(fault) => Err(End::by(&fault)),
         }
+    }
+
+    /// Ends the connections to devices, and each process that looks up a name.
+    pub(crate) fn end(&mut self) {
+        self.sockets.end();
     }
 }
 

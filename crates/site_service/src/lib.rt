@@ -12,6 +12,8 @@ mod journal;
 mod keeping;
 mod kept_files;
 mod link;
+mod link_bytes;
+mod link_state;
 mod links;
 mod looking;
 mod members;
