@@ -130,10 +130,13 @@ class Service:
     """`sunsite serve`, and the lines that it printed so far."""
 
     def __init__(self, program, words, reads=True):
-        self.process = subprocess.Popen([program, "serve", *words], stdout=subprocess.PIPE, stderr=subprocess.PIPE, text=True)
+        self.process = subprocess.Popen(self.command(program, words), stdout=subprocess.PIPE, stderr=subprocess.PIPE, text=True)
         self.lines = []
         if reads:
             threading.Thread(target=self.listen, daemon=True).start()
+
+    def command(self, program, words):
+        return [program, "serve", *words]
 
     def listen(self):
         for line in self.process.stdout:

@@ -145,9 +145,12 @@ class OwnDevice:
         self.open()
 
     def open(self):
-        self.door = socket.create_server(("127.0.0.1", self.port))
+        self.door = self.listen()
         self.port = self.door.getsockname()[1]
         threading.Thread(target=self.meet, args=(self.door,), daemon=True).start()
+
+    def listen(self):
+        return socket.create_server(("127.0.0.1", self.port))
 
     def address(self):
         return f"127.0.0.1:{self.port}"

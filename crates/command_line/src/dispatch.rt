@@ -16,9 +16,10 @@ use service_texts::Devices;
 use site_service::seconds_of_day;
 use start_texts::Start;
 use std::alloc::{AllocError, Global};
+use std::fs::File;
 use std::io::Write;
 use std::net::Net;
-use std::process::Processes;
+use std::process::{Processes, SystemProcess};
 use std::rt::{Env, Files};
 use std::time::Clock;
 use std::{env, io};
@@ -32,7 +33,15 @@ const QUIET: &str = "--quiet";
 /// Does what the words of the program's own command line ask for, or without arguments a trial of the program on standard
 /// input. Gives the exit status. That standard input is read from its beginning, and by nobody else, no contract says.
 pub fn obey_command_line(
-    rt: &(impl Input + Print + Eprint + AllocGlobal + Env + Files + Clock + Net + Processes),
+    rt: &(impl Input
+        + Print
+        + Eprint
+        + AllocGlobal
+        + Env
+        + Files<File = File>
+        + Clock
+        + Net
+        + Processes<Started = SystemProcess>),
 ) -> u8 {
     let mut out = io::writer(rt);
     match words(rt) {
@@ -58,7 +67,14 @@ fn words(rt: &(impl AllocGlobal + Env)) -> io::Result<Vec<String>> {
 /// Obeys the words of a command line, of which the first is the program's path, and prints what the command prints to
 /// `out`. A command line that isn't one, or that asks for help, is told by `clap`. Gives the exit status.
 pub fn obey<W: Write>(
-    rt: &(impl Input + Print + Eprint + AllocGlobal + Files + Clock + Net + Processes),
+    rt: &(impl Input
+        + Print
+        + Eprint
+        + AllocGlobal
+        + Files<File = File>
+        + Clock
+        + Net
+        + Processes<Started = SystemProcess>),
     words: &[String],
     out: &mut W,
 ) -> u8 {
@@ -141,7 +157,14 @@ fn misuse_fault(alloc: Global, why: &str) -> Result<Error, AllocError> {
 
 /// Does what the command asks for.
 fn obey_matches<W: Write>(
-    rt: &(impl Input + Print + Eprint + AllocGlobal + Files + Clock + Net + Processes),
+    rt: &(impl Input
+        + Print
+        + Eprint
+        + AllocGlobal
+        + Files<File = File>
+        + Clock
+        + Net
+        + Processes<Started = SystemProcess>),
     alloc: Global,
     words: &[String],
     matches: &ArgMatches<'_>,
@@ -179,7 +202,14 @@ fn path_of(words: &[String]) -> &str {
 
 /// Does what a command asks for on the texts of its files; `itself` is this program's path.
 fn obey_on_texts<W: Write>(
-    rt: &(impl Input + Print + Eprint + AllocGlobal + Files + Clock + Net + Processes),
+    rt: &(impl Input
+        + Print
+        + Eprint
+        + AllocGlobal
+        + Files<File = File>
+        + Clock
+        + Net
+        + Processes<Started = SystemProcess>),
     alloc: Global,
     itself: &str,
     name: &str,
@@ -224,7 +254,14 @@ fn unread<W: Write>(
 
 /// Runs `serve` on the texts of the files, once the file of set values is read.
 fn served<W: Write>(
-    rt: &(impl Input + Print + Eprint + AllocGlobal + Files + Clock + Net + Processes),
+    rt: &(impl Input
+        + Print
+        + Eprint
+        + AllocGlobal
+        + Files<File = File>
+        + Clock
+        + Net
+        + Processes<Started = SystemProcess>),
     alloc: Global,
     itself: &str,
     matches: &ArgMatches<'_>,
@@ -239,7 +276,13 @@ fn served<W: Write>(
 
 /// Runs `serve` on the texts of the files and of the set values.
 fn served_with<W: Write>(
-    rt: &(impl Print + Eprint + AllocGlobal + Files + Clock + Net + Processes),
+    rt: &(impl Print
+        + Eprint
+        + AllocGlobal
+        + Files<File = File>
+        + Clock
+        + Net
+        + Processes<Started = SystemProcess>),
     alloc: Global,
     itself: &str,
     matches: &ArgMatches<'_>,

@@ -1,5 +1,5 @@
 //! The command `serve`: a program on a site, scan by scan, by the clock.
-use crate::failing::{no_start, tell_lost, tell_unserved};
+use crate::failing::{no_start, tell_lost, tell_unkept, tell_unserved};
 use crate::plant_lines::told_port;
 use crate::second_process::{start_plant, tell_no_port};
 use crate::service_places::tell_unreachable;
@@ -13,9 +13,10 @@ use service_core::{Limits, Service};
 use service_texts::{Addresses, Devices, addresses_of, plant_addresses};
 use site_service::{End, Keeping, Serving, serve_site};
 use std::alloc::{AllocError, Global};
+use std::fs::File;
 use std::io::{Read, Write};
 use std::net::Net;
-use std::process::Processes;
+use std::process::{Processes, SystemProcess};
 use std::rt::Files;
 use std::time::Clock;
 
@@ -39,12 +40,16 @@ pub struct ServiceRun<'n, 'a, 's, 'k, 't> {
 
 /// Serves a site, and gives the status: 0 after the last scan that was asked for, 1 for a refusal or a failed write, 2
 /// where it isn't said where a device is, 3 where the clock or a socket can't be had.
-pub fn run_service<R: Net + Clock + Processes + Print + Eprint + AllocGlobal + Files, W: Write>(
-    rt: &R,
-    alloc: Global,
-    run: &ServiceRun<'_, '_, '_, '_, '_>,
-    out: &mut W,
-) -> u8 {
+pub fn run_service<
+    R: Net
+        + Clock
+        + Processes<Started = SystemProcess>
+        + Print
+        + Eprint
+        + AllocGlobal
+        + Files<File = File>,
+    W: Write,
+>(rt: &R, alloc: Global, run: &ServiceRun<'_, '_, '_, '_, '_>, out: &mut W) -> u8 {
     let notes = &run.notes;
     match accept(alloc, notes.site, notes.program, notes.defs) {
         Ok(Ok(given)) => serve_accepted(rt, alloc, run, given, out),
@@ -57,13 +62,16 @@ pub fn run_service<R: Net + Clock + Processes + Print + Eprint + AllocGlobal + F
     }
 }
 
-fn serve_accepted<R: Net + Clock + Processes + Print + Eprint + AllocGlobal + Files, W: Write>(
-    rt: &R,
-    alloc: Global,
-    run: &ServiceRun<'_, '_, '_, '_, '_>,
-    given: Accepted,
-    out: &mut W,
-) -> u8 {
+fn serve_accepted<
+    R: Net
+        + Clock
+        + Processes<Started = SystemProcess>
+        + Print
+        + Eprint
+        + AllocGlobal
+        + Files<File = File>,
+    W: Write,
+>(rt: &R, alloc: Global, run: &ServiceRun<'_, '_, '_, '_, '_>, given: Accepted, out: &mut W) -> u8 {
     match prepared(rt, alloc, run, &given, out) {
         Ok(addresses) => match service_of(
             alloc,
@@ -83,7 +91,7 @@ fn serve_accepted<R: Net + Clock + Processes + Print + Eprint + AllocGlobal + Fi
 }
 
 /// Prints on standard error that set values aren't kept, where they aren't.
-fn tell_unkept<R: Eprint>(rt: &R, run: &ServiceRun<'_, '_, '_, '_, '_>) {
+fn warn_unkept<R: Eprint>(rt: &R, run: &ServiceRun<'_, '_, '_, '_, '_>) {
     if run.keeping.state.is_none() && !run.notes.quiet {
         let _ = rt.eprint(UNKEPT);
     }
@@ -100,7 +108,7 @@ fn prepared<R: Print + Eprint + AllocGlobal, W: Write>(
     match addresses_of(alloc, run.devices, run.notes.site, given.site.devices()) {
         Ok(addresses) => match tell_begun(alloc, &run.serving, given.verified.budget(), out) {
             0 => {
-                tell_unkept(rt, run);
+                warn_unkept(rt, run);
                 warn_on_site(rt, &run.notes, &given.site);
                 Ok(addresses)
             }
@@ -141,7 +149,10 @@ fn tell_no_core<W: Write>(alloc: Global, fault: CoreFault, out: &mut W) -> u8 {
 }
 
 /// Serves a site over connections to these addresses.
-fn serve_over<R: Net + Clock + Eprint + AllocGlobal + Files, W: Write>(
+fn serve_over<
+    R: Net + Clock + Processes<Started = SystemProcess> + Eprint + AllocGlobal + Files<File = File>,
+    W: Write,
+>(
     rt: &R,
     alloc: Global,
     run: &ServiceRun<'_, '_, '_, '_, '_>,
@@ -164,11 +175,25 @@ fn serve_over<R: Net + Clock + Eprint + AllocGlobal + Files, W: Write>(
         Err(End::Listen(kind)) => {
             tell_unserved(rt, alloc, &run.notes, run.serving.listen, kind, out)
         },
+        Err(End::State(fault)) => {
+            tell_unkept(rt, alloc, &run.notes, state_path(&run.keeping), fault, out)
+        },
+    }
+}
+
+/// The path of the file of set values.
+fn state_path<'k>(keeping: &Keeping<'k, '_>) -> &'k str {
+    match keeping.state {
+        Some(state) => state.path,
+        None => "",
     }
 }
 
 /// Starts a plant, serves the site over it, and ends it: one that nobody came to would wait for ever.
-fn serve_plant<R: Net + Clock + Processes + Eprint + AllocGlobal + Files, W: Write>(
+fn serve_plant<
+    R: Net + Clock + Processes<Started = SystemProcess> + Eprint + AllocGlobal + Files<File = File>,
+    W: Write,
+>(
     rt: &R,
     alloc: Global,
     run: &ServiceRun<'_, '_, '_, '_, '_>,
@@ -188,7 +213,11 @@ fn serve_plant<R: Net + Clock + Processes + Eprint + AllocGlobal + Files, W: Wri
 }
 
 /// Serves the site over the plant that says its port in the first of these lines, which stay open to its end.
-fn serve_started<R: Net + Clock + Eprint + AllocGlobal + Files, P: Read, W: Write>(
+fn serve_started<
+    R: Net + Clock + Processes<Started = SystemProcess> + Eprint + AllocGlobal + Files<File = File>,
+    P: Read,
+    W: Write,
+>(
     rt: &R,
     alloc: Global,
     run: &ServiceRun<'_, '_, '_, '_, '_>,

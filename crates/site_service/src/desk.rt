@@ -6,6 +6,7 @@ use crate::looking::Lookout;
 use crate::room::Room;
 use crate::serving::{End, Serving};
 use crate::sockets::Sockets;
+use crate::state_lock::StateLock;
 use crate::status::status_text;
 use crate::telling::{tell, tell_changes, tell_scan};
 use crate::wall_clock::seconds_of_day;
@@ -15,6 +16,7 @@ use std::alloc::{AllocError, Global};
 use std::io;
 use std::io::Write;
 use std::net::Net;
+use std::process::{Processes, SystemProcess};
 use std::rt::Files;
 use std::time::{Clock, Duration, Instant};
 
@@ -76,13 +78,15 @@ impl<'a, W: Write> Desk<'a, W> {
         }
     }
 
-    /// The files that are kept, where what the one of set values says is set, and told where it isn't.
+    /// The files that are kept, where what the one of set values says is set, and told where it isn't. The lock is that of
+    /// this file.
     pub(crate) fn restore<'k>(
         &mut self,
         keeping: &Keeping<'k, '_>,
+        lock: Option<StateLock>,
         service: &mut Service,
     ) -> Result<KeptFiles<'k>, End> {
-        match KeptFiles::restored(self.alloc, keeping, service, &mut self.journal) {
+        match KeptFiles::restored(self.alloc, keeping, lock, service, &mut self.journal) {
             Ok(files) => match self.sockets.begin(service.core().settings()) {
                 Ok(()) => Ok(files),
                 Err(AllocError) => Err(End::OutOfMemory),
@@ -92,7 +96,7 @@ impl<'a, W: Write> Desk<'a, W> {
     }
 
     /// One turn; whether the last scan is done.
-    pub(crate) fn turn<R: Net + Clock + Files>(
+    pub(crate) fn turn<R: Net + Clock + Files + Processes<Started = SystemProcess>>(
         &mut self,
         rt: &R,
         serving: &Serving<'_>,
@@ -205,6 +209,11 @@ impl<'a, W: Write> Desk<'a, W> {
             Ok(()) => Ok(()),
             Err(fault) => Err(End::by(&fault)),
         }
+    }
+
+    /// Ends the connections to devices, and each process that looks up a name.
+    pub(crate) fn end(&mut self) {
+        self.sockets.end();
     }
 }
 

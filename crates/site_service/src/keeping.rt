@@ -13,6 +13,6 @@ pub struct Keeping<'a, 't> {
 #[derive(Clone, Copy)]
 pub struct KeptState<'a, 't> {
     pub path: &'a str,
-    /// What it holds at the start.
+    /// What was read of it for this start.
     pub text: &'t str,
 }

@@ -4,6 +4,7 @@ use crate::keeping::Keeping;
 use crate::restoring::restore;
 use crate::sockets::Taken;
 use crate::state_file::StateFile;
+use crate::state_lock::StateLock;
 use crate::status_file::StatusFile;
 use gateway::{Core, DEPTH};
 use service_core::Service;
@@ -18,6 +19,8 @@ pub(crate) struct KeptFiles<'a> {
     alloc: Global,
     state: Option<StateFile<'a>>,
     status: Option<StatusFile<'a>>,
+    /// No other service keeps its set values in the same file.
+    _lock: Option<StateLock>,
 }
 
 /// What is set is kept, or it is told that it can't be. Whoever set it is told that it is done only after that.
@@ -27,10 +30,11 @@ pub(crate) struct Kept {
 }
 
 impl<'a> KeptFiles<'a> {
-    /// The files, behind a restart: what the file of set values says is set.
+    /// The files, after a restart: what the file of set values says is set. The lock is that of this file.
     pub(crate) fn restored<W: Write>(
         alloc: Global,
         keeping: &Keeping<'a, '_>,
+        lock: Option<StateLock>,
         service: &mut Service,
         journal: &mut Journal<'_, W>,
     ) -> Result<KeptFiles<'a>, AllocError> {
@@ -49,6 +53,7 @@ impl<'a> KeptFiles<'a> {
             alloc,
             state,
             status,
+            _lock: lock,
         })
     }
 

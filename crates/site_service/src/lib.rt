@@ -12,6 +12,8 @@ mod journal;
 mod keeping;
 mod kept_files;
 mod link;
+mod link_bytes;
+mod link_state;
 mod links;
 mod looking;
 mod members;
@@ -22,7 +24,9 @@ mod restoring;
 mod room;
 mod serving;
 mod sockets;
+mod state_fault;
 mod state_file;
+mod state_lock;
 mod status;
 mod status_alarms;
 mod status_devices;
@@ -37,6 +41,7 @@ mod wall_clock;
 pub use keeping::{Keeping, KeptState};
 // the service itself
 pub use serving::{End, Serving};
+pub use state_fault::StateFault;
 pub use turns::serve_site;
 pub use wall_clock::seconds_of_day;
 // a simulated plant behind a port, for several connections at once

@@ -1,33 +1,24 @@
 //! A connection to devices.
 ghost use Rattle.std.specs.Prelude.{◌≡◌, IfOk};
 
-use mio::net::TcpStream;
-use mio::{Interest, Registry, Token};
-use polled_stream::{Connection, Giver, Taker};
+use crate::link_bytes::{FromLink, ToLink};
+use crate::link_state::{Fate, LinkState};
+use mio::{Registry, Token};
+use name_lookup::Progress;
 use service_core::Service;
 use site_model::Text;
 use std::alloc::{AllocError, Global};
-use std::io::ErrorKind;
-use std::net::{Net, SocketAddr, ToSocketAddrs};
+use std::net::{Net, SocketAddr};
+use std::process::{Processes, SystemProcess};
 
-/// A connection to devices: it is down, is being made, or is up.
+/// A connection to devices.
 #[derive(Drop)]
 pub(crate) struct Link {
     /// `HOST:PORT`; a name is looked up at each dial.
     address: Text,
-    connection: Option<Connection<TcpStream>>,
-    /// Whether the connection is up; else it is being made.
-    is_up: bool,
-    /// Whether the system said something of it since it was begun.
+    state: LinkState,
+    /// Whether the system said something of it since that was looked at.
     is_told: bool,
-}
-
-/// What became of a connection that was begun.
-#[derive(Clone, Copy)]
-enum Fate {
-    Stands,
-    Open,
-    Failed,
 }
 
 impl Link {
@@ -37,8 +28,7 @@ impl Link {
     {
         Ok(Link {
             address: Text::new(alloc, address)?,
-            connection: None,
-            is_up: false,
+            state: LinkState::Down,
             is_told: false,
         })
     }
@@ -48,21 +38,40 @@ impl Link {
         ensures { self.new.address ≡ self.old.address }
     {
         self.is_told = true;
-        if let Some(connection) = &mut self.connection {
-            connection.wake();
-        }
+        self.state.wake();
     }
 
     /// Whether there is something to do without a wait, where so many bytes are to go out.
     pub(crate) fn is_busy(&self, waiting: usize) -> bool {
-        match &self.connection {
-            Some(connection) => self.is_up && connection.is_busy(waiting),
-            None => false,
+        self.state.is_busy(waiting)
+    }
+
+    /// Begins a connection, by the lookup of its name where it has one, or tells that it can't be made.
+    pub(crate) fn dial<R: Net + Processes<Started = SystemProcess>>(
+        &mut self,
+        rt: &R,
+        alloc: Global,
+        registry: &Registry,
+        token: Token,
+        service: &mut Service,
+        number: usize,
+        now: u64,
+    )
+        ensures { self.new.address ≡ self.old.address }
+    {
+        self.state.end();
+        self.state = LinkState::begun(rt, alloc, registry, token, self.address.as_str());
+        self.is_told = false;
+        if self.state.is_down() {
+            service.link_down(number, now);
+        } else {
+            service.dial_began(number, now);
         }
     }
 
-    /// Begins a connection, or tells that it can't be made.
-    pub(crate) fn dial<R: Net>(
+    /// Goes on from the lookup of its name to the connection, or tells that it can't be made. A dial began with the lookup, so
+    /// its time bounds both together.
+    pub(crate) fn go_on<R: Net>(
         &mut self,
         rt: &R,
         registry: &Registry,
@@ -73,36 +82,47 @@ impl Link {
     )
         ensures { self.new.address ≡ self.old.address }
     {
-        self.connection = begun(rt, registry, token, self.address.as_str());
-        self.is_up = false;
-        self.is_told = false;
-        if self.connection.is_some() {
-            service.dial_began(number, now);
-        } else {
-            service.link_down(number, now);
+        match self.state.look() {
+            Progress::Waits => {}
+            Progress::Found(address) => {
+                self.connect(rt, registry, token, address);
+                if self.state.is_down() {
+                    service.link_down(number, now);
+                }
+            }
+            Progress::Nothing => self.close(service, number, now),
         }
+    }
+
+    // Begins the connection to an address that was found, in place of the lookup.
+    fn connect<R: Net>(&mut self, rt: &R, registry: &Registry, token: Token, address: SocketAddr)
+        ensures { self.new.address ≡ self.old.address }
+    {
+        self.state.end();
+        self.state = LinkState::to(rt, registry, token, address);
+        self.is_told = false;
     }
 
     /// Hands over what came, and tells where the connection stands now, or ended.
     pub(crate) fn receive(&mut self, service: &mut Service, number: usize, now: u64)
         ensures { self.new.address ≡ self.old.address }
     {
-        if !self.is_up && self.is_told {
+        if self.is_told {
             self.meet(service, number, now);
         }
-        if self.is_up && self.feed(service, number, now) {
+        if self.feed(service, number, now) {
             self.close(service, number, now);
         }
     }
 
-    // Sees what became of a connection that was begun.
+    // Sees what became of a connection that is being made.
     fn meet(&mut self, service: &mut Service, number: usize, now: u64)
         ensures { self.new.address ≡ self.old.address }
     {
         self.is_told = false;
-        match self.fate() {
+        match self.state.fate() {
             Fate::Stands => {
-                self.is_up = true;
+                self.state.come_up();
                 service.link_up(number, now);
             }
             Fate::Open => {}
@@ -110,18 +130,11 @@ impl Link {
         }
     }
 
-    fn fate(&self) -> Fate {
-        match &self.connection {
-            Some(connection) => fate_of(connection.stream()),
-            None => Fate::Open,
-        }
-    }
-
     // Hands over what came; whether the connection is over.
     fn feed(&mut self, service: &mut Service, number: usize, now: u64) -> bool
         ensures { self.new.address ≡ self.old.address }
     {
-        let Some(connection) = &mut self.connection else {
+        let LinkState::Up(connection) = &mut self.state else {
             return false;
         };
         connection.hand_over(&mut FromLink {
@@ -136,10 +149,7 @@ impl Link {
     pub(crate) fn send(&mut self, service: &mut Service, number: usize)
         ensures { self.new.address ≡ self.old.address }
     {
-        if !self.is_up {
-            return;
-        }
-        if let Some(connection) = &mut self.connection {
+        if let LinkState::Up(connection) = &mut self.state {
             connection.send(&mut ToLink { service, number });
         }
     }
@@ -148,84 +158,14 @@ impl Link {
     pub(crate) fn close(&mut self, service: &mut Service, number: usize, now: u64)
         ensures { self.new.address ≡ self.old.address }
     {
-        self.connection = None;
-        self.is_up = false;
+        self.end();
         service.link_down(number, now);
     }
-}
 
-/// Takes what comes over a connection to devices.
-#[derive(Drop)]
-struct FromLink<'s> {
-    service: &'s mut Service,
-    number: usize,
-    now: u64,
-}
-
-impl Taker for FromLink<'_> {
-    ghost use Rattle.std.specs.Prelude.{None};
-
-    ghost taken = { λ _. None };
-
-    fn take(&mut self, bytes: &[u8]) -> usize {
-        self.service.from_link(self.number, bytes, self.now)
-    }
-}
-
-/// Has what goes out over a connection to devices.
-#[derive(Drop)]
-struct ToLink<'s> {
-    service: &'s mut Service,
-    number: usize,
-}
-
-impl Giver for ToLink<'_> {
-    ghost use Rattle.std.specs.Prelude.{None};
-
-    ghost left = { λ _. None };
-
-    fn waiting(&self) -> &[u8] {
-        self.service.to_link(self.number)
-    }
-
-    fn gone(&mut self, n: usize) {
-        if n > 0 {
-            self.service.sent_to_link(self.number, n);
-        }
-    }
-}
-
-// A connection to an address that is being made, or none where that can't be.
-fn begun<R: Net>(
-    rt: &R,
-    registry: &Registry,
-    token: Token,
-    address: &str,
-) -> Option<Connection<TcpStream>> {
-    let mut stream = TcpStream::connect(rt, first_address(rt, address)?).ok()?;
-    let interests = Interest::READABLE | Interest::WRITABLE;
-    registry.register(&mut stream, token, interests).ok()?;
-    Some(Connection::new(stream))
-}
-
-fn first_address<R: Net>(rt: &R, address: &str) -> Option<SocketAddr> {
-    match address.to_socket_addrs(rt) {
-        Ok(mut found) => found.next(),
-        Err(_) => None,
-    }
-}
-
-fn fate_of(stream: &TcpStream) -> Fate {
-    match stream.take_error() {
-        Ok(None) => {}
-        _ => return Fate::Failed,
-    }
-    match stream.peer_addr() {
-        Ok(_) => {
-            let _ = stream.set_nodelay(true);
-            Fate::Stands
-        }
-        Err(fault) if fault.kind() == ErrorKind::NotConnected => Fate::Open,
-        Err(_) => Fate::Failed,
+    /// It is down from now on, and nobody is told.
+    pub(crate) fn end(&mut self)
+        ensures { self.new.address ≡ self.old.address }
+    {
+        self.state.end();
     }
 }

@@ -8,10 +8,12 @@ use service_core::Service;
 use site_model::Text;
 use std::alloc::{AllocError, Global};
 use std::net::Net;
+use std::process::{Processes, SystemProcess};
 
 /// The connections to the devices, each under its token.
 #[derive(Drop)]
 pub(crate) struct Links {
+    alloc: Global,
     tokens: Tokens,
     links: Vec<Link>,
 }
@@ -29,7 +31,11 @@ impl Links {
         for address in addresses {
             links.push(Link::new(alloc, address.as_str())?)?;
         }
-        Ok(Links { tokens, links })
+        Ok(Links {
+            alloc,
+            tokens,
+            links,
+        })
     }
 
     /// The system says of the connection of this number that there is something to do.
@@ -60,7 +66,7 @@ impl Links {
         }
     }
 
-    /// Closes those that are to be closed.
+    /// Closes those that are to be closed; a name is looked up no longer than its dial may take.
     pub(crate) fn hang_up(&mut self, service: &mut Service, now: u64)
         ensures { map (λ link. link.address) self.new.links.items ≡ map (λ link. link.address) self.old.links.items }
     {
@@ -71,8 +77,8 @@ impl Links {
         }
     }
 
-    /// Begins the connections that are wanted.
-    pub(crate) fn dial<R: Net>(
+    /// Begins the connections that are wanted, and goes on with those whose name is looked up. Nothing of it waits.
+    pub(crate) fn dial<R: Net + Processes<Started = SystemProcess>>(
         &mut self,
         rt: &R,
         registry: &Registry,
@@ -81,11 +87,13 @@ impl Links {
     )
         ensures { map (λ link. link.address) self.new.links.items ≡ map (λ link. link.address) self.old.links.items }
     {
-        let tokens = self.tokens;
+        let (alloc, tokens) = (self.alloc, self.tokens);
         for (number, link) in self.links.iter_mut().enumerate() {
+            let token = Token(tokens.of_link(number));
             if service.wants_dial(number) {
-                let token = Token(tokens.of_link(number));
-                link.dial(rt, registry, token, service, number, now);
+                link.dial(rt, alloc, registry, token, service, number, now);
+            } else {
+                link.go_on(rt, registry, token, service, number, now);
             }
         }
     }
@@ -96,6 +104,15 @@ impl Links {
     {
         for (number, link) in self.links.iter_mut().enumerate() {
             link.send(service, number);
+        }
+    }
+
+    /// Ends all of them, and each process that looks up a name: nobody is told.
+    pub(crate) fn end(&mut self)
+        ensures { map (λ link. link.address) self.new.links.items ≡ map (λ link. link.address) self.old.links.items }
+    {
+        for link in self.links.iter_mut() {
+            link.end();
         }
     }
 }

@@ -2,6 +2,7 @@
 use lasting_file::{Lasting, SystemFile, WrittenDown};
 use std::alloc::{AllocError, Global};
 use std::fs::OpenFile;
+use std::io::{ErrorKind, Read};
 use std::rt::Files;
 use std::{fs, io};
 
@@ -35,6 +36,30 @@ fn take_place<R: Files, F: Lasting>(
     path: &str,
 ) -> io::Result<()> {
     fs::rename(rt, beside, path)
+}
+
+/// Looks whether a new file can be written where one stands before it takes the place of the file at a path.
+pub(crate) fn try_place<R: Files>(rt: &R, alloc: Global, path: &str) -> io::Result<()> {
+    let beside = beside(alloc, path)?;
+    fs::create(rt, beside.as_str())?;
+    fs::remove_file(rt, beside.as_str())
+}
+
+/// Whether the file at a path holds just this text; one that isn't there holds an empty one.
+pub(crate) fn holds<R: Files>(rt: &R, alloc: Global, path: &str, text: &str) -> io::Result<bool> {
+    match fs::open(rt, path) {
+        Ok(file) => gives(alloc, file, text.as_bytes()),
+        Err(fault) if fault.kind() == ErrorKind::NotFound => Ok(text.is_empty()),
+        Err(fault) => Err(fault),
+    }
+}
+
+// Whether a file gives just these bytes.
+fn gives<F: Read + Drop>(alloc: Global, file: F, bytes: &[u8]) -> io::Result<bool> {
+    let mut given = Vec::new(alloc);
+    let most = (bytes.len() as u64).saturating_add(1);
+    file.take(most).read_to_end(&mut given)?;
+    Ok(given.as_slice() == bytes)
 }
 
 /// The path of a new file, before it takes another one's place.

@@ -1,4 +1,5 @@
 //! What a service is to do, and how it ends.
+use crate::state_fault::StateFault;
 use service_texts::Writer;
 use start_texts::{Start, Times};
 use std::io;
@@ -29,6 +30,8 @@ pub struct Serving<'a> {
 pub enum End {
     /// Nothing can be served at the address, for this cause.
     Listen(ErrorKind),
+    /// Set values can't be kept, for this cause.
+    State(StateFault),
     /// The clock, or the wait for sockets, failed.
     System,
     /// Memory was refused.
@@ -49,6 +52,14 @@ impl End {
         match fault.kind() {
             ErrorKind::OutOfMemory => End::OutOfMemory,
             kind => End::Listen(kind),
+        }
+    }
+
+    /// The end that a fault of the file of set values is, or of its folder.
+    pub(crate) fn at_state(fault: &io::Error) -> End {
+        match fault.kind() {
+            ErrorKind::OutOfMemory => End::OutOfMemory,
+            kind => End::State(StateFault::of(kind)),
         }
     }
 }

@@ -13,6 +13,7 @@ use std::alloc::{AllocError, Global};
 use std::io;
 use std::io::Write;
 use std::net::{Net, SocketAddr};
+use std::process::{Processes, SystemProcess};
 use std::time::Duration;
 
 /// The longest wait while one at the door couldn't be taken in, in milliseconds.
@@ -88,7 +89,7 @@ impl Sockets {
     }
 
     /// Takes in clients who wait, hands over what came, and makes and closes connections to devices.
-    pub(crate) fn take<R: Net, W: Write>(
+    pub(crate) fn take<R: Net + Processes<Started = SystemProcess>, W: Write>(
         &mut self,
         rt: &R,
         serving: &Serving<'_>,
@@ -135,6 +136,11 @@ impl Sockets {
         self.poll.poll(&mut self.events, Some(most))?;
         self.wake();
         Ok(())
+    }
+
+    /// Ends the connections to devices.
+    pub(crate) fn end(&mut self) {
+        self.links.end();
     }
 
     // Marks those of whom the system says that there is something to do. It says so once.

@@ -1,20 +1,27 @@
 //! The turns of a service: the clock, bytes in, bytes out, what is told, and a wait.
 use crate::desk::Desk;
 use crate::keeping::Keeping;
+use crate::kept_files::KeptFiles;
 use crate::serving::{End, Serving};
+use crate::state_lock::StateLock;
 use service_core::Service;
 use service_texts::Addresses;
 use std::alloc::Global;
+use std::fs::File;
 use std::io::Write;
 use std::net::Net;
+use std::process::{Processes, SystemProcess};
 use std::rt::Files;
 use std::time::Clock;
 
 /// Serves a site, of which nothing was asked yet, until the scans that were asked for are done. `addresses` are
-/// those of the service's connections, whose time begins at 0. Nothing that a peer does ends it, and no file. Listen:
-/// nothing can be served at the address for clients; System: the clock or the wait for sockets failed; OutOfMemory: memory
-/// was refused at the start.
-pub fn serve_site<R: Net + Clock + Files, W: Write>(
+/// those of the service's connections, whose time begins at 0. Nothing that a peer does ends it, and no file once it began.
+/// State: the file of set values can't be kept; Listen: nothing can be served at the address for clients; System: the clock or
+/// the wait for sockets failed; OutOfMemory: memory was refused at the start.
+pub fn serve_site<
+    R: Net + Clock + Files<File = File> + Processes<Started = SystemProcess>,
+    W: Write,
+>(
     rt: &R,
     alloc: Global,
     serving: &Serving<'_>,
@@ -23,14 +30,40 @@ pub fn serve_site<R: Net + Clock + Files, W: Write>(
     service: &mut Service,
     out: &mut W,
 ) -> Result<(), End> {
+    let lock = lock_of(rt, alloc, keeping)?;
     let mut desk = Desk::new(rt, alloc, serving, addresses, out)?;
     desk.tell_address();
-    let mut files = desk.restore(keeping, service)?;
+    let mut files = desk.restore(keeping, lock, service)?;
+    let ended = turns(rt, serving, service, &mut desk, &mut files);
+    desk.end();
+    ended
+}
+
+// Turns and waits, until the last scan is done.
+fn turns<R: Net + Clock + Files + Processes<Started = SystemProcess>, W: Write>(
+    rt: &R,
+    serving: &Serving<'_>,
+    service: &mut Service,
+    desk: &mut Desk<'_, W>,
+    files: &mut KeptFiles<'_>,
+) -> Result<(), End> {
     for _ in 0..u64::MAX {
-        if desk.turn(rt, serving, service, &mut files)? {
+        if desk.turn(rt, serving, service, files)? {
             return Ok(());
         }
         desk.wait(rt, service)?;
     }
     Ok(())
+}
+
+// The lock of the file of set values, where they are kept.
+fn lock_of<R: Files<File = File>>(
+    rt: &R,
+    alloc: Global,
+    keeping: &Keeping<'_, '_>,
+) -> Result<Option<StateLock>, End> {
+    match &keeping.state {
+        Some(state) => Ok(Some(StateLock::new(rt, alloc, state)?)),
+        None => Ok(None),
+    }
 }

@@ -1,6 +1,5 @@
 use Rattle.std.proofs.Common.{◌∙◌, ap, map}
 use Rattle.std.proofs.Math.Seq.{map-set_same}
-use Rattle.std.proofs.lemmas.List.{set-get_or}
 use Rattle.site_service.proofs.links.Links.dial.Goals as goal
 use Rattle.site_service.proofs.links.Links.dial.Goals.{then-wants_dial, else-wants_dial}
 
@@ -8,5 +7,6 @@ pub loop-number-preserved : goal.loop-number-preserved
 loop-number-preserved g c = elim c.if-wants_dial.branch [
   | then-wants_dial w ↦ ap (map (λ link. link.address)) w.link-items-is
       ∙ map-set_same (λ link. link.address) c.loop-number.link-items c.loop-number.number w.dial.new.self c.link-item.result w.dial.ensures ∙ c.loop-number.invariant
-  | else-wants_dial w ↦ ap (map (λ link. link.address)) (w.link-items-is ∙ set-get_or c.loop-number.link-items c.loop-number.number c.link-item.result) ∙ c.loop-number.invariant
+  | else-wants_dial w ↦ ap (map (λ link. link.address)) w.link-items-is
+      ∙ map-set_same (λ link. link.address) c.loop-number.link-items c.loop-number.number w.go_on.new.self c.link-item.result w.go_on.ensures ∙ c.loop-number.invariant
 ]
