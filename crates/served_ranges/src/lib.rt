@@ -13,4 +13,5 @@ pub use points::{model_of, point_of_entry, point_of_tag};
 // what they may have to say, and whether they always say it
 pub use shown::{
     Demand, always_shows_stored, always_shows_total, demand_of_stored, demand_of_total,
+    is_always_met,
 };
