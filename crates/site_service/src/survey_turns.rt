@@ -18,7 +18,10 @@ const ROUND: u64 = 600_000;
 
 /// How long a survey waits: for a device's reply so many milliseconds, half of a round at most.
 pub fn survey_limits(timeout: u64) -> Limits {
-    limits(ROUND, timeout, 0)
+    Limits {
+        search_again: ROUND,
+        ..limits(ROUND, timeout, 0)
+    }
 }
 
 /// Brings a survey, of which nothing was asked yet and whose limits are `survey_limits`, to the end of its scan: each device
@@ -57,7 +60,8 @@ struct SurveyRound {
     tokens: Tokens,
     links: Links,
     start: Instant,
-    /// By how many milliseconds the service's time is ahead of the clock: the round begins as soon as it may.
+    /// By how many milliseconds the service's time is ahead of the clock: the round begins as soon as each device has a map or
+    /// hasn't.
     ahead: u64,
     /// Of each device, whether a search found that it has no map.
     unmapped: Vec<bool>,
@@ -102,7 +106,7 @@ impl SurveyRound {
             return true;
         }
         if self.ahead == 0 && self.is_settled(service) {
-            self.ahead = ROUND;
+            self.ahead = ROUND.saturating_sub(now);
         }
         false
     }

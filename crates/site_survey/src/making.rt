@@ -10,7 +10,7 @@ use site_model::Site;
 use std::alloc::Global;
 
 /// Why there is no survey.
-#[derive(Clone, Copy, Debug, PartialEq, Eq)]
+#[derive(Clone, Copy)]
 pub enum NoSurvey {
     /// The site has outputs: a service of it would write to devices.
     HasOutputs,

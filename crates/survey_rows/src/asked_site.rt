@@ -7,7 +7,7 @@ use toml::{Table, Value};
 const COMMON_POINT: &str = "DA";
 
 /// Why there is no such text.
-#[derive(Clone, Copy, Debug, PartialEq, Eq)]
+#[derive(Clone, Copy)]
 pub enum AskedFault {
     /// The text is no site file.
     NoSite,
