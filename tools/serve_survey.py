@@ -38,15 +38,16 @@ NOTHING = "nothing is wrong\n"
 
 
 class Recorder(OwnDevice):
-    """A device that keeps the functions by which it was asked."""
+    """A device that keeps the functions by which it was asked; one of its units may be silent."""
 
-    def __init__(self, units):
-        self.functions = set()
+    def __init__(self, units, silent_unit=None):
+        self.functions, self.silent_unit = set(), silent_unit
         super().__init__(units)
 
-    def reply(self, unit, pdu):
+    def answer(self, it, number, unit, pdu):
         self.functions.add(pdu[0])
-        return super().reply(unit, pdu)
+        if unit != self.silent_unit:
+            super().answer(it, number, unit, pdu)
 
 
 def words_of(text, addr):
@@ -129,6 +130,20 @@ def try_wrong(counts, program, folder):
                ["found 1 101 123 Mn ", "device inv1 lacks 103: it has 1 101 123; ".replace("inv1 ", "inv1 "), "input w1 inv1 103 W missing NoBlock: see device inv1\n", "2 things are wrong\n"])
 
 
+def try_shared(counts, program, folder):
+    """Three units behind one address, of which one answers nothing: that costs one wait, and the others are read."""
+    units = {1: registers(1, {LIMIT_FACTOR: 0}), 2: {}, 3: registers(3)}
+    device = Recorder(units, silent_unit=2)
+    text = GATEWAY + "".join(DEVICE.format(n=n) for n in units) + "".join(TAG.format(name=f"w{n}", n=n, **WATTS) for n in units)
+    began = time.monotonic()
+    ran = survey(program, put(folder, "shared.toml", text), "--devices", device.address(), "--timeout", "400")
+    took = time.monotonic() - began
+    counts.note("a silent unit among others", ran.returncode == 1 and f"device inv2 {device.address()} unit 2 lost Silent: " in ran.stdout and
+                "input w1 inv1 103 W 1 raw 1 factor 0\ninput w2 inv2 103 W missing NoBlock: see device inv2\ninput w3 inv3 103 W 3 raw 3 factor 0\n2 things are wrong\n" in ran.stdout, ran)
+    counts.note("it costs one wait, over one connection", 0.4 <= took < 0.8 and device.came == 1 and device.functions == {3}, (took, device.came))
+    device.gone()
+
+
 def try_words(counts, program, folder):
     site, limiter = f"{TOP}/examples/site.toml", f"{TOP}/examples/limiter.il"
     bad = put(folder, "bad.il", "PROGRAM p\nLD 1\n")
@@ -158,5 +173,6 @@ def try_many(counts, program, folder):
 def try_all(counts, program, folder):
     try_well(counts, program, folder)
     try_wrong(counts, program, folder)
+    try_shared(counts, program, folder)
     try_words(counts, program, folder)
     try_many(counts, program, folder)

@@ -4,7 +4,7 @@
 //! words nothing is proved but that they end and are safe.
 #![tactic(auto)]
 
-mod asked_site;
+mod asked_text;
 mod decimal;
 mod device_rows;
 mod helps;
@@ -22,7 +22,7 @@ mod table;
 mod tests;
 
 // the site file as a survey asks it
-pub use asked_site::{AskedFault, asked_site};
+pub use asked_text::{AskedFault, asked_site};
 // the table
 pub use survey::Survey;
 pub use table::{Table, table_of};

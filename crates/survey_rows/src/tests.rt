@@ -1,5 +1,5 @@
 //! The site as it is asked, and values as decimal numbers.
-use crate::asked_site::{AskedFault, asked_site};
+use crate::asked_text::{AskedFault, asked_site};
 use crate::decimal::decimal;
 use std::fmt::Debug;
 use std::process::Abort;
