@@ -170,12 +170,15 @@ class OwnDevice:
             while head := it.recv(7, socket.MSG_WAITALL):
                 number, _, length, unit = struct.unpack(">HHHB", head)
                 pdu = it.recv(length - 1, socket.MSG_WAITALL)
-                if not self.silent:
-                    reply = self.reply(unit, pdu)
-                    it.sendall(struct.pack(">HHHB", number, 0, len(reply) + 1, unit) + reply)
+                self.answer(it, number, unit, pdu)
         except (OSError, struct.error):
             pass
         close(it)
+
+    def answer(self, it, number, unit, pdu):
+        if not self.silent:
+            reply = self.reply(unit, pdu)
+            it.sendall(struct.pack(">HHHB", number, 0, len(reply) + 1, unit) + reply)
 
     def reply(self, unit, pdu):
         registers, function = self.units.get(unit), pdu[0]

@@ -1,6 +1,7 @@
 //! The words that a command line may have.
 use crate::help;
 use crate::serve_words::serve_command;
+use crate::survey_words::survey_command;
 use clap::builder::ValueParser;
 use clap::{Arg, ArgAction, Command};
 use std::alloc::{AllocError, Global};
@@ -18,6 +19,7 @@ pub fn command<'a>(alloc: Global) -> Result<Command<'a>, AllocError> {
     let command = with_subcommand(command, explain_command(alloc))?;
     let command = with_subcommand(command, simulate_command(alloc))?;
     let command = with_subcommand(command, run_command(alloc))?;
+    let command = with_subcommand(command, survey_command(alloc))?;
     let command = with_subcommand(command, serve_command(alloc))?;
     with_subcommand(command, probe_command(alloc))
 }
@@ -97,6 +99,11 @@ pub(crate) fn site_file<'a>(alloc: Global) -> Arg<'a> {
 
 pub(crate) fn program_file<'a>(alloc: Global) -> Arg<'a> {
     word(alloc, "PROGRAM", "the program (Instruction List)")
+}
+
+/// A program that isn't needed.
+pub(crate) fn program_word<'a>(alloc: Global) -> Arg<'a> {
+    Arg::new(alloc, "PROGRAM").help("the program (Instruction List), which is judged before")
 }
 
 fn port_word<'a>(alloc: Global) -> Arg<'a> {

@@ -7,6 +7,8 @@ use crate::serve_words::{Misuse, keeping_of, service_limits, service_words, serv
 use crate::service_run::{ServiceRun, run_service};
 use crate::sources::{Refusal, Sources, read_sources, read_state};
 use crate::standard_input::misuse;
+use crate::survey_run::{SurveyRun, run_survey};
+use crate::survey_words::survey_devices;
 use crate::trial_input::trial_of;
 use clap::error::ErrorKind;
 use clap::{ArgMatches, Error};
@@ -231,6 +233,7 @@ fn obey_on_texts<W: Write>(
     match file_command(name, matches) {
         Some(command) => obey_on(rt, alloc, itself, command, &notes, out),
         None if name == "serve" => served(rt, alloc, itself, matches, &notes, out),
+        None if name == "survey" => surveyed(rt, alloc, matches, &notes, out),
         None => BAD_COMMAND_LINE,
     }
 }
@@ -250,6 +253,29 @@ fn unread<W: Write>(
         }
     }
     status
+}
+
+/// Runs `survey` on the texts of the files.
+fn surveyed<W: Write>(
+    rt: &(impl Print + Eprint + AllocGlobal + Clock + Net),
+    alloc: Global,
+    matches: &ArgMatches<'_>,
+    notes: &Notes<'_>,
+    out: &mut W,
+) -> u8 {
+    match survey_devices(matches) {
+        Ok(devices) => {
+            notes.warn(rt);
+            let run = SurveyRun {
+                notes: *notes,
+                has_program: matches.get_str("PROGRAM").is_some(),
+                devices,
+                timeout: matches.get_one("timeout").unwrap_or(1000),
+            };
+            run_survey(rt, alloc, &run, out)
+        }
+        Err(why) => tell_misuse(rt, alloc, why, out),
+    }
 }
 
 /// Runs `serve` on the texts of the files, once the file of set values is read.

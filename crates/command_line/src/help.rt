@@ -52,6 +52,15 @@ standard input:
 
 Status: 0 well; 1 refused; 2 no such command line; 3 a link failed";
 
+pub(crate) const SURVEY: &str =
+    "Connects to each device, finds its map and reads what the site file names, once; nothing is written. Prints a row for each
+device, tag and sum, with what is wrong and what to do, and last how many things are wrong. SITE or PROGRAM can be '-',
+standard input:
+  sunsite survey site.toml
+  sunsite survey site.toml program.il --devices 192.0.2.7:502
+
+Status: 0 nothing is wrong; 1 something is, or refused; 2 no such command line; 3 the clock or a socket can't be had";
+
 pub(crate) const SERVE: &str =
     "Prints 'started TIME ..', 'accepted', 'budget N' and 'listening ADDR', and then a line for each change, which begins with
 the seconds since the start, or with --times utc with the time of day. It ends after --scans N, or by a signal. SITE or

@@ -27,6 +27,8 @@ mod socket;
 mod source;
 mod sources;
 mod standard_input;
+mod survey_run;
+mod survey_words;
 mod trial_input;
 mod unreached;
 mod unwritten;
@@ -49,6 +51,8 @@ pub use plant_lines::{NoPort, told_port};
 pub use probe_link::{ProbeAddress, ProbeRun};
 // a service on a site
 pub use service_run::{ServiceRun, run_service};
+// a survey of a site
+pub use survey_run::{SurveyRun, run_survey};
 // what a run tells of what is missing and of outputs that it doesn't write, and why a link failed
 pub use link_cause::cause_of_link;
 pub use missing::MissingWatch;

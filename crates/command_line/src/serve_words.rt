@@ -20,6 +20,9 @@ const USUAL_TIMES: &str = "seconds";
 /// What is wrong with another address.
 const UNKNOWN_LISTEN: Misuse = Misuse::Words("'--listen' is no HOST:PORT that is known");
 
+/// What is wrong with the address of all devices.
+pub(crate) const NO_PORT: &str = "'--devices' is no HOST:PORT";
+
 /// From one scan to the next, and the longest wait for a device's reply, where no other is asked for, in milliseconds.
 const USUAL: &str = "1000";
 
@@ -59,7 +62,7 @@ fn with_ways<'a>(alloc: Global, command: Command<'a>) -> Result<Command<'a>, All
         .arg(definition_files(alloc))
 }
 
-fn devices_option<'a>(alloc: Global) -> Arg<'a> {
+pub(crate) fn devices_option<'a>(alloc: Global) -> Arg<'a> {
     option(
         alloc,
         "devices",
@@ -187,7 +190,7 @@ impl From<WriterFault> for Misuse {
 impl From<DevicesFault> for Misuse {
     fn from(fault: DevicesFault) -> Self {
         match fault {
-            DevicesFault::NoPort => Misuse::Words("'--devices' is no HOST:PORT"),
+            DevicesFault::NoPort => Misuse::Words(NO_PORT),
             DevicesFault::Both => Misuse::Words("'--devices' and '--plant' don't go together"),
         }
     }

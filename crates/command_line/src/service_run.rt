@@ -138,7 +138,7 @@ fn tell_accepted<W: Write>(alloc: Global, budget: u32, out: &mut W) -> u8 {
 }
 
 /// Tells why there is no core, and gives the status.
-fn tell_no_core<W: Write>(alloc: Global, fault: CoreFault, out: &mut W) -> u8 {
+pub(crate) fn tell_no_core<W: Write>(alloc: Global, fault: CoreFault, out: &mut W) -> u8 {
     if fault == CoreFault::OutOfMemory {
         return tell_no_memory(out);
     }

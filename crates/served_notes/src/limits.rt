@@ -5,7 +5,7 @@ use site_model::raw_range;
 
 /// The least and the greatest number that a point says, in units of 10^exponent, where its factor is no coarser.
 #[derive(Clone, Copy, PartialEq, Eq, Debug)]
-pub(crate) struct Limits {
+pub struct Limits {
     pub least: i128,
     pub most: i128,
 }

@@ -4,7 +4,7 @@ use served_ranges::Demand;
 
 /// Why a point doesn't always show what it is to.
 #[derive(Clone, Copy, PartialEq, Eq, Debug)]
-pub(crate) enum Reason {
+pub enum Reason {
     /// It has no scale factor.
     NoFactor,
     /// Its scale factor is coarser than the numbers.
@@ -18,7 +18,7 @@ pub(crate) enum Reason {
 }
 
 /// Why a demand isn't always met.
-pub(crate) fn reason_of(demand: &Demand) -> Reason {
+pub fn reason_of(demand: &Demand) -> Reason {
     let Some(factor) = demand.factor else {
         return Reason::NoFactor;
     };

@@ -64,8 +64,8 @@ fn rest_of(
     }
 }
 
-/// The word of a kind.
-pub(crate) fn kind_word(kind: Kind) -> &'static str {
+/// The word of a kind, as definitions have it.
+pub fn kind_word(kind: Kind) -> &'static str {
     match kind {
         Kind::Int16 => "int16",
         Kind::Uint16 => "uint16",

@@ -17,4 +17,5 @@ pub use set_points::{demand_of_set, factor_for_range};
 // what they may have to say, and whether they always say it
 pub use shown::{
     Demand, always_shows_stored, always_shows_total, demand_of_stored, demand_of_total,
+    is_always_met,
 };

@@ -78,8 +78,8 @@ fn demand_at(site: &Site, model: u16, exponent: i8, low: i128, high: i128, point
     }
 }
 
-/// Whether each number that a point may have to say is shown. A total is none outside LINT's range.
-fn is_always_met(demand: &Demand) -> bool
+/// Whether each number that a point may have to say is said. A total is none outside LINT's range.
+pub fn is_always_met(demand: &Demand) -> bool
     requires { IsExponent demand.now.exponent }
     ensures shown { IsTrue result → AllAreShown demand.now.kind demand.now.factor demand.now.exponent demand.now.low demand.now.high }
     ensures low { IsTrue result → neg_ℤ (pos (2 ^ 63)) ≤ℤ demand.now.low }

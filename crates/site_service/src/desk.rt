@@ -217,7 +217,7 @@ impl<'a, W: Write> Desk<'a, W> {
     }
 }
 
-fn milliseconds(spent: Duration) -> u64 {
+pub(crate) fn milliseconds(spent: Duration) -> u64 {
     spent
         .as_secs()
         .saturating_mul(1000)

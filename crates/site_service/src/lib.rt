@@ -32,6 +32,7 @@ mod status_alarms;
 mod status_devices;
 mod status_file;
 mod status_tags;
+mod survey_turns;
 mod telling;
 mod tokens;
 mod turns;
@@ -44,5 +45,7 @@ pub use serving::{End, Serving};
 pub use state_fault::StateFault;
 pub use turns::serve_site;
 pub use wall_clock::seconds_of_day;
+// a survey of a site
+pub use survey_turns::{survey_limits, survey_site};
 // a simulated plant behind a port, for several connections at once
 pub use plant_door::PlantDoor;

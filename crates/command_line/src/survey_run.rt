@@ -1,0 +1,199 @@
+//! The command `survey`: how the devices of a site stand, before its first start.
+use crate::failing::tell_lost;
+use crate::service_places::tell_unreachable;
+use crate::service_run::tell_no_core;
+use crate::shown::warn_on_site;
+use commands::definitions::definitions;
+use commands::{Accepted, Outcome, accept, tell_no_memory, write_lines};
+use gateway::CoreFault;
+use modbus_frame::LinkFault;
+use refusal_notes::Notes;
+use scan_vm::Machine;
+use service_core::Service;
+use service_texts::{Addresses, Devices, addresses_of};
+use site_model::Site;
+use site_service::{End, survey_limits, survey_site};
+use site_survey::{NoSurvey, survey_of};
+use std::alloc::{AllocError, Global};
+use std::io::Write;
+use std::net::Net;
+use std::time::Clock;
+use survey_rows::{AskedFault, Survey, asked_site, table_of};
+
+/// The program of a survey: it does nothing.
+const NO_PROGRAM: &str = "PROGRAM survey\nEND_PROGRAM\n";
+
+/// What is told where the site as it is asked would be written to: no text leads to that.
+const HAS_OUTPUTS: &[u8] = b"refused: survey HasOutputs\n";
+
+/// What a survey is of.
+#[derive(Clone, Copy)]
+pub struct SurveyRun<'n, 'a> {
+    /// The files of the site, the program and the definitions, and whether a refusal is explained.
+    pub notes: Notes<'n>,
+    /// Whether there is a program, which is judged before.
+    pub has_program: bool,
+    pub devices: Devices<'a>,
+    /// How long a device may take to answer, in milliseconds.
+    pub timeout: u64,
+}
+
+/// Looks at the devices of a site, writes nothing to them, and prints what it finds. Gives the status: 0 where nothing is
+/// wrong, 1 where something is, for a refusal or a failed write, 2 where it isn't said where a device is, 3 where the clock or
+/// a socket can't be had.
+pub fn run_survey<R: Net + Clock + Print + Eprint + AllocGlobal, W: Write>(
+    rt: &R,
+    alloc: Global,
+    run: &SurveyRun<'_, '_>,
+    out: &mut W,
+) -> u8 {
+    let notes = &run.notes;
+    let program = if run.has_program {
+        notes.program
+    } else {
+        NO_PROGRAM
+    };
+    match accept(alloc, notes.site, program, notes.defs) {
+        Ok(Ok(given)) => survey_accepted(rt, alloc, run, &given.site, out),
+        Ok(Err(outcome)) => tell_refused(rt, notes, &outcome, out),
+        Err(AllocError) => tell_no_memory(out),
+    }
+}
+
+fn tell_refused<R: Eprint + AllocGlobal, W: Write>(
+    rt: &R,
+    notes: &Notes<'_>,
+    outcome: &Outcome,
+    out: &mut W,
+) -> u8 {
+    let status = outcome.tell(out);
+    notes.explain(rt, &outcome.cause);
+    status
+}
+
+/// Surveys a site that its file describes.
+fn survey_accepted<R: Net + Clock + Print + Eprint + AllocGlobal, W: Write>(
+    rt: &R,
+    alloc: Global,
+    run: &SurveyRun<'_, '_>,
+    site: &Site,
+    out: &mut W,
+) -> u8 {
+    match addresses_of(alloc, run.devices, run.notes.site, site.devices()) {
+        Ok(addresses) => {
+            warn_on_site(rt, &run.notes, site);
+            survey_at(rt, alloc, run, site, &addresses, out)
+        }
+        Err(fault) => tell_unreachable(rt, alloc, site, fault, out),
+    }
+}
+
+fn survey_at<R: Net + Clock + Print + Eprint + AllocGlobal, W: Write>(
+    rt: &R,
+    alloc: Global,
+    run: &SurveyRun<'_, '_>,
+    site: &Site,
+    addresses: &Addresses,
+    out: &mut W,
+) -> u8 {
+    match asked(alloc, &run.notes) {
+        Ok(Ok(given)) => match service_for(alloc, run, given, addresses) {
+            Ok(mut service) => survey_by(rt, alloc, run, site, addresses, &mut service, out),
+            Err(fault) => tell_none(alloc, fault, out),
+        },
+        Ok(Err(outcome)) => tell_refused(rt, &run.notes, &outcome, out),
+        Err(AllocError) => tell_no_memory(out),
+    }
+}
+
+/// The site as it is asked, with the program that does nothing. Where it has no room for tags on the common models, or no
+/// definition has the point that they are on, it goes without them.
+fn asked(alloc: Global, notes: &Notes<'_>) -> Result<Result<Accepted, Outcome>, AllocError> {
+    match asked_with(alloc, notes, true) {
+        Ok(Err(_)) => asked_with(alloc, notes, false),
+        asked => asked,
+    }
+}
+
+fn asked_with(
+    alloc: Global,
+    notes: &Notes<'_>,
+    identities: bool,
+) -> Result<Result<Accepted, Outcome>, AllocError> {
+    match asked_site(alloc, notes.site, identities) {
+        Ok(text) => accept(alloc, text.as_str(), NO_PROGRAM, notes.defs),
+        Err(AskedFault::NoSite) => accept(alloc, notes.site, NO_PROGRAM, notes.defs),
+        Err(AskedFault::OutOfMemory) => Err(AllocError),
+    }
+}
+
+/// A service that reads the site as it is asked.
+fn service_for(
+    alloc: Global,
+    run: &SurveyRun<'_, '_>,
+    given: Accepted,
+    addresses: &Addresses,
+) -> Result<Service, NoSurvey> {
+    let Accepted { site, verified } = given;
+    match Machine::new(alloc, verified) {
+        Ok(machine) => survey_of(
+            alloc,
+            site,
+            machine,
+            addresses.links.len(),
+            addresses.stations.as_slice(),
+            survey_limits(run.timeout),
+        ),
+        Err(AllocError) => Err(NoSurvey::NoCore(CoreFault::OutOfMemory)),
+    }
+}
+
+fn tell_none<W: Write>(alloc: Global, fault: NoSurvey, out: &mut W) -> u8 {
+    match fault {
+        NoSurvey::HasOutputs => write_lines(out, HAS_OUTPUTS, 1),
+        NoSurvey::NoCore(fault) => tell_no_core(alloc, fault, out),
+    }
+}
+
+/// Surveys a site by a service that reads it.
+fn survey_by<R: Net + Clock + Eprint + AllocGlobal, W: Write>(
+    rt: &R,
+    alloc: Global,
+    run: &SurveyRun<'_, '_>,
+    site: &Site,
+    addresses: &Addresses,
+    service: &mut Service,
+    out: &mut W,
+) -> u8 {
+    match survey_site(rt, alloc, addresses.links.as_slice(), service) {
+        Ok(()) => tell_table(alloc, run, site, addresses, service, out),
+        Err(End::OutOfMemory) => tell_no_memory(out),
+        Err(_) => tell_lost(rt, alloc, &run.notes, LinkFault::Read, out),
+    }
+}
+
+fn tell_table<W: Write>(
+    alloc: Global,
+    run: &SurveyRun<'_, '_>,
+    site: &Site,
+    addresses: &Addresses,
+    service: &Service,
+    out: &mut W,
+) -> u8 {
+    let Ok(models) = definitions(alloc, run.notes.defs) else {
+        return tell_no_memory(out);
+    };
+    let survey = Survey {
+        service,
+        site,
+        models: models.as_slice(),
+        addresses,
+    };
+    match table_of(alloc, &survey) {
+        Ok(table) => {
+            let status = if table.wrong == 0 { 0 } else { 1 };
+            write_lines(out, table.text.as_bytes(), status)
+        }
+        Err(AllocError) => tell_no_memory(out),
+    }
+}

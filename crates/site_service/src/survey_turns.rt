@@ -1,0 +1,167 @@
+//! The turns of a survey: connections to devices alone, until each device has a map or hasn't, and then one scan.
+use crate::desk::milliseconds;
+use crate::links::Links;
+use crate::serving::End;
+use crate::tokens::{Owner, Tokens};
+use mio::{Events, Poll};
+use service_core::{Limits, Note, Service};
+use service_texts::limits;
+use site_model::Text;
+use std::alloc::Global;
+use std::io;
+use std::net::Net;
+use std::time::{Clock, Duration, Instant};
+
+/// From the start of a survey to its round at the latest, in milliseconds: the longest that connections and searches may
+/// take. For its reads a round has half of that. No device is tried a second time before.
+const ROUND: u64 = 600_000;
+
+/// How long a survey waits: for a device's reply so many milliseconds, half of a round at most.
+pub fn survey_limits(timeout: u64) -> Limits {
+    Limits {
+        search_again: ROUND,
+        ..limits(ROUND, timeout, 0)
+    }
+}
+
+/// Brings a survey, of which nothing was asked yet and whose limits are `survey_limits`, to the end of its scan: each device
+/// is connected and searched once, all side by side, and once each has a map or hasn't, each wanted block is read. `links`
+/// are the addresses of its connections. Nothing that a device does ends it. System: the clock or the wait for sockets failed;
+/// OutOfMemory: memory was refused at the start.
+pub fn survey_site<R: Net + Clock>(
+    rt: &R,
+    alloc: Global,
+    links: &[Text],
+    service: &mut Service,
+) -> Result<(), End> {
+    let mut round = match SurveyRound::new(rt, alloc, links, service) {
+        Ok(round) => round,
+        Err(fault) => return Err(End::by(&fault)),
+    };
+    for _ in 0..u64::MAX {
+        let now = round.now(rt)?;
+        if round.turn(rt, service, now) {
+            return Ok(());
+        }
+        // the turn may have put the time ahead
+        let now = round.now(rt)?;
+        if let Err(fault) = round.wait(service, now) {
+            return Err(End::by(&fault));
+        }
+    }
+    Ok(())
+}
+
+/// The round of a survey, with its sockets and its clock.
+#[derive(Drop)]
+struct SurveyRound {
+    poll: Poll,
+    events: Events,
+    tokens: Tokens,
+    links: Links,
+    start: Instant,
+    /// By how many milliseconds the service's time is ahead of the clock: the round begins as soon as each device has a map or
+    /// hasn't.
+    ahead: u64,
+    /// Of each device, whether a search found that it has no map.
+    unmapped: Vec<bool>,
+}
+
+impl SurveyRound {
+    fn new<R: Net + Clock>(
+        rt: &R,
+        alloc: Global,
+        links: &[Text],
+        service: &Service,
+    ) -> io::Result<SurveyRound> {
+        let tokens = Tokens::new(links.len());
+        let devices = service.core().site().devices().len();
+        Ok(SurveyRound {
+            poll: Poll::new(rt)?,
+            events: Events::with_capacity(alloc, links.len().saturating_add(1))?,
+            tokens,
+            links: Links::new(alloc, tokens, links)?,
+            start: Instant::now(rt)?,
+            ahead: 0,
+            unmapped: vec![in alloc; false; devices]?,
+        })
+    }
+
+    /// The service's time, in milliseconds.
+    fn now<R: Clock>(&self, rt: &R) -> Result<u64, End> {
+        match self.start.elapsed(rt) {
+            Ok(spent) => Ok(milliseconds(spent).saturating_add(self.ahead)),
+            Err(fault) => Err(End::by(&fault)),
+        }
+    }
+
+    /// One turn; whether the scan is done.
+    fn turn<R: Net>(&mut self, rt: &R, service: &mut Service, now: u64) -> bool {
+        service.tick(now);
+        self.links.receive(service, now);
+        self.links.hang_up(service, now);
+        self.links.dial(rt, self.poll.registry(), service, now);
+        self.links.send(service);
+        if self.is_scanned(service) {
+            return true;
+        }
+        if self.ahead == 0 && self.is_settled(service) {
+            self.ahead = ROUND.saturating_sub(now);
+        }
+        false
+    }
+
+    /// Takes what the service tells; whether its scan is done.
+    fn is_scanned(&mut self, service: &mut Service) -> bool {
+        for _ in 0..u64::MAX {
+            match service.next_note() {
+                None => return false,
+                Some(Note::Scanned(_)) => return true,
+                Some(Note::NoMap(device)) => self.find_none(device),
+                Some(_) => {}
+            }
+        }
+        false
+    }
+
+    fn find_none(&mut self, device: usize) {
+        if let Some(unmapped) = self.unmapped.get_mut(device) {
+            *unmapped = true;
+        }
+    }
+
+    /// Whether each device is lost, has a map, or has none.
+    fn is_settled(&self, service: &Service) -> bool {
+        for (device, unmapped) in self.unmapped.iter().enumerate() {
+            if !*unmapped && !is_tried(service, device) {
+                return false;
+            }
+        }
+        true
+    }
+
+    /// Waits until there is something to do.
+    fn wait(&mut self, service: &Service, now: u64) -> io::Result<()> {
+        let most = if self.links.is_busy(service) {
+            0
+        } else {
+            service.wakes_at().saturating_sub(now)
+        };
+        self.poll
+            .poll(&mut self.events, Some(Duration::from_millis(most)))?;
+        for event in self.events.iter() {
+            if let Owner::Link(number) = self.tokens.owner(event.token().0) {
+                self.links.wake(number);
+            }
+        }
+        Ok(())
+    }
+}
+
+/// Whether a device is lost or has a map.
+fn is_tried(service: &Service, device: usize) -> bool {
+    match service.device_status(device) {
+        Some(status) => status.is_lost || status.is_mapped,
+        None => true,
+    }
+}

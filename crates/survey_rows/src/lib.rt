@@ -1,0 +1,28 @@
+//! The table of a survey: the site file as it is asked, and after its scan one row for each device, model that a device
+//! lacks, input, output and served point, with what is wrong and what to do. What is wrong is computed as for alarms
+//! (site_alarms), and what of an output's range can't be said as writes are judged (point_writer, served_ranges); of the
+//! words nothing is proved but that they end and are safe.
+#![tactic(auto)]
+
+mod asked_text;
+mod decimal;
+mod device_rows;
+mod helps;
+mod identity;
+mod input_rows;
+mod output_rows;
+mod point_name;
+mod range_text;
+mod row;
+mod seen;
+mod served_rows;
+mod survey;
+mod table;
+#[cfg(test)]
+mod tests;
+
+// the site file as a survey asks it
+pub use asked_text::{AskedFault, asked_site};
+// the table
+pub use survey::Survey;
+pub use table::{Table, table_of};

@@ -1,0 +1,148 @@
+//! The rows of outputs: what they are now, and what of their ranges can't be written.
+use crate::decimal::decimal;
+use crate::input_rows::{met_text, missing, tag_subject};
+use crate::range_text::{no_factor, range_text};
+use crate::row::Rows;
+use crate::seen::Wrongs;
+use crate::survey::Survey;
+use point_types::Cause;
+use point_writer::factor;
+use served_notes::reason_of;
+use served_ranges::{Demand, is_always_met};
+use site_alarms::{Alarm, Met, Subject, met_at};
+use site_model::SiteTag;
+use std::alloc::{AllocError, Global};
+
+/// The rows of the `out` tags.
+pub(crate) fn output_rows(
+    alloc: Global,
+    survey: &Survey<'_>,
+    wrongs: &Wrongs,
+) -> Result<Rows, AllocError> {
+    let mut rows = Rows::new(alloc);
+    for (output, number) in survey.site.outs().iter().enumerate() {
+        if let Some(tag) = survey.site.tags().get(*number) {
+            let place = Place {
+                output,
+                number: *number,
+                tag,
+            };
+            push_output(alloc, &mut rows, survey, wrongs, place)?;
+        }
+    }
+    Ok(rows)
+}
+
+/// An output: its number among the outputs, and that of its tag.
+#[derive(Clone, Copy)]
+struct Place<'a> {
+    output: usize,
+    number: usize,
+    tag: &'a SiteTag,
+}
+
+fn push_output(
+    alloc: Global,
+    rows: &mut Rows,
+    survey: &Survey<'_>,
+    wrongs: &Wrongs,
+    place: Place<'_>,
+) -> Result<(), AllocError> {
+    let subject = tag_subject(alloc, "output", survey, place.tag)?;
+    match unreached(wrongs.with(Subject::Input(place.number))) {
+        Some(cause) => {
+            let said = missing(alloc, survey, wrongs, place.number, place.tag, cause)?;
+            rows.push(subject, said, true)
+        }
+        None => push_reached(alloc, rows, survey, place, subject),
+    }
+}
+
+/// Why a tag's point has no registers that are known; None where it has.
+fn unreached(wrong: Option<Alarm>) -> Option<Cause> {
+    match wrong {
+        Some(Alarm::InputMissing(_, cause @ (Cause::NoBlock | Cause::ShortModel))) => Some(cause),
+        _ => None,
+    }
+}
+
+/// The row of an output whose registers are known.
+fn push_reached(
+    alloc: Global,
+    rows: &mut Rows,
+    survey: &Survey<'_>,
+    place: Place<'_>,
+    subject: String,
+) -> Result<(), AllocError> {
+    let mut said = output_text(alloc, survey, place.tag)?;
+    let unsaid = unsaid_text(alloc, survey, place)?;
+    if let Some(unsaid) = &unsaid {
+        said.push_str(": ")?;
+        said.push_str(unsaid.as_str())?;
+    }
+    rows.push(subject, said, unsaid.is_some())
+}
+
+/// `LOW..HIGH now VALUE raw R factor F`, or `LOW..HIGH now NotImplemented`.
+fn output_text(alloc: Global, survey: &Survey<'_>, tag: &SiteTag) -> Result<String, AllocError> {
+    let low = decimal(alloc, i128::from(tag.low), tag.exponent)?;
+    let high = decimal(alloc, i128::from(tag.high), tag.exponent)?;
+    let now = now_text(alloc, met_at(survey.service.core(), tag))?;
+    format!(in alloc; "{low}..{high} now {now}")
+}
+
+fn now_text(alloc: Global, met: Option<Met>) -> Result<String, AllocError> {
+    let Some(met) = met else {
+        return String::from_str(alloc, "NotImplemented");
+    };
+    let mut text = match exponent_of(met.factor) {
+        Some(exponent) => decimal(alloc, met.raw, exponent)?,
+        None => String::from_str(alloc, "BadScale")?,
+    };
+    let rest = met_text(alloc, met)?;
+    text.push_str(rest.as_str())?;
+    Ok(text)
+}
+
+fn exponent_of(factor: Option<i16>) -> Option<i8> {
+    match factor {
+        Some(power @ -10..=10) => Some(power as i8),
+        _ => None,
+    }
+}
+
+/// What of an output's range can't be said by the factor that its device gave; None where each number can.
+fn unsaid_text(
+    alloc: Global,
+    survey: &Survey<'_>,
+    place: Place<'_>,
+) -> Result<Option<String>, AllocError> {
+    let tag = place.tag;
+    let factor = factor_of(survey, place.output);
+    if exponent_of(factor).is_none() {
+        return Ok(Some(no_factor(alloc)?));
+    }
+    let demand = Demand {
+        kind: tag.point,
+        factor,
+        exponent: tag.exponent,
+        low: i128::from(tag.low),
+        high: i128::from(tag.high),
+    };
+    if is_always_met(&demand) {
+        return Ok(None);
+    }
+    Ok(Some(range_text(alloc, &demand, reason_of(&demand))?))
+}
+
+/// The factor by which an output would be written.
+fn factor_of(survey: &Survey<'_>, output: usize) -> Option<i16> {
+    let core = survey.service.core();
+    let wants = survey.site.wants().len();
+    let blocks = core.scanned().get(..wants)?;
+    if output < survey.site.outs().len() {
+        factor(survey.site, blocks, core.maps(), output)
+    } else {
+        None
+    }
+}

@@ -1,0 +1,76 @@
+//! The rows of what clients are shown: sums, and what the program stores.
+use crate::decimal::decimal;
+use crate::row::Rows;
+use crate::seen::Wrongs;
+use crate::survey::Survey;
+use escaped_text::escaped;
+use gateway::total_of;
+use served_ranges::point_of_entry;
+use site_alarms::{Alarm, Subject, cause_text, mend, why_hidden};
+use site_model::{SiteTag, Source};
+use std::alloc::{AllocError, Global};
+
+/// The rows of the sums that clients are shown.
+pub(crate) fn served_rows(
+    alloc: Global,
+    survey: &Survey<'_>,
+    wrongs: &Wrongs,
+) -> Result<Rows, AllocError> {
+    let mut rows = Rows::new(alloc);
+    for (number, entry) in survey.site.served().iter().enumerate() {
+        if let Source::Sum(parts) = &entry.source {
+            let wrong = wrongs.with(Subject::Sum(number));
+            let subject = served_subject(alloc, survey, number)?;
+            let said = match wrong {
+                Some(alarm) => hidden(alloc, survey, alarm)?,
+                None => total_text(alloc, survey, parts.as_slice())?,
+            };
+            rows.push(subject, said, wrong.is_some())?;
+        }
+    }
+    Ok(rows)
+}
+
+/// `served MODEL POINT`.
+fn served_subject(alloc: Global, survey: &Survey<'_>, number: usize) -> Result<String, AllocError> {
+    let Some(entry) = survey.site.served().get(number) else {
+        return Ok(String::new(alloc));
+    };
+    let name = match point_of_entry(survey.site.models(), entry) {
+        Some(point) => escaped(alloc, point.name.as_str())?,
+        None => String::new(alloc),
+    };
+    let model = entry.model;
+    format!(in alloc; "served {model} {name}")
+}
+
+/// The total of some parts.
+fn total_text(alloc: Global, survey: &Survey<'_>, parts: &[usize]) -> Result<String, AllocError> {
+    let total = total_of(survey.service.core().readings(), parts);
+    match (total, exponent_of(survey.site.tags(), parts)) {
+        (Some(total), Some(exponent)) => decimal(alloc, i128::from(total), exponent),
+        _ => Ok(String::new(alloc)),
+    }
+}
+
+fn exponent_of(tags: &[SiteTag], parts: &[usize]) -> Option<i8> {
+    let first = parts.first()?;
+    Some(tags.get(*first)?.exponent)
+}
+
+/// `missing CAUSE: ` and why or what to do.
+fn hidden(alloc: Global, survey: &Survey<'_>, alarm: Alarm) -> Result<String, AllocError> {
+    let core = survey.service.core();
+    let cause = cause_text(alloc, core.site(), alarm)?;
+    let help = mend(alloc, core, alarm)?;
+    if !help.is_empty() {
+        return format!(in alloc; "missing {cause}: {help}");
+    }
+    match alarm {
+        Alarm::SumHidden(_, why) => {
+            let why = why_hidden(alloc, core.site(), alarm, why)?;
+            format!(in alloc; "missing {cause}: {why}")
+        }
+        _ => format!(in alloc; "missing {cause}"),
+    }
+}

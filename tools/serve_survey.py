@@ -1,0 +1,178 @@
+"""Plays of tools/try-serve on `sunsite survey`: what it says of devices that are well or not, and that it writes nothing."""
+
+import subprocess
+import time
+
+from serve_parts import TOP
+from serve_plays import BASE, DEVICE, GATEWAY, OwnDevice, inverter, put
+
+TAG = """
+[[tag]]
+name = "{name}"
+access = "{access}"
+device = "inv{n}"
+model = {model}
+point = "{point}"
+type = "{kind}"
+exponent = {exponent}
+low = {low}
+high = {high}
+"""
+WATTS = {"access": "in", "model": 103, "point": "W", "kind": "DINT", "exponent": 0, "low": -16000, "high": 16000}
+LIMIT = {"access": "out", "n": 1, "model": 123, "point": "WMaxLimPct", "kind": "INT", "exponent": 0, "low": 0, "high": 100}
+SUM = """
+[[served]]
+model = 103
+point = "W"
+sum = ["w1", "w2"]
+
+[[served]]
+model = 103
+point = "W_SF"
+value = 0
+"""
+# registers of `inverter`: the texts of its common model, its power with the factor, and the factor of its limit
+MAKER, MODEL, SERIAL = BASE + 4, BASE + 20, BASE + 52
+POWER, FACTOR, LIMIT_FACTOR = BASE + 84, BASE + 85, BASE + 145
+NOTHING = "nothing is wrong\n"
+
+
+class Recorder(OwnDevice):
+    """A device that keeps the functions by which it was asked; one of its units may be silent."""
+
+    def __init__(self, units, silent_unit=None):
+        self.functions, self.silent_unit = set(), silent_unit
+        super().__init__(units)
+
+    def answer(self, it, number, unit, pdu):
+        self.functions.add(pdu[0])
+        if unit != self.silent_unit:
+            super().answer(it, number, unit, pdu)
+
+
+def words_of(text, addr):
+    """The registers of a text."""
+    padded = text.encode() + b"\0" * (len(text) % 2)
+    return {addr + n // 2: padded[n] << 8 | padded[n + 1] for n in range(0, len(padded), 2)}
+
+
+def registers(watts, more=None):
+    """An inverter with a maker, a model and a serial number."""
+    texts = {MAKER + n: 0 for n in range(16)} | {MODEL + n: 0 for n in range(16)} | {SERIAL + n: 0 for n in range(16)}
+    return inverter(watts) | texts | words_of("Acme", MAKER) | words_of("X 10  ", MODEL) | words_of("12\n3", SERIAL) | (more or {})
+
+
+def site_of(folder, devices, limit=None, tags=None):
+    """A site of these devices, each at its own address as unit 1."""
+    text = GATEWAY + "".join(DEVICE.format(n=n) + f'remote_unit = 1\naddress = "{address}"\n' for n, address in enumerate(devices, 1))
+    for n, tag in enumerate(tags or [WATTS] * len(devices), 1):
+        text += TAG.format(name=f"w{n}", n=n, **tag)
+    text += TAG.format(name="lim1", **LIMIT | (limit or {})) + (SUM if len(devices) == 2 else "")
+    return put(folder, "surveyed.toml", text)
+
+
+def survey(program, *words):
+    return subprocess.run([program, "survey", *words], capture_output=True, text=True, check=False, timeout=30)
+
+
+def found(n, device):
+    return f'device inv{n} {device.address()} unit 1 found 1 103 123 Mn "Acme" Md "X 10" SN "12\\u{{a}}3"\n'
+
+
+def try_well(counts, program, folder):
+    devices = [Recorder({1: registers(4000, {LIMIT_FACTOR: 0})}), Recorder({1: registers(2500)})]
+    site = site_of(folder, [it.address() for it in devices])
+    ran = survey(program, site)
+    wanted = found(1, devices[0]) + found(2, devices[1])
+    wanted += "input w1 inv1 103 W 4000 raw 4000 factor 0\ninput w2 inv2 103 W 2500 raw 2500 factor 0\n"
+    wanted += "output lim1 inv1 123 WMaxLimPct 0..100 now 100 raw 100 factor 0\nserved 103 W 6500\n" + NOTHING
+    counts.note("a well site", (ran.returncode, ran.stdout, ran.stderr) == (0, wanted, ""), ran)
+    counts.note("it is asked for reads alone", [it.functions for it in devices] == [{3}, {3}] and not devices[0].written, devices[0].functions)
+    counts.note("one connection each", [it.came for it in devices] == [1, 1], [it.came for it in devices])
+    began = time.monotonic()
+    devices[1].gone()
+    ran = survey(program, site)
+    counts.note("a device that isn't there", ran.returncode == 1 and ran.stdout.startswith(found(1, devices[0]) + f"device inv2 {devices[1].address()} unit 1 lost Down: ") and
+                "input w2 inv2 103 W missing NoBlock: see device inv2\n" in ran.stdout and ran.stdout.endswith("served 103 W missing Part w2: w2 has no value of its own\n3 things are wrong\n"), ran)
+    devices[1].open()
+    devices[1].silent = True
+    ran = survey(program, site, "--timeout", "300")
+    counts.note("one that is silent costs one wait", ran.returncode == 1 and " unit 1 lost Silent: " in ran.stdout and time.monotonic() - began < 3, ran)
+    devices[1].silent = False
+    for it in devices:
+        it.gone()
+
+
+def try_device(counts, what, program, folder, words, limit, tag, lines):
+    """One device whose registers are these: then these lines come, of which the last one counts them."""
+    device = Recorder({1: words})
+    site = site_of(folder, [device.address()], limit, [WATTS | tag])
+    ran = survey(program, site)
+    status = 0 if lines[-1] == NOTHING else 1
+    counts.note(what, ran.returncode == status and all(line in ran.stdout for line in lines) and ran.stdout.endswith(lines[-1]) and device.functions == {3}, ran)
+    device.gone()
+
+
+def try_wrong(counts, program, folder):
+    one = "1 thing is wrong\n"
+    try_device(counts, "a finer reading", program, folder, registers(15007, {FACTOR: 0xFFFF, LIMIT_FACTOR: 0}), {}, {},
+               ['input w1 inv1 103 W missing Inexact raw 15007 factor -1: give the tag round = "down", or exponent = -1 with', one])
+    try_device(counts, "a value by its exponent", program, folder, registers(15007, {FACTOR: 0xFFFF, LIMIT_FACTOR: 0}), {}, {"exponent": -1}, ["W 1500.7 raw 15007 factor -1\n", NOTHING])
+    try_device(counts, "a range beyond the factor", program, folder, registers(1, {LIMIT_FACTOR: 0xFFFD}), {}, {},
+               ["output lim1 inv1 123 WMaxLimPct 0..100 now 0.100 raw 100 factor -3: 100 can't be said: uint16 by factor -3 reaches 65; ", one])
+    try_device(counts, "a range below the factor", program, folder, registers(1, {LIMIT_FACTOR: 0}), {"low": -5}, {}, [": -5 can't be said: uint16 by factor 0 begins at 0; ", one])
+    try_device(counts, "a factor that is too coarse", program, folder, registers(1, {LIMIT_FACTOR: 1}), {}, {}, ["now 1000 raw 100 factor 1: only multiples of 10 can be said: uint16 by factor 1; ", one])
+    try_device(counts, "no factor", program, folder, registers(1, {LIMIT_FACTOR: 0x8000}), {}, {}, ["now BadScale raw 100: nothing can be said (BadScale): ", one])
+    try_device(counts, "a set point that isn't one now", program, folder, registers(1, {LIMIT_FACTOR: 0, BASE + 127: 0xFFFF}), {}, {}, ["0..100 now NotImplemented\n", NOTHING])
+    try_device(counts, "no map", program, folder, {BASE: 1, BASE + 1: 2}, {}, {}, [" unit 1 lost NoMap: ", "3 things are wrong\n"])
+    other = registers(1, {LIMIT_FACTOR: 0, BASE + 70: 101})
+    try_device(counts, "a model that is missing", program, folder, other, {}, {},
+               ["found 1 101 123 Mn ", "device inv1 lacks 103: it has 1 101 123; ".replace("inv1 ", "inv1 "), "input w1 inv1 103 W missing NoBlock: see device inv1\n", "2 things are wrong\n"])
+
+
+def try_shared(counts, program, folder):
+    """Three units behind one address, of which one answers nothing: that costs one wait, and the others are read."""
+    units = {1: registers(1, {LIMIT_FACTOR: 0}), 2: {}, 3: registers(3)}
+    device = Recorder(units, silent_unit=2)
+    text = GATEWAY + "".join(DEVICE.format(n=n) for n in units) + "".join(TAG.format(name=f"w{n}", n=n, **WATTS) for n in units)
+    began = time.monotonic()
+    ran = survey(program, put(folder, "shared.toml", text), "--devices", device.address(), "--timeout", "400")
+    took = time.monotonic() - began
+    counts.note("a silent unit among others", ran.returncode == 1 and f"device inv2 {device.address()} unit 2 lost Silent: " in ran.stdout and
+                "input w1 inv1 103 W 1 raw 1 factor 0\ninput w2 inv2 103 W missing NoBlock: see device inv2\ninput w3 inv3 103 W 3 raw 3 factor 0\n2 things are wrong\n" in ran.stdout, ran)
+    counts.note("it costs one wait, over one connection", 0.4 <= took < 0.8 and device.came == 1 and device.functions == {3}, (took, device.came))
+    device.gone()
+
+
+def try_words(counts, program, folder):
+    site, limiter = f"{TOP}/examples/site.toml", f"{TOP}/examples/limiter.il"
+    bad = put(folder, "bad.il", "PROGRAM p\nLD 1\n")
+    check = subprocess.run([program, "check", site, bad], capture_output=True, text=True, check=False, timeout=20)
+    ran = survey(program, site, bad, "--devices", "127.0.0.1:1")
+    counts.note("a program is judged before", (ran.returncode, ran.stdout, ran.stderr) == (1, check.stdout, check.stderr), ran)
+    ran = survey(program, site, limiter, "--devices", "127.0.0.1:1")
+    counts.note("one that is accepted", ran.returncode == 1 and ran.stdout.startswith("device inv1 127.0.0.1:1 unit 1 lost Down: "), ran)
+    for words, out, err in (([site], "", "device 'inv1' has no 'address'"), ([site, "--devices", "here"], "", "'--devices' is no HOST:PORT"), ([site, "--timeout", "0"], "", "0")):
+        ran = survey(program, *words)
+        counts.note(words, (ran.returncode, ran.stdout) == (2, out) and err in ran.stderr, ran)
+
+
+def try_many(counts, program, folder):
+    """A site that has room for no tag more, and one that has the names of those that are added."""
+    device = Recorder({1: registers(1, {LIMIT_FACTOR: 0})})
+    text = GATEWAY + DEVICE.format(n=1) + f'address = "{device.address()}"\n'
+    tags = "".join(TAG.format(name=f"t{k}", n=1, **WATTS) for k in range(1024))
+    ran = survey(program, put(folder, "many.toml", text + tags))
+    counts.note("1,024 tags", ran.returncode == 0 and "found 1 103 123 Mn - Md - SN -\n" in ran.stdout and ran.stdout.endswith("input t1023 inv1 103 W 1 raw 1 factor 0\n" + NOTHING), ran.stdout[-200:])
+    named = "".join(TAG.format(name=f"asked_{k}", n=1, **WATTS) for k in (0, 1))
+    ran = survey(program, put(folder, "named.toml", text + named))
+    counts.note("names that are taken", ran.returncode == 0 and 'Mn "Acme"' in ran.stdout and ran.stdout.count("\n") == 4, ran)
+    device.gone()
+
+
+def try_all(counts, program, folder):
+    try_well(counts, program, folder)
+    try_wrong(counts, program, folder)
+    try_shared(counts, program, folder)
+    try_words(counts, program, folder)
+    try_many(counts, program, folder)
