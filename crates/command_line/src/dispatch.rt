@@ -257,7 +257,7 @@ fn unread<W: Write>(
 
 /// Runs `survey` on the texts of the files.
 fn surveyed<W: Write>(
-    rt: &(impl Print + Eprint + AllocGlobal + Clock + Net),
+    rt: &(impl Print + Eprint + AllocGlobal + Clock + Net + Processes<Started = SystemProcess>),
     alloc: Global,
     matches: &ArgMatches<'_>,
     notes: &Notes<'_>,

@@ -17,6 +17,7 @@ use site_survey::{NoSurvey, survey_of};
 use std::alloc::{AllocError, Global};
 use std::io::Write;
 use std::net::Net;
+use std::process::{Processes, SystemProcess};
 use std::time::Clock;
 use survey_rows::{AskedFault, Survey, asked_site, table_of};
 
@@ -41,12 +42,10 @@ pub struct SurveyRun<'n, 'a> {
 /// Looks at the devices of a site, writes nothing to them, and prints what it finds. Gives the status: 0 where nothing is
 /// wrong, 1 where something is, for a refusal or a failed write, 2 where it isn't said where a device is, 3 where the clock or
 /// a socket can't be had.
-pub fn run_survey<R: Net + Clock + Print + Eprint + AllocGlobal, W: Write>(
-    rt: &R,
-    alloc: Global,
-    run: &SurveyRun<'_, '_>,
-    out: &mut W,
-) -> u8 {
+pub fn run_survey<
+    R: Net + Clock + Processes<Started = SystemProcess> + Print + Eprint + AllocGlobal,
+    W: Write,
+>(rt: &R, alloc: Global, run: &SurveyRun<'_, '_>, out: &mut W) -> u8 {
     let notes = &run.notes;
     let program = if run.has_program {
         notes.program
@@ -72,13 +71,10 @@ fn tell_refused<R: Eprint + AllocGlobal, W: Write>(
 }
 
 /// Surveys a site that its file describes.
-fn survey_accepted<R: Net + Clock + Print + Eprint + AllocGlobal, W: Write>(
-    rt: &R,
-    alloc: Global,
-    run: &SurveyRun<'_, '_>,
-    site: &Site,
-    out: &mut W,
-) -> u8 {
+fn survey_accepted<
+    R: Net + Clock + Processes<Started = SystemProcess> + Print + Eprint + AllocGlobal,
+    W: Write,
+>(rt: &R, alloc: Global, run: &SurveyRun<'_, '_>, site: &Site, out: &mut W) -> u8 {
     match addresses_of(alloc, run.devices, run.notes.site, site.devices()) {
         Ok(addresses) => {
             warn_on_site(rt, &run.notes, site);
@@ -88,7 +84,10 @@ fn survey_accepted<R: Net + Clock + Print + Eprint + AllocGlobal, W: Write>(
     }
 }
 
-fn survey_at<R: Net + Clock + Print + Eprint + AllocGlobal, W: Write>(
+fn survey_at<
+    R: Net + Clock + Processes<Started = SystemProcess> + Print + Eprint + AllocGlobal,
+    W: Write,
+>(
     rt: &R,
     alloc: Global,
     run: &SurveyRun<'_, '_>,
@@ -156,7 +155,7 @@ fn tell_none<W: Write>(alloc: Global, fault: NoSurvey, out: &mut W) -> u8 {
 }
 
 /// Surveys a site by a service that reads it.
-fn survey_by<R: Net + Clock + Eprint + AllocGlobal, W: Write>(
+fn survey_by<R: Net + Clock + Processes<Started = SystemProcess> + Eprint + AllocGlobal, W: Write>(
     rt: &R,
     alloc: Global,
     run: &SurveyRun<'_, '_>,

@@ -10,6 +10,7 @@ use site_model::Text;
 use std::alloc::Global;
 use std::io;
 use std::net::Net;
+use std::process::{Processes, SystemProcess};
 use std::time::{Clock, Duration, Instant};
 
 /// From the start of a survey to its round at the latest, in milliseconds: the longest that connections and searches may
@@ -28,7 +29,7 @@ pub fn survey_limits(timeout: u64) -> Limits {
 /// is connected and searched once, all side by side, and once each has a map or hasn't, each wanted block is read. `links`
 /// are the addresses of its connections. Nothing that a device does ends it. System: the clock or the wait for sockets failed;
 /// OutOfMemory: memory was refused at the start.
-pub fn survey_site<R: Net + Clock>(
+pub fn survey_site<R: Net + Clock + Processes<Started = SystemProcess>>(
     rt: &R,
     alloc: Global,
     links: &[Text],
@@ -38,6 +39,17 @@ pub fn survey_site<R: Net + Clock>(
         Ok(round) => round,
         Err(fault) => return Err(End::by(&fault)),
     };
+    let ended = turns(rt, service, &mut round);
+    round.links.end();
+    ended
+}
+
+// Turns and waits, until the scan is done.
+fn turns<R: Net + Clock + Processes<Started = SystemProcess>>(
+    rt: &R,
+    service: &mut Service,
+    round: &mut SurveyRound,
+) -> Result<(), End> {
     for _ in 0..u64::MAX {
         let now = round.now(rt)?;
         if round.turn(rt, service, now) {
@@ -96,7 +108,12 @@ impl SurveyRound {
     }
 
     /// One turn; whether the scan is done.
-    fn turn<R: Net>(&mut self, rt: &R, service: &mut Service, now: u64) -> bool {
+    fn turn<R: Net + Processes<Started = SystemProcess>>(
+        &mut self,
+        rt: &R,
+        service: &mut Service,
+        now: u64,
+    ) -> bool {
         service.tick(now);
         self.links.receive(service, now);
         self.links.hang_up(service, now);
