@@ -1,5 +1,6 @@
 """Plays of tools/try-serve on devices whose addresses are names: they are looked up by a second process, which holds up nobody."""
 
+import itertools
 import os
 import signal
 import socket
@@ -15,6 +16,8 @@ GETENT = "/usr/bin/getent"
 UNKNOWN = "nowhere.invalid"
 # how long a lookup takes that never ends, in seconds: by this number its process is known
 LONG = f"100{os.getpid()}"
+# each script has a file of its own, since one that still runs can't be written
+NUMBERS = itertools.count()
 
 
 class NamedDevice(OwnDevice):
@@ -101,7 +104,7 @@ def play_no_process(counts, program, folder):
 
 def namespace(folder, lookup, mode=0o755):
     """The words before a program that has a script in place of the lookup of names."""
-    path = put(folder, "getent", f"#!/bin/sh\n{lookup}\n")
+    path = put(folder, f"getent{next(NUMBERS)}", f"#!/bin/sh\n{lookup}\n")
     os.chmod(path, mode)
     return ["unshare", "-rm", "sh", "-c", f'mount --bind "{path}" {GETENT} && exec "$@"', "sh"]
 

@@ -4,7 +4,7 @@ ghost use Rattle.std.specs.Prelude.{◌≡◌, IfOk};
 use crate::link_bytes::{FromLink, ToLink};
 use crate::link_state::{Fate, LinkState};
 use mio::{Registry, Token};
-use name_lookup::Progress;
+use name_lookup::{Progress, Target, target_of};
 use service_core::Service;
 use site_model::Text;
 use std::alloc::{AllocError, Global};
@@ -46,7 +46,8 @@ impl Link {
         self.state.is_busy(waiting)
     }
 
-    /// Begins a connection, by the lookup of its name where it has one, or tells that it can't be made.
+    /// Begins a connection, by the lookup of its name where it has one, or tells that it can't be made. The start of a process
+    /// takes a moment, so where one was started before in this turn nothing happens: the dial is wanted in the next one too.
     pub(crate) fn dial<R: Net + Processes<Started = SystemProcess>>(
         &mut self,
         rt: &R,
@@ -56,9 +57,16 @@ impl Link {
         service: &mut Service,
         number: usize,
         now: u64,
+        has_started: &mut bool,
     )
         ensures { self.new.address ≡ self.old.address }
     {
+        if self.has_name() {
+            if *has_started {
+                return;
+            }
+            *has_started = true;
+        }
         self.state.end();
         self.state = LinkState::begun(rt, alloc, registry, token, self.address.as_str());
         self.is_told = false;
@@ -67,6 +75,11 @@ impl Link {
         } else {
             service.dial_began(number, now);
         }
+    }
+
+    // Whether its address has a name, which each dial looks up.
+    fn has_name(&self) -> bool {
+        matches!(target_of(self.address.as_str()), Some(Target::Name(_, _)))
     }
 
     /// Goes on from the lookup of its name to the connection, or tells that it can't be made. A dial began with the lookup, so

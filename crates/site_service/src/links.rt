@@ -88,10 +88,20 @@ impl Links {
         ensures { map (λ link. link.address) self.new.links.items ≡ map (λ link. link.address) self.old.links.items }
     {
         let (alloc, tokens) = (self.alloc, self.tokens);
+        let mut has_started = false;
         for (number, link) in self.links.iter_mut().enumerate() {
             let token = Token(tokens.of_link(number));
             if service.wants_dial(number) {
-                link.dial(rt, alloc, registry, token, service, number, now);
+                link.dial(
+                    rt,
+                    alloc,
+                    registry,
+                    token,
+                    service,
+                    number,
+                    now,
+                    &mut has_started,
+                );
             } else {
                 link.go_on(rt, registry, token, service, number, now);
             }
