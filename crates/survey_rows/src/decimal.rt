@@ -40,7 +40,8 @@ fn with_places(alloc: Global, number: i128, places: u32) -> Result<String, Alloc
     let mut text = format!(in alloc; "{sign}{whole}")?;
     let part = format!(in alloc; "{part}")?;
     text.push_str(".")?;
-    push_zeros(&mut text, places.saturating_sub(part.len() as u32))?;
+    let missing = places.saturating_sub(u32::try_from(part.len()).unwrap_or(places));
+    push_zeros(&mut text, missing)?;
     text.push_str(part.as_str())?;
     Ok(text)
 }

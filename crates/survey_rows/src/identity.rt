@@ -97,11 +97,13 @@ fn bytes_of(alloc: Global, words: &[u16]) -> Result<Vec<u8>, AllocError> {
 
 /// A text without the blanks at its end.
 fn trimmed(bytes: &[u8]) -> &[u8] {
-    let mut rest = bytes;
-    while let [before @ .., b' '] = rest {
-        rest = before;
+    let mut length = 0;
+    for (place, byte) in bytes.iter().enumerate() {
+        if *byte != b' ' {
+            length = place.saturating_add(1);
+        }
     }
-    rest
+    bytes.get(..length).unwrap_or(bytes)
 }
 
 /// Appends a text; what can't be shown, and a quote, is escaped, so that it can't pass for something else.
