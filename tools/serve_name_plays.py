@@ -60,6 +60,11 @@ def sleepers():
     return [it for it in processes() if LONG in field(it, "cmdline").split("\0") and "sleep" in field(it, "cmdline")]
 
 
+def end_sleepers():
+    for it in sleepers():
+        os.kill(it, signal.SIGKILL)
+
+
 def play_names(counts, program, folder):
     """A name leads to its device, once and again; one that nobody knows is a connection that can't be made."""
     device = NamedDevice("localhost", {1: inverter(1001)})
@@ -133,7 +138,8 @@ def play_silent_names(counts, program, folder):
     """A lookup that never ends: clients and other devices don't wait for it, and its time is that of the dial."""
     device = OwnDevice({1: inverter(1001)})
     site, code = named_site(folder, [device.address(), "one.invalid:502", "two.invalid:502"])
-    service = OtherNames(program, folder, f"exec sleep {LONG}", [site, code, "--listen", "127.0.0.1:0", "--every", "1000", "--timeout", "400"])
+    words = [site, code, "--listen", "127.0.0.1:0", "--every", "1000", "--timeout", "400", "--state", f"{folder}/state"]
+    service = OtherNames(program, folder, f"exec sleep {LONG}", words)
     client = Client(service.port())
     counts.note("its process is there", until(lambda: len(children(service.process)), 2) == 2, children(service.process))
     began = time.monotonic()
@@ -151,7 +157,14 @@ def play_silent_names(counts, program, folder):
     counts.note("names are looked up again", seen > 1, seen)
     counts.note("no answer is late", client.longest < 0.3, client.longest)
     counts.note("the other device is read", shown(client)[0] == 1001, shown(client))
+    counts.note("no name is looked up", until(sleepers, [], 10) == [])
+    counts.note("then names are", until(lambda: sleepers() != [], True, 20))
     service.end()
+    counts.note("a lookup outlives a service that is killed", sleepers() != [])
+    service = Service(program, words)
+    counts.note("and keeps no lock of its file", service.has("listening .*"), service.lines)
+    service.end()
+    end_sleepers()
     device.gone()
 
 
@@ -198,5 +211,4 @@ def try_all(counts, program):
             play_odd_lookups(counts, program, folder)
             play_end(counts, program, folder)
         finally:
-            for it in sleepers():
-                os.kill(it, signal.SIGKILL)
+            end_sleepers()
