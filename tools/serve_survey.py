@@ -117,6 +117,9 @@ def try_wrong(counts, program, folder):
     one = "1 thing is wrong\n"
     try_device(counts, "a finer reading", program, folder, registers(15007, {FACTOR: 0xFFFF, LIMIT_FACTOR: 0}), {}, {},
                ['input w1 inv1 103 W missing Inexact raw 15007 factor -1: give the tag round = "down", or exponent = -1 with', one])
+    try_device(counts, "a finer reading that is whole now", program, folder, registers(0, {FACTOR: 0xFFFF, LIMIT_FACTOR: 0}), {}, {},
+               ['input w1 inv1 103 W 0 raw 0 factor -1: values between will be missing (Inexact); give the tag round = "down", or exponent = -1 with', one])
+    try_device(counts, "one that is rounded", program, folder, registers(15007, {FACTOR: 0xFFFF, LIMIT_FACTOR: 0}), {}, {"exponent": '0\nround = "down"'}, ["W 1500 raw 15007 factor -1\n", NOTHING])
     try_device(counts, "a value by its exponent", program, folder, registers(15007, {FACTOR: 0xFFFF, LIMIT_FACTOR: 0}), {}, {"exponent": -1}, ["W 1500.7 raw 15007 factor -1\n", NOTHING])
     try_device(counts, "a range beyond the factor", program, folder, registers(1, {LIMIT_FACTOR: 0xFFFD}), {}, {},
                ["output lim1 inv1 123 WMaxLimPct 0..100 now 0.100 raw 100 factor -3: 100 can't be said: uint16 by factor -3 reaches 65; ", one])

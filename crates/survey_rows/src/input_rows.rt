@@ -20,13 +20,67 @@ pub(crate) fn input_rows(
     let mut rows = Rows::new(alloc);
     for (number, tag) in survey.site.tags().iter().enumerate() {
         if tag.access == Access::Input {
-            let is_wrong = wrongs.with(Subject::Input(number)).is_some();
-            let subject = tag_subject(alloc, "input", survey, tag)?;
-            let said = input_text(alloc, survey, wrongs, number, tag)?;
-            rows.push(subject, said, is_wrong)?;
+            push_input(alloc, &mut rows, survey, wrongs, number, tag)?;
         }
     }
     Ok(rows)
+}
+
+/// Appends the row of an input: its value, or why it has none.
+fn push_input(
+    alloc: Global,
+    rows: &mut Rows,
+    survey: &Survey<'_>,
+    wrongs: &Wrongs,
+    number: usize,
+    tag: &SiteTag,
+) -> Result<(), AllocError> {
+    let subject = tag_subject(alloc, "input", survey, tag)?;
+    match wrongs.with(Subject::Input(number)) {
+        Some(Alarm::InputMissing(_, cause)) => {
+            let said = missing(alloc, survey, wrongs, number, tag, cause)?;
+            rows.push(subject, said, true)
+        }
+        _ => push_value(alloc, rows, survey, number, tag, subject),
+    }
+}
+
+/// Appends the row of an input that has a value. Where its device counts in finer steps than the tag, and that isn't rounded,
+/// another value is missing.
+fn push_value(
+    alloc: Global,
+    rows: &mut Rows,
+    survey: &Survey<'_>,
+    number: usize,
+    tag: &SiteTag,
+    subject: String,
+) -> Result<(), AllocError> {
+    let core = survey.service.core();
+    let met = met_at(core, tag);
+    let mut said = match core.readings().get(number) {
+        Some(Reading::Value(n)) => value_text(alloc, i128::from(*n), tag, met)?,
+        _ => String::new(alloc),
+    };
+    let is_finer = is_finer(tag, met);
+    if is_finer {
+        let help = mend(alloc, core, Alarm::InputMissing(number, Cause::Inexact))?;
+        said.push_str(": values between will be missing (Inexact); ")?;
+        said.push_str(help.as_str())?;
+    }
+    rows.push(subject, said, is_finer)
+}
+
+/// Whether a device counts in finer steps than a tag that isn't rounded.
+fn is_finer(tag: &SiteTag, met: Option<Met>) -> bool {
+    match met {
+        Some(
+            Met {
+                factor: Some(factor),
+                ..
+            },
+        ) => !tag.down && tag.bit.is_none() && factor < i16::from(tag.exponent),
+        _ => false,
+    }
 }
 
 /// `KIND NAME DEVICE MODEL POINT`.
@@ -46,26 +100,6 @@ pub(crate) fn tag_subject(
     text.push_str(rest.as_str())?;
     push_escaped(&mut text, point_name(survey.models, tag))?;
     Ok(text)
-}
-
-/// The value of a tag, or why it has none.
-fn input_text(
-    alloc: Global,
-    survey: &Survey<'_>,
-    wrongs: &Wrongs,
-    number: usize,
-    tag: &SiteTag,
-) -> Result<String, AllocError> {
-    let core = survey.service.core();
-    match wrongs.with(Subject::Input(number)) {
-        Some(Alarm::InputMissing(_, cause)) => {
-            missing(alloc, survey, wrongs, number, tag, cause)
-        }
-        _ => match core.readings().get(number) {
-            Some(Reading::Value(n)) => value_text(alloc, i128::from(*n), tag, met_at(core, tag)),
-            _ => Ok(String::new(alloc)),
-        },
-    }
 }
 
 /// `VALUE raw R factor F`.
