@@ -35,11 +35,29 @@ where
     let status = run_watched(rt, alloc, run, &mut trace, out);
     match trace.end() {
         Ok(()) => status,
-        Err(fault) => {
-            let untraced = tell_untraced(rt, alloc, run, path, fault, out);
-            if status == 0 { untraced } else { status }
+        Err(fault) => tell_after(rt, alloc, run, path, fault, status, out),
+    }
+}
+
+/// Tells after a run with this status why its trace isn't whole, and gives the status of both.
+fn tell_after<R: Eprint + AllocGlobal, W: Write>(
+    rt: &R,
+    alloc: Global,
+    run: &PlantRun<'_, '_>,
+    path: &str,
+    fault: TraceFault,
+    status: u8,
+    out: &mut W,
+) -> u8 {
+    match (fault, status) {
+        // (the run was refused already, most often by memory too: one such line is enough)
+        (TraceFault::OutOfMemory, 1) => explain(rt, run, path, fault),
+        (_, 0) => return tell_untraced(rt, alloc, run, path, fault, out),
+        _ => {
+            let _ = tell_untraced(rt, alloc, run, path, fault, out);
         }
     }
+    status
 }
 
 /// Tells why there is no whole trace, with a note on its file, and gives the status.
@@ -55,10 +73,15 @@ fn tell_untraced<R: Eprint + AllocGlobal, W: Write>(
         return tell_no_memory(out);
     }
     let status = tell_file(alloc, path, out);
+    explain(rt, run, path, fault);
+    status
+}
+
+/// Prints a note on the file, unless that isn't wanted.
+fn explain<R: Eprint + AllocGlobal>(rt: &R, run: &PlantRun<'_, '_>, path: &str, fault: TraceFault) {
     if !run.notes.quiet {
         fault.explain(rt, path);
     }
-    status
 }
 
 /// Whether the file of a trace is one that the command reads, which would be lost.
