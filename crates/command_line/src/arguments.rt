@@ -77,6 +77,7 @@ fn run_command<'a>(alloc: Global) -> Result<Command<'a>, AllocError> {
         .arg(program_file(alloc))?
         .arg(plant_option(alloc))?
         .arg(scans_option(alloc))?
+        .arg(trace_option(alloc))?
         .arg(exe_option(alloc))?
         .arg(quiet_flag(alloc))?
         .arg(definition_files(alloc))
@@ -138,6 +139,15 @@ fn scans_option<'a>(alloc: Global) -> Arg<'a> {
     option(alloc, "scans", "N", "how many scans")
         .required(true)
         .value_parser(ValueParser::unsigned(1, 1000))
+}
+
+fn trace_option<'a>(alloc: Global) -> Arg<'a> {
+    option(
+        alloc,
+        "trace",
+        "FILE",
+        "the file (CSV) into which a row is written for each scan",
+    )
 }
 
 pub(crate) fn exe_option<'a>(alloc: Global) -> Arg<'a> {

@@ -1,14 +1,16 @@
 //! The command line.
 use crate::arguments::command;
 use crate::command_words::{file_command, probe_address};
-use crate::file_command::{obey_on, warn_of_site};
+use crate::file_command::{FileCommand, obey_on, warn_of_site};
 use crate::help;
+use crate::plant_run::PlantRun;
 use crate::serve_words::{Misuse, keeping_of, service_limits, service_words, serving_of};
 use crate::service_run::{ServiceRun, run_service};
 use crate::sources::{Refusal, Sources, read_sources, read_state};
 use crate::standard_input::misuse;
 use crate::survey_run::{SurveyRun, run_survey};
 use crate::survey_words::survey_devices;
+use crate::trace_run::{run_traced, traces_over_source};
 use crate::trial_input::trial_of;
 use clap::error::ErrorKind;
 use clap::{ArgMatches, Error};
@@ -190,6 +192,7 @@ fn misuse_of(name: &str, matches: &ArgMatches<'_>) -> Option<&'static str> {
         None if name == "probe" && probe_address(matches).is_none() => {
             Some("PORT is no port, and no HOST:PORT")
         }
+        None if traces_over_source(matches) => Some("'--trace' is a file that the command reads"),
         why => why,
     }
 }
@@ -230,11 +233,21 @@ fn obey_on_texts<W: Write>(
         def_paths: matches.get_strs("def").unwrap_or(&[]),
         defs: sources.defs.as_slice(),
     };
-    match file_command(name, matches) {
-        Some(command) => obey_on(rt, alloc, itself, command, &notes, out),
-        None if name == "serve" => served(rt, alloc, itself, matches, &notes, out),
-        None if name == "survey" => surveyed(rt, alloc, matches, &notes, out),
-        None => BAD_COMMAND_LINE,
+    match (file_command(name, matches), matches.get_str("trace")) {
+        (Some(FileCommand::Run { plant, scans, exe }), Some(trace)) => {
+            let exe = exe.unwrap_or(itself);
+            let run = PlantRun {
+                notes,
+                plant,
+                scans,
+                exe,
+            };
+            run_traced(rt, alloc, &run, trace, out)
+        }
+        (Some(command), _) => obey_on(rt, alloc, itself, command, &notes, out),
+        (None, _) if name == "serve" => served(rt, alloc, itself, matches, &notes, out),
+        (None, _) if name == "survey" => surveyed(rt, alloc, matches, &notes, out),
+        (None, _) => BAD_COMMAND_LINE,
     }
 }
 

@@ -29,6 +29,10 @@ mod sources;
 mod standard_input;
 mod survey_run;
 mod survey_words;
+mod trace;
+mod trace_fault;
+mod trace_rows;
+mod trace_run;
 mod trial_input;
 mod unreached;
 mod unwritten;
@@ -44,7 +48,7 @@ pub use trial_input::trial_of;
 // a plant of simulated inverters, on a port
 pub use plant_server::{PlantPort, simulate};
 // a plant, scans of it, and a probe of the gateway after them
-pub use plant_run::{PlantRun, run_plant};
+pub use plant_run::{PlantRun, run_plant, run_watched};
 // a plant that was started, in a second process
 pub use plant_lines::{NoPort, told_port};
 // a probe of a device
@@ -53,6 +57,9 @@ pub use probe_link::{ProbeAddress, ProbeRun};
 pub use service_run::{ServiceRun, run_service};
 // a survey of a site
 pub use survey_run::{SurveyRun, run_survey};
+// its scans as a table
+pub use trace::Trace;
+pub use trace_fault::TraceFault;
 // what a run tells of what is missing and of outputs that it doesn't write, and why a link failed
 pub use link_cause::cause_of_link;
 pub use missing::MissingWatch;

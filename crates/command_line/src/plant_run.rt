@@ -11,7 +11,9 @@ use crate::second_process::{start_plant, start_probe, tell_no_port};
 use crate::shown::warn_on_site;
 use crate::socket::{SocketLink, link_over, loopback};
 use crate::watched_link::WatchedLink;
-use commands::{DEPTH, FAILED_LINK, LinkCommand, ObeyedOver, ScanWatch, obey_over, write_lines};
+use commands::{
+    DEPTH, FAILED_LINK, LinkCommand, ObeyedOver, ScanWatch, Unwatched, obey_over, write_lines,
+};
 use gateway::{Core, Poller, serve_client};
 use modbus_frame::{Link, LinkFault};
 use refusal_notes::Notes;
@@ -44,9 +46,22 @@ pub fn run_plant<R: Net + Processes + Eprint + AllocGlobal, W: Write>(
 ) -> u8
     ensures { RunsOnce run.now.notes run.now.scans (W.contents out.old) (W.contents out.new) result }
 {
+    run_watched(rt, alloc, run, &mut Unwatched, out)
+}
+
+/// The same, where one more looks on at the scans.
+pub fn run_watched<R: Net + Processes + Eprint + AllocGlobal, V: ScanWatch, W: Write>(
+    rt: &R,
+    alloc: Global,
+    run: &PlantRun<'_, '_>,
+    beside: &mut V,
+    out: &mut W,
+) -> u8
+    ensures { RunsOnce run.now.notes run.now.scans (W.contents out.old) (W.contents out.new) result }
+{
     match start_plant(rt, alloc, &run.notes, run.plant, run.exe) {
         Ok(mut plant) => {
-            let status = run_started(rt, alloc, run, &mut plant.stdout, out);
+            let status = run_started(rt, alloc, run, beside, &mut plant.stdout, out);
             // (one that nobody came to would wait for ever)
             let _ = plant.kill();
             let _ = plant.wait();
@@ -57,33 +72,35 @@ pub fn run_plant<R: Net + Processes + Eprint + AllocGlobal, W: Write>(
 }
 
 /// Scans the plant that prints these lines, which stay open to its end, and has the gateway probed.
-fn run_started<R: Net + Processes + Eprint + AllocGlobal, P: Read, W: Write>(
+fn run_started<R: Net + Processes + Eprint + AllocGlobal, V: ScanWatch, P: Read, W: Write>(
     rt: &R,
     alloc: Global,
     run: &PlantRun<'_, '_>,
+    beside: &mut V,
     lines: &mut Option<P>,
     out: &mut W,
 ) -> u8
     ensures { RunsOnce run.now.notes run.now.scans (W.contents out.old) (W.contents out.new) result }
 {
     match told_port(alloc, lines) {
-        Ok(port) => run_at(rt, alloc, run, port, out),
+        Ok(port) => run_at(rt, alloc, run, beside, port, out),
         Err(why) => tell_no_port(rt, alloc, &run.notes, run.exe, &why, out),
     }
 }
 
 /// Scans the plant on a port, and has the gateway probed.
-fn run_at<R: Net + Processes + Eprint + AllocGlobal, W: Write>(
+fn run_at<R: Net + Processes + Eprint + AllocGlobal, V: ScanWatch, W: Write>(
     rt: &R,
     alloc: Global,
     run: &PlantRun<'_, '_>,
+    beside: &mut V,
     port: u16,
     out: &mut W,
 ) -> u8
     ensures { RunsOnce run.now.notes run.now.scans (W.contents out.old) (W.contents out.new) result }
 {
     match link_to(rt, port) {
-        Ok(link) => run_over(rt, alloc, run, link, out),
+        Ok(link) => run_over(rt, alloc, run, beside, link, out),
         Err(fault) => tell_unreached(rt, alloc, &run.notes, fault.kind(), out),
     }
 }
@@ -93,10 +110,11 @@ fn link_to<R: Net>(rt: &R, port: u16) -> io::Result<SocketLink<R::Stream>> {
 }
 
 /// Scans the plant over a link, closes that, and has the gateway probed.
-fn run_over<R: Net + Processes + Eprint + AllocGlobal, L: Link + Drop, W: Write>(
+fn run_over<R: Net + Processes + Eprint + AllocGlobal, V: ScanWatch, L: Link + Drop, W: Write>(
     rt: &R,
     alloc: Global,
     run: &PlantRun<'_, '_>,
+    beside: &mut V,
     link: L,
     out: &mut W,
 ) -> u8
@@ -104,17 +122,18 @@ fn run_over<R: Net + Processes + Eprint + AllocGlobal, L: Link + Drop, W: Write>
         (record { coming = L.coming link; sent = L.sent link; failures = L.failures link; calls = L.calls link })
         b (W.contents out.old) (W.contents out.new) result }
 {
-    let (mut ran, link) = scans_over(rt, alloc, run, link, out);
+    let (mut ran, link) = scans_over(rt, alloc, run, beside, link, out);
     drop(link);
     run.notes.explain(rt, &ran.cause);
     probed_behind(rt, alloc, run, &mut ran, out)
 }
 
 /// Does the scans over a link, over which nothing else goes, and gives it back.
-fn scans_over<R: Eprint, L: Link, W: Write>(
+fn scans_over<R: Eprint, V: ScanWatch, L: Link, W: Write>(
     rt: &R,
     alloc: Global,
     run: &PlantRun<'_, '_>,
+    beside: &mut V,
     link: L,
     out: &mut W,
 ) -> (ObeyedOver, L)
@@ -124,7 +143,7 @@ fn scans_over<R: Eprint, L: Link, W: Write>(
         (W.contents out.old) (W.contents out.new) result.0.core result.0.status }
 {
     let mut poller = Poller::new(WatchedLink::new(alloc, link));
-    let mut watch = RunWatch::new(rt, alloc, run.notes.quiet);
+    let mut watch = RunWatch::new(rt, alloc, run.notes.quiet, beside);
     let ran = scans_by(alloc, run, &mut poller, &mut watch, out);
     (ran, poller.into_link().into_link())
 }

@@ -5,7 +5,12 @@ use clap::ArgMatches;
 /// Why the files that a command line names can't be had, where standard input is among them: it is read once, and a
 /// second process doesn't get it.
 pub(crate) fn misuse(command: &str, matches: &ArgMatches<'_>) -> Option<&'static str> {
-    if inputs(&[file(matches, "state"), file(matches, "status-file")]) > 0 {
+    let written = [
+        file(matches, "state"),
+        file(matches, "status-file"),
+        file(matches, "trace"),
+    ];
+    if inputs(&written) > 0 {
         return Some("'-' can't be a file that is written");
     }
     let plant = file(matches, "plant");

@@ -1,5 +1,5 @@
 //! The rows of inputs.
-use crate::decimal::decimal;
+use crate::decimals::decimal;
 use crate::point_name::point_name;
 use crate::row::Rows;
 use crate::seen::Wrongs;

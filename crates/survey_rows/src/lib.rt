@@ -5,7 +5,7 @@
 #![tactic(auto)]
 
 mod asked_text;
-mod decimal;
+mod decimals;
 mod device_rows;
 mod helps;
 mod identity;
@@ -23,6 +23,8 @@ mod tests;
 
 // the site file as a survey asks it
 pub use asked_text::{AskedFault, asked_site};
+// a value as a decimal number
+pub use decimals::decimal;
 // the table
 pub use survey::Survey;
 pub use table::{Table, table_of};

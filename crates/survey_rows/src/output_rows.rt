@@ -1,5 +1,5 @@
 //! The rows of outputs: what they are now, and what of their ranges can't be written.
-use crate::decimal::decimal;
+use crate::decimals::decimal;
 use crate::input_rows::{met_text, missing, tag_subject};
 use crate::range_text::{no_factor, range_text};
 use crate::row::Rows;

@@ -1,5 +1,5 @@
 //! The rows of what clients are shown: sums, and what the program stores.
-use crate::decimal::decimal;
+use crate::decimals::decimal;
 use crate::row::Rows;
 use crate::seen::Wrongs;
 use crate::survey::Survey;

@@ -1,6 +1,6 @@
 //! The site as it is asked, and values as decimal numbers.
 use crate::asked_text::{AskedFault, asked_site};
-use crate::decimal::decimal;
+use crate::decimals::decimal;
 use std::fmt::Debug;
 use std::process::Abort;
 use std::rt::HostRuntime;

@@ -2,7 +2,7 @@
 use std::alloc::{AllocError, Global};
 
 /// The value `number * 10^exponent` as a decimal number, with as many places after the point as the exponent has.
-pub(crate) fn decimal(alloc: Global, number: i128, exponent: i8) -> Result<String, AllocError> {
+pub fn decimal(alloc: Global, number: i128, exponent: i8) -> Result<String, AllocError> {
     let places = u32::from(exponent.unsigned_abs());
     if exponent < 0 {
         return with_places(alloc, number, places);

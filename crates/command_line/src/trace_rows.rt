@@ -1,0 +1,125 @@
+//! The columns of a trace, and its rows.
+ghost use Rattle.std.specs.Prelude.{◌<◌, length};
+
+use crate::trace_fault::TraceFault;
+use commands::DEPTH;
+use csv::Writer;
+use gateway::Core;
+use point_types::Reading;
+use site_alarms::{missing_word, output_name};
+use site_model::{Access, Site, SiteTag};
+use std::alloc::{AllocError, Global};
+use std::io::Write;
+use survey_rows::decimal;
+
+/// Writes the heads: `scan`, the name of each tag, and `NAME written` for each output.
+pub(crate) fn write_heads<W: Write + Drop>(
+    alloc: Global,
+    rows: &mut Writer<W>,
+    site: &Site,
+) -> Result<(), TraceFault> {
+    rows.write_field(b"scan")?;
+    for tag in site.tags() {
+        rows.write_field(tag.name.as_bytes())?;
+    }
+    write_output_heads(alloc, rows, site)?;
+    rows.end_record()?;
+    Ok(())
+}
+
+fn write_output_heads<W: Write + Drop>(
+    alloc: Global,
+    rows: &mut Writer<W>,
+    site: &Site,
+) -> Result<(), TraceFault> {
+    for i in 0..site.outs().len() {
+        let head = output_head(alloc, output_name(site, i))?;
+        rows.write_field(head.as_bytes())?;
+    }
+    Ok(())
+}
+
+fn output_head(alloc: Global, name: &str) -> Result<String, AllocError> {
+    let head = format!(in alloc; "{name} written")?;
+    Ok(head)
+}
+
+/// Writes the row of a scan.
+pub(crate) fn write_row<W: Write + Drop>(
+    alloc: Global,
+    rows: &mut Writer<W>,
+    core: &Core<DEPTH>,
+    scan: u32,
+) -> Result<(), TraceFault> {
+    let scan = decimal(alloc, i128::from(scan), 0)?;
+    rows.write_field(scan.as_bytes())?;
+    for (i, tag) in core.site().tags().iter().enumerate() {
+        let number = number_of(alloc, core, i, tag)?;
+        rows.write_field(number.as_bytes())?;
+    }
+    write_writes(rows, core)?;
+    rows.end_record()?;
+    Ok(())
+}
+
+/// Writes of each output whether its write went out, or why it didn't.
+fn write_writes<W: Write + Drop>(
+    rows: &mut Writer<W>,
+    core: &Core<DEPTH>,
+) -> Result<(), TraceFault> {
+    for i in 0..core.site().outs().len() {
+        rows.write_field(write_word(core, i).as_bytes())?;
+    }
+    Ok(())
+}
+
+/// `yes` where the last scan writes the i-th output, and else the cause why not.
+fn write_word(core: &Core<DEPTH>, i: usize) -> &'static str
+    requires { i < length core.now.site.outs }
+{
+    match core.write(i) {
+        Ok(_) => "yes",
+        Err(cause) => cause.word(),
+    }
+}
+
+/// What a tag was in the last scan.
+fn number_of(
+    alloc: Global,
+    core: &Core<DEPTH>,
+    i: usize,
+    tag: &SiteTag,
+) -> Result<String, AllocError> {
+    match tag.access {
+        Access::Input | Access::Setting => read_number(alloc, core, i, tag),
+        Access::Output | Access::Shown => stored_number(alloc, core, i, tag),
+    }
+}
+
+/// The value that a tag had of its own, or why it had none: the program may have had its default then.
+fn read_number(
+    alloc: Global,
+    core: &Core<DEPTH>,
+    i: usize,
+    tag: &SiteTag,
+) -> Result<String, AllocError> {
+    match core.readings().get(i) {
+        Some(Reading::Value(n)) => decimal(alloc, i128::from(*n), tag.exponent),
+        Some(Reading::Default(_, cause)) => String::from_str(alloc, missing_word(*cause)),
+        Some(Reading::Absent(cause)) => String::from_str(alloc, missing_word(*cause)),
+        None => Ok(String::new(alloc)),
+    }
+}
+
+/// The value that the program stored for a tag; empty where it stored none.
+fn stored_number(
+    alloc: Global,
+    core: &Core<DEPTH>,
+    i: usize,
+    tag: &SiteTag,
+) -> Result<String, AllocError> {
+    match core.outputs().get(i) {
+        Some(Some(n)) => decimal(alloc, i128::from(*n), tag.exponent),
+        _ => Ok(String::new(alloc)),
+    }
+}
