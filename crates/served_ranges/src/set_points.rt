@@ -8,8 +8,8 @@ use crate::shown::Demand;
 use site_model::{Sf, SiteTag};
 
 /// A factor by which the point of an `out` tag says each number from the tag's low to its high: the one that the model's
-/// definition fixes, or else one of those that a device may have, -10..10. None where by each of them some number isn't
-/// said, so that the set point isn't written in some scan, whatever the device's factor is.
+/// definition fixes, or else one of those that a device may have, -10..10. None where none of them was seen to say each: a
+/// set point may then not be written, whatever the device's factor is; that it can't be, no clause says.
 pub fn factor_for_range(tag: &SiteTag) -> Option<i16>
     ensures { IfSome result (λ factor. MayHaveFactor tag.now.sf factor × AllAreShown tag.now.point (Some factor) tag.now.exponent tag.now.low tag.now.high) }
 {
