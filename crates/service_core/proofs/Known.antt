@@ -105,7 +105,7 @@ found_below p (x ∷ ws) (suc j) w at is = go (found_below p ws j w at is) (p x)
 no_place : (p : Want → Bool) (ws : List Want) → position p ws ≡ None → position_or_len p ws < length ws → ⊥
 no_place p ws none below = grind (arith, none, below)
 
-place_of : (site : Site) (j : ℕ) (w : Want) → slice_get site.wants j ≡ Some w → position (same_want w) site.wants ≡ Some j
+pub place_of : (site : Site) (j : ℕ) (w : Want) → slice_get site.wants j ≡ Some w → position (same_want w) site.wants ≡ Some j
 place_of site j w at = go (position (same_want w) site.wants) refl
   where
     go : (o : Option ℕ) → position (same_want w) site.wants ≡ o → position (same_want w) site.wants ≡ Some j

@@ -15,4 +15,5 @@ pub mod Mapped
 pub mod Planned
 pub mod Carried
 pub mod ByNotes
+pub mod Forgetting
 pub mod GivingUp

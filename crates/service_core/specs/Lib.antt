@@ -1,6 +1,7 @@
 pub mod Connections
 pub mod Counting
 pub mod Cycle
+pub mod Forgetting
 pub mod GivingUp
 pub mod Maps
 pub mod Noting

@@ -1,7 +1,7 @@
 -- What a service does to its core and to the round that is under way, step by step: by the time and what the round still
 -- wants, by what devices answer, and by what clients ask (IEC 61131-3 edition 2, 3.2; Modbus Application Protocol V1.1b3,
 -- sections 6.3, 6.6 and 6.12).
-use Rattle.std.specs.Prelude.{◌≡◌, ◌⊎◌, ℕ, true, false, List, All, Option, None, Some, set}
+use Rattle.std.specs.Prelude.{◌≡◌, ◌⊎◌, ℕ, Bool, true, false, List, All, Option, None, Some, set}
 use Rattle.register_map.specs.Layout.{Layout}
 use Rattle.site_model.specs.declared.want.Want.{Want}
 use Rattle.gateway.specs.declared.event_core.event.Event.{Event}
@@ -53,6 +53,11 @@ pub record Scans (old new : Stage) : Type 0 where
   pub runs : TakesEvent (Some event.Scan) old.core new.core
   pub planned : ArePlanned new.core new.round.writes
   pub same : new.round ≡ record old.round { writes = new.round.writes; scanned = true }
+
+-- It runs, where this says so. Else it isn't due, and nothing happens.
+abbrev pub ScansIf : Bool → Stage → Stage → Type 0
+ScansIf true old new = Scans old new
+ScansIf false old new = (new ≡ old) × (old.round.scanned ≡ false → All IsDone old.round.reads → ⊥)
 
 -- A search found the device's map, or it is forgotten.
 pub record Learns (device : ℕ) (found : Option Layout) (old new : Stage) : Type 0 where

@@ -1,11 +1,13 @@
 //! What happens to a core and its round, step by step.
-ghost use Rattle.std.specs.Prelude.{◌≡◌, ◌<◌, ◌+◌, ◌==◌, ℕ, List, [], length, map, set, slice_get, slice_set, IfSome, IsTrue, None, Some, false};
+ghost use Rattle.std.specs.Prelude.{◌≡◌, ◌<◌, ◌+◌, ◌==◌, ◌↔◌, ℕ, All, List, [], Option, length, map, set, slice_get, slice_set, IfSome, IsTrue, None, Some, false};
 ghost use Rattle.site_model.specs.declared.device.SiteDevice.{SiteDevice as DeviceValue};
 ghost use Rattle.modbus_frame.specs.Message.{HasQuantity, IsRequest};
 ghost use Rattle.gateway.specs.declared.poller.cycle.Call.{Call as CallValue};
 ghost use Rattle.gateway.specs.event_core.Restoring.{NothingSets, SetsAlone};
+ghost use Rattle.gateway.specs.event_core.SiteRun.{with_block};
 ghost use Rattle.service.specs.declared.fate.Fate.TheVariants.{Lost};
 ghost use Rattle.service.specs.declared.task.Task.{Task as TaskValue};
+ghost use Rattle.service.specs.Tasks.{IsDone};
 ghost use Rattle.service.specs.Searches.{HasStepQuantity, Sought as SoughtValue};
 ghost use Rattle.service_parts.specs.declared.wire.Aim.{Aim as AimValue};
 ghost use Rattle.service_parts.specs.declared.wire.Aim.TheVariants.{Block as BlockAim, Output as OutputAim};
@@ -14,10 +16,11 @@ ghost use Rattle.service_parts.specs.Requests.{IsOfRound};
 ghost use Rattle.service_parts.specs.Seeking.{IsFound, IsSought};
 ghost use Rattle.service_core.specs.declared.round.Turn.TheVariants.{Ask as AskTurn};
 ghost use Rattle.service_core.specs.Cycle.{ClientsLeadOn, EndsOwn, LeadsOn, stage_of};
+ghost use Rattle.service_core.specs.Forgetting.{first_but, forgotten, with_blocks};
 ghost use Rattle.service_core.specs.GivingUp.{AreNotAsked, GivesUp, HasRequests, dropped, gone_through, skipped};
 ghost use Rattle.service_core.specs.Maps.{has_map};
 ghost use Rattle.service_core.specs.Rounds.{IsSendable, event_told, requests_now};
-ghost use Rattle.service_core.specs.Stages.{Ends, OpensNext, TakesEvent};
+ghost use Rattle.service_core.specs.Stages.{Begins, Ends, OpensNext, ScansIf, TakesEvent};
 
 use crate::round::Turn;
 use crate::scan_cycle::ScanCycle;
@@ -42,7 +45,9 @@ impl ScanCycle {
     }
 
     /// What was known of a device is known no more: it has no map, and its blocks are lost.
+    #[tactic(auto, using(crate::proofs::Forgetting::none_so_far, crate::proofs::Forgetting::one_further))]
     pub fn forget(&mut self, device: usize)
+        ensures forgotten { device < length self.old.core.value.site.devices → self.new.core.value ≡ forgotten device self.old.core.value }
         ensures goes { LeadsOn self.old self.new }
     {
         self.learn(device, None);
@@ -51,20 +56,34 @@ impl ScanCycle {
         }
     }
 
+    /// The block of a want is lost, where the want is of this device, which has no map.
     fn forget_block(&mut self, device: usize, i: usize)
+        ensures forgotten { has_map self.old.core.value device ≡ false → (before : List (Option (List ℕ)))
+            → self.old.core.value.standing.blocks ≡ first_but device i self.old.core.value.site.wants before
+            → self.new.core.value ≡ with_blocks (first_but device (i + 1) self.old.core.value.site.wants before) self.old.core.value }
         ensures goes { LeadsOn self.old self.new }
     {
-        let want = match self.core.site().wants().get(i) {
-            Some(want) => *want,
-            None => return,
+        let Some(want) = self.want_at(i) else {
+            return;
         };
         if want.device == device && !self.is_mapped(device) {
             self.forget_want(want);
         }
     }
 
+    /// The i-th want of the site.
+    fn want_at(&self, i: usize) -> Option<Want>
+        ensures { result ≡ slice_get self.now.core.value.site.wants i }
+    {
+        match self.core.site().wants().get(i) {
+            Some(want) => Some(*want),
+            None => None,
+        }
+    }
+
     fn forget_want(&mut self, want: Want)
         requires { has_map self.old.core.value want.device ≡ false }
+        ensures lost { self.new.core.value ≡ with_blocks (with_block self.old.core.value.site.wants want None self.old.core.value.standing.blocks) self.old.core.value }
         ensures goes { LeadsOn self.old self.new }
     {
         tell(&mut self.core, Some(Event::Lost(want)));
@@ -131,6 +150,7 @@ impl ScanCycle {
 
     /// Begins the next round.
     pub fn begin(&mut self)
+        ensures begins { Begins (stage_of self.old) (stage_of self.new) }
         ensures goes { LeadsOn self.old self.new }
     {
         self.round.begin(self.core.site());
@@ -301,15 +321,24 @@ impl ScanCycle {
         self.core.step(Event::Client(request_pdu(request)));
     }
 
-    /// Runs the program, where each wanted block was told; whether it did.
+    /// Runs the program, where each wanted block was told and it hasn't run in this round; whether it did.
     pub fn scan(&mut self) -> bool
+        ensures scans { ScansIf result (stage_of self.old) (stage_of self.new) }
         ensures goes { LeadsOn self.old self.new }
     {
-        if self.round.is_scanned() || !self.round.is_read() {
-            return false;
+        if self.may_scan() {
+            self.round.scan(&mut self.core);
+            true
+        } else {
+            false
         }
-        self.round.scan(&mut self.core);
-        true
+    }
+
+    /// Whether the program hasn't run in this round, and each wanted block was told.
+    fn may_scan(&self) -> bool
+        ensures { IsTrue result ↔ ((self.now.round.scanned ≡ false) × All IsDone self.now.round.reads) }
+    {
+        !self.round.is_scanned() && self.round.is_read()
     }
 
     /// Whether the program ran, and nothing is left to be written.

@@ -1,0 +1,9 @@
+use Rattle.std.proofs.Common.{rules, ◌≡◌, ap, ◌∙◌, length}
+use Rattle.gateway.specs.event_core.Core.{Gateway}
+use Rattle.service_core.proofs.Forgetting.{all_gone}
+use Rattle.service_core.proofs.scan_cycle.ScanCycle.forget.Goals as goal
+
+pub returns-clause-forgotten : goal.returns-clause-forgotten
+returns-clause-forgotten c within =
+    let all : c.loop-i.i ≡ length c.args.self.now.core.value.site.wants = search rules in
+    all_gone c.args.device c.loop-i.i c.args.self.now.core.value c.loop-i.self.core.value all (c.loop-i.invariant.1 within)
