@@ -84,8 +84,8 @@ def try_well(counts, program, folder):
     site = site_of(folder, [it.address() for it in devices])
     ran = survey(program, site)
     wanted = found(1, devices[0]) + found(2, devices[1])
-    wanted += "input w1 inv1 103 W 4000 raw 4000 factor 0\ninput w2 inv2 103 W 2500 raw 2500 factor 0\n"
-    wanted += "output lim1 inv1 123 WMaxLimPct 0..100 now 100 raw 100 factor 0\nserved 103 W 6500\n" + NOTHING
+    wanted += "input w1 inv1 103 W 4000 W raw 4000 factor 0\ninput w2 inv2 103 W 2500 W raw 2500 factor 0\n"
+    wanted += "output lim1 inv1 123 WMaxLimPct 0..100 % WMax now 100 raw 100 factor 0\nserved 103 W 6500 W\n" + NOTHING
     counts.note("a well site", (ran.returncode, ran.stdout, ran.stderr) == (0, wanted, ""), ran)
     counts.note("it is asked for reads alone", [it.functions for it in devices] == [{3}, {3}] and not devices[0].written, devices[0].functions)
     counts.note("one connection each", [it.came for it in devices] == [1, 1], [it.came for it in devices])
@@ -118,15 +118,15 @@ def try_wrong(counts, program, folder):
     try_device(counts, "a finer reading", program, folder, registers(15007, {FACTOR: 0xFFFF, LIMIT_FACTOR: 0}), {}, {},
                ['input w1 inv1 103 W missing Inexact raw 15007 factor -1: give the tag round = "down", or exponent = -1 with', one])
     try_device(counts, "a finer reading that is whole now", program, folder, registers(0, {FACTOR: 0xFFFF, LIMIT_FACTOR: 0}), {}, {},
-               ['input w1 inv1 103 W 0 raw 0 factor -1: values between will be missing (Inexact); give the tag round = "down", or exponent = -1 with', one])
-    try_device(counts, "one that is rounded", program, folder, registers(15007, {FACTOR: 0xFFFF, LIMIT_FACTOR: 0}), {}, {"exponent": '0\nround = "down"'}, ["W 1500 raw 15007 factor -1\n", NOTHING])
-    try_device(counts, "a value by its exponent", program, folder, registers(15007, {FACTOR: 0xFFFF, LIMIT_FACTOR: 0}), {}, {"exponent": -1}, ["W 1500.7 raw 15007 factor -1\n", NOTHING])
+               ['input w1 inv1 103 W 0 W raw 0 factor -1: values between will be missing (Inexact); give the tag round = "down", or exponent = -1 with', one])
+    try_device(counts, "one that is rounded", program, folder, registers(15007, {FACTOR: 0xFFFF, LIMIT_FACTOR: 0}), {}, {"exponent": '0\nround = "down"'}, ["W 1500 W raw 15007 factor -1\n", NOTHING])
+    try_device(counts, "a value by its exponent", program, folder, registers(15007, {FACTOR: 0xFFFF, LIMIT_FACTOR: 0}), {}, {"exponent": -1}, ["W 1500.7 W raw 15007 factor -1\n", NOTHING])
     try_device(counts, "a range beyond the factor", program, folder, registers(1, {LIMIT_FACTOR: 0xFFFD}), {}, {},
-               ["output lim1 inv1 123 WMaxLimPct 0..100 now 0.100 raw 100 factor -3: 100 can't be said: uint16 by factor -3 reaches 65; ", one])
+               ["output lim1 inv1 123 WMaxLimPct 0..100 % WMax now 0.100 raw 100 factor -3: 100 can't be said: uint16 by factor -3 reaches 65; ", one])
     try_device(counts, "a range below the factor", program, folder, registers(1, {LIMIT_FACTOR: 0}), {"low": -5}, {}, [": -5 can't be said: uint16 by factor 0 begins at 0; ", one])
     try_device(counts, "a factor that is too coarse", program, folder, registers(1, {LIMIT_FACTOR: 1}), {}, {}, ["now 1000 raw 100 factor 1: only multiples of 10 can be said: uint16 by factor 1; ", one])
     try_device(counts, "no factor", program, folder, registers(1, {LIMIT_FACTOR: 0x8000}), {}, {}, ["now BadScale raw 100: nothing can be said (BadScale): ", one])
-    try_device(counts, "a set point that isn't one now", program, folder, registers(1, {LIMIT_FACTOR: 0, BASE + 127: 0xFFFF}), {}, {}, ["0..100 now NotImplemented\n", NOTHING])
+    try_device(counts, "a set point that isn't one now", program, folder, registers(1, {LIMIT_FACTOR: 0, BASE + 127: 0xFFFF}), {}, {}, ["0..100 % WMax now NotImplemented\n", NOTHING])
     try_device(counts, "no map", program, folder, {BASE: 1, BASE + 1: 2}, {}, {}, [" unit 1 lost NoMap: ", "3 things are wrong\n"])
     other = registers(1, {LIMIT_FACTOR: 0, BASE + 70: 101})
     try_device(counts, "a model that is missing", program, folder, other, {}, {},
@@ -142,7 +142,7 @@ def try_shared(counts, program, folder):
     ran = survey(program, put(folder, "shared.toml", text), "--devices", device.address(), "--timeout", "400")
     took = time.monotonic() - began
     counts.note("a silent unit among others", ran.returncode == 1 and f"device inv2 {device.address()} unit 2 lost Silent: " in ran.stdout and
-                "input w1 inv1 103 W 1 raw 1 factor 0\ninput w2 inv2 103 W missing NoBlock: see device inv2\ninput w3 inv3 103 W 3 raw 3 factor 0\n2 things are wrong\n" in ran.stdout, ran)
+                "input w1 inv1 103 W 1 W raw 1 factor 0\ninput w2 inv2 103 W missing NoBlock: see device inv2\ninput w3 inv3 103 W 3 W raw 3 factor 0\n2 things are wrong\n" in ran.stdout, ran)
     counts.note("it costs one wait, over one connection", 0.4 <= took < 0.8 and device.came == 1 and device.functions == {3}, (took, device.came))
     device.gone()
 
@@ -166,7 +166,7 @@ def try_many(counts, program, folder):
     text = GATEWAY + DEVICE.format(n=1) + f'address = "{device.address()}"\n'
     tags = "".join(TAG.format(name=f"t{k}", n=1, **WATTS) for k in range(1024))
     ran = survey(program, put(folder, "many.toml", text + tags))
-    counts.note("1,024 tags", ran.returncode == 0 and "found 1 103 123 Mn - Md - SN -\n" in ran.stdout and ran.stdout.endswith("input t1023 inv1 103 W 1 raw 1 factor 0\n" + NOTHING), ran.stdout[-200:])
+    counts.note("1,024 tags", ran.returncode == 0 and "found 1 103 123 Mn - Md - SN -\n" in ran.stdout and ran.stdout.endswith("input t1023 inv1 103 W 1 W raw 1 factor 0\n" + NOTHING), ran.stdout[-200:])
     named = "".join(TAG.format(name=f"asked_{k}", n=1, **WATTS) for k in (0, 1))
     ran = survey(program, put(folder, "named.toml", text + named))
     counts.note("names that are taken", ran.returncode == 0 and 'Mn "Acme"' in ran.stdout and ran.stdout.count("\n") == 4, ran)

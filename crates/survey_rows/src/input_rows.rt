@@ -4,6 +4,7 @@ use crate::point_name::point_name;
 use crate::row::Rows;
 use crate::seen::Wrongs;
 use crate::survey::Survey;
+use crate::units::push_unit;
 use escaped_text::{escaped, push_escaped};
 use gateway::{Core, DEPTH};
 use point_types::{Cause, Reading};
@@ -58,7 +59,7 @@ fn push_value(
     let core = survey.service.core();
     let met = met_at(core, tag);
     let mut said = match core.readings().get(number) {
-        Some(Reading::Value(n)) => value_text(alloc, i128::from(*n), tag, met)?,
+        Some(Reading::Value(n)) => value_text(alloc, survey, i128::from(*n), tag, met)?,
         _ => String::new(alloc),
     };
     let is_finer = is_finer(tag, met);
@@ -102,14 +103,16 @@ pub(crate) fn tag_subject(
     Ok(text)
 }
 
-/// `VALUE raw R factor F`.
+/// `VALUE UNIT raw R factor F`.
 fn value_text(
     alloc: Global,
+    survey: &Survey<'_>,
     n: i128,
     tag: &SiteTag,
     met: Option<Met>,
 ) -> Result<String, AllocError> {
     let mut text = decimal(alloc, n, tag.exponent)?;
+    push_unit(&mut text, survey.models, tag)?;
     if let Some(met) = met {
         let met = met_text(alloc, met)?;
         text.push_str(met.as_str())?;

@@ -18,6 +18,7 @@ mod seen;
 mod served_rows;
 mod survey;
 mod table;
+mod units;
 #[cfg(test)]
 mod tests;
 

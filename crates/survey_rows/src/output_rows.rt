@@ -5,6 +5,7 @@ use crate::range_text::{no_factor, range_text};
 use crate::row::Rows;
 use crate::seen::Wrongs;
 use crate::survey::Survey;
+use crate::units::push_unit;
 use point_types::Cause;
 use point_writer::factor;
 use served_notes::reason_of;
@@ -83,12 +84,16 @@ fn push_reached(
     rows.push(subject, said, unsaid.is_some())
 }
 
-/// `LOW..HIGH now VALUE raw R factor F`, or `LOW..HIGH now NotImplemented`.
+/// `LOW..HIGH UNIT now VALUE raw R factor F`, or `LOW..HIGH UNIT now NotImplemented`.
 fn output_text(alloc: Global, survey: &Survey<'_>, tag: &SiteTag) -> Result<String, AllocError> {
     let low = decimal(alloc, i128::from(tag.low), tag.exponent)?;
     let high = decimal(alloc, i128::from(tag.high), tag.exponent)?;
+    let mut text = format!(in alloc; "{low}..{high}")?;
+    push_unit(&mut text, survey.models, tag)?;
     let now = now_text(alloc, met_at(survey.service.core(), tag))?;
-    format!(in alloc; "{low}..{high} now {now}")
+    text.push_str(" now ")?;
+    text.push_str(now.as_str())?;
+    Ok(text)
 }
 
 fn now_text(alloc: Global, met: Option<Met>) -> Result<String, AllocError> {

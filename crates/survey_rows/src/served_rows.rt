@@ -3,11 +3,12 @@ use crate::decimals::decimal;
 use crate::row::Rows;
 use crate::seen::Wrongs;
 use crate::survey::Survey;
+use crate::units::push_unit_of;
 use escaped_text::escaped;
 use gateway::total_of;
 use served_ranges::point_of_entry;
 use site_alarms::{Alarm, Subject, cause_text, mend, why_hidden};
-use site_model::{SiteTag, Source};
+use site_model::{Served, SiteTag, Source};
 use std::alloc::{AllocError, Global};
 
 /// The rows of the sums that clients are shown.
@@ -23,7 +24,7 @@ pub(crate) fn served_rows(
             let subject = served_subject(alloc, survey, number)?;
             let said = match wrong {
                 Some(alarm) => hidden(alloc, survey, alarm)?,
-                None => total_text(alloc, survey, parts.as_slice())?,
+                None => total_text(alloc, survey, entry, parts.as_slice())?,
             };
             rows.push(subject, said, wrong.is_some())?;
         }
@@ -36,21 +37,33 @@ fn served_subject(alloc: Global, survey: &Survey<'_>, number: usize) -> Result<S
     let Some(entry) = survey.site.served().get(number) else {
         return Ok(String::new(alloc));
     };
-    let name = match point_of_entry(survey.site.models(), entry) {
-        Some(point) => escaped(alloc, point.name.as_str())?,
-        None => String::new(alloc),
-    };
+    let name = escaped(alloc, served_name(survey, entry))?;
     let model = entry.model;
     format!(in alloc; "served {model} {name}")
 }
 
-/// The total of some parts.
-fn total_text(alloc: Global, survey: &Survey<'_>, parts: &[usize]) -> Result<String, AllocError> {
-    let total = total_of(survey.service.core().readings(), parts);
-    match (total, exponent_of(survey.site.tags(), parts)) {
-        (Some(total), Some(exponent)) => decimal(alloc, i128::from(total), exponent),
-        _ => Ok(String::new(alloc)),
+/// The name of a served point by its definition; empty where that hasn't it.
+fn served_name<'a>(survey: &Survey<'a>, entry: &Served) -> &'a str {
+    match point_of_entry(survey.site.models(), entry) {
+        Some(point) => point.name.as_str(),
+        None => "",
     }
+}
+
+/// The total of some parts, and the unit of the point that shows it.
+fn total_text(
+    alloc: Global,
+    survey: &Survey<'_>,
+    entry: &Served,
+    parts: &[usize],
+) -> Result<String, AllocError> {
+    let total = total_of(survey.service.core().readings(), parts);
+    let (Some(total), Some(exponent)) = (total, exponent_of(survey.site.tags(), parts)) else {
+        return Ok(String::new(alloc));
+    };
+    let mut text = decimal(alloc, i128::from(total), exponent)?;
+    push_unit_of(&mut text, entry.model, served_name(survey, entry))?;
+    Ok(text)
 }
 
 fn exponent_of(tags: &[SiteTag], parts: &[usize]) -> Option<i8> {
