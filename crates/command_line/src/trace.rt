@@ -37,7 +37,7 @@ impl<W: Write + Drop> Trace<W> {
 
     fn write(&mut self, core: &Core<DEPTH>, scan: u32) -> Result<(), TraceFault> {
         if !self.has_heads {
-            write_heads(self.alloc, &mut self.rows, core.site())?;
+            write_heads(self.alloc, &mut self.rows, core)?;
             self.has_heads = true;
         }
         write_row(self.alloc, &mut self.rows, core, scan)

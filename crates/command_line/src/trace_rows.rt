@@ -1,30 +1,55 @@
 //! The columns of a trace, and its rows.
-ghost use Rattle.std.specs.Prelude.{◌<◌, length};
+ghost use Rattle.std.specs.Prelude.{◌≡◌, ◌<◌, length};
 
 use crate::trace_fault::TraceFault;
 use commands::DEPTH;
 use csv::Writer;
 use gateway::Core;
-use point_types::Reading;
+use point_types::{Reading, Var};
 use site_alarms::{missing_word, output_name};
 use site_model::{Access, Site, SiteTag};
 use std::alloc::{AllocError, Global};
 use std::io::Write;
 use survey_rows::decimal;
 
-/// Writes the heads: `scan`, the name of each tag, and `NAME written` for each output.
+/// Writes the heads: `scan`, the name of each tag, `NAME written` for each output, and `VAR NAME` for each variable.
 pub(crate) fn write_heads<W: Write + Drop>(
     alloc: Global,
     rows: &mut Writer<W>,
-    site: &Site,
+    core: &Core<DEPTH>,
 ) -> Result<(), TraceFault> {
     rows.write_field(b"scan")?;
-    for tag in site.tags() {
+    for tag in core.site().tags() {
         rows.write_field(tag.name.as_bytes())?;
     }
-    write_output_heads(alloc, rows, site)?;
+    write_output_heads(alloc, rows, core.site())?;
+    write_variable_heads(alloc, rows, variables(core))?;
     rows.end_record()?;
     Ok(())
+}
+
+/// The variables of the program that a core runs.
+fn variables(core: &Core<DEPTH>) -> &[Var]
+    ensures { result.now ≡ core.now.machine.accepted.image.vars }
+{
+    core.machine().verified().image().vars.as_slice()
+}
+
+fn write_variable_heads<W: Write + Drop>(
+    alloc: Global,
+    rows: &mut Writer<W>,
+    vars: &[Var],
+) -> Result<(), TraceFault> {
+    for var in vars {
+        let head = variable_head(alloc, var)?;
+        rows.write_field(head.as_bytes())?;
+    }
+    Ok(())
+}
+
+fn variable_head(alloc: Global, var: &Var) -> Result<String, AllocError> {
+    let name = var.name.as_str();
+    format!(in alloc; "VAR {name}")
 }
 
 fn write_output_heads<W: Write + Drop>(
@@ -58,7 +83,21 @@ pub(crate) fn write_row<W: Write + Drop>(
         rows.write_field(number.as_bytes())?;
     }
     write_writes(rows, core)?;
+    write_variables(alloc, rows, core)?;
     rows.end_record()?;
+    Ok(())
+}
+
+/// Writes the number that each variable has after the last scan.
+fn write_variables<W: Write + Drop>(
+    alloc: Global,
+    rows: &mut Writer<W>,
+    core: &Core<DEPTH>,
+) -> Result<(), TraceFault> {
+    for i in 0..variables(core).len() {
+        let number = decimal(alloc, i128::from(core.machine().var(i)), 0)?;
+        rows.write_field(number.as_bytes())?;
+    }
     Ok(())
 }
 
