@@ -17,6 +17,7 @@ mod plant_lines;
 mod plant_run;
 mod plant_server;
 mod probe_link;
+mod retained;
 mod run_watch;
 mod second_process;
 mod serve_words;

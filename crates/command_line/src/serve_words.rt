@@ -105,7 +105,7 @@ fn state_option<'a>(alloc: Global) -> Arg<'a> {
         alloc,
         "state",
         "PATH",
-        "the file in which set values are kept over a restart",
+        "the file in which set values and variables are kept over a restart",
     )
 }
 
@@ -272,7 +272,7 @@ fn listen_address<R: Net>(rt: &R, matches: &ArgMatches<'_>) -> Result<SocketAddr
     }
 }
 
-/// The files that the service keeps; the one of set values has this text.
+/// The files that the service keeps; the one of set values has this text. No variable is kept.
 pub(crate) fn keeping_of<'a, 't>(matches: &ArgMatches<'a>, state: &'t str) -> Keeping<'a, 't> {
     Keeping {
         state: kept_state(matches.get_str("state"), state),
@@ -282,7 +282,11 @@ pub(crate) fn keeping_of<'a, 't>(matches: &ArgMatches<'a>, state: &'t str) -> Ke
 
 fn kept_state<'a, 't>(path: Option<&'a str>, text: &'t str) -> Option<KeptState<'a, 't>> {
     match path {
-        Some(path) => Some(KeptState { path, text }),
+        Some(path) => Some(KeptState {
+            path,
+            text,
+            retained: &[],
+        }),
         None => None,
     }
 }

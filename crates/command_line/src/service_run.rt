@@ -1,6 +1,7 @@
 //! The command `serve`: a program on a site, scan by scan, by the clock.
 use crate::failing::{no_start, tell_lost, tell_unkept, tell_unserved};
 use crate::plant_lines::told_port;
+use crate::retained::{Retained, tell_unretained, variables_of, warn_of_names};
 use crate::second_process::{start_plant, tell_no_port};
 use crate::service_places::tell_unreachable;
 use crate::shown::warn_on_site;
@@ -23,6 +24,10 @@ use std::time::Clock;
 /// What is told at the start where set values aren't kept.
 const UNKEPT: &str =
     "set values begin at the tags' defaults and aren't kept over a restart: '--state PATH' keeps them\n";
+
+/// What is told beside it where variables were to be kept.
+const UNRETAINED: &str =
+    "variables begin at their start values and aren't kept over a restart: '--state PATH' keeps those of 'retain'\n";
 
 /// What a service is of.
 #[derive(Clone, Copy)]
@@ -72,17 +77,25 @@ fn serve_accepted<
         + Files<File = File>,
     W: Write,
 >(rt: &R, alloc: Global, run: &ServiceRun<'_, '_, '_, '_, '_>, given: Accepted, out: &mut W) -> u8 {
-    match prepared(rt, alloc, run, &given, out) {
+    let retained = match Retained::of(alloc, &run.notes, &run.keeping, &given) {
+        Ok(retained) => retained,
+        Err(fault) => return tell_unretained(rt, alloc, fault, out),
+    };
+    match prepared(rt, alloc, run, &given, &retained, out) {
         Ok(addresses) => match service_of(
             alloc,
             given,
+            retained.kept.as_slice(),
             addresses.links.len(),
             addresses.stations.as_slice(),
             run.limits,
         ) {
-            Ok(mut service) => match run.devices {
-                Devices::Plant(plant) => serve_plant(rt, alloc, run, plant, &mut service, out),
-                _ => serve_over(rt, alloc, run, &addresses, &mut service, out),
+            Ok(mut service) => {
+                let run = ServiceRun {
+                    keeping: retained.keeping(&run.keeping),
+                    ..*run
+                };
+                serve_begun(rt, alloc, &run, &addresses, &mut service, out)
             },
             Err(fault) => tell_no_core(alloc, fault, out),
         },
@@ -90,10 +103,35 @@ fn serve_accepted<
     }
 }
 
-/// Prints on standard error that set values aren't kept, where they aren't.
-fn warn_unkept<R: Eprint>(rt: &R, run: &ServiceRun<'_, '_, '_, '_, '_>) {
+/// Serves a site of which nothing was asked yet.
+fn serve_begun<
+    R: Net + Clock + Processes<Started = SystemProcess> + Eprint + AllocGlobal + Files<File = File>,
+    W: Write,
+>(
+    rt: &R,
+    alloc: Global,
+    run: &ServiceRun<'_, '_, '_, '_, '_>,
+    addresses: &Addresses,
+    service: &mut Service,
+    out: &mut W,
+) -> u8 {
+    match run.devices {
+        Devices::Plant(plant) => serve_plant(rt, alloc, run, plant, service, out),
+        _ => serve_over(rt, alloc, run, addresses, service, out),
+    }
+}
+
+/// Prints on standard error that set values and variables aren't kept, where they aren't.
+fn warn_unkept<R: Eprint>(
+    rt: &R,
+    run: &ServiceRun<'_, '_, '_, '_, '_>,
+    retained: &Retained,
+) {
     if run.keeping.state.is_none() && !run.notes.quiet {
         let _ = rt.eprint(UNKEPT);
+        if retained.names.len() > 0 {
+            let _ = rt.eprint(UNRETAINED);
+        }
     }
 }
 
@@ -103,12 +141,14 @@ fn prepared<R: Print + Eprint + AllocGlobal, W: Write>(
     alloc: Global,
     run: &ServiceRun<'_, '_, '_, '_, '_>,
     given: &Accepted,
+    retained: &Retained,
     out: &mut W,
 ) -> Result<Addresses, u8> {
     match addresses_of(alloc, run.devices, run.notes.site, given.site.devices()) {
         Ok(addresses) => match tell_begun(alloc, &run.serving, given.verified.budget(), out) {
             0 => {
-                warn_unkept(rt, run);
+                warn_unkept(rt, run, retained);
+                warn_of_names(rt, &run.notes, retained.names.as_slice(), variables_of(given));
                 warn_on_site(rt, &run.notes, &given.site);
                 Ok(addresses)
             }

@@ -1,12 +1,14 @@
-//! Warnings beside an acceptance: what clients may not be shown, and which places of devices `serve` would refuse.
+//! Warnings beside an acceptance: what clients may not be shown, which places of devices `serve` would refuse, and which
+//! variables can't be kept.
+use crate::retained::warn_of_retained;
 use crate::unreached::warn_of_places;
 use commands::definitions::definitions;
 use refusal_notes::Notes;
 use served_notes::shown_warnings;
 use site_model::Site;
 
-/// Warns on standard error of what clients may not be shown of the site that a command's texts stand for, and of a device's
-/// place that `serve` would refuse. Where they stand for no site, the warnings can't be printed, or memory for them is
+/// Warns on standard error of what clients may not be shown of the site that a command's texts stand for, of a device's
+/// place that `serve` would refuse, and of `retain`. Where they stand for no site, the warnings can't be printed, or memory for them is
 /// refused, nothing comes of it.
 pub(crate) fn warn_beside(rt: &(impl Eprint + AllocGlobal), notes: &Notes<'_>) {
     if notes.quiet {
@@ -15,6 +17,7 @@ pub(crate) fn warn_beside(rt: &(impl Eprint + AllocGlobal), notes: &Notes<'_>) {
     if let Ok(models) = definitions(rt.alloc(), notes.defs) {
         if let Ok(site) = Site::read(rt.alloc(), notes.site, models.as_slice()) {
             warn_of_places(rt, notes, &site);
+            warn_of_retained(rt, notes);
             warn_on_site(rt, notes, &site);
         }
     }

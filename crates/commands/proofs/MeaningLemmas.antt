@@ -63,7 +63,7 @@ to_ranges (d ∷ ds) [] v i = absurd v
 to_ranges (d ∷ ds) (n ∷ ns) v zero = let w = within_parts d.low d.high n v.0 in (true_le d.low n w.0, true_le n d.high w.1)
 to_ranges (d ∷ ds) (n ∷ ns) v (suc i) = to_ranges ds ns v.1 i
 
-from_ranges : (ds : List Var) (ns : List ℤ) → length ns ≡ length ds → AreInRanges ds ns → AreVariables ds ns
+pub from_ranges : (ds : List Var) (ns : List ℤ) → length ns ≡ length ds → AreInRanges ds ns → AreVariables ds ns
 from_ranges [] [] e h = tt
 from_ranges [] (n ∷ ns) e h = cc
 from_ranges (d ∷ ds) [] e h = cc
@@ -234,11 +234,12 @@ module _ (site : Site) (p : Program) (a : Acceptance) (right : DoesWhatItMeans p
       let k = step_meant s e r next kept step in
       (r, rest, next, k.0, split, runs_meant next es rest t k.1 run)
 
+  -- nothing is set, and the variables begin with any numbers in their ranges
+  pub begun_kept : (variables : List ℤ) → AreVariables a.image.vars variables → IsKept (opened site variables)
+  begun_kept variables within = record { sets = none_in site.tags site.tags; variables = within }
+
   pub opening_kept : IsKept (opened site (map start_of a.image.vars))
-  opening_kept = record {
-    sets = none_in site.tags site.tags;
-    variables = subst (λ vs. AreVariables vs (map start_of vs)) (sym right.variables) (starts_are_in_range p.variables);
-  }
+  opening_kept = begun_kept (map start_of a.image.vars) (subst (λ vs. AreVariables vs (map start_of vs)) (sym right.variables) (starts_are_in_range p.variables))
 
   pub all_meant : (es : List Event) (answers : List Answer) (t : Standing) → Runs site a.image (numbers_of a) a.budget (opened site (map start_of a.image.vars)) es answers t → RunsAsMeant p site a (opened site (map start_of a.image.vars)) es answers t
   all_meant es answers t h = runs_meant _ es answers t opening_kept h

@@ -3,6 +3,7 @@ pub mod Machine
 pub mod Outcome
 pub mod Parts
 pub mod Progress
+pub mod Resuming
 pub mod Step
 pub mod Trap
 pub mod Trial

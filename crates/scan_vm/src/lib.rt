@@ -10,6 +10,7 @@ pub mod laws;
 mod machine;
 mod operators;
 mod registers;
+mod resuming;
 mod trap;
 mod trial;
 mod value;
@@ -20,3 +21,4 @@ pub use trap::{Trap, TrapKind};
 pub use trial::{Scan, Trial};
 // the scans of an accepted one
 pub use machine::Machine;
+pub use resuming::may_begin;

@@ -1,7 +1,8 @@
 -- Each scan of a service computes what its program means.
-use Rattle.std.proofs.Common.{◌≡◌, ◌⊎◌, inl, inr, ℕ, List, Option, None, Some, Ok, refl, sym, ap, subst, ◌∙◌}
+use Rattle.std.proofs.Common.{◌≡◌, ◌⊎◌, inl, inr, ℕ, ℤ, List, Option, None, Some, Ok, refl, sym, ap, subst, ◌∙◌}
 use Rattle.scan_code.specs.Image.{Image, IsProper}
-use Rattle.scan_vm.specs.Machine.{opened}
+use Rattle.scan_vm.specs.Resuming.{first_numbers}
+use Rattle.scan_vm.proofs.Accepted.{resumed_sized, resumed_within}
 use Rattle.site_model.specs.declared.site.Site.{Site}
 use Rattle.site_model.specs.Readings.{AreSettings}
 use Rattle.il_assemble.proofs.Rules.{images_are_proper}
@@ -23,7 +24,7 @@ use Rattle.service_core.specs.Stages.{AnyStep, CourseBy, Ends, RoundStep, Scans,
 use Rattle.service_core.proofs.OneRound.{scans_are_of_their_rounds}
 use Rattle.commands.specs.Accepted.{Accepts, most_deferred}
 use Rattle.commands.specs.Meant.{IsMeantScan}
-use Rattle.commands.proofs.MeaningLemmas.{IsKept, left_variables, opening_kept, step_meant, stored_ranged}
+use Rattle.commands.proofs.MeaningLemmas.{IsKept, begun_kept, from_ranges, left_variables, step_meant, stored_ranged}
 use Rattle.served_site.specs.Serving.{IsScanOf, IsStart, ScansMeanTheProgram}
 
 module _ (site : Site) (p : Program) (a : Acceptance) (right : DoesWhatItMeans p a.image) (linked : links_from site.tags 0 a.image.tags ≡ Ok a.links) (proper : IsProper a.image) (verdict : judged a.image site.tags most_deferred ≡ Ok a.budget) (matched : HasLinks site.tags a.links) where
@@ -68,12 +69,14 @@ module _ (site : Site) (p : Program) (a : Acceptance) (right : DoesWhatItMeans p
   course_keeps s t (stages.stays x) keeps = keeps
   course_keeps s t (stages.goes {t = middle} course u step) keeps = any_keeps middle t step (course_keeps s middle course keeps)
 
-  start_keeps : (first : Stage) → IsStart site a first → Keeps first.core
-  start_keeps first start = subst Keeps (sym start.core) (record { site_is = refl; program_is = refl; kept = opening_kept site p a right linked proper verdict matched })
+  start_keeps : (kept : List (Option ℤ)) (first : Stage) → IsStart site a kept first → Keeps first.core
+  start_keeps kept first start =
+      let within : AreVariables a.image.vars (first_numbers a.image.vars kept) = from_ranges a.image.vars (first_numbers a.image.vars kept) (resumed_sized a.image.vars kept) (resumed_within a.image.vars kept) in
+      subst Keeps (sym start.core) (record { site_is = refl; program_is = refl; kept = begun_kept site p a right linked proper verdict matched (first_numbers a.image.vars kept) within })
 
-  scan_of : (first s t : Stage) → IsStart site a first → CourseBy AnyStep first s → Scans s t → IsScanOf site p a s t
-  scan_of first s t start course scans =
-      let keeps = course_keeps first s course (start_keeps first start) in
+  scan_of : (kept : List (Option ℤ)) (first s t : Stage) → IsStart site a kept first → CourseBy AnyStep first s → Scans s t → IsScanOf site p a s t
+  scan_of kept first s t start course scans =
+      let keeps = course_keeps first s course (start_keeps kept first start) in
       let advances = ((scans.runs.1).1).0 in
       let meant = (step_meant site p a right linked proper verdict matched s.core.standing event.Scan scans.runs.0 t.core.standing keeps.kept (steps_here s.core event.Scan scans.runs.0 t.core keeps advances.0)).0 in
       let scan = meant.1.scan in
@@ -96,10 +99,10 @@ module _ (site : Site) (p : Program) (a : Acceptance) (right : DoesWhatItMeans p
       }
 
 pub scans_mean_the_program : ScansMeanTheProgram
-scans_mean_the_program site_text program_text texts site p a accepts matched first old new start course scans =
+scans_mean_the_program site_text program_text texts site p a accepts matched kept first old new start course scans =
     let on = (accepts.accepted).accepted in
     let right = subst (DoesWhatItMeans p) (sym on.kept) (accepts.accepted).right in
     let proper = subst IsProper (sym on.kept) (images_are_proper accepts.tree p (accepts.accepted).resolved) in
     let linked = subst (λ (i : Image). links_from site.tags 0 i.tags ≡ Ok a.links) (sym on.kept) on.linked in
     let verdict = subst (λ (i : Image). judged i site.tags most_deferred ≡ Ok a.budget) (sym on.kept) on.judged in
-    scan_of site p a right linked proper verdict matched first old new start course scans
+    scan_of site p a right linked proper verdict matched kept first old new start course scans

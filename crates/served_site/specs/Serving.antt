@@ -1,10 +1,10 @@
 -- What each scan of a service is, from the texts of its site and its program.
 -- IEC 61131-3 edition 2, 3.2 (instruction list; one scan after another).
-use Rattle.std.specs.Prelude.{◌≡◌, ℕ, List}
+use Rattle.std.specs.Prelude.{◌≡◌, ℕ, ℤ, List, Option}
 use Rattle.site_model.specs.declared.site.Site.{Site}
 use Rattle.point_types.specs.declared.reading.Reading.{Reading}
 use Rattle.scan_code.specs.Machine.{State}
-use Rattle.scan_vm.specs.Machine.{opened}
+use Rattle.scan_vm.specs.Resuming.{resumed}
 use Rattle.il_assemble.specs.Meaning.{Program}
 use Rattle.verifier.specs.Verified.{Acceptance, HasLinks}
 use Rattle.gateway.specs.event_core.Core.{gateway_of, numbers_of}
@@ -15,9 +15,10 @@ use Rattle.service_core.specs.Stages.{AnyStep, CourseBy, IsFirst, Scans, Stage}
 use Rattle.commands.specs.Accepted.{Accepts}
 use Rattle.commands.specs.OneScan.{IsMeant, IsSafe}
 
--- Before its first round: nothing is known or set, no device has a map, and each variable of the program is at its start value.
-pub record IsStart (site : Site) (a : Acceptance) (s : Stage) : Type 0 where
-  pub core : s.core ≡ gateway_of site (none_of site.devices) (opened a)
+-- Before its first round: nothing is known or set, no device has a map, and each variable of the program begins with what was
+-- kept of it, in its declared range, or else with its start value.
+pub record IsStart (site : Site) (a : Acceptance) (kept : List (Option ℤ)) (s : Stage) : Type 0 where
+  pub core : s.core ≡ gateway_of site (none_of site.devices) (resumed a kept)
   pub first : IsFirst s
 
 -- A scan from the one stage to the other, of what was told in its own round, or is known no more. As in `run` it is safe, and
@@ -34,9 +35,9 @@ pub record IsScanOf (site : Site) (p : Program) (a : Acceptance) (old new : Stag
   pub leaves : new.core.standing ≡ scanned site (numbers_of a) old.core.standing readings steps end
   pub planned : ArePlanned new.core new.round.writes
 
--- The texts of a site and a program are accepted, and a service was begun for them: whatever steps it makes, each of its
--- scans is so.
+-- The texts of a site and a program are accepted, and a service was begun for them, whatever was kept of the variables:
+-- whatever steps it makes, each of its scans is so.
 abbrev pub ScansMeanTheProgram : Type 0
 ScansMeanTheProgram = (site_text program_text : List ℕ) (texts : List (List ℕ)) (site : Site) (p : Program) (a : Acceptance)
     → Accepts site_text program_text texts site p a → HasLinks site.tags a.links
-    → (first old new : Stage) → IsStart site a first → CourseBy AnyStep first old → Scans old new → IsScanOf site p a old new
+    → (kept : List (Option ℤ)) (first old new : Stage) → IsStart site a kept first → CourseBy AnyStep first old → Scans old new → IsScanOf site p a old new

@@ -11,17 +11,19 @@ use scan_vm::Machine;
 use service_core::{Limits, Service, Station};
 use std::alloc::{AllocError, Global};
 
-/// A service of an accepted program on its site, over so many connections, all of them down. `stations` has an entry for
-/// each of the site's devices: where it is reached. The first round begins a period after 0. Foreign: the program was
+/// A service of an accepted program on its site, over so many connections, all of them down. `kept` has an entry for each of
+/// the program's variables, in their order: a variable begins with the number that was kept of it, where that lies in its
+/// declared range, and else with its start value. `stations` has an entry for each of the site's devices: where it is reached. The first round begins a period after 0. Foreign: the program was
 /// accepted for tags that the site doesn't have so; OutOfMemory: memory is refused.
 pub fn service_of(
     alloc: Global,
     given: Accepted,
+    kept: &[Option<i64>],
     links: usize,
     stations: &[Station],
     limits: Limits,
 ) -> Result<Service, CoreFault>
-    ensures start { IfOk result (λ service. IsStart given.site given.verified (stage_of service.cycle)) }
+    ensures start { IfOk result (λ service. IsStart given.site given.verified kept.now (stage_of service.cycle)) }
     ensures matched { OnOk result (HasLinks given.site.tags given.verified.links) }
     ensures stations { IfOk result (λ service. service.lines.links.stations.items ≡ stations.now) }
     ensures numbers { IfOk result (λ service. service.lines.links.numbers.items ≡ replicate links 0) }
@@ -31,7 +33,7 @@ pub fn service_of(
     ensures foreign { IfErr result (λ e. e ≡ Foreign → HasLinks given.site.tags given.verified.links → ⊥) }
 {
     let Accepted { site, verified } = given;
-    let machine = match Machine::new(alloc, verified) {
+    let machine = match Machine::resume(alloc, verified, kept) {
         Ok(machine) => machine,
         Err(AllocError) => return Err(CoreFault::OutOfMemory),
     };

@@ -1,3 +1,4 @@
 pub mod Placing
+pub mod KeptVariables
 pub mod StateLines
 pub mod Named

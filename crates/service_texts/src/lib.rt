@@ -6,6 +6,8 @@ mod addresses;
 mod device_places;
 mod lines;
 mod reaching;
+mod retain_pace;
+mod retaining;
 mod state_lines;
 mod waiting;
 mod write_record;
@@ -20,6 +22,10 @@ pub use writers::{Writer, WriterFault, may_write, writers_of};
 // how long is waited
 pub use waiting::limits;
 // what is kept over a restart
+pub use retain_pace::RetainPace;
+pub use retaining::{
+    KeptNumber, RetainFault, is_among, kept_by, kept_numbers, retained_names, variables_text,
+};
 pub use state_lines::{Setting, StateLine, setting_in, state_line, state_text, tag_named};
 pub use write_record::WriteRecord;
 // what is told of a service

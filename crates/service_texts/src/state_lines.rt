@@ -67,7 +67,7 @@ fn push_tag(
 }
 
 /// Appends the line of a setting.
-fn push_setting(
+pub(crate) fn push_setting(
     text: &mut Vec<u8>,
     alloc: Global,
     name: &Name,

@@ -40,8 +40,8 @@ impl<'a> KeptFiles<'a> {
     ) -> Result<KeptFiles<'a>, AllocError> {
         let state = match keeping.state {
             Some(state) => {
-                restore(alloc, state.text, service, journal);
-                Some(StateFile::new(alloc, state.path, service.core().settings())?)
+                restore(alloc, &state, service, journal);
+                Some(StateFile::new(alloc, &state, service.core())?)
             }
             None => None,
         };
@@ -67,7 +67,8 @@ impl<'a> KeptFiles<'a> {
         }
     }
 
-    /// Keeps what is set, once all that came is taken, and before whoever set it is told that it is done.
+    /// Keeps what is set, once all that came is taken, and before whoever set it is told that it is done; and the variables
+    /// that are kept.
     pub(crate) fn keep_state<R: Files, W: Write>(
         &mut self,
         _taken: Taken,
@@ -77,7 +78,7 @@ impl<'a> KeptFiles<'a> {
     ) -> Kept {
         let alloc = self.alloc;
         if let Some(state) = &mut self.state {
-            if let Some(word) = state.keep(rt, alloc, core) {
+            if let Some(word) = state.keep(rt, alloc, core, journal.now()) {
                 journal.tell(file_line(alloc, "state", word));
             }
         }

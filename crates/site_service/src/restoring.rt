@@ -2,25 +2,37 @@
 ghost use Rattle.site_service.specs.Setting.{SetsBy};
 
 use crate::journal::Journal;
+use crate::keeping::KeptState;
+use crate::state_file::variables;
+use point_types::Name;
 use service_core::Service;
-use service_texts::{StateLine, left_out_setting_line, state_line};
+use service_texts::{StateLine, VariableLine, left_out_setting_line, state_line, variable_line};
 use std::alloc::{AllocError, Global};
 use std::io::Write;
 
 /// The most letters of a line that are told.
 const MOST_LETTERS: usize = 40;
 
-/// Sets what the lines of a text say, each by a client's write, and tells of those that set nothing.
+/// Sets what the lines of the file say, each by a client's write, and tells of those that set nothing and keep no variable.
 pub(crate) fn restore<W: Write>(
     alloc: Global,
-    text: &str,
+    state: &KeptState<'_, '_>,
     service: &mut Service,
     journal: &mut Journal<'_, W>,
 ) {
-    for line in text.lines() {
-        if !is_restored(service, line) {
+    for line in state.text.lines() {
+        if !is_taken(service, state.retained, line) {
             journal.tell(left_out(alloc, line));
         }
+    }
+}
+
+/// Takes what a line says; whether it is something: the number with which a variable began, or what a client could set.
+fn is_taken(service: &mut Service, retained: &[Name], line: &str) -> bool {
+    match variable_line(variables(service.core()), retained, line) {
+        VariableLine::Keeps { .. } => true,
+        VariableLine::LeftOut => false,
+        VariableLine::Other => is_restored(service, line),
     }
 }
 

@@ -1,38 +1,49 @@
-//! The file of set values, over the time of a service.
+//! The file of set values and variables, over the time of a service.
 ghost use Rattle.std.specs.Prelude.{◌≡◌, length, IfOk, IsTrue};
 
+use crate::keeping::KeptState;
 use crate::replacing::replace_for_good;
 use gateway::{Core, DEPTH};
-use service_texts::{WriteRecord, state_text};
+use point_types::{Name, Var};
+use service_texts::{RetainPace, WriteRecord, is_among, state_text, variables_text};
 use std::alloc::{AllocError, Global};
 use std::io;
 use std::rt::Files;
 
-/// The file of set values.
+/// The file of set values and variables.
 #[derive(Drop)]
 pub(crate) struct StateFile<'a> {
     path: &'a str,
+    /// The names of the variables that are kept.
+    retained: &'a [Name],
     /// What was set when the file was written last, or was to be.
     tried: Vec<Option<i64>>,
+    /// The numbers that the variables had then; None of those that aren't kept.
+    variables: Vec<Option<i64>>,
+    pace: RetainPace,
     writes: WriteRecord,
     /// Whether it is to be written once more, though nothing was set since.
     is_due: bool,
 }
 
 impl<'a> StateFile<'a> {
-    /// The file at a path, which needn't be written before something else is set than these.
+    /// The file of a core, which needn't be written before something else is set or kept than now.
     pub(crate) fn new(
         alloc: Global,
-        path: &'a str,
-        settings: &[Option<i64>],
+        state: &KeptState<'a, '_>,
+        core: &Core<DEPTH>,
     ) -> Result<StateFile<'a>, AllocError>
-        ensures { IfOk result (λ file. file.tried.items ≡ settings.now) }
+        ensures { IfOk result (λ file. file.tried.items ≡ core.now.standing.sets) }
     {
+        let settings = core.settings();
         let mut tried = Vec::with_capacity(alloc, settings.len())?;
         tried.extend_from_slice(settings)?;
         Ok(StateFile {
-            path,
+            path: state.path,
+            retained: state.retained,
             tried,
+            variables: numbers(alloc, core, state.retained)?,
+            pace: RetainPace::new(),
             writes: WriteRecord::new(),
             is_due: false,
         })
@@ -48,22 +59,24 @@ impl<'a> StateFile<'a> {
         self.is_due = self.writes.has_failed();
     }
 
-    /// Writes the file, where something was set since, or it is to be tried once more: from then on what is set is what was
-    /// tried to be written. Gives the word by which it is told that it can't be written, or can again.
+    /// Writes the file, where something was set since, where a variable changed and that may be written now, or where it is to
+    /// be tried once more: from then on what is set is what was tried to be written. `now` is in milliseconds since the start.
+    /// Gives the word by which it is told that it can't be written, or can again.
     pub(crate) fn keep<R: Files>(
         &mut self,
         rt: &R,
         alloc: Global,
         core: &Core<DEPTH>,
+        now: u64,
     ) -> Option<&'static str>
         ensures { length self.old.tried.items ≡ length core.now.standing.sets → self.new.tried.items ≡ core.now.standing.sets }
     {
-        if !self.is_due && self.is_as_tried(core.settings()) {
+        if !self.is_due && self.is_as_tried(core.settings()) && !self.wants_variables(core, now) {
             return None;
         }
         self.is_due = false;
         self.try_with(core.settings());
-        let is_written = write_state(rt, alloc, self.path, core).is_ok();
+        let is_written = self.write(rt, alloc, core, now).is_ok();
         self.writes.note(is_written)
     }
 
@@ -80,9 +93,63 @@ impl<'a> StateFile<'a> {
             self.tried.copy_from_slice(settings);
         }
     }
+
+    /// Whether a variable that is kept has another number than when the file was written last, and may be written now.
+    fn wants_variables(&self, core: &Core<DEPTH>, now: u64) -> bool {
+        self.pace.is_due(now) && has_changed(core, self.variables.as_slice())
+    }
+
+    fn write<R: Files>(
+        &mut self,
+        rt: &R,
+        alloc: Global,
+        core: &Core<DEPTH>,
+        now: u64,
+    ) -> io::Result<()>
+        ensures { self.new.tried.items ≡ self.old.tried.items }
+    {
+        self.pace.written(now);
+        self.variables = numbers(alloc, core, self.retained)?;
+        let mut text = state_text(alloc, core.site().tags(), core.settings())?;
+        let kept = variables_text(alloc, variables(core), self.variables.as_slice())?;
+        text.extend_from_slice(kept.as_slice())?;
+        replace_for_good(rt, alloc, self.path, text.as_slice())
+    }
 }
 
-fn write_state<R: Files>(rt: &R, alloc: Global, path: &str, core: &Core<DEPTH>) -> io::Result<()> {
-    let text = state_text(alloc, core.site().tags(), core.settings())?;
-    replace_for_good(rt, alloc, path, text.as_slice())
+/// The variables of the program that a core runs.
+pub(crate) fn variables(core: &Core<DEPTH>) -> &[Var]
+    ensures { result.now ≡ core.now.machine.accepted.image.vars }
+{
+    core.machine().verified().image().vars.as_slice()
+}
+
+/// The numbers of the variables, an entry for each in their order; None of those that aren't among the names.
+fn numbers(
+    alloc: Global,
+    core: &Core<DEPTH>,
+    names: &[Name],
+) -> Result<Vec<Option<i64>>, AllocError> {
+    let mut numbers = Vec::new(alloc);
+    for (i, var) in variables(core).iter().enumerate() {
+        let number = if is_among(names, var) {
+            Some(core.machine().var(i))
+        } else {
+            None
+        };
+        numbers.push(number)?;
+    }
+    Ok(numbers)
+}
+
+/// Whether a variable that is kept has another number than one of these, an entry for each variable in their order.
+fn has_changed(core: &Core<DEPTH>, numbers: &[Option<i64>]) -> bool {
+    for i in 0..variables(core).len() {
+        if let Some(Some(number)) = numbers.get(i) {
+            if core.machine().var(i) != *number {
+                return true;
+            }
+        }
+    }
+    false
 }
