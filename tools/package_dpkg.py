@@ -65,7 +65,8 @@ def try_dpkg(counts, folder, package):
     counts.note("a later one takes its place", (system.dpkg("-i", later(folder, package)), system.version()) == ("", "999") and kept())
     counts.note("and it that one's", (system.dpkg("-i", package), system.version()) == ("", first) and kept())
     said = system.dpkg("-r", "sunsite")
-    counts.note("a removal leaves what is the site's", not said and kept() and not os.path.exists(system.path("usr/bin/sunsite")), said)
+    stays, goes = system.path("etc/default/sunsite"), system.path("usr/bin/sunsite")
+    counts.note("a removal leaves what is the site's", not said and kept() and os.path.exists(stays) and not os.path.exists(goes), said)
     said = system.dpkg("-P", "sunsite")
     left = [path for path in ("etc/sunsite", "etc/default/sunsite", "var/lib/sunsite", "var/lib/private/sunsite", "usr/share/doc/sunsite")
             if os.path.lexists(system.path(path))]
