@@ -1,8 +1,8 @@
 -- What a line keeps of a variable.
-use Rattle.std.proofs.Common.{◌≡◌, ℕ, ℤ, Bool, true, false, List, Option, None, Some, sym, ap, subst, ◌∙◌, position}
+use Rattle.std.proofs.Common.{◌≡◌, ℕ, ℤ, Bool, true, false, List, Option, None, Some, sym, ap, subst, ◌∙◌, position, slice_get}
 use Rattle.point_types.specs.declared.variable.Var.{Var}
 use Rattle.service_texts.specs.State.{Says, name_in}
-use Rattle.service_texts.specs.Retaining.{Keeps, is_said, may_keep}
+use Rattle.service_texts.specs.Retaining.{Keeps, is_said, may_be_kept}
 
 clash : (o : Option ℕ) (j : ℕ) → o ≡ None → o ≡ Some j → ⊥
 clash o j none some = cc
@@ -23,13 +23,14 @@ module _ (vars : List Var) (names : List (List ℕ)) (text name : List ℕ) (num
   pub no_variable : position (is_said name) vars ≡ None → (j : ℕ) (m : ℤ) → Keeps vars names text j m → ⊥
   no_variable none j m keeps = clash (position (is_said (name_in text)) vars) j (here None none) keeps.first
 
-  pub not_kept : (i : ℕ) → position (is_said name) vars ≡ Some i → may_keep vars names i number ≡ false → (j : ℕ) (m : ℤ) → Keeps vars names text j m → ⊥
+  pub not_kept : (i : ℕ) → position (is_said name) vars ≡ Some i → may_be_kept names number (slice_get vars i) ≡ false → (j : ℕ) (m : ℤ) → Keeps vars names text j m → ⊥
   not_kept i at may_not j m keeps =
       let place : i ≡ j = same_place (position (is_said (name_in text)) vars) i j (here (Some i) at) keeps.first in
       let counted : number ≡ m = sym says.counted ∙ keeps.said.counted in
-      differ (may_keep vars names i number) may_not (ap (λ k. may_keep vars names k number) place ∙ ap (may_keep vars names j) counted ∙ keeps.may)
+      differ (may_be_kept names number (slice_get vars i)) may_not
+        (ap (λ k. may_be_kept names number (slice_get vars k)) place ∙ ap (λ n. may_be_kept names n (slice_get vars j)) counted ∙ keeps.may)
 
-  pub is_kept : (i : ℕ) → position (is_said name) vars ≡ Some i → may_keep vars names i number ≡ true → Keeps vars names text i number
+  pub is_kept : (i : ℕ) → position (is_said name) vars ≡ Some i → may_be_kept names number (slice_get vars i) ≡ true → Keeps vars names text i number
   is_kept i at may = record { said = by_its_name; first = here (Some i) at; may = may }
 
 pub no_setting : (vars : List Var) (names : List (List ℕ)) (text : List ℕ) → ((name : List ℕ) (number : ℤ) → Says text name number → ⊥) → (i : ℕ) (number : ℤ) → Keeps vars names text i number → ⊥

@@ -1,6 +1,6 @@
 -- The variables that are kept over a restart: the key `retain` of a site file, and their lines in the file of what is kept.
 -- IEC 61131-3 edition 2, 2.4.2 (RETAIN); the key and the lines are this project's.
-use Rattle.std.specs.Prelude.{◌≡◌, ℕ, ℤ, Bool, true, false, ◌&&◌, List, [], ◌∷◌, ◌++◌, length, take, drop, slice_get, slice_set, Option, None, Some, option_and_then, option_map, Result, Ok, Err, codes}
+use Rattle.std.specs.Prelude.{◌≡◌, ℕ, ℤ, Bool, true, false, ◌&&◌, List, [], ◌∷◌, ◌++◌, length, take, drop, slice_get, slice_set, Option, None, Some, option_and_then, option_map, Result, Ok, codes}
 use Rattle.std.specs.List.{list_any, position}
 use Rattle.std.specs.Option.{ok_or}
 use Rattle.std.specs.Str.{bytes_eq}
@@ -68,20 +68,16 @@ variables_text (v ∷ vars) (number ∷ numbers) = variable_line v.name number +
 abbrev pub is_said : List ℕ → Var → Bool
 is_said name v = bytes_eq (take (length mark) name) mark && bytes_eq (drop (length mark) name) v.name
 
--- whether a number of a variable may be kept: that is one of those that are kept, and may begin with it
+-- whether a number of a variable, where there is one, may be kept: that is one of those that are kept, and may begin with it
 abbrev pub may_be_kept : List (List ℕ) → ℤ → Option Var → Bool
 may_be_kept names number None = false
 may_be_kept names number (Some v) = is_among names v.name && may_begin v number
-
--- of the variable with this number
-abbrev pub may_keep : List Var → List (List ℕ) → ℕ → ℤ → Bool
-may_keep vars names i number = may_be_kept names number (slice_get vars i)
 
 -- A line keeps this number of the first variable whose name it says, which may be kept so.
 pub record Keeps (vars : List Var) (names : List (List ℕ)) (text : List ℕ) (i : ℕ) (number : ℤ) : Type 0 where
   pub said : Says text (name_in text) number
   pub first : position (is_said (name_in text)) vars ≡ Some i
-  pub may : may_keep vars names i number ≡ true
+  pub may : may_be_kept names number (slice_get vars i) ≡ true
 
 -- the numbers that are kept, with that of a line more
 abbrev pub with_kept : Option KeptNumber → List (Option ℤ) → List (Option ℤ)

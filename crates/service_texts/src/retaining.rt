@@ -1,8 +1,8 @@
 //! The variables that are kept over a restart: their names in the site file, and their lines in the file of what is kept.
-ghost use Rattle.std.specs.Prelude.{◌≡◌, ◌≢◌, ◌++◌, ℕ, ℤ, [], Ok, Err, IfErr, IfOk, OnOk, MatchOption};
+ghost use Rattle.std.specs.Prelude.{◌≡◌, ◌≢◌, ◌++◌, ℕ, ℤ, [], Ok, Err, IfErr, IfOk, OnOk, MatchOption, slice_get};
 ghost use Rattle.std.specs.List.{position};
 ghost use Rattle.toml.specs.View.{view, items_view};
-ghost use Rattle.service_texts.specs.Retaining.{Keeps, is_among, is_said, may_keep, name_at, name_from, names_after, names_in, retained_in, variable_line, variables_text, with_kept};
+ghost use Rattle.service_texts.specs.Retaining.{Keeps, is_among, is_said, may_be_kept, name_at, name_from, names_after, names_in, retained_in, variable_line, variables_text, with_kept};
 ghost use Rattle.service_texts.specs.declared.retaining.RetainFault.TheVariants as fault;
 
 use crate::state_lines::{push_setting, setting_in};
@@ -112,12 +112,13 @@ pub struct KeptNumber {
 
 /// What a line keeps of a program's variables, of which those of these names are kept: the number that it says of `VAR NAME`,
 /// where that is the name of a variable that is kept and the number lies in its declared range.
+#[tactic(auto, using(crate::proofs::KeptVariables::no_setting, crate::proofs::KeptVariables::no_variable, crate::proofs::KeptVariables::not_kept, crate::proofs::KeptVariables::is_kept))]
 pub fn kept_by(vars: &[Var], names: &[Name], line: &str) -> Option<KeptNumber>
     ensures { MatchOption result ((i : ℕ) (number : ℤ) → Keeps vars.now names.now line.now i number → ⊥) (λ kept. Keeps vars.now names.now line.now kept.variable kept.number) }
 {
     let setting = setting_in(line)?;
     let variable = variable_said(vars, setting.name)?;
-    if may_keep(vars, names, variable, setting.number) {
+    if may_be_kept(names, setting.number, variable_at(vars, variable)) {
         Some(KeptNumber {
             variable,
             number: setting.number,
@@ -144,13 +145,23 @@ fn is_said(name: &str, var: &Var) -> bool
     }
 }
 
-/// Whether this number of a variable may be kept.
-fn may_keep(vars: &[Var], names: &[Name], variable: usize, number: i64) -> bool
-    ensures { result ≡ may_keep vars.now names.now variable number }
+/// Whether a number of a variable, where there is one, may be kept.
+fn may_be_kept(names: &[Name], number: i64, var: Option<Var>) -> bool
+    ensures { result ≡ may_be_kept names.now number var }
 {
-    match vars.get(variable) {
-        Some(var) => is_among(names, var) && may_begin(var, number),
+    match var {
+        Some(var) => is_among(names, &var) && may_begin(&var, number),
         None => false,
+    }
+}
+
+/// The variable of this number.
+fn variable_at(vars: &[Var], i: usize) -> Option<Var>
+    ensures { result ≡ slice_get vars.now i }
+{
+    match vars.get(i) {
+        Some(var) => Some(*var),
+        None => None,
     }
 }
 

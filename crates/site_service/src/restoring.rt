@@ -6,7 +6,7 @@ use crate::keeping::KeptState;
 use crate::state_file::variables;
 use point_types::Name;
 use service_core::Service;
-use service_texts::{StateLine, VariableLine, left_out_setting_line, state_line, variable_line};
+use service_texts::{StateLine, kept_by, left_out_setting_line, state_line};
 use std::alloc::{AllocError, Global};
 use std::io::Write;
 
@@ -29,11 +29,7 @@ pub(crate) fn restore<W: Write>(
 
 /// Takes what a line says; whether it is something: the number with which a variable began, or what a client could set.
 fn is_taken(service: &mut Service, retained: &[Name], line: &str) -> bool {
-    match variable_line(variables(service.core()), retained, line) {
-        VariableLine::Keeps { .. } => true,
-        VariableLine::LeftOut => false,
-        VariableLine::Other => is_restored(service, line),
-    }
+    kept_by(variables(service.core()), retained, line).is_some() || is_restored(service, line)
 }
 
 /// Sets what a line sets; whether that is something that a client could set.
