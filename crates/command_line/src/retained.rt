@@ -4,7 +4,7 @@ use commands::{Accepted, accept, tell_no_memory};
 use point_types::{Items, Name, Var};
 use refusal_notes::{Notes, escaped};
 use service_texts::{RetainFault, is_among, kept_numbers, retained_names};
-use site_service::{KeptState, Keeping};
+use site_service::{Keeping, KeptState};
 use std::alloc::{AllocError, Global};
 use std::io::Write;
 
@@ -68,7 +68,10 @@ pub(crate) fn tell_unretained<R: Print + Eprint + AllocGlobal, W: Write>(
 fn why_unretained(alloc: Global, fault: RetainFault) -> Result<String, AllocError> {
     match fault {
         RetainFault::NotToml => String::from_str(alloc, "the site is no TOML"),
-        RetainFault::NoList => String::from_str(alloc, "'retain' of the site file is no list of texts"),
+        RetainFault::NoList => String::from_str(
+            alloc,
+            "'retain' of the site file is no list of texts",
+        ),
         RetainFault::NoName(entry) => {
             let number = entry.saturating_add(1);
             format!(in alloc; "text {number} in 'retain' of the site file is no name of a variable")
@@ -116,7 +119,9 @@ pub(crate) fn warn_of_names(
 
 fn warn_of_name(rt: &(impl Eprint + AllocGlobal), notes: &Notes<'_>, name: &Name) {
     let name = name.as_str();
-    if let Ok(what) = format!(in rt.alloc(); "'retain' names {name}, and the program has no such variable") {
+    if let Ok(what) = format!(in rt.alloc();
+        "'retain' names {name}, and the program has no such variable"
+    ) {
         warn(rt, notes, what.as_str(), ": nothing is kept of it");
     }
 }

@@ -122,11 +122,7 @@ fn serve_begun<
 }
 
 /// Prints on standard error that set values and variables aren't kept, where they aren't.
-fn warn_unkept<R: Eprint>(
-    rt: &R,
-    run: &ServiceRun<'_, '_, '_, '_, '_>,
-    retained: &Retained,
-) {
+fn warn_unkept<R: Eprint>(rt: &R, run: &ServiceRun<'_, '_, '_, '_, '_>, retained: &Retained) {
     if run.keeping.state.is_none() && !run.notes.quiet {
         let _ = rt.eprint(UNKEPT);
         if retained.names.len() > 0 {
@@ -148,7 +144,12 @@ fn prepared<R: Print + Eprint + AllocGlobal, W: Write>(
         Ok(addresses) => match tell_begun(alloc, &run.serving, given.verified.budget(), out) {
             0 => {
                 warn_unkept(rt, run, retained);
-                warn_of_names(rt, &run.notes, retained.names.as_slice(), variables_of(given));
+                warn_of_names(
+                    rt,
+                    &run.notes,
+                    retained.names.as_slice(),
+                    variables_of(given),
+                );
                 warn_on_site(rt, &run.notes, &given.site);
                 Ok(addresses)
             }
