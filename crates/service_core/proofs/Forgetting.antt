@@ -81,10 +81,10 @@ module _ (device i : ℕ) (g : Gateway) (before : List (Option (List ℕ))) (is 
       → h ≡ with_blocks (first_but device (i + 1) g.site.wants before) g
   block_goes want at own h lost =
       lost ∙ ap (λ (l : List (Option (List ℕ))). with_blocks l g)
-        (at_place want (position (same_want want) g.site.wants) refl (place_of g.site i want at)
-          ∙ ap (λ l. slice_set l i None) is
-          ∙ set_next device i g.site.wants before want at own
-          ∙ next_of device i g.site.wants before)
+      (at_place want (position (same_want want) g.site.wants) refl (place_of g.site i want at)
+      ∙ ap (λ l. slice_set l i None) is
+      ∙ set_next device i g.site.wants before want at own
+      ∙ next_of device i g.site.wants before)
 
 -- ---- all of them
 
@@ -119,4 +119,4 @@ one_further device i g m h is step =
 pub all_gone : (device i : ℕ) (g h : Gateway) → i ≡ length g.site.wants → h ≡ so_far device i g → h ≡ forgotten device g
 all_gone device i g h all is =
     is ∙ ap (λ (l : List (Option (List ℕ))). with_blocks l (record g { maps = set g.maps device None }))
-      (ap (λ n. first_but device n g.site.wants g.standing.blocks) all ∙ all_first device g.site.wants g.standing.blocks)
+    (ap (λ n. first_but device n g.site.wants g.standing.blocks) all ∙ all_first device g.site.wants g.standing.blocks)

@@ -28,7 +28,7 @@ module _ (vars : List Var) (names : List (List ℕ)) (text name : List ℕ) (num
       let place : i ≡ j = same_place (position (is_said (name_in text)) vars) i j (here (Some i) at) keeps.first in
       let counted : number ≡ m = sym says.counted ∙ keeps.said.counted in
       differ (may_be_kept names number (slice_get vars i)) may_not
-        (ap (λ k. may_be_kept names number (slice_get vars k)) place ∙ ap (λ n. may_be_kept names n (slice_get vars j)) counted ∙ keeps.may)
+      (ap (λ k. may_be_kept names number (slice_get vars k)) place ∙ ap (λ n. may_be_kept names n (slice_get vars j)) counted ∙ keeps.may)
 
   pub is_kept : (i : ℕ) → position (is_said name) vars ≡ Some i → may_be_kept names number (slice_get vars i) ≡ true → Keeps vars names text i number
   is_kept i at may = record { said = by_its_name; first = here (Some i) at; may = may }

@@ -18,9 +18,9 @@ mod seen;
 mod served_rows;
 mod survey;
 mod table;
-mod units;
 #[cfg(test)]
 mod tests;
+mod units;
 
 // the site file as a survey asks it
 pub use asked_text::{AskedFault, asked_site};
