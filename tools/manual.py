@@ -201,7 +201,8 @@ def head(name, what, version, date):
             ".SH NAME", f"{word} \\- {what}"]
 
 
-EXAMPLES = f"The files that are called examples/.. here stand in {DOCUMENTS}/examples."
+MODELS = "/usr/share/sunsite/models"
+EXAMPLES = f"The files that are called examples/.. here stand in {DOCUMENTS}/examples, and models/ is {MODELS}."
 FILES = (
     ("/etc/sunsite/site.toml", "the site file that the unit sunsite.service serves, as sunsite-site(5) has it"),
     ("/etc/sunsite/program.il", "its program"),

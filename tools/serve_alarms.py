@@ -29,13 +29,14 @@ over{n}:
 """
 
 
-# the sum of two devices, by a factor
+# the sum of two devices, and a factor by which it is shown
 SUM = """
 [[served]]
 model = 103
 point = "W"
 sum = ["w1", "w2"]
-
+"""
+SCALE = """
 [[served]]
 model = 103
 point = "W_SF"
@@ -114,28 +115,49 @@ def play_inputs(counts, program, folder):
 
 def play_alarms(counts, program, folder):
     """A device that is lost and comes back, and one without a map: each alarm begins and ends."""
-    devices = [OwnDevice({1: inverter(1500)}), OwnDevice({1: inverter(1600)})]
+    devices = [OwnDevice({1: inverter(1500)}), OwnDevice({1: inverter(1600)}), OwnDevice({1: {BASE: 1, BASE + 1: 2}})]
     service, status = serve(program, folder, "alarms", devices)
-    counts.note("nothing is wrong", until(lambda: alarms_of(status, "kind") if text_of(status) else None, []) == [], (service.lines, text_of(status)))
+    play_unmapped(counts, service, status)
     devices[0].silent = True
-    lost = [("device_lost", "inv1", "Silent"), ("input_missing", "w1", "NoBlock"), ("output_unwritten", "lim1"), ("served_missing", "103 PPVphAB", "NotStored")]
+    lost = [("device_lost", "inv1", "Silent"), ("device_unmapped", "inv3", "NoMap"), ("input_missing", "w1", "NoBlock"), ("input_missing", "w3", "NoBlock"),
+        ("output_unwritten", "lim1"), ("served_missing", "103 PPVphAB", "NotStored"), ("served_missing", "103 PPVphCA", "NotStored")]
     named = lambda: [(kind, name, cause) if kind != "output_unwritten" else (kind, name) for kind, name, cause in alarms_of(status, "kind", "name", "cause")]
     counts.note("what is lost", until(named, lost, 8) == lost, (named(), service.lines[-8:]))
-    since = [it for (it,) in alarms_of(status, "since")]
-    counts.note("since when", since == sorted(since, reverse=True) or max(since) - min(since) <= 1, since)
+    since = [it for name, it in alarms_of(status, "name", "since") if name in ("inv1", "w1", "lim1", "103 PPVphAB")]
+    counts.note("since when", len(since) == 4 and max(since) - min(since) <= 1, since)
     devices[0].silent = False
+    devices[2].units[1] = inverter(1700)
     counts.note("all is well again", until(named, [], 15) == [], (named(), service.lines[-8:]))
     counts.note("so say the lines", service.has(r"\S+ input w1 present") and service.has(r"\S+ output lim1 written"), service.lines[-8:])
+    found = [line.split(" ", 1)[1] for line in service.lines if " device inv3 " in line]
+    counts.note("a map that is found late", found == ["device inv3 lost NoMap", "device inv3 found 1 103 123"], found)
+    counts.note("its device isn't lost any more", stands(status, 2) == ("up", True, False, None), text_of(status))
     service.end()
     for it in devices:
         it.gone()
+
+
+def stands(status, number):
+    """How a device stands."""
+    device = json.loads(text_of(status))["devices"][number]
+    return tuple(device[key] for key in ("connection", "mapped", "lost", "last_loss"))
+
+
+def play_unmapped(counts, service, status):
+    """The third device answers, and what it has is no map; the others are well."""
+    wrong = [("device_unmapped", "inv3", "NoMap"), ("input_missing", "w3", "NoBlock"), ("served_missing", "103 PPVphCA", "NotStored")]
+    named = lambda: alarms_of(status, "kind", "name", "cause")
+    counts.note("a device without a map is an alarm", until(named, wrong) == wrong, (service.lines, text_of(status)))
+    counts.note("in words", ("no SunSpec map was found in inv3 so far",) in alarms_of(status, "text"), text_of(status))
+    counts.note("its line", service.has(r"\d+\.\d{3} device inv3 lost NoMap"), service.lines)
+    counts.note("it is lost, and has no loss", stands(status, 2) == ("up", False, True, None), text_of(status))
 
 
 def play_sum(counts, program, folder):
     """A sum that its point can't say, and one of which a part is missing."""
     for factor, watts, cause, text in ((0, 31000, "OutOfType", "its words don't hold the value by factor 0"), (1, 1501, "Inexact", "no raw number is the value by factor 1")):
         devices = [OwnDevice({1: inverter(1500)}), OwnDevice({1: inverter(2500)})]
-        service, status = serve(program, folder, f"sum{factor}", devices, SUM.format(factor))
+        service, status = serve(program, folder, f"sum{factor}", devices, SUM + SCALE.format(factor))
         named = lambda: [it for it in alarms_of(status, "kind", "name", "cause") if it[1] == "103 W"]
         counts.note("a sum is shown", until(lambda: alarms_of(status, "kind") if text_of(status) else None, []) == [], text_of(status))
         told(counts, "a sum that isn't", service, devices[0], {WATTS: watts}, f"served 103 W missing {cause}")
@@ -147,6 +169,19 @@ def play_sum(counts, program, folder):
         service.end()
         for it in devices:
             it.gone()
+
+
+def play_unscaled(counts, program, folder):
+    """A sum whose point has a scale factor that isn't served."""
+    devices = [OwnDevice({1: inverter(1500)}), OwnDevice({1: inverter(2500)})]
+    service, status = serve(program, folder, "unscaled", devices, SUM)
+    counts.note("a sum without its factor", service.has(r"\d+\.\d{3} served 103 W missing BadScale"), service.lines)
+    wrong = [("served_missing", "103 W", "BadScale", "W of model 103 isn't shown: no scale factor in -10..10 is served for it")]
+    named = lambda: alarms_of(status, "kind", "name", "cause", "text")
+    counts.note("is an alarm", until(named, wrong) == wrong, text_of(status))
+    service.end()
+    for it in devices:
+        it.gone()
 
 
 def play_own(counts, program, folder):
@@ -174,4 +209,5 @@ def try_all(counts, program, folder):
     play_inputs(counts, program, folder)
     play_alarms(counts, program, folder)
     play_sum(counts, program, folder)
+    play_unscaled(counts, program, folder)
     play_own(counts, program, folder)

@@ -4,7 +4,7 @@ import subprocess
 import time
 
 from serve_parts import TOP
-from serve_plays import BASE, DEVICE, GATEWAY, OwnDevice, inverter, put
+from serve_plays import BASE, DEVICE, GATEWAY, SUNS, OwnDevice, inverter, put
 
 TAG = """
 [[tag]]
@@ -30,6 +30,13 @@ sum = ["w1", "w2"]
 model = 103
 point = "W_SF"
 value = 0
+"""
+# a model of a maker's own, with a unit of its point X
+OWN_MODEL = """{{"id": 64001, "group": {{"points": [
+  {{"name": "ID", "type": "uint16", "size": 1}},
+  {{"name": "L", "type": "uint16", "size": 1}},
+  {{"name": "X", "type": "uint16", "size": 1, "units": "{unit}"}},
+  {{"name": "Y", "type": "uint16", "size": 1}}]}}}}
 """
 # registers of `inverter`: the texts of its common model, its power with the factor, and the factor of its limit
 MAKER, MODEL, SERIAL = BASE + 4, BASE + 20, BASE + 52
@@ -160,6 +167,21 @@ def try_words(counts, program, folder):
         counts.note(words, (ran.returncode, ran.stdout) == (2, out) and err in ran.stderr, ran)
 
 
+def try_units(counts, program, folder):
+    """Units of a model that is handed in, of which the last definition counts; a published one has its own beside it."""
+    words = [*SUNS, 1, 66, *[0x8000] * 66, 64001, 2, 71, 72, 103, 50, *[0x8000] * 12, 4000, 0, *[0x8000] * 36, 0xFFFF, 0]
+    device = Recorder({1: {BASE + n: word for n, word in enumerate(words)}})
+    text = GATEWAY + DEVICE.format(n=1) + f'remote_unit = 1\naddress = "{device.address()}"\n' + TAG.format(name="w1", n=1, **WATTS)
+    text += "".join(TAG.format(name=point.lower(), n=1, **WATTS | {"model": 64001, "point": point}) for point in ("X", "Y"))
+    site = put(folder, "units.toml", text)
+    defs = [put(folder, f"{n}.json", OWN_MODEL.format(unit=unit)) for n, unit in enumerate(("l/min", r"m\u00b3\th"))]
+    rows = "input w1 inv1 103 W  4000 W raw 4000 factor 0\ninput x inv1 64001 X 71{} raw 71 factor 0\ninput y inv1 64001 Y 72 raw 72 factor 0\n" + NOTHING
+    for first, second, unit in ((0, 1, " m\u00b3\\u{9}h"), (1, 0, " l/min")):
+        ran = survey(program, site, "--def", defs[first], "--def", defs[second])
+        counts.note(f"the unit {unit}", ran.returncode == 0 and ran.stdout.endswith(rows.format(unit)), ran)
+    device.gone()
+
+
 def try_many(counts, program, folder):
     """A site that has room for no tag more, and one that has the names of those that are added."""
     device = Recorder({1: registers(1, {LIMIT_FACTOR: 0})})
@@ -178,4 +200,5 @@ def try_all(counts, program, folder):
     try_wrong(counts, program, folder)
     try_shared(counts, program, folder)
     try_words(counts, program, folder)
+    try_units(counts, program, folder)
     try_many(counts, program, folder)

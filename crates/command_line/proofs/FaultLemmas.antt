@@ -9,12 +9,13 @@ use Rattle.gateway.specs.declared.poller.cycle.Report.{Report}
 use Rattle.gateway.specs.event_core.Core.{Gateway}
 use Rattle.gateway.specs.poller.Cycle.{StopsAt, read_of, write_of}
 use Rattle.gateway.specs.poller.Polling.{Polling}
-use Rattle.commands.specs.Headline.{DoesScan, Tells}
+use Rattle.commands.specs.Headline.{DoesScan, Tells, StopsAfter}
 use Rattle.commands.specs.Obeyed.{Runs}
 use Rattle.commands.specs.Opening.{IsUnfound, TellsNoCore}
 use Rattle.commands.specs.Printed.{EndsEarly, IsUnprinted, LineLost, LinkDown}
 use Rattle.commands.specs.Report.{no_memory_line}
-use Rattle.commands.specs.Series.{Moment, Scan, Series}
+use Rattle.commands.specs.Series.{Moment, Scan, Series, at_core, waited}
+use Rattle.commands.specs.declared.pace.Pace.{Pace}
 use Rattle.commands.specs.Stopped.{StopsScan}
 use Rattle.commands.specs.Told.{IsTold, Told, refused_with}
 use Rattle.commands.proofs.CheckLemmas.{refused_status}
@@ -39,16 +40,18 @@ stops_at : (call : Option Call) (p : Polling) (fault : LinkFault) (q : Polling) 
 stops_at None p fault q h = absurd h
 stops_at (Some call) p fault q h = (fault, h.kept)
 
-module _ (Does : ℕ → Scan → Type 0) (site : Site) where
+module _ (Does : ℕ → Scan → Type 0) (site : Site) (pace : Pace) where
   stops_scan : (first : Moment) (fault : LinkFault) (last : Moment) → StopsScan Does site first fault last → KeepsFault last.link
   stops_scan first fault last (inl h) = stops_at (read_of site (first.core).maps h.want) h.middle fault last.link h.stops
   stops_scan first fault last (inr h) = stops_at (write_of site.devices h.plan) ((h.scan).behind).link fault last.link h.stops
 
-  ends_early : (series : Series) → EndsEarly (StopsScan Does site) series → series.status ≡ 3 → KeepsFault (series.left).link
+  ends_early : (series : Series) → EndsEarly (StopsAfter pace Does site) series → series.status ≡ 3 → KeepsFault (series.left).link
   ends_early series (LineLost h) three = absurd (not_lost (length series.reports) h.last h.written series.out_behind series.status h.told three)
-  ends_early series (LinkDown h) three = stops_scan series.last h.fault series.left h.failed
+  ends_early series (LinkDown h) three =
+      let (heard, asks, stops) = h.failed in
+      stops_scan (waited pace.every (at_core series.last heard)) h.fault series.left stops
 
-  ended : (series : Series) → Tells (StopsScan Does site) series → series.status ≡ 3 → KeepsFault (series.left).link
+  ended : (series : Series) → Tells (StopsAfter pace Does site) series → series.status ≡ 3 → KeepsFault (series.left).link
   ended series tells three = ends_early series (tells.badly (λ well. omega (arith, well, three))) three
 
 -- ---- no scans
@@ -69,15 +72,15 @@ module _ (p q : Polling) (old new : Option (List ℕ)) (told : Told) (status : �
   unstarted site program texts (inl (inr (s, tree, a, accepts, inr (maps, found, foreign, is)))) = absurd (not_failed old new told status (ap (λ (t : Told). t.status) is) tells three)
   unstarted site program texts (inr (leaves, is)) = absurd (not_failed old new told status (ap (λ (t : Told). t.status) is) tells three)
 
-failed_keeps : (site program : List ℕ) (texts : List (List ℕ)) (n : ℕ) (p q : Polling) (old new : Option (List ℕ)) (core : Option Gateway) (status : ℕ)
+failed_keeps : (site program : List ℕ) (texts : List (List ℕ)) (n : Pace) (p q : Polling) (old new : Option (List ℕ)) (core : Option Gateway) (status : ℕ)
     → Runs site program texts n p q old new core status → status ≡ 3 → KeepsFault q
 failed_keeps site program texts n p q old new (Some core) status (whole, accepted, run) three =
-    ended (DoesScan core.site core.machine.accepted run.program) core.site _ run.told three
+    ended (DoesScan core.site core.machine.accepted run.program) core.site n _ run.told three
 failed_keeps site program texts n p q old new None status (told, tells, is) three =
     unstarted p q old new told status is three site program texts tells
 
 -- whoever touches such a poller only where it keeps no fault leaves it
-pub scans_kept : (site program : List ℕ) (texts : List (List ℕ)) (n : ℕ) (p q r : Polling) (old new : Option (List ℕ)) (core : Option Gateway) (status : ℕ)
+pub scans_kept : (site program : List ℕ) (texts : List (List ℕ)) (n : Pace) (p q r : Polling) (old new : Option (List ℕ)) (core : Option Gateway) (status : ℕ)
     → Runs site program texts n p q old new core status → status ≡ 3 → IfSome q.fault (λ fault. r ≡ q) → Runs site program texts n p r old new core status
 scans_kept site program texts n p q r old new core status runs three asked =
     let keeps : KeepsFault q = failed_keeps site program texts n p q old new core status runs three in

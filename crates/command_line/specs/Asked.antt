@@ -15,5 +15,5 @@ abbrev pub ObeysFiles : FileCommand → Notes → Option (List ℕ) → Option (
 ObeysFiles Check notes old new status = Checks notes.site.now notes.program.now (map string_bytes notes.defs.now) old new status
 ObeysFiles (Explain listing) notes old new status = IsExplained notes.site.now notes.program.now (map string_bytes notes.defs.now) old new status
 ObeysFiles (Simulate at) notes old new status = Simulates notes.plant.now (map string_bytes notes.defs.now) at.connections old new status
-ObeysFiles (Run plant scans exe) notes old new status = RunsOnce notes scans old new status
+ObeysFiles (Run plant pace exe) notes old new status = RunsOnce notes pace old new status
 ObeysFiles (Probe run) notes old new status = ProbesOnce run.unit (map string_bytes notes.defs.now) old new status

@@ -77,7 +77,10 @@ fn run_command<'a>(alloc: Global) -> Result<Command<'a>, AllocError> {
         .arg(program_file(alloc))?
         .arg(plant_option(alloc))?
         .arg(scans_option(alloc))?
+        .arg(pace_option(alloc))?
+        .arg(sets_option(alloc))?
         .arg(trace_option(alloc))?
+        .arg(report_option(alloc))?
         .arg(exe_option(alloc))?
         .arg(quiet_flag(alloc))?
         .arg(definition_files(alloc))
@@ -141,12 +144,40 @@ fn scans_option<'a>(alloc: Global) -> Arg<'a> {
         .value_parser(ValueParser::unsigned(1, 1000))
 }
 
+fn pace_option<'a>(alloc: Global) -> Arg<'a> {
+    option(
+        alloc,
+        "every",
+        "MS",
+        "the time from a scan to the next one, as time tags read it; 1000 where nothing is said",
+    )
+    .value_parser(ValueParser::unsigned(1, 3_600_000))
+}
+
+fn sets_option<'a>(alloc: Global) -> Arg<'a> {
+    option(
+        alloc,
+        "sets",
+        "FILE",
+        "what clients set and when: lines SCAN NAME=NUMBER, each set before that scan",
+    )
+}
+
 fn trace_option<'a>(alloc: Global) -> Arg<'a> {
     option(
         alloc,
         "trace",
         "FILE",
         "the file (CSV) into which a row is written for each scan",
+    )
+}
+
+fn report_option<'a>(alloc: Global) -> Arg<'a> {
+    option(
+        alloc,
+        "report",
+        "FILE",
+        "the file (HTML) into which a page with a chart of each tag and variable is written",
     )
 }
 
@@ -194,7 +225,7 @@ pub(crate) fn definition_files<'a>(alloc: Global) -> Arg<'a> {
         alloc,
         "def",
         "FILE",
-        "a model definition (JSON); the last one of an ID counts",
+        "a model definition (JSON), or a folder of them; the last one of an ID counts",
     )
     .action(ArgAction::Append)
 }

@@ -4,6 +4,7 @@ use crate::plant_server::PlantPort;
 use crate::probe_link::{ProbeAddress, ProbeRun};
 use crate::source::STANDARD_INPUT;
 use clap::ArgMatches;
+use commands::{Pace, USUAL_PERIOD};
 
 /// What the words after a command's name say, where it is one of those on the texts of files.
 pub(crate) fn file_command<'a>(name: &str, matches: &ArgMatches<'a>) -> Option<FileCommand<'a>> {
@@ -17,7 +18,11 @@ pub(crate) fn file_command<'a>(name: &str, matches: &ArgMatches<'a>) -> Option<F
         }),
         "run" => Some(FileCommand::Run {
             plant: matches.get_str("plant").unwrap_or(STANDARD_INPUT),
-            scans: matches.get_one("scans").unwrap_or(1),
+            pace: Pace {
+                scans: matches.get_one("scans").unwrap_or(1),
+                every: matches.get_one("every").unwrap_or(USUAL_PERIOD),
+                asked: matches.get_str("sets").is_some(),
+            },
             exe: matches.get_str("exe"),
         }),
         "probe" => probe_run(matches),

@@ -1,16 +1,17 @@
 //! The command line.
 use crate::arguments::command;
 use crate::command_words::{file_command, probe_address};
-use crate::file_command::{FileCommand, obey_on, warn_of_site};
+use crate::definition_folder::warn_of_none;
+use crate::file_command::{obey_on, warn_of_site};
 use crate::help;
-use crate::plant_run::PlantRun;
+use crate::run_command::run_on;
+use crate::run_files::{misuse_of_definitions, misuse_of_files};
 use crate::serve_words::{Misuse, keeping_of, service_limits, service_words, serving_of};
 use crate::service_run::{ServiceRun, run_service};
 use crate::sources::{Refusal, Sources, read_sources, read_state};
 use crate::standard_input::misuse;
 use crate::survey_run::{SurveyRun, run_survey};
 use crate::survey_words::survey_devices;
-use crate::trace_run::{run_traced, traces_over_source};
 use crate::trial_input::trial_of;
 use clap::error::ErrorKind;
 use clap::{ArgMatches, Error};
@@ -181,8 +182,8 @@ fn obey_matches<W: Write>(
         return tell_misuse(rt, alloc, why, out);
     }
     match read_sources(rt, alloc, matches) {
-        Ok(sources) => obey_on_texts(rt, alloc, path_of(words), name, matches, &sources, out),
-        Err(refusal) => unread(rt, alloc, matches, refusal, out),
+        Ok(sources) => obey_on_sources(rt, alloc, path_of(words), name, matches, &sources, out),
+        Err(refusal) => unread(rt, alloc, matches, &refusal, out),
     }
 }
 
@@ -192,7 +193,7 @@ fn misuse_of(name: &str, matches: &ArgMatches<'_>) -> Option<&'static str> {
         None if name == "probe" && probe_address(matches).is_none() => {
             Some("PORT is no port, and no HOST:PORT")
         }
-        None if traces_over_source(matches) => Some("'--trace' is a file that the command reads"),
+        None => misuse_of_files(matches),
         why => why,
     }
 }
@@ -202,6 +203,37 @@ fn path_of(words: &[String]) -> &str {
     match words.first() {
         Some(word) => word.as_str(),
         None => "sunsite",
+    }
+}
+
+/// Does what a command asks for on its files, once it is told which folders have no definition.
+fn obey_on_sources<W: Write>(
+    rt: &(impl Input
+        + Print
+        + Eprint
+        + AllocGlobal
+        + Files<File = File>
+        + Clock
+        + Net
+        + Processes<Started = SystemProcess>),
+    alloc: Global,
+    itself: &str,
+    name: &str,
+    matches: &ArgMatches<'_>,
+    sources: &Sources,
+    out: &mut W,
+) -> u8 {
+    if !matches.get_flag("quiet") {
+        for folder in sources.definitions.bare_folders.iter() {
+            warn_of_none(rt, alloc, folder.as_str());
+        }
+    }
+    match sources.definitions.paths(alloc) {
+        Ok(paths) => {
+            let def_paths = paths.as_slice();
+            obey_on_texts(rt, alloc, itself, name, matches, sources, def_paths, out)
+        }
+        Err(AllocError) => tell_no_memory(out),
     }
 }
 
@@ -220,6 +252,7 @@ fn obey_on_texts<W: Write>(
     name: &str,
     matches: &ArgMatches<'_>,
     sources: &Sources,
+    def_paths: &[&str],
     out: &mut W,
 ) -> u8 {
     let notes = Notes {
@@ -230,24 +263,28 @@ fn obey_on_texts<W: Write>(
         program: sources.program.as_str(),
         plant_path: matches.get_str("PLANT").unwrap_or(""),
         plant: sources.plant.as_str(),
-        def_paths: matches.get_strs("def").unwrap_or(&[]),
-        defs: sources.defs.as_slice(),
+        def_paths,
+        defs: sources.definitions.texts.as_slice(),
     };
-    match (file_command(name, matches), matches.get_str("trace")) {
-        (Some(FileCommand::Run { plant, scans, exe }), Some(trace)) => {
-            let exe = exe.unwrap_or(itself);
-            let run = PlantRun {
-                notes,
-                plant,
-                scans,
-                exe,
-            };
-            run_traced(rt, alloc, &run, trace, out)
+    if name == "run" {
+        if let Some(why) = misuse_of_definitions(matches, def_paths) {
+            return tell_misuse(rt, alloc, why, out);
         }
-        (Some(command), _) => obey_on(rt, alloc, itself, command, &notes, out),
-        (None, _) if name == "serve" => served(rt, alloc, itself, matches, &notes, out),
-        (None, _) if name == "survey" => surveyed(rt, alloc, matches, &notes, out),
-        (None, _) => BAD_COMMAND_LINE,
+        return run_on(
+            rt,
+            alloc,
+            itself,
+            matches,
+            &notes,
+            sources.sets.as_str(),
+            out,
+        );
+    }
+    match file_command(name, matches) {
+        Some(command) => obey_on(rt, alloc, itself, command, &notes, out),
+        None if name == "serve" => served(rt, alloc, itself, matches, &notes, out),
+        None if name == "survey" => surveyed(rt, alloc, matches, &notes, out),
+        None => BAD_COMMAND_LINE,
     }
 }
 
@@ -256,13 +293,13 @@ fn unread<W: Write>(
     rt: &(impl Eprint + AllocGlobal),
     alloc: Global,
     matches: &ArgMatches<'_>,
-    refusal: Refusal<'_>,
+    refusal: &Refusal,
     out: &mut W,
 ) -> u8 {
     let status = refusal.tell(alloc, out);
     if let Refusal::File(path, fault) = refusal {
         if !matches.get_flag("quiet") {
-            explain_unusable(rt, path, fault);
+            explain_unusable(rt, path.as_str(), *fault);
         }
     }
     status
@@ -309,7 +346,7 @@ fn served<W: Write>(
 ) -> u8 {
     match read_state(rt, alloc, matches) {
         Ok(state) => served_with(rt, alloc, itself, matches, notes, state.as_str(), out),
-        Err(refusal) => unread(rt, alloc, matches, refusal, out),
+        Err(refusal) => unread(rt, alloc, matches, &refusal, out),
     }
 }
 

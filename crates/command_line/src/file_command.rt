@@ -6,7 +6,7 @@ use crate::plant_run::{PlantRun, run_plant};
 use crate::plant_server::{PlantPort, simulate};
 use crate::probe_link::{ProbeRun, probe_over};
 use crate::shown::warn_beside;
-use commands::TextCommand;
+use commands::{Pace, TextCommand};
 use refusal_notes::Notes;
 use std::alloc::Global;
 use std::io::Write;
@@ -25,7 +25,7 @@ pub enum FileCommand<'a> {
     },
     Run {
         plant: &'a str,
-        scans: u32,
+        pace: Pace,
         /// The program that is started, where it isn't this one.
         exe: Option<&'a str>,
     },
@@ -68,11 +68,12 @@ pub fn obey_on<W: Write>(
             notes.warn(rt);
             simulate(rt, alloc, notes, at, out)
         }
-        FileCommand::Run { plant, scans, exe } => {
+        FileCommand::Run { plant, pace, exe } => {
             let run = PlantRun {
                 notes: *notes,
                 plant,
-                scans,
+                pace,
+                settings: &[],
                 exe: exe.unwrap_or(itself),
             };
             warn_of_site(rt, notes);

@@ -47,7 +47,8 @@ Status: 0 served to its end; 1 refused; 2 no such command line; 3 the link faile
 
 pub(crate) const RUN: &str =
     "Prints a line for each scan, and then what a client of the gateway sees. SITE or PROGRAM can be '-',
-standard input. --trace writes what each scan read, stored and wrote into a file for a spreadsheet, anew at each run:
+standard input. --trace writes what each scan read, stored and wrote into a file for a spreadsheet, and --report into a
+page with charts; both are written anew at each run:
   sunsite run examples/site.toml examples/limiter.il --plant examples/plant.toml --scans 3
 
 Status: 0 well; 1 refused; 2 no such command line; 3 a link failed";

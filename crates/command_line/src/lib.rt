@@ -7,6 +7,7 @@
 
 mod arguments;
 mod command_words;
+mod definition_folder;
 mod dispatch;
 mod failing;
 mod file_command;
@@ -17,12 +18,17 @@ mod plant_lines;
 mod plant_run;
 mod plant_server;
 mod probe_link;
+mod recorder;
 mod retained;
+mod run_command;
+mod run_files;
 mod run_watch;
 mod second_process;
 mod serve_words;
 mod service_places;
 mod service_run;
+mod set_lines;
+mod set_player;
 mod shown;
 mod socket;
 mod source;
@@ -31,13 +37,12 @@ mod standard_input;
 mod survey_run;
 mod survey_words;
 mod trace;
-mod trace_fault;
 mod trace_rows;
-mod trace_run;
 mod trial_input;
 mod unreached;
 mod unwritten;
 mod watched_link;
+mod write_fault;
 
 // what a program's `main` calls, and its parts
 pub use arguments::command;
@@ -58,12 +63,15 @@ pub use probe_link::{ProbeAddress, ProbeRun};
 pub use service_run::{ServiceRun, run_service};
 // a survey of a site
 pub use survey_run::{SurveyRun, run_survey};
-// its scans as a table
+// the scans of a run as a table, and as a page of charts
+pub use recorder::Recorder;
 pub use trace::Trace;
-pub use trace_fault::TraceFault;
+pub use write_fault::WriteFault;
 // what a run tells of what is missing and of outputs that it doesn't write, and why a link failed
 pub use link_cause::cause_of_link;
 pub use missing::MissingWatch;
-pub use run_watch::RunWatch;
+pub use run_watch::{RunLook, RunWatch};
+pub use set_lines::{SetsFault, Setting, read_settings};
+pub use set_player::SetPlayer;
 pub use unwritten::UnwrittenWatch;
 pub use watched_link::WatchedLink;

@@ -6,13 +6,15 @@ ghost use Rattle.command_line.specs.Ran.{EndsBehind, RunsOnce, RunsOver, ScansBy
 use crate::failing::{no_start, tell_lost, tell_unreached};
 use crate::link_cause::cause_of_link;
 use crate::plant_lines::told_port;
-use crate::run_watch::RunWatch;
+use crate::run_watch::{RunLook, RunWatch};
 use crate::second_process::{start_plant, start_probe, tell_no_port};
+use crate::set_lines::Setting;
 use crate::shown::warn_on_site;
 use crate::socket::{SocketLink, link_over, loopback};
 use crate::watched_link::WatchedLink;
 use commands::{
-    DEPTH, FAILED_LINK, LinkCommand, ObeyedOver, ScanWatch, Unwatched, obey_over, write_lines,
+    DEPTH, FAILED_LINK, LinkCommand, ObeyedOver, Pace, ScanClients, Unwatched, obey_over,
+    write_lines,
 };
 use gateway::{Core, Poller, serve_client};
 use modbus_frame::{Link, LinkFault};
@@ -30,8 +32,10 @@ pub struct PlantRun<'n, 'a> {
     pub notes: Notes<'n>,
     /// The path of the plant file.
     pub plant: &'a str,
-    /// How many scans.
-    pub scans: u32,
+    /// How many scans, and how far apart.
+    pub pace: Pace,
+    /// What clients set between them.
+    pub settings: &'a [Setting<'a>],
     /// The path of the program that is started for the plant and for the probe.
     pub exe: &'a str,
 }
@@ -44,20 +48,20 @@ pub fn run_plant<R: Net + Processes + Eprint + AllocGlobal, W: Write>(
     run: &PlantRun<'_, '_>,
     out: &mut W,
 ) -> u8
-    ensures { RunsOnce run.now.notes run.now.scans (W.contents out.old) (W.contents out.new) result }
+    ensures { RunsOnce run.now.notes run.now.pace (W.contents out.old) (W.contents out.new) result }
 {
     run_watched(rt, alloc, run, &mut Unwatched, out)
 }
 
 /// The same, where one more looks on at the scans.
-pub fn run_watched<R: Net + Processes + Eprint + AllocGlobal, V: ScanWatch, W: Write>(
+pub fn run_watched<R: Net + Processes + Eprint + AllocGlobal, V: RunLook, W: Write>(
     rt: &R,
     alloc: Global,
     run: &PlantRun<'_, '_>,
     beside: &mut V,
     out: &mut W,
 ) -> u8
-    ensures { RunsOnce run.now.notes run.now.scans (W.contents out.old) (W.contents out.new) result }
+    ensures { RunsOnce run.now.notes run.now.pace (W.contents out.old) (W.contents out.new) result }
 {
     match start_plant(rt, alloc, &run.notes, run.plant, run.exe) {
         Ok(mut plant) => {
@@ -72,7 +76,7 @@ pub fn run_watched<R: Net + Processes + Eprint + AllocGlobal, V: ScanWatch, W: W
 }
 
 /// Scans the plant that prints these lines, which stay open to its end, and has the gateway probed.
-fn run_started<R: Net + Processes + Eprint + AllocGlobal, V: ScanWatch, P: Read, W: Write>(
+fn run_started<R: Net + Processes + Eprint + AllocGlobal, V: RunLook, P: Read, W: Write>(
     rt: &R,
     alloc: Global,
     run: &PlantRun<'_, '_>,
@@ -80,7 +84,7 @@ fn run_started<R: Net + Processes + Eprint + AllocGlobal, V: ScanWatch, P: Read,
     lines: &mut Option<P>,
     out: &mut W,
 ) -> u8
-    ensures { RunsOnce run.now.notes run.now.scans (W.contents out.old) (W.contents out.new) result }
+    ensures { RunsOnce run.now.notes run.now.pace (W.contents out.old) (W.contents out.new) result }
 {
     match told_port(alloc, lines) {
         Ok(port) => run_at(rt, alloc, run, beside, port, out),
@@ -89,7 +93,7 @@ fn run_started<R: Net + Processes + Eprint + AllocGlobal, V: ScanWatch, P: Read,
 }
 
 /// Scans the plant on a port, and has the gateway probed.
-fn run_at<R: Net + Processes + Eprint + AllocGlobal, V: ScanWatch, W: Write>(
+fn run_at<R: Net + Processes + Eprint + AllocGlobal, V: RunLook, W: Write>(
     rt: &R,
     alloc: Global,
     run: &PlantRun<'_, '_>,
@@ -97,7 +101,7 @@ fn run_at<R: Net + Processes + Eprint + AllocGlobal, V: ScanWatch, W: Write>(
     port: u16,
     out: &mut W,
 ) -> u8
-    ensures { RunsOnce run.now.notes run.now.scans (W.contents out.old) (W.contents out.new) result }
+    ensures { RunsOnce run.now.notes run.now.pace (W.contents out.old) (W.contents out.new) result }
 {
     match link_to(rt, port) {
         Ok(link) => run_over(rt, alloc, run, beside, link, out),
@@ -110,7 +114,7 @@ fn link_to<R: Net>(rt: &R, port: u16) -> io::Result<SocketLink<R::Stream>> {
 }
 
 /// Scans the plant over a link, closes that, and has the gateway probed.
-fn run_over<R: Net + Processes + Eprint + AllocGlobal, V: ScanWatch, L: Link + Drop, W: Write>(
+fn run_over<R: Net + Processes + Eprint + AllocGlobal, V: RunLook, L: Link + Drop, W: Write>(
     rt: &R,
     alloc: Global,
     run: &PlantRun<'_, '_>,
@@ -118,7 +122,7 @@ fn run_over<R: Net + Processes + Eprint + AllocGlobal, V: ScanWatch, L: Link + D
     link: L,
     out: &mut W,
 ) -> u8
-    ensures { (b : LinkState) × RunsOver run.now.notes run.now.scans
+    ensures { (b : LinkState) × RunsOver run.now.notes run.now.pace
         (record { coming = L.coming link; sent = L.sent link; failures = L.failures link; calls = L.calls link })
         b (W.contents out.old) (W.contents out.new) result }
 {
@@ -129,7 +133,7 @@ fn run_over<R: Net + Processes + Eprint + AllocGlobal, V: ScanWatch, L: Link + D
 }
 
 /// Does the scans over a link, over which nothing else goes, and gives it back.
-fn scans_over<R: Eprint, V: ScanWatch, L: Link, W: Write>(
+fn scans_over<R: Eprint, V: RunLook, L: Link, W: Write>(
     rt: &R,
     alloc: Global,
     run: &PlantRun<'_, '_>,
@@ -137,39 +141,50 @@ fn scans_over<R: Eprint, V: ScanWatch, L: Link, W: Write>(
     link: L,
     out: &mut W,
 ) -> (ObeyedOver, L)
-    ensures { ScansLink run.now.notes run.now.scans
+    ensures { ScansLink run.now.notes run.now.pace
         (record { coming = L.coming link; sent = L.sent link; failures = L.failures link; calls = L.calls link })
         (record { coming = L.coming result.1; sent = L.sent result.1; failures = L.failures result.1; calls = L.calls result.1 })
         (W.contents out.old) (W.contents out.new) result.0.core result.0.status }
 {
     let mut poller = Poller::new(WatchedLink::new(alloc, link));
-    let mut watch = RunWatch::new(rt, alloc, run.notes.quiet, beside);
+    let mut watch = RunWatch::new(rt, alloc, run.notes.quiet, run.settings, beside);
     let ran = scans_by(alloc, run, &mut poller, &mut watch, out);
     (ran, poller.into_link().into_link())
 }
 
 /// Does the scans over a poller's link. The cause is that of a refusal, or why the link failed.
-fn scans_by<L: Link, V: ScanWatch, W: Write>(
+fn scans_by<L: Link, V: RunLook + ScanClients, W: Write>(
     alloc: Global,
     run: &PlantRun<'_, '_>,
     poller: &mut Poller<WatchedLink<L>>,
     watch: &mut V,
     out: &mut W,
 ) -> ObeyedOver
-    ensures { ScansBy run.now.notes run.now.scans poller.old poller.new (W.contents out.old) (W.contents out.new) result.core result.status }
+    ensures { ScansBy run.now.notes run.now.pace poller.old poller.new (W.contents out.old) (W.contents out.new) result.core result.status }
 {
     let (site, program, defs) = (run.notes.site, run.notes.program, run.notes.defs);
     let command = LinkCommand::Run {
         site,
         program,
         defs,
-        scans: run.scans,
+        scans: run.pace,
     };
     let mut ran = obey_over(alloc, command, poller, watch, out);
+    tell_refused(poller.link(), watch);
     if ran.status == FAILED_LINK {
         ran.cause = cause_of_link(alloc, site, defs, poller);
     }
     ran
+}
+
+/// Tells which writes over a link were refused.
+fn tell_refused<L: Link, V: RunLook>(link: &WatchedLink<L>, watch: &mut V) {
+    for write in link.refused() {
+        watch.refused(*write);
+    }
+    if let Some(write) = link.refused_last() {
+        watch.refused(write);
+    }
 }
 
 /// Has the gateway probed after scans that ended well; else gives their status.

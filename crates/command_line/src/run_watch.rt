@@ -1,26 +1,54 @@
 //! Who looks on at the scans of a run.
 use crate::missing::MissingWatch;
+use crate::set_lines::Setting;
+use crate::set_player::SetPlayer;
 use crate::unwritten::UnwrittenWatch;
-use commands::{DEPTH, ScanWatch};
+use commands::{ClientTurn, DEPTH, ScanClients, ScanWatch, Unwatched};
 use gateway::Core;
 use std::alloc::Global;
 
-/// Tells on standard error what the scans of a run don't read, don't show and don't write, and has one more look on.
+/// Looks on at the scans of a run, and hears of the writes that were refused.
+pub trait RunLook: ScanWatch {
+    /// After the last scan, once for each write that a device refused, in order: which one it is of all that the scans sent,
+    /// counted from 0. A scan sends those of its outputs in the order of the site file.
+    fn refused(&mut self, write: usize);
+}
+
+impl RunLook for Unwatched {
+    fn refused(&mut self, _write: usize) {}
+}
+
+/// Tells on standard error what the scans of a run don't read, don't show and don't write, has one more look on, and sets what
+/// clients set.
 #[derive(Drop)]
 pub struct RunWatch<'r, R, V> {
     missing: MissingWatch<'r, R>,
     unwritten: UnwrittenWatch<'r, R>,
+    clients: SetPlayer<'r, R>,
     beside: &'r mut V,
 }
 
 impl<'r, R: Eprint, V: ScanWatch> RunWatch<'r, R, V> {
     /// Nothing was told yet; where it is quiet, nothing will be.
-    pub fn new(rt: &'r R, alloc: Global, quiet: bool, beside: &'r mut V) -> RunWatch<'r, R, V> {
+    pub fn new(
+        rt: &'r R,
+        alloc: Global,
+        quiet: bool,
+        settings: &'r [Setting<'r>],
+        beside: &'r mut V,
+    ) -> RunWatch<'r, R, V> {
         RunWatch {
             missing: MissingWatch::new(rt, alloc, quiet),
             unwritten: UnwrittenWatch::new(rt, alloc, quiet),
+            clients: SetPlayer::new(rt, alloc, quiet, settings),
             beside,
         }
+    }
+}
+
+impl<R: Eprint, V: ScanWatch> ScanClients for RunWatch<'_, R, V> {
+    fn turn(&mut self, core: &Core<DEPTH>, scan: u32, i: u32) -> ClientTurn {
+        self.clients.turn(core, scan, i)
     }
 }
 
@@ -29,5 +57,11 @@ impl<R: Eprint, V: ScanWatch> ScanWatch for RunWatch<'_, R, V> {
         self.missing.scanned(core, scan);
         self.unwritten.scanned(core, scan);
         self.beside.scanned(core, scan);
+    }
+}
+
+impl<R: Eprint, V: RunLook> RunLook for RunWatch<'_, R, V> {
+    fn refused(&mut self, write: usize) {
+        self.beside.refused(write);
     }
 }

@@ -46,7 +46,7 @@ pub fn read_text<R: Read + Drop>(alloc: Global, reader: R) -> Result<String, Sou
 
 impl SourceFault {
     /// Of a file that can't be opened or read.
-    fn of(kind: ErrorKind) -> SourceFault
+    pub(crate) fn of(kind: ErrorKind) -> SourceFault
         ensures { (bytes : List ℕ) → IsHindered result bytes }
     {
         match kind {

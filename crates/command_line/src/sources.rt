@@ -1,12 +1,13 @@
 //! The texts of the files that a command line names.
 ghost use Rattle.command_line.specs.Printing.{Fails};
 
+use crate::definition_folder::definitions_in;
 use crate::failing::tell_file;
 use crate::source::{SourceFault, read_file, read_kept};
 use clap::ArgMatches;
 use commands::tell_no_memory;
 use refusal_notes::FileFault;
-use std::alloc::{AllocFailed, Global};
+use std::alloc::{AllocError, AllocFailed, Global};
 use std::io::Write;
 use std::rt::Files;
 
@@ -16,116 +17,194 @@ pub(crate) struct Sources {
     pub site: String,
     pub program: String,
     pub plant: String,
-    pub defs: Vec<String>,
+    /// What clients set in a run.
+    pub sets: String,
+    pub definitions: Definitions,
+}
+
+/// The definitions that are handed in, in order.
+#[derive(Drop)]
+pub(crate) struct Definitions {
+    /// The path of each.
+    pub paths: Vec<String>,
+    /// The text of each.
+    pub texts: Vec<String>,
+    /// The folders that are named and have none.
+    pub bare_folders: Vec<String>,
+}
+
+impl Definitions {
+    /// The path of each, as notes have them.
+    pub fn paths(&self, alloc: Global) -> Result<Vec<&str>, AllocError> {
+        let mut paths = Vec::new(alloc);
+        for path in self.paths.iter() {
+            paths.push(path.as_str())?;
+        }
+        Ok(paths)
+    }
 }
 
 /// Why the files' texts aren't had: the first file that can't be used, or want of memory.
-#[derive(Clone, Copy)]
-pub(crate) enum Refusal<'a> {
-    File(&'a str, FileFault),
+#[derive(Drop)]
+pub(crate) enum Refusal {
+    File(String, FileFault),
     OutOfMemory,
 }
 
-impl Refusal<'_> {
+impl Refusal {
+    /// Why the text at a path isn't had.
+    fn of(alloc: Global, path: &str, fault: SourceFault) -> Refusal {
+        match (fault, path.to_string(alloc)) {
+            (SourceFault::Unusable(fault), Ok(path)) => Refusal::File(path, fault),
+            _ => Refusal::OutOfMemory,
+        }
+    }
+
     /// Writes its line, and gives the status.
-    pub fn tell<W: Write>(self, alloc: Global, out: &mut W) -> u8
+    pub fn tell<W: Write>(&self, alloc: Global, out: &mut W) -> u8
         ensures { Fails (W.contents out.old) (W.contents out.new) result }
     {
         match self {
             Refusal::OutOfMemory => tell_no_memory(out),
-            Refusal::File(path, _) => tell_file(alloc, path, out),
+            Refusal::File(path, _) => tell_file(alloc, path.as_str(), out),
         }
     }
 }
 
-impl<T: Drop> From<AllocFailed<T>> for Refusal<'_> {
+impl From<AllocError> for Refusal {
+    fn from(_refused: AllocError) -> Self {
+        Refusal::OutOfMemory
+    }
+}
+
+impl<T: Drop> From<AllocFailed<T>> for Refusal {
     fn from(_refused: AllocFailed<T>) -> Self {
         Refusal::OutOfMemory
     }
 }
 
-/// Reads the files that the command names, in the order site, program, plant, definitions.
-pub(crate) fn read_sources<'a>(
+/// Reads the files that the command names, in the order site, program, plant, set values, definitions.
+pub(crate) fn read_sources(
     rt: &(impl Input + AllocGlobal + Files),
     alloc: Global,
-    matches: &ArgMatches<'a>,
-) -> Result<Sources, Refusal<'a>> {
+    matches: &ArgMatches<'_>,
+) -> Result<Sources, Refusal> {
     let site = named_text(rt, alloc, matches.get_str("SITE"))?;
     let program = named_text(rt, alloc, matches.get_str("PROGRAM"))?;
     let plant = named_text(rt, alloc, matches.get_str("PLANT"))?;
-    let defs = read_definitions(rt, alloc, matches)?;
+    let sets = named_text(rt, alloc, matches.get_str("sets"))?;
+    let definitions = read_definitions(rt, alloc, matches.get_strs("def").unwrap_or(&[]))?;
     Ok(Sources {
         site,
         program,
         plant,
-        defs,
+        sets,
+        definitions,
     })
 }
 
 /// The text of the file of set values; empty where there is none, or none is kept.
-pub(crate) fn read_state<'a>(
+pub(crate) fn read_state(
     rt: &(impl AllocGlobal + Files),
     alloc: Global,
-    matches: &ArgMatches<'a>,
-) -> Result<String, Refusal<'a>> {
+    matches: &ArgMatches<'_>,
+) -> Result<String, Refusal> {
     match matches.get_str("state") {
-        Some(path) => taken(path, read_kept(rt, alloc, path)),
+        Some(path) => taken(alloc, path, read_kept(rt, alloc, path)),
         None => Ok(String::new(alloc)),
     }
 }
 
-/// The texts of the model definitions that are handed in, in order.
-fn read_definitions<'a>(
+/// The model definitions that are handed in, in order: each path is that of one, or of a folder of them.
+fn read_definitions(
     rt: &(impl Input + AllocGlobal + Files),
     alloc: Global,
-    matches: &ArgMatches<'a>,
-) -> Result<Vec<String>, Refusal<'a>> {
-    let mut defs = Vec::new(alloc);
-    let paths = matches.get_strs("def").unwrap_or(&[]);
-    push_texts(rt, alloc, &mut defs, paths)?;
-    Ok(defs)
+    paths: &[&str],
+) -> Result<Definitions, Refusal> {
+    let mut read = Definitions {
+        paths: Vec::new(alloc),
+        texts: Vec::new(alloc),
+        bare_folders: Vec::new(alloc),
+    };
+    for path in paths {
+        push_named(rt, alloc, &mut read, path)?;
+    }
+    Ok(read)
 }
 
-/// Appends the texts of the files, in order.
-fn push_texts<'a>(
+/// Appends the definition at a path, or those of the folder there.
+fn push_named(
     rt: &(impl Input + AllocGlobal + Files),
     alloc: Global,
-    texts: &mut Vec<String>,
-    paths: &[&'a str],
-) -> Result<(), Refusal<'a>> {
+    read: &mut Definitions,
+    path: &str,
+) -> Result<(), Refusal> {
+    match read_file(rt, alloc, path) {
+        Err(SourceFault::Unusable(FileFault::Folder)) => push_folder(rt, alloc, read, path),
+        text => push_text(alloc, read, path, text),
+    }
+}
+
+/// Appends the definitions of a folder.
+fn push_folder(
+    rt: &(impl Input + AllocGlobal + Files),
+    alloc: Global,
+    read: &mut Definitions,
+    folder: &str,
+) -> Result<(), Refusal> {
+    match definitions_in(rt, alloc, folder) {
+        Ok(paths) if paths.is_empty() => {
+            read.bare_folders.push(folder.to_string(alloc)?)?;
+            Ok(())
+        }
+        Ok(paths) => push_files(rt, alloc, read, paths.as_slice()),
+        Err(fault) => Err(Refusal::of(alloc, folder, fault)),
+    }
+}
+
+/// Appends the definitions of the files at these paths.
+fn push_files(
+    rt: &(impl Input + AllocGlobal + Files),
+    alloc: Global,
+    read: &mut Definitions,
+    paths: &[String],
+) -> Result<(), Refusal> {
     for path in paths {
-        let text = text(rt, alloc, path)?;
-        texts.push(text)?;
+        let text = read_file(rt, alloc, path.as_str());
+        push_text(alloc, read, path.as_str(), text)?;
     }
     Ok(())
 }
 
+/// Appends the text that was read at a path, unless there is none.
+fn push_text(
+    alloc: Global,
+    read: &mut Definitions,
+    path: &str,
+    text: Result<String, SourceFault>,
+) -> Result<(), Refusal> {
+    let text = taken(alloc, path, text)?;
+    read.paths.push(path.to_string(alloc)?)?;
+    read.texts.push(text)?;
+    Ok(())
+}
+
 /// The text of a file where one is named, and else none.
-fn named_text<'a>(
+fn named_text(
     rt: &(impl Input + AllocGlobal + Files),
     alloc: Global,
-    path: Option<&'a str>,
-) -> Result<String, Refusal<'a>> {
+    path: Option<&str>,
+) -> Result<String, Refusal> {
     match path {
-        Some(path) => text(rt, alloc, path),
+        Some(path) => taken(alloc, path, read_file(rt, alloc, path)),
         None => Ok(String::new(alloc)),
     }
 }
 
-/// The text of a file.
-fn text<'a>(
-    rt: &(impl Input + AllocGlobal + Files),
-    alloc: Global,
-    path: &'a str,
-) -> Result<String, Refusal<'a>> {
-    taken(path, read_file(rt, alloc, path))
-}
-
 /// The text that was read at a path, or why there is none.
-fn taken(path: &str, text: Result<String, SourceFault>) -> Result<String, Refusal<'_>> {
+fn taken(alloc: Global, path: &str, text: Result<String, SourceFault>) -> Result<String, Refusal> {
     match text {
         Ok(text) => Ok(text),
-        Err(SourceFault::Unusable(fault)) => Err(Refusal::File(path, fault)),
-        Err(SourceFault::OutOfMemory) => Err(Refusal::OutOfMemory),
+        Err(fault) => Err(Refusal::of(alloc, path, fault)),
     }
 }

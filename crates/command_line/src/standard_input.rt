@@ -9,6 +9,7 @@ pub(crate) fn misuse(command: &str, matches: &ArgMatches<'_>) -> Option<&'static
         file(matches, "state"),
         file(matches, "status-file"),
         file(matches, "trace"),
+        file(matches, "report"),
     ];
     if inputs(&written) > 0 {
         return Some("'-' can't be a file that is written");

@@ -19,7 +19,7 @@ use std::io::Write;
 use std::net::Net;
 use std::process::{Processes, SystemProcess};
 use std::time::Clock;
-use survey_rows::{AskedFault, Survey, asked_site, table_of};
+use survey_rows::{AskedFault, HandedDefs, Survey, asked_site, table_of};
 
 /// The program of a survey: it does nothing.
 const NO_PROGRAM: &str = "PROGRAM survey\nEND_PROGRAM\n";
@@ -182,10 +182,14 @@ fn tell_table<W: Write>(
     let Ok(models) = definitions(alloc, run.notes.defs) else {
         return tell_no_memory(out);
     };
+    let Ok(handed) = HandedDefs::read(alloc, run.notes.defs) else {
+        return tell_no_memory(out);
+    };
     let survey = Survey {
         service,
         site,
         models: models.as_slice(),
+        handed: &handed,
         addresses,
     };
     match table_of(alloc, &survey) {

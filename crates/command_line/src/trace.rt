@@ -1,6 +1,6 @@
 //! The scans of a run as a table for a spreadsheet.
-use crate::trace_fault::TraceFault;
 use crate::trace_rows::{write_heads, write_row};
+use crate::write_fault::WriteFault;
 use commands::{DEPTH, ScanWatch};
 use csv::{Writer, WriterBuilder};
 use gateway::Core;
@@ -14,7 +14,7 @@ pub struct Trace<W: Write + Drop> {
     rows: Writer<W>,
     has_heads: bool,
     /// What hindered a row; nothing is written after it.
-    hindered: Result<(), TraceFault>,
+    hindered: Result<(), WriteFault>,
 }
 
 impl<W: Write + Drop> Trace<W> {
@@ -29,13 +29,13 @@ impl<W: Write + Drop> Trace<W> {
     }
 
     /// Writes out what is left, once no more scans come. Err: what hindered a row, or this.
-    pub fn end(&mut self) -> Result<(), TraceFault> {
+    pub fn end(&mut self) -> Result<(), WriteFault> {
         self.hindered?;
         self.rows.flush()?;
         Ok(())
     }
 
-    fn write(&mut self, core: &Core<DEPTH>, scan: u32) -> Result<(), TraceFault> {
+    fn write(&mut self, core: &Core<DEPTH>, scan: u32) -> Result<(), WriteFault> {
         if !self.has_heads {
             write_heads(self.alloc, &mut self.rows, core)?;
             self.has_heads = true;

@@ -1,23 +1,23 @@
 //! The columns of a trace, and its rows.
 ghost use Rattle.std.specs.Prelude.{◌≡◌, ◌<◌, length};
 
-use crate::trace_fault::TraceFault;
+use crate::write_fault::WriteFault;
 use commands::DEPTH;
 use csv::Writer;
+use decimal_text::decimal;
 use gateway::Core;
 use point_types::{Reading, Var};
 use site_alarms::{missing_word, output_name};
 use site_model::{Access, Site, SiteTag};
 use std::alloc::{AllocError, Global};
 use std::io::Write;
-use survey_rows::decimal;
 
 /// Writes the heads: `scan`, the name of each tag, `NAME written` for each output, and `VAR NAME` for each variable.
 pub(crate) fn write_heads<W: Write + Drop>(
     alloc: Global,
     rows: &mut Writer<W>,
     core: &Core<DEPTH>,
-) -> Result<(), TraceFault> {
+) -> Result<(), WriteFault> {
     rows.write_field(b"scan")?;
     for tag in core.site().tags() {
         rows.write_field(tag.name.as_bytes())?;
@@ -29,7 +29,7 @@ pub(crate) fn write_heads<W: Write + Drop>(
 }
 
 /// The variables of the program that a core runs.
-fn variables(core: &Core<DEPTH>) -> &[Var]
+pub(crate) fn variables(core: &Core<DEPTH>) -> &[Var]
     ensures { result.now ≡ core.now.machine.accepted.image.vars }
 {
     core.machine().verified().image().vars.as_slice()
@@ -39,7 +39,7 @@ fn write_variable_heads<W: Write + Drop>(
     alloc: Global,
     rows: &mut Writer<W>,
     vars: &[Var],
-) -> Result<(), TraceFault> {
+) -> Result<(), WriteFault> {
     for var in vars {
         let head = variable_head(alloc, var)?;
         rows.write_field(head.as_bytes())?;
@@ -56,7 +56,7 @@ fn write_output_heads<W: Write + Drop>(
     alloc: Global,
     rows: &mut Writer<W>,
     site: &Site,
-) -> Result<(), TraceFault> {
+) -> Result<(), WriteFault> {
     for i in 0..site.outs().len() {
         let head = output_head(alloc, output_name(site, i))?;
         rows.write_field(head.as_bytes())?;
@@ -75,7 +75,7 @@ pub(crate) fn write_row<W: Write + Drop>(
     rows: &mut Writer<W>,
     core: &Core<DEPTH>,
     scan: u32,
-) -> Result<(), TraceFault> {
+) -> Result<(), WriteFault> {
     let scan = decimal(alloc, i128::from(scan), 0)?;
     rows.write_field(scan.as_bytes())?;
     for (i, tag) in core.site().tags().iter().enumerate() {
@@ -93,7 +93,7 @@ fn write_variables<W: Write + Drop>(
     alloc: Global,
     rows: &mut Writer<W>,
     core: &Core<DEPTH>,
-) -> Result<(), TraceFault> {
+) -> Result<(), WriteFault> {
     for i in 0..variables(core).len() {
         let number = decimal(alloc, i128::from(core.machine().var(i)), 0)?;
         rows.write_field(number.as_bytes())?;
@@ -105,7 +105,7 @@ fn write_variables<W: Write + Drop>(
 fn write_writes<W: Write + Drop>(
     rows: &mut Writer<W>,
     core: &Core<DEPTH>,
-) -> Result<(), TraceFault> {
+) -> Result<(), WriteFault> {
     for i in 0..core.site().outs().len() {
         rows.write_field(write_word(core, i).as_bytes())?;
     }
@@ -130,7 +130,7 @@ fn number_of(
     tag: &SiteTag,
 ) -> Result<String, AllocError> {
     match tag.access {
-        Access::Input | Access::Setting => read_number(alloc, core, i, tag),
+        Access::Input | Access::Setting | Access::Time => read_number(alloc, core, i, tag),
         Access::Output | Access::Shown => stored_number(alloc, core, i, tag),
     }
 }

@@ -4,20 +4,30 @@ ghost use Rattle.std.specs.Prelude.{◌≡◌};
 use modbus_frame::{Down, Link};
 use std::alloc::Global;
 
-/// How many bytes of a request, and of what came behind it, are remembered.
+/// How many bytes of a request, and of what came after it, are remembered.
 const KEPT: usize = 12;
 
 /// The function that reads registers (Modbus Application Protocol V1.1b3, 6.3).
 const READ: u8 = 3;
 
-/// A link that remembers the last request that went out, what came behind it, and the models whose ID was read. What is
-/// read and written is what the link inside reads and writes.
+/// The functions that write one register and several (6.6, 6.12).
+const WRITES: [u8; 2] = [6, 16];
+
+/// The bit of a reply's function that says that the request was refused (7).
+const REFUSED: u16 = 0x8000;
+
+/// A link that remembers the last request that went out, what came after it, the models whose ID was read, and which writes
+/// were refused. What is read and written is what the link inside reads and writes.
 #[derive(Drop)]
 pub struct WatchedLink<L: Link> {
     link: L,
     request: Front,
     reply: Front,
     models: Vec<ModelAt>,
+    /// How many requests to write were answered.
+    writes: usize,
+    /// Which of them were refused, counted from 0, in order.
+    refused: Vec<usize>,
 }
 
 /// The front of some bytes, and how many there were.
@@ -95,6 +105,8 @@ impl<L: Link> WatchedLink<L> {
             request: Front::new(),
             reply: Front::new(),
             models: Vec::new(alloc),
+            writes: 0,
+            refused: Vec::new(alloc),
         }
     }
 
@@ -117,7 +129,7 @@ impl<L: Link> WatchedLink<L> {
         })
     }
 
-    /// What came behind it.
+    /// What came after it.
     pub(crate) fn came(&self) -> Front {
         self.reply
     }
@@ -133,15 +145,59 @@ impl<L: Link> WatchedLink<L> {
         found
     }
 
-    /// Where something came behind the last request, notes the ID that it brought, and forgets both.
+    /// Which writes were refused, in order, counted from 0 over all that were answered; the last request isn't among them.
+    pub(crate) fn refused(&self) -> &[usize] {
+        self.refused.as_slice()
+    }
+
+    /// The number of the last request among the writes, where it is one that was refused.
+    pub(crate) fn refused_last(&self) -> Option<usize> {
+        if self.is_write() && self.is_refused() {
+            return Some(self.writes);
+        }
+        None
+    }
+
+    /// Whether the last request is to write registers.
+    fn is_write(&self) -> bool {
+        match self.asked() {
+            Some(asked) => WRITES.contains(&asked.function),
+            None => false,
+        }
+    }
+
+    /// Whether the reply to the last request says that it is refused.
+    fn is_refused(&self) -> bool {
+        match self.reply.number_at(7) {
+            Some(function) => function & REFUSED != 0,
+            None => false,
+        }
+    }
+
+    /// Where something came after the last request, notes what it brought, and forgets both.
     fn turn(&mut self)
         ensures { self.new.link ≡ self.old.link }
     {
         if self.reply.count > 0 {
             self.learn();
+            self.count_write();
             self.request = Front::new();
             self.reply = Front::new();
         }
+    }
+
+    /// Counts the last request, where it is to write, and notes whether it was refused.
+    fn count_write(&mut self)
+        ensures { self.new.link ≡ self.old.link }
+    {
+        if !self.is_write() {
+            return;
+        }
+        let place = self.writes;
+        if self.is_refused() {
+            let _ = self.refused.push(place);
+        }
+        self.writes = place.saturating_add(1);
     }
 
     /// Notes the ID that the last reply brought. A length, which follows an ID in the next register, isn't one.
@@ -167,7 +223,7 @@ impl<L: Link> WatchedLink<L> {
         }
     }
 
-    /// Whether a register is that behind the last ID.
+    /// Whether a register is that after the last ID.
     fn is_length(&self, unit: u8, addr: u16) -> bool {
         match self.models.last() {
             Some(model) => model.unit == unit && model.addr.checked_add(1) == Some(addr),

@@ -1,5 +1,5 @@
 -- The parts of the headline, put together again: they are a site run.
-use Rattle.std.proofs.Common.{◌≡◌, ℕ, zero, suc, ◌+◌, ◌≤◌, inl, inr, Bool, true, false, not, List, [], ◌∷◌, ◌++◌, length, map, arith, Option, Some, None, Result, Ok, Err, slice_get, nat_eq, refl, sym, ap, subst, ◌∙◌, if◌then◌else◌}
+use Rattle.std.proofs.Common.{◌⊎◌, ◌≡◌, ℕ, zero, suc, ◌+◌, ◌≤◌, inl, inr, Bool, true, false, not, List, [], ◌∷◌, ◌++◌, length, map, arith, Option, Some, None, Result, Ok, Err, slice_get, nat_eq, refl, sym, ap, subst, ◌∙◌, if◌then◌else◌}
 use Rattle.point_types.specs.Value.{code_of, ◌>>=◌}
 use Rattle.modbus_frame.specs.declared.link.LinkFault.{LinkFault}
 use Rattle.register_map.specs.Layout.{Layout}
@@ -29,7 +29,7 @@ use Rattle.verifier.specs.Safe.{NeverGoesWrong}
 use Rattle.verifier.specs.Verdict.{budgeted, judged, refusal_of}
 use Rattle.verifier.specs.Verified.{Acceptance, HasAlike, HasLinks, IsAlike, IsVerified}
 use Rattle.verifier.proofs.Images.{by_both, ok_is}
-use Rattle.gateway.specs.event_core.Control.{IsPlanned, steps_of}
+use Rattle.gateway.specs.event_core.Control.{IsPlanned, steps_of, after_wait}
 use Rattle.gateway.specs.event_core.Core.{Gateway, IsSame, gateway_of, numbers_of}
 use Rattle.gateway.specs.event_core.Driving.{TakesEvent}
 use Rattle.gateway.specs.poller.Cycle.{RunsTo, Scans, TakesBlocks, WritesFirst}
@@ -42,12 +42,15 @@ use Rattle.gateway.specs.declared.event_core.event.Event.{Event}
 use Rattle.gateway.specs.declared.event_core.event.Event.TheVariants as event
 use Rattle.gateway.proofs.Parts.{same_then}
 use Rattle.commands.specs.Accepted.{Accepts, most_deferred}
-use Rattle.commands.specs.Headline.{DoesRun, DoesScan, Tells}
+use Rattle.commands.specs.Headline.{DoesRun, DoesScan, StopsAfter, Tells}
 use Rattle.commands.specs.Printed.{EndsEarly, LineLost, LinkDown}
 use Rattle.commands.specs.Scans.{AreScans, DoesScans, End, IsBroken, IsWhole, PartsAreTheRun, RunsScans, series_of}
-use Rattle.commands.specs.Series.{AreInOrder, Moment, Scan}
+use Rattle.commands.specs.Clients.{ClientsAsk}
+use Rattle.commands.specs.Series.{AreInOrder, Moment, Scan, at_core, waited}
+use Rattle.commands.specs.declared.pace.Pace.{Pace}
 use Rattle.commands.specs.Sources.{AreTextsOf, HasTexts}
 use Rattle.commands.specs.Stopped.{StopsScan}
+use Rattle.commands.proofs.ClientLemmas.{held_asked, same_asked}
 use Rattle.commands.proofs.MeaningLemmas.{all_meant}
 use Rattle.commands.proofs.RunLemmas.{scans_from_opening}
 use Rattle.commands.proofs.ScanLemmas.{follows_all, same_self}
@@ -135,7 +138,7 @@ module _ (site : Site) (a : Acceptance) (p : Program) where
     stepped =
         scanned_so most_deferred before behind scan.readings (scan.report).steps scan.end (held_all (scan.before).core (h.takes).events before (h.takes).runs of.held) h.leaves
         (subst (λ (x : Site). length scan.readings ≡ length x.tags) (sym on_site) (h.means).each)
-        (subst (λ (x : Site). AreReadings x.tags x.wants before.standing.blocks before.standing.sets scan.readings) (sym on_site) (h.means).read)
+        (subst (λ (x : Site). AreReadings x.tags x.wants before.standing.blocks before.standing.sets before.standing.elapsed scan.readings) (sym on_site) (h.means).read)
         (subst (λ (x : Acceptance). ending_on x scan.readings before.standing.variables x.budget ≡ Ended (scan.report).steps scan.end) (sym on_program) (h.safe).ended)
         (subst (λ (x : Acceptance). (scan.report).steps ≤ x.budget) (sym on_program) (h.safe).bounded)
         (subst (λ (x : Acceptance). (k : ℕ) (y : State) → ending_on x scan.readings before.standing.variables k ≡ Unfinished y → length y.deferred ≤ most_deferred) (sym on_program) h.shallow)
@@ -168,9 +171,14 @@ module _ (site : Site) (a : Acceptance) (p : Program) where
       unacknowledged = (h.writes).refused;
     }
 
-  whole_again : (scan : Scan) → IsOf (scan.before).core → DoesScan site a p (length site.outs) scan
-      → (own : List Event) × IsWhole (TakesEvent most_deferred) (scan.before).link (scan.before).core (scan.behind).link (scan.behind).core scan.report own
-  whole_again scan of h =
+  -- a whole scan from this moment on, with the time that went by before it
+  abbrev IsWholeFrom : Pace → Scan → Moment → Type 0
+  IsWholeFrom pace scan m =
+      (own : List Event) × (whole : Scans (TakesEvent most_deferred) IsPlanned steps_of (m.core).site (m.core).maps m.link m.core (scan.behind).link (scan.behind).core scan.report)
+      × (own ≡ event.Time pace.every ∷ ((whole.taken).events ++ event.Scan ∷ []))
+
+  whole_again : (pace : Pace) (scan : Scan) → IsOf (scan.before).core → DoesScan site a p (length site.outs) scan → IsWholeFrom pace scan scan.before
+  whole_again pace scan of h =
       let n = length site.outs in
       let whole : Scans (TakesEvent most_deferred) IsPlanned steps_of ((scan.before).core).site ((scan.before).core).maps (scan.before).link (scan.before).core (scan.behind).link (scan.behind).core scan.report = record {
         middle = (scan.taken).link;
@@ -181,30 +189,41 @@ module _ (site : Site) (a : Acceptance) (p : Program) where
         written = subst (λ (x : Site). WritesFirst IsPlanned x (length x.outs) (scan.behind).core (scan.taken).link (scan.behind).link (scan.report).writes (scan.report).refused) (sym of.on_site) (written n scan of h);
         steps = counted n scan of h;
       } in
-      ((whole.taken).events ++ event.Scan ∷ [], (whole, refl))
+      (event.Time pace.every ∷ ((whole.taken).events ++ event.Scan ∷ []), whole, refl)
 
   abbrev reports_of : List Scan → List Report
   reports_of scans = map (λ (scan : Scan). scan.report) scans
 
-  scans_again : (first : Moment) (scans : List Scan) (last : Moment) → IsOf first.core → AreInOrder (DoesScan site a p (length site.outs)) first scans last
-      → ((events : List Event) × AreScans (TakesEvent most_deferred) first.link first.core (reports_of scans) events last.link last.core) × IsOf last.core
-  scans_again first [] last of h = (([], (refl, ap (λ (m : Moment). m.link) h, ap (λ (m : Moment). m.core) h)), subst (λ (m : Moment). IsOf m.core) (sym h) of)
-  scans_again first (scan ∷ scans) last of (here, does, rest) =
-      let there = subst (λ (m : Moment). IsOf m.core) (sym here) of in
-      let k = whole_again scan there does in
-      let m = scans_again scan.behind scans last (of_behind (length site.outs) scan there does) rest in
-      let all : (events : List Event) × AreScans (TakesEvent most_deferred) (scan.before).link (scan.before).core (scan.report ∷ reports_of scans) events last.link last.core =
-      (k.0 ++ m.0.0, ((scan.behind).link, (scan.behind).core, k.0, m.0.0, refl, k.1, m.0.1)) in
-      (subst (λ (x : Moment). (events : List Event) × AreScans (TakesEvent most_deferred) x.link x.core (scan.report ∷ reports_of scans) events last.link last.core) here all, m.1)
+  -- time that went by changes neither site nor program
+  waited_of : (pace : Pace) (m : Moment) → IsOf m.core → IsOf (waited pace.every m).core
+  waited_of pace m of = record { on_site = of.on_site; on_program = of.on_program; held = of.held }
 
-  abbrev Stops : Moment → LinkFault → Moment → Type 0
-  Stops = StopsScan (DoesScan site a p) site
+  asked_of : (asked : Bool) (g h : Gateway) → ClientsAsk asked g h → IsOf g → IsOf h
+  asked_of asked g h asks of =
+      let same = same_asked asked g h asks in
+      record { on_site = same.site ∙ of.on_site; on_program = same.accepted ∙ of.on_program; held = held_asked asked g h asks of.held }
 
-  abbrev Broken : Moment → LinkFault → Polling → Gateway → Type 0
-  Broken first fault q t = (events : List Event) × IsBroken (TakesEvent most_deferred) first.link first.core fault q t events
+  scans_again : (pace : Pace) (first : Moment) (scans : List Scan) (last : Moment) → IsOf first.core → AreInOrder pace (DoesScan site a p (length site.outs)) first scans last
+      → ((events : List Event) × AreScans (TakesEvent most_deferred) pace first.link first.core (reports_of scans) events last.link last.core) × IsOf last.core
+  scans_again pace first [] last of h = (([], (refl, ap (λ (m : Moment). m.link) h, ap (λ (m : Moment). m.core) h)), subst (λ (m : Moment). IsOf m.core) (sym h) of)
+  scans_again pace first (scan ∷ scans) last of (heard, asks, here, does, rest) =
+      let there = subst (λ (m : Moment). IsOf m.core) (sym here) (waited_of pace (at_core first heard) (asked_of pace.asked first.core heard asks of)) in
+      let (own, whole, is) = subst (IsWholeFrom pace scan) here (whole_again pace scan there does) in
+      let m = scans_again pace scan.behind scans last (of_behind (length site.outs) scan there does) rest in
+      let all : List Event = asks.events ++ own in
+      ((all ++ m.0.0, ((scan.behind).link, (scan.behind).core, all, m.0.0, refl, (heard, asks.events, asks.own, asks.runs, whole, ap (λ es. asks.events ++ es) is), m.0.1)), m.1)
 
-  broken_again : (first : Moment) (fault : LinkFault) (last : Moment) → IsOf first.core → Stops first fault last → Broken first fault last.link last.core
-  broken_again first fault last of (inl h) =
+  abbrev Stops : Pace → Moment → LinkFault → Moment → Type 0
+  Stops pace = StopsAfter pace (DoesScan site a p) site
+
+  -- it failed from this moment on, with the time that went by before it
+  abbrev IsBrokenFrom : Pace → Moment → LinkFault → Polling → Gateway → Type 0
+  IsBrokenFrom pace m fault q t =
+      (events : List Event) × (((stop : gateway.StopsTaking (TakesEvent most_deferred) (m.core).site (m.core).maps m.link m.core fault q t) × (events ≡ event.Time pace.every ∷ (stop.taken).events))
+      ⊎ ((stop : gateway.StopsBehind (TakesEvent most_deferred) IsPlanned (m.core).site (m.core).maps m.link m.core fault q t) × (events ≡ event.Time pace.every ∷ ((stop.taken).events ++ event.Scan ∷ []))))
+
+  broken_again : (pace : Pace) (first : Moment) (fault : LinkFault) (last : Moment) → IsOf first.core → StopsScan (DoesScan site a p) site first fault last → IsBrokenFrom pace first fault last.link last.core
+  broken_again pace first fault last of (inl h) =
       let s = first.core in
       let here : gateway.StopsTaking (TakesEvent most_deferred) site s.maps first.link s fault last.link last.core = record {
         before = h.before;
@@ -218,8 +237,8 @@ module _ (site : Site) (a : Acceptance) (p : Program) where
       } in
       let stop : gateway.StopsTaking (TakesEvent most_deferred) s.site s.maps first.link s fault last.link last.core =
       subst (λ (x : Site). gateway.StopsTaking (TakesEvent most_deferred) x s.maps first.link s fault last.link last.core) (sym of.on_site) here in
-      ((stop.taken).events, inl (stop, refl))
-  broken_again first fault last of (inr h) =
+      (event.Time pace.every ∷ (stop.taken).events, inl (stop, refl))
+  broken_again pace first fault last of (inr h) =
       let scan = h.scan in
       let there = subst (λ (m : Moment). IsOf m.core) (sym h.before) of in
       let stop : gateway.StopsBehind (TakesEvent most_deferred) IsPlanned ((scan.before).core).site ((scan.before).core).maps (scan.before).link (scan.before).core fault last.link (scan.behind).core = record {
@@ -241,21 +260,31 @@ module _ (site : Site) (a : Acceptance) (p : Program) where
           stops = h.stops;
         });
       } in
-      let here : Broken scan.before fault last.link (scan.behind).core = ((stop.taken).events ++ event.Scan ∷ [], inr (stop, refl)) in
-      subst (λ (t : Gateway). Broken first fault last.link t) (sym h.core) (subst (λ (m : Moment). Broken m fault last.link (scan.behind).core) h.before here)
+      let here : IsBrokenFrom pace scan.before fault last.link (scan.behind).core = (event.Time pace.every ∷ ((stop.taken).events ++ event.Scan ∷ []), inr (stop, refl)) in
+      subst (λ (t : Gateway). IsBrokenFrom pace first fault last.link t) (sym h.core) (subst (λ (m : Moment). IsBrokenFrom pace m fault last.link (scan.behind).core) h.before here)
 
-  abbrev Ends : ℕ → List Report → Moment → Polling → Gateway → Option (List ℕ) → Option (List ℕ) → ℕ → Type 0
+  -- with what clients asked before it
+  broken_from : (pace : Pace) (last : Moment) (heard : Gateway) (asks : ClientsAsk pace.asked last.core heard) (fault : LinkFault) (q : Polling) (t : Gateway) (own : List Event)
+      → ((stop : gateway.StopsTaking (TakesEvent most_deferred) heard.site heard.maps last.link (after_wait pace.every heard) fault q t) × (own ≡ event.Time pace.every ∷ (stop.taken).events))
+      ⊎ ((stop : gateway.StopsBehind (TakesEvent most_deferred) IsPlanned heard.site heard.maps last.link (after_wait pace.every heard) fault q t) × (own ≡ event.Time pace.every ∷ ((stop.taken).events ++ event.Scan ∷ [])))
+      → (events : List Event) × IsBroken (TakesEvent most_deferred) pace last.link last.core fault q t events
+  broken_from pace last heard asks fault q t own (inl (stop, is)) = (asks.events ++ own, (heard, asks.events, asks.own, asks.runs, inl (stop, ap (λ es. asks.events ++ es) is)))
+  broken_from pace last heard asks fault q t own (inr (stop, is)) = (asks.events ++ own, (heard, asks.events, asks.own, asks.runs, inr (stop, ap (λ es. asks.events ++ es) is)))
+
+  abbrev Ends : Pace → List Report → Moment → Polling → Gateway → Option (List ℕ) → Option (List ℕ) → ℕ → Type 0
   Ends n reports last q t old new status = (events : List Event) × End (TakesEvent most_deferred) n reports events last.link last.core q t old new status
 
-  early_again : (n : ℕ) (reports : List Report) (last : Moment) (q : Polling) (t : Gateway) (old new : Option (List ℕ)) (status : ℕ) → IsOf last.core
-      → EndsEarly Stops (series_of n reports last.link last.core q t old new status) → Ends n reports last q t old new status
+  early_again : (n : Pace) (reports : List Report) (last : Moment) (q : Polling) (t : Gateway) (old new : Option (List ℕ)) (status : ℕ) → IsOf last.core
+      → EndsEarly (Stops n) (series_of n.scans reports last.link last.core q t old new status) → Ends n reports last q t old new status
   early_again n reports last q t old new status of (LineLost h) = ([], inr (inl (refl, h)))
   early_again n reports last q t old new status of (LinkDown h) =
-      let k = broken_again last h.fault (record { link = q; core = t }) of h.failed in
-      (k.0, inr (inr (record { within = h.within; fault = h.fault; broken = k.1; written = h.written; printed = h.printed; told = h.told })))
+      let (heard, asks, failed) = h.failed in
+      let (own, stops) = broken_again n (waited n.every (at_core last heard)) h.fault (record { link = q; core = t }) (waited_of n (at_core last heard) (asked_of n.asked last.core heard asks of)) failed in
+      let broken = broken_from n last heard asks h.fault q t own stops in
+      (broken.0, inr (inr (record { within = h.within; fault = h.fault; broken = broken.1; written = h.written; printed = h.printed; told = h.told })))
 
-  end_again : (n : ℕ) (reports : List Report) (last : Moment) (q : Polling) (t : Gateway) (old new : Option (List ℕ)) (status : ℕ) → IsOf last.core
-      → Tells Stops (series_of n reports last.link last.core q t old new status) → Ends n reports last q t old new status
+  end_again : (n : Pace) (reports : List Report) (last : Moment) (q : Polling) (t : Gateway) (old new : Option (List ℕ)) (status : ℕ) → IsOf last.core
+      → Tells (Stops n) (series_of n.scans reports last.link last.core q t old new status) → Ends n reports last q t old new status
   end_again n reports last q t old new status of h = by_status status refl
     where
       by_status : (k : ℕ) → status ≡ k → Ends n reports last q t old new status
@@ -292,11 +321,11 @@ accepts_again site program texts s a p verified of safe =
       };
     }
 
-run_again : (site program : List ℕ) (texts : List (List ℕ)) (n : ℕ) (p q : Polling) (old new : Option (List ℕ)) (s : Site) (a : Acceptance) (maps : List (Option Layout)) (core : Gateway) (status : ℕ)
+run_again : (site program : List ℕ) (texts : List (List ℕ)) (n : Pace) (p q : Polling) (old new : Option (List ℕ)) (s : Site) (a : Acceptance) (maps : List (Option Layout)) (core : Gateway) (status : ℕ)
     → IsVerified most_deferred a → HasTexts site program texts s a → NeverGoesWrong a → DoesRun (gateway_of s maps (opened a)) program n (record { link_before = p; link_behind = q; out_before = old; out_behind = new; status = status }) core → RunsScans site program texts n p q old new core status
 run_again site program texts n p q old new s a maps core status verified (tree, of) safe r =
     let start = gateway_of s maps (opened a) in
-    let all = scans_again s a r.program (record { link = r.found_by; core = start }) r.scans r.last (record { on_site = refl; on_program = refl; held = refl }) r.done in
+    let all = scans_again s a r.program n (record { link = r.found_by; core = start }) r.scans r.last (record { on_site = refl; on_program = refl; held = refl }) r.done in
     let reports = reports_of s a r.program r.scans in
     let end = end_again s a r.program n reports r.last q core old new status all.1 r.told in
     let events = all.0.0 ++ end.0 in

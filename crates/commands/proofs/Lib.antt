@@ -1,5 +1,6 @@
 pub mod AcceptedLemmas
 pub mod CheckLemmas
+pub mod ClientLemmas
 pub mod CoreLemmas
 pub mod ExplainLemmas
 mod FoundLemmas

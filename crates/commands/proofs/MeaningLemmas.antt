@@ -150,7 +150,7 @@ module _ (site : Site) (p : Program) (a : Acceptance) (right : DoesWhatItMeans p
     inputs = map (reading_at h.readings) (numbers_of a)
 
     usable : AreUsable site.tags h.readings
-    usable i u r e f = tag-usable u _ _ r (setting-in (λ n. (u.low ≤ℤ n) × (n ≤ℤ u.high)) s.sets i (λ n g. kept.sets i u n e g)) (h.read i u r e f)
+    usable i u r e f = tag-usable u _ _ _ r (setting-in (λ n. (u.low ≤ℤ n) × (n ≤ℤ u.high)) s.sets i (λ n g. kept.sets i u n e g)) (h.read i u r e f)
 
     frames : IsFramed a.image a.links most_deferred yes.context
     frames = framed a.image site.tags most_deferred a.links yes.context linked (yes.accepted).framed
@@ -225,6 +225,7 @@ module _ (site : Site) (p : Program) (a : Acceptance) (right : DoesWhatItMeans p
   pub step_meant : (s : Standing) (e : Event) (r : Answer) (t : Standing) → IsKept s → Steps site a.image (numbers_of a) a.budget s e r t → StepsAsMeant p site a s e r t × IsKept t
   step_meant s (event.Block want words) r t kept h = (h, still s t (ap (λ (x : Standing). x.sets) h.1) (ap (λ (x : Standing). x.variables) h.1) kept)
   step_meant s (event.Lost want) r t kept h = (h, still s t (ap (λ (x : Standing). x.sets) h.1) (ap (λ (x : Standing). x.variables) h.1) kept)
+  step_meant s (event.Time ms) r t kept h = (h, still s t (ap (λ (x : Standing). x.sets) h.1) (ap (λ (x : Standing). x.variables) h.1) kept)
   step_meant s event.Scan r t kept h = ((h.0, scan_meant s t kept h.1), scan_kept s t kept h.1)
   step_meant s (event.Client pdu) r t kept (reply, is, replies) = ((reply, is, replies), replies_kept s pdu (request_of pdu) reply t replies kept)
 

@@ -13,7 +13,7 @@ use Rattle.il_assemble.specs.Meaning.{Program}
 use Rattle.verifier.specs.Links.{links_from}
 use Rattle.verifier.specs.Verdict.{judged}
 use Rattle.verifier.specs.Verified.{Acceptance, HasLinks}
-use Rattle.gateway.specs.event_core.Control.{IsPlanned, after_scan}
+use Rattle.gateway.specs.event_core.Control.{IsPlanned, after_scan, after_wait}
 use Rattle.gateway.specs.event_core.Core.{Gateway, gateway_of, numbers_of}
 use Rattle.gateway.specs.event_core.Driving.{TakesEvent}
 use Rattle.gateway.specs.poller.Cycle.{RunsTo, StopsTaking, StopsWriting, TakesBlocks, WritesFirst}
@@ -22,19 +22,23 @@ use Rattle.gateway.specs.poller.Polling.{Polling}
 use Rattle.gateway.specs.event_core.SiteRun.{IsScan, Standing, Steps, scanned}
 use Rattle.gateway.specs.declared.poller.cycle.Report.{Report}
 use Rattle.gateway.specs.declared.event_core.event.Answer.{Answer}
+use Rattle.gateway.specs.declared.event_core.event.Answer.TheVariants as answer
 use Rattle.gateway.specs.declared.event_core.event.Event.{Event}
 use Rattle.gateway.specs.declared.event_core.event.Event.TheVariants as event
 use Rattle.commands.specs.Accepted.{most_deferred}
 use Rattle.commands.specs.Described.{Spells}
-use Rattle.commands.specs.Headline.{DoesRun, DoesScan, Tells}
+use Rattle.commands.specs.Headline.{DoesRun, DoesScan, Tells, StopsAfter}
 use Rattle.commands.specs.Printed.{LineLost, LinkDown}
 use Rattle.commands.specs.Meant.{AdvancesAsMeant, StepsAsMeant}
 use Rattle.commands.specs.Scans.{AreScans, DoesScans, End, IsBroken, IsWhole, series_of}
-use Rattle.commands.specs.Series.{AreInOrder, Course, Moment, Scan}
+use Rattle.commands.specs.Series.{AreInOrder, Course, Moment, Scan, waited}
+use Rattle.commands.specs.declared.pace.Pace.{Pace}
 use Rattle.commands.specs.Stopped.{StopsScan}
 use Rattle.commands.proofs.MeaningLemmas.{IsKept, left_variables, means_end, opening_kept, step_meant, stored_ranged}
 use Rattle.commands.proofs.ScanLemmas.{unlinked_never_well, unprinted_never_well}
-use Rattle.commands.proofs.StepLemmas.{IsBehind, IsHeld, behind_scan, due_all, due_one, ending_on, held_all, held_behind, notes_blocks}
+use Rattle.commands.specs.Clients.{AreOfClients, ClientsAsk}
+use Rattle.commands.proofs.ClientLemmas.{held_asked}
+use Rattle.commands.proofs.StepLemmas.{IsBehind, IsHeld, behind_scan, due_all, due_one, ending_on, held_all, held_behind, notes_blocks, waits_so}
 
 module _ (site : Site) (p : Program) (a : Acceptance) (right : DoesWhatItMeans p a.image) (linked : links_from site.tags 0 a.image.tags ≡ Ok a.links) (proper : IsProper a.image) (verdict : judged a.image site.tags most_deferred ≡ Ok a.budget) (matched : HasLinks site.tags a.links) where
   -- a core of this site and this program, whose numbers lie in their ranges
@@ -65,16 +69,26 @@ module _ (site : Site) (p : Program) (a : Acceptance) (right : DoesWhatItMeans p
   taken_meant held maps wants o s q t lost on h =
       record { es = h.es; events = h.events; blocks = h.blocks; talks = h.talks; runs = (runs s h.events t on h.runs).0; counted = h.counted }
 
-  whole_meant : (o : Polling) (s : Gateway) (q : Polling) (t : Gateway) (report : Report) (own : List Event) → IsOn s → IsWhole (TakesEvent most_deferred) o s q t report own
-      → IsWhole (AdvancesAsMeant p) o s q t report own × IsOn t
-  whole_meant o s q t report own on (scan, e) =
-      let middle = (runs s (scan.taken).events scan.before on (scan.taken).runs).1 in
+  -- time that went by changes nothing of that
+  abbrev waited_on : (pace : Pace) (s : Gateway) → IsOn s → IsOn (after_wait pace.every s)
+  waited_on pace s on = (advance s (event.Time pace.every) answer.None (after_wait pace.every s) on (waits_so most_deferred s pace.every)).1
+
+  whole_meant : (pace : Pace) (o : Polling) (s : Gateway) (q : Polling) (t : Gateway) (report : Report) (own : List Event) → IsOn s → IsWhole (TakesEvent most_deferred) pace o s q t report own
+      → IsWhole (AdvancesAsMeant p) pace o s q t report own × IsOn t
+  whole_meant pace o s q t report own on (heard, asked, of, asks, scan, e) =
+      let first = runs s asked heard on asks in
+      let here = waited_on pace heard first.1 in
+      let middle = (runs (after_wait pace.every heard) (scan.taken).events scan.before here (scan.taken).runs).1 in
       let last = advance scan.before event.Scan scan.answer t middle scan.scan in (
         (
+          heard,
+          asked,
+          of,
+          first.0,
           record {
             middle = scan.middle;
             before = scan.before;
-            taken = taken_meant s.site s.maps s.site.wants o s scan.middle scan.before report.lost on scan.taken;
+            taken = taken_meant heard.site heard.maps heard.site.wants o (after_wait pace.every heard) scan.middle scan.before report.lost here scan.taken;
             answer = scan.answer;
             scan = last.0;
             written = scan.written;
@@ -85,62 +99,76 @@ module _ (site : Site) (p : Program) (a : Acceptance) (right : DoesWhatItMeans p
         last.1,
       )
 
-  broken_meant : (o : Polling) (s : Gateway) (fault : LinkFault) (q : Polling) (t : Gateway) (events : List Event) → IsOn s → IsBroken (TakesEvent most_deferred) o s fault q t events
-      → IsBroken (AdvancesAsMeant p) o s fault q t events
-  broken_meant o s fault q t events on (inl (stop, e)) = inl (
-    record {
-      before = stop.before;
-      want = stop.want;
-      behind = stop.behind;
-      split = stop.split;
-      middle = stop.middle;
-      lost = stop.lost;
-      taken = taken_meant s.site s.maps stop.before o s stop.middle t stop.lost on stop.taken;
-      stops = stop.stops;
-    },
-    e,
-  )
-  broken_meant o s fault q t events on (inr (stop, e)) =
-      let middle = (runs s (stop.taken).events stop.before on (stop.taken).runs).1 in
-      let last = advance stop.before event.Scan stop.answer t middle stop.scan in
-      inr (
-        record {
-          middle = stop.middle;
-          before = stop.before;
-          lost = stop.lost;
-          taken = taken_meant s.site s.maps s.site.wants o s stop.middle stop.before stop.lost on stop.taken;
-          answer = stop.answer;
-          scan = last.0;
-          stops = stop.stops;
-        },
-        e,
+  broken_meant : (pace : Pace) (o : Polling) (s : Gateway) (fault : LinkFault) (q : Polling) (t : Gateway) (events : List Event) → IsOn s → IsBroken (TakesEvent most_deferred) pace o s fault q t events
+      → IsBroken (AdvancesAsMeant p) pace o s fault q t events
+  broken_meant pace o s fault q t events on (heard, asked, of, asks, inl (stop, e)) =
+      let first = runs s asked heard on asks in (
+        heard,
+        asked,
+        of,
+        first.0,
+        inl (
+          record {
+            before = stop.before;
+            want = stop.want;
+            behind = stop.behind;
+            split = stop.split;
+            middle = stop.middle;
+            lost = stop.lost;
+            taken = taken_meant heard.site heard.maps stop.before o (after_wait pace.every heard) stop.middle t stop.lost (waited_on pace heard first.1) stop.taken;
+            stops = stop.stops;
+          },
+          e,
+        ),
+      )
+  broken_meant pace o s fault q t events on (heard, asked, of, asks, inr (stop, e)) =
+      let first = runs s asked heard on asks in
+      let here = waited_on pace heard first.1 in
+      let middle = (runs (after_wait pace.every heard) (stop.taken).events stop.before here (stop.taken).runs).1 in
+      let last = advance stop.before event.Scan stop.answer t middle stop.scan in (
+        heard,
+        asked,
+        of,
+        first.0,
+        inr (
+          record {
+            middle = stop.middle;
+            before = stop.before;
+            lost = stop.lost;
+            taken = taken_meant heard.site heard.maps heard.site.wants o (after_wait pace.every heard) stop.middle stop.before stop.lost here stop.taken;
+            answer = stop.answer;
+            scan = last.0;
+            stops = stop.stops;
+          },
+          e,
+        ),
       )
 
-  scans_meant : (o : Polling) (s : Gateway) (reports : List Report) (events : List Event) (q : Polling) (t : Gateway) → IsOn s → AreScans (TakesEvent most_deferred) o s reports events q t
-      → AreScans (AdvancesAsMeant p) o s reports events q t × IsOn t
-  scans_meant o s [] events q t on (none, here, there) = ((none, here, there), subst IsOn (sym there) on)
-  scans_meant o s (r ∷ rs) events q t on (middle, between, own, more, split, one, rest) =
-      let k = whole_meant o s middle between r own on one in
-      let m = scans_meant middle between rs more q t k.1 rest in
+  scans_meant : (pace : Pace) (o : Polling) (s : Gateway) (reports : List Report) (events : List Event) (q : Polling) (t : Gateway) → IsOn s → AreScans (TakesEvent most_deferred) pace o s reports events q t
+      → AreScans (AdvancesAsMeant p) pace o s reports events q t × IsOn t
+  scans_meant pace o s [] events q t on (none, here, there) = ((none, here, there), subst IsOn (sym there) on)
+  scans_meant pace o s (r ∷ rs) events q t on (middle, between, own, more, split, one, rest) =
+      let k = whole_meant pace o s middle between r own on one in
+      let m = scans_meant pace middle between rs more q t k.1 rest in
       ((middle, between, own, more, split, k.0, m.0), m.1)
 
-  end_meant : (n : ℕ) (reports : List Report) (events : List Event) (o : Polling) (s : Gateway) (q : Polling) (t : Gateway) (old new : Option (List ℕ)) (status : ℕ) → IsOn s
+  end_meant : (n : Pace) (reports : List Report) (events : List Event) (o : Polling) (s : Gateway) (q : Polling) (t : Gateway) (old new : Option (List ℕ)) (status : ℕ) → IsOn s
       → End (TakesEvent most_deferred) n reports events o s q t old new status → End (AdvancesAsMeant p) n reports events o s q t old new status
   end_meant n reports events o s q t old new status on (inl h) = inl h
   end_meant n reports events o s q t old new status on (inr (inl h)) = inr (inl h)
   end_meant n reports events o s q t old new status on (inr (inr h)) = inr (inr (record {
     within = h.within;
     fault = h.fault;
-    broken = broken_meant o s h.fault q t events on h.broken;
+    broken = broken_meant n o s h.fault q t events on h.broken;
     written = h.written;
     printed = h.printed;
     told = h.told;
   }))
 
-  does_meant : (n : ℕ) (o : Polling) (s : Gateway) (events : List Event) (q : Polling) (t : Gateway) (old new : Option (List ℕ)) (status : ℕ) → IsOn s
+  does_meant : (n : Pace) (o : Polling) (s : Gateway) (events : List Event) (q : Polling) (t : Gateway) (old new : Option (List ℕ)) (status : ℕ) → IsOn s
       → DoesScans (TakesEvent most_deferred) n o s events q t old new status → DoesScans (AdvancesAsMeant p) n o s events q t old new status
   does_meant n o s events q t old new status on h =
-      let all = scans_meant o s h.reports h.before h.middle h.between on h.whole in
+      let all = scans_meant n o s h.reports h.before h.middle h.between on h.whole in
       record {
         reports = h.reports;
         before = h.before;
@@ -152,13 +180,16 @@ module _ (site : Site) (p : Program) (a : Acceptance) (right : DoesWhatItMeans p
         end = end_meant n h.reports h.behind h.middle h.between q t old new status all.1 h.end;
       }
 
-  pub scans_from_opening : (maps : List (Option Layout)) (n : ℕ) (o : Polling) (events : List Event) (q : Polling) (t : Gateway) (old new : Option (List ℕ)) (status : ℕ)
+  pub scans_from_opening : (maps : List (Option Layout)) (n : Pace) (o : Polling) (events : List Event) (q : Polling) (t : Gateway) (old new : Option (List ℕ)) (status : ℕ)
       → DoesScans (TakesEvent most_deferred) n o (gateway_of site maps (vm.opened a)) events q t old new status → DoesScans (AdvancesAsMeant p) n o (gateway_of site maps (vm.opened a)) events q t old new status
   scans_from_opening maps n o events q t old new status h =
       does_meant n o (gateway_of site maps (vm.opened a)) events q t old new status
       (record { on_site = refl; on_program = refl; kept = opening_kept site p a right linked proper verdict matched }) h
 
   -- ---- in the parts of the headline
+
+  abbrev asked_by : (pace : Pace) (s heard : Gateway) (asked : List Event) → AreOfClients pace.asked asked → RunsTo (TakesEvent most_deferred) s asked heard → ClientsAsk pace.asked s heard
+  asked_by pace s heard asked of asks = record { events = asked; own = of; runs = asks }
 
   -- what the program does at a scan, on this site
   scan_here : (s : Gateway) (r : Answer) (t : Gateway) → IsOn s → TakesEvent most_deferred s event.Scan r t → IsScan site a.image (numbers_of a) a.budget s.standing t.standing
@@ -240,16 +271,21 @@ module _ (site : Site) (p : Program) (a : Acceptance) (right : DoesWhatItMeans p
         held = held_behind before t h.readings h.steps h.end behind.core;
       }
 
-  whole_scan : (o : Polling) (s : Gateway) (q : Polling) (t : Gateway) (report : Report) (own : List Event) → IsOn s → IsHeld s → IsWhole (TakesEvent most_deferred) o s q t report own
-      → IsPart o s q t (length site.outs) report
-  whole_scan o s q t report own on held (scan, e) =
-      scan_parts o s scan.middle scan.before t scan.answer q (length site.outs) report on held scan.taken scan.scan scan.steps
-      (subst (λ (x : Site). WritesFirst IsPlanned x (length x.outs) t scan.middle q report.writes report.refused) on.on_site scan.written) (omega arith)
+  whole_scan : (pace : Pace) (o : Polling) (s : Gateway) (q : Polling) (t : Gateway) (report : Report) (own : List Event) → IsOn s → IsHeld s → IsWhole (TakesEvent most_deferred) pace o s q t report own
+      → (heard : Gateway) × ClientsAsk pace.asked s heard × IsPart o (after_wait pace.every heard) q t (length site.outs) report
+  whole_scan pace o s q t report own on held (heard, asked, of, asks, scan, e) =
+      let all = asked_by pace s heard asked of asks in
+      let first = (runs s asked heard on asks).1 in (
+        heard,
+        all,
+        scan_parts o (after_wait pace.every heard) scan.middle scan.before t scan.answer q (length site.outs) report (waited_on pace heard first) (held_asked pace.asked s heard all held) scan.taken scan.scan scan.steps
+            (subst (λ (x : Site). WritesFirst IsPlanned x (length x.outs) t scan.middle q report.writes report.refused) first.on_site scan.written) (omega arith),
+      )
 
   -- scans, one after another
-  record ArePart (o : Polling) (s : Gateway) (reports : List Report) (q : Polling) (t : Gateway) : Type 0 where
+  record ArePart (pace : Pace) (o : Polling) (s : Gateway) (reports : List Report) (q : Polling) (t : Gateway) : Type 0 where
     pub scans : List Scan
-    pub done : AreInOrder (DoesScan site a p (length site.outs)) (record { link = o; core = s }) scans (record { link = q; core = t })
+    pub done : AreInOrder pace (DoesScan site a p (length site.outs)) (record { link = o; core = s }) scans (record { link = q; core = t })
     pub reported : map (λ (scan : Scan). scan.report) scans ≡ reports
     pub on : IsOn t
     pub held : IsHeld t
@@ -257,61 +293,71 @@ module _ (site : Site) (p : Program) (a : Acceptance) (right : DoesWhatItMeans p
   abbrev moment : Polling → Gateway → Moment
   moment q t = record { link = q; core = t }
 
-  whole_scans : (o : Polling) (s : Gateway) (reports : List Report) (events : List Event) (q : Polling) (t : Gateway) → IsOn s → IsHeld s → AreScans (TakesEvent most_deferred) o s reports events q t
-      → ArePart o s reports q t
-  whole_scans o s [] events q t on held (none, here, there) = record {
+  whole_scans : (pace : Pace) (o : Polling) (s : Gateway) (reports : List Report) (events : List Event) (q : Polling) (t : Gateway) → IsOn s → IsHeld s → AreScans (TakesEvent most_deferred) pace o s reports events q t
+      → ArePart pace o s reports q t
+  whole_scans pace o s [] events q t on held (none, here, there) = record {
     scans = [];
     done = ap (λ (x : Polling). moment x t) here ∙ ap (λ (x : Gateway). moment o x) there;
     reported = refl;
     on = subst IsOn (sym there) on;
     held = subst IsHeld (sym there) held;
   }
-  whole_scans o s (r ∷ rs) events q t on held (middle, between, own, more, split, one, rest) =
-      let k = whole_scan o s middle between r own on held one in
-      let m = whole_scans middle between rs more q t k.on k.held rest in
+  whole_scans pace o s (r ∷ rs) events q t on held (middle, between, own, more, split, one, rest) =
+      let (heard, asks, k) = whole_scan pace o s middle between r own on held one in
+      let m = whole_scans pace middle between rs more q t k.on k.held rest in
       record {
-        scans = scan_of o s k.asked k.taken middle between k.readings k.end r ∷ m.scans;
-        done = (refl, k.does, m.done);
+        scans = scan_of o (after_wait pace.every heard) k.asked k.taken middle between k.readings k.end r ∷ m.scans;
+        done = (heard, asks, refl, k.does, m.done);
         reported = ap (λ (l : List Report). r ∷ l) m.reported;
         on = m.on;
         held = m.held;
       }
 
-  abbrev Stops : Moment → LinkFault → Moment → Type 0
-  Stops = StopsScan (DoesScan site a p) site
+  abbrev Stops : Pace → Moment → LinkFault → Moment → Type 0
+  Stops pace = StopsAfter pace (DoesScan site a p) site
 
-  stopped_scan : (o : Polling) (s : Gateway) (fault : LinkFault) (q : Polling) (t : Gateway) (events : List Event) → IsOn s → IsHeld s → IsBroken (TakesEvent most_deferred) o s fault q t events
-      → Stops (moment o s) fault (moment q t)
-  stopped_scan o s fault q t events on held (inl (stop, e)) =
-      let here = subst (λ (x : Site). StopsTaking (TakesEvent most_deferred) x s.maps o s fault q t) on.on_site stop in
-      inl (record {
-        before = here.before;
-        want = here.want;
-        behind = here.behind;
-        split = here.split;
-        middle = here.middle;
-        lost = here.lost;
-        taken = notes_blocks most_deferred site s.maps here.before o s here.middle t here.lost here.taken;
-        stops = here.stops;
-      })
-  stopped_scan o s fault q t events on held (inr (stop, e)) =
-      let here = subst (λ (x : Site). StopsWriting IsPlanned x t stop.middle fault q) on.on_site stop.stops in
+  stopped_scan : (pace : Pace) (o : Polling) (s : Gateway) (fault : LinkFault) (q : Polling) (t : Gateway) (events : List Event) → IsOn s → IsHeld s → IsBroken (TakesEvent most_deferred) pace o s fault q t events
+      → Stops pace (moment o s) fault (moment q t)
+  stopped_scan pace o s fault q t events on held (heard, asked, of, asks, inl (stop, e)) =
+      let all = asked_by pace s heard asked of asks in
+      let first = (runs s asked heard on asks).1 in
+      let here = subst (λ (x : Site). StopsTaking (TakesEvent most_deferred) x heard.maps o (after_wait pace.every heard) fault q t) first.on_site stop in (
+        heard,
+        all,
+        inl (record {
+          before = here.before;
+          want = here.want;
+          behind = here.behind;
+          split = here.split;
+          middle = here.middle;
+          lost = here.lost;
+          taken = notes_blocks most_deferred site heard.maps here.before o (after_wait pace.every heard) here.middle t here.lost here.taken;
+          stops = here.stops;
+        }),
+      )
+  stopped_scan pace o s fault q t events on held (heard, asked, of, asks, inr (stop, e)) =
+      let all = asked_by pace s heard asked of asks in
+      let first = (runs s asked heard on asks).1 in
+      let here = subst (λ (x : Site). StopsWriting IsPlanned x t stop.middle fault q) first.on_site stop.stops in
       let report : Report = record { steps = (t.standing.last).steps; writes = here.writes; refused = here.refused; lost = stop.lost } in
-      let k = scan_parts o s stop.middle stop.before t stop.answer here.middle here.n report on held stop.taken stop.scan refl here.written (let w = here.within in omega (arith, w)) in
-      inr (record {
-        n = here.n;
-        within = here.within;
-        scan = scan_of o s k.asked k.taken here.middle t k.readings k.end report;
-        before = refl;
-        does = k.does;
-        plan = here.plan;
-        due = due_one t here.n here.plan (subst (λ (x : Site). here.n < length x.outs) (sym (k.on).on_site) here.within) here.planned;
-        stops = here.stops;
-        core = refl;
-      })
+      let k = scan_parts o (after_wait pace.every heard) stop.middle stop.before t stop.answer here.middle here.n report (waited_on pace heard first) (held_asked pace.asked s heard all held) stop.taken stop.scan refl here.written (let w = here.within in omega (arith, w)) in (
+        heard,
+        all,
+        inr (record {
+          n = here.n;
+          within = here.within;
+          scan = scan_of o (after_wait pace.every heard) k.asked k.taken here.middle t k.readings k.end report;
+          before = refl;
+          does = k.does;
+          plan = here.plan;
+          due = due_one t here.n here.plan (subst (λ (x : Site). here.n < length x.outs) (sym (k.on).on_site) here.within) here.planned;
+          stops = here.stops;
+          core = refl;
+        }),
+      )
 
-  tells : (n : ℕ) (reports : List Report) (events : List Event) (o : Polling) (s : Gateway) (q : Polling) (t : Gateway) (old new : Option (List ℕ)) (status : ℕ) → IsOn s → IsHeld s
-      → End (TakesEvent most_deferred) n reports events o s q t old new status → Tells Stops (series_of n reports o s q t old new status)
+  tells : (n : Pace) (reports : List Report) (events : List Event) (o : Polling) (s : Gateway) (q : Polling) (t : Gateway) (old new : Option (List ℕ)) (status : ℕ) → IsOn s → IsHeld s
+      → End (TakesEvent most_deferred) n reports events o s q t old new status → Tells (Stops n) (series_of n.scans reports o s q t old new status)
   tells n reports events o s q t old new status on held (inl h) = record { well = λ e. h.1; badly = λ bad. absurd (bad (h.1.well)) }
   tells n reports events o s q t old new status on held (inr (inl h)) = record {
     well = λ e. unprinted_never_well (length reports) (h.1.last) (h.1.written) new status (h.1.told) e;
@@ -322,19 +368,19 @@ module _ (site : Site) (p : Program) (a : Acceptance) (right : DoesWhatItMeans p
     badly = λ bad. LinkDown (record {
       within = h.within;
       fault = h.fault;
-      failed = stopped_scan o s h.fault q t events on held h.broken;
+      failed = stopped_scan n o s h.fault q t events on held h.broken;
       written = h.written;
       printed = h.printed;
       told = h.told;
     });
   }
 
-  pub run_from_opening : (maps : List (Option Layout)) (text : List ℕ) (n : ℕ) (o : Polling) (events : List Event) (t : Gateway) (c : Course)
+  pub run_from_opening : (maps : List (Option Layout)) (text : List ℕ) (n : Pace) (o : Polling) (events : List Event) (t : Gateway) (c : Course)
       → Spells text p → FindsAll site.devices c.link_before maps o → DoesScans (TakesEvent most_deferred) n o (gateway_of site maps (vm.opened a)) events c.link_behind t c.out_before c.out_behind c.status
       → DoesRun (gateway_of site maps (vm.opened a)) text n c t
   run_from_opening maps text n o events t c spelled found h =
       let start : IsOn (gateway_of site maps (vm.opened a)) = record { on_site = refl; on_program = refl; kept = opening_kept site p a right linked proper verdict matched } in
-      let all = whole_scans o (gateway_of site maps (vm.opened a)) h.reports h.before h.middle h.between start refl h.whole in
+      let all = whole_scans n o (gateway_of site maps (vm.opened a)) h.reports h.before h.middle h.between start refl h.whole in
       record {
         program = p;
         spelled = spelled;
@@ -343,6 +389,6 @@ module _ (site : Site) (p : Program) (a : Acceptance) (right : DoesWhatItMeans p
         scans = all.scans;
         last = moment h.middle h.between;
         done = all.done;
-        told = subst (λ (reports : List Report). Tells Stops (series_of n reports h.middle h.between c.link_behind t c.out_before c.out_behind c.status)) (sym all.reported)
+        told = subst (λ (reports : List Report). Tells (Stops n) (series_of n.scans reports h.middle h.between c.link_behind t c.out_before c.out_behind c.status)) (sym all.reported)
             (tells n h.reports h.behind h.middle h.between c.link_behind t c.out_before c.out_behind c.status all.on all.held h.end);
       }

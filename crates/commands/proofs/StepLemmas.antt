@@ -21,10 +21,10 @@ use Rattle.gateway.specs.declared.event_core.event.Event.TheVariants as event
 use Rattle.gateway.specs.declared.poller.cycle.Call.{Call}
 use Rattle.gateway.specs.declared.poller.outcome.Outcome.{Outcome}
 use Rattle.gateway.specs.declared.poller.outcome.Outcome.TheVariants as outcome
-use Rattle.gateway.specs.event_core.Control.{IsDue, IsPlanned, Notes, SetsItsTag, after_scan}
+use Rattle.gateway.specs.event_core.Control.{IsDue, IsPlanned, Notes, SetsItsTag, after_scan, after_wait}
 use Rattle.gateway.specs.event_core.Core.{Gateway, IsSame, numbers_of}
 use Rattle.gateway.specs.event_core.Driving.{ScansOnce, TakesEvent}
-use Rattle.gateway.specs.event_core.SiteRun.{Standing, reading_at, scanned}
+use Rattle.gateway.specs.event_core.SiteRun.{Standing, after_time, reading_at, scanned}
 use Rattle.gateway.specs.poller.Cycle.{ArePlans, ReadsBlock, ReadsBlocks, RunsTo, TakesBlocks, event_by, read_of}
 use Rattle.gateway.specs.poller.LinkRun.{Exchange}
 use Rattle.gateway.specs.poller.Polling.{Polling}
@@ -45,11 +45,21 @@ by_parts s t machine standing same m h =
 abbrev pub IsHeld : Gateway → Type 0
 IsHeld g = g.machine.variables ≡ g.standing.variables
 
+-- ---- time
+
+-- time that went by changes nothing else
+pub waits_so : (depth : ℕ) (s : Gateway) (ms : ℕ) → TakesEvent depth s (event.Time ms) answer.None (after_wait ms s)
+waits_so depth s ms = (((refl, refl), record { site = refl; maps = refl; accepted = refl }), refl)
+
+pub waited_so : (s t : Gateway) (ms : ℕ) (r : Answer) → IsSame s t → t.machine ≡ s.machine → (r ≡ answer.None) × (t.standing ≡ after_time ms s.standing) → t ≡ after_wait ms s
+waited_so s t ms r same m h = by_parts s t s.machine (after_time ms s.standing) same m h.1
+
 -- ---- blocks
 
 abbrev IsBlock : Event → Type 0
 IsBlock (event.Block want words) = ⊤
 IsBlock (event.Lost want) = ⊤
+IsBlock (event.Time ms) = ⊥
 IsBlock event.Scan = ⊥
 IsBlock (event.Client pdu) = ⊥
 
@@ -76,6 +86,7 @@ are_blocks site maps (want ∷ wants) es events (own, others, e, more, split, is
 noted : (depth : ℕ) (s : Gateway) (e : Event) (r : Answer) (t : Gateway) → IsBlock e → TakesEvent depth s e r t → Notes s e r t
 noted depth s (event.Block want words) r t is h = by_parts s t s.machine _ h.0.1 h.1 h.0.0.1
 noted depth s (event.Lost want) r t is h = by_parts s t s.machine _ h.0.1 h.1 h.0.0.1
+noted depth s (event.Time ms) r t is h = absurd is
 noted depth s event.Scan r t is h = absurd is
 noted depth s (event.Client pdu) r t is h = absurd is
 
@@ -97,6 +108,7 @@ notes_blocks depth site maps wants p s q t lost h = record {
 taken : (depth : ℕ) (s : Gateway) (e : Event) (r : Answer) (t : Gateway) → Notes s e r t → TakesEvent depth s e answer.None t
 taken depth s (event.Block want words) r t h = subst (λ (x : Gateway). TakesEvent depth s (event.Block want words) answer.None x) (sym h) (((refl, refl), record { site = refl; maps = refl; accepted = refl }), refl)
 taken depth s (event.Lost want) r t h = subst (λ (x : Gateway). TakesEvent depth s (event.Lost want) answer.None x) (sym h) (((refl, refl), record { site = refl; maps = refl; accepted = refl }), refl)
+taken depth s (event.Time ms) r t h = subst (λ (x : Gateway). TakesEvent depth s (event.Time ms) answer.None x) (sym h) (((refl, refl), record { site = refl; maps = refl; accepted = refl }), refl)
 taken depth s event.Scan r t h = absurd h
 taken depth s (event.Client pdu) r t h = absurd h
 
@@ -118,6 +130,7 @@ takes_blocks depth site maps wants p s q t lost h = record {
 held_one : (s : Gateway) (e : Event) (r : Answer) (t : Gateway) → Notes s e r t → IsHeld s → IsHeld t
 held_one s (event.Block want words) r t h held = subst IsHeld (sym h) held
 held_one s (event.Lost want) r t h held = subst IsHeld (sym h) held
+held_one s (event.Time ms) r t h held = subst IsHeld (sym h) held
 held_one s event.Scan r t h held = absurd h
 held_one s (event.Client pdu) r t h held = absurd h
 
@@ -165,7 +178,7 @@ behind_scan depth s t readings steps end held same once after ended =
 
 -- and back
 pub scanned_so : (depth : ℕ) (s t : Gateway) (readings : List Reading) (steps : ℕ) (end : State) → IsHeld s → t ≡ after_scan s readings steps end
-    → length readings ≡ length s.site.tags → AreReadings s.site.tags s.site.wants s.standing.blocks s.standing.sets readings
+    → length readings ≡ length s.site.tags → AreReadings s.site.tags s.site.wants s.standing.blocks s.standing.sets s.standing.elapsed readings
     → ending s readings s.standing.variables s.machine.accepted.budget ≡ Ended steps end → steps ≤ s.machine.accepted.budget → IsShallow depth s readings
     → TakesEvent depth s event.Scan (answer.Writes (length s.site.outs)) t
 scanned_so depth s t readings steps end held is each read ended bounded shallow =

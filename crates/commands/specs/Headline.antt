@@ -24,8 +24,10 @@ use Rattle.commands.specs.Accepted.{most_deferred}
 use Rattle.commands.specs.OneScan.{IsMeant, IsSafe, run_of}
 use Rattle.commands.specs.Described.{AreTagsOf, Describes, Spells}
 use Rattle.commands.specs.Printed.{AreAllDone, EndsEarly}
-use Rattle.commands.specs.Series.{AreInOrder, Course, Moment, Scan, Series}
+use Rattle.commands.specs.Clients.{ClientsAsk}
+use Rattle.commands.specs.Series.{AreInOrder, Course, Moment, Scan, Series, at_core, waited}
 use Rattle.commands.specs.Stopped.{StopsScan}
+use Rattle.commands.specs.declared.pace.Pace.{Pace}
 
 -- the site is the one that its text describes, the program the one that its text spells; the image has the program's variables
 -- and tags, each of which is the site's tag of its name (that its code is the program's too stands in the clause `texts`)
@@ -71,17 +73,21 @@ pub record Tells (Fails : Moment → LinkFault → Moment → Type 0) (series : 
   pub well : series.status ≡ 0 → AreAllDone series
   pub badly : series.status ≢ 0 → EndsEarly Fails series
 
--- from this start on, with the maps that were found, at most n scans are done, one after another
-pub record DoesRun (start : Gateway) (program_text : List ℕ) (n : ℕ) (course : Course) (core : Gateway) : Type 0 where
+-- the link fails at a scan that begins so, once clients asked and time went by
+abbrev pub StopsAfter : Pace → (ℕ → Scan → Type 0) → Site → Moment → LinkFault → Moment → Type 0
+StopsAfter pace Does site first fault last = (heard : Gateway) × ClientsAsk pace.asked first.core heard × StopsScan Does site (waited pace.every (at_core first heard)) fault last
+
+-- from this start on, with the maps that were found, at most so many scans are done, one after another, so far apart
+pub record DoesRun (start : Gateway) (program_text : List ℕ) (pace : Pace) (course : Course) (core : Gateway) : Type 0 where
   pub program : Program
   pub spelled : Spells program_text program
   pub found_by : Polling
   pub found : FindsAll (start.site).devices course.link_before start.maps found_by
   pub scans : List Scan
   pub last : Moment
-  pub done : AreInOrder (DoesScan start.site (start.machine).accepted program (length (start.site).outs)) (record { link = found_by; core = start }) scans last
-  pub told : Tells (StopsScan (DoesScan start.site (start.machine).accepted program) start.site) (record {
-    most = n;
+  pub done : AreInOrder pace (DoesScan start.site (start.machine).accepted program (length (start.site).outs)) (record { link = found_by; core = start }) scans last
+  pub told : Tells (StopsAfter pace (DoesScan start.site (start.machine).accepted program) start.site) (record {
+    most = pace.scans;
     reports = map (λ (scan : Scan). scan.report) scans;
     last = last;
     left = record { link = course.link_behind; core = core };
@@ -91,5 +97,5 @@ pub record DoesRun (start : Gateway) (program_text : List ℕ) (n : ℕ) (course
   })
 
 -- of the core's own site, program and maps
-abbrev pub RunsProgram : List ℕ → ℕ → Course → Gateway → Type 0
-RunsProgram program_text n course core = DoesRun (gateway_of core.site core.maps (vm.opened core.machine.accepted)) program_text n course core
+abbrev pub RunsProgram : List ℕ → Pace → Course → Gateway → Type 0
+RunsProgram program_text pace course core = DoesRun (gateway_of core.site core.maps (vm.opened core.machine.accepted)) program_text pace course core

@@ -1,5 +1,6 @@
 pub mod Accepted
 pub mod Check
+pub mod Clients
 pub mod Defined
 pub mod Described
 pub mod Explained

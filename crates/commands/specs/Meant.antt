@@ -24,6 +24,7 @@ abbrev pub StepsAsMeant : Program → Site → Acceptance → Standing → Event
 StepsAsMeant p site a s event.Scan r t = (r ≡ answer.Writes (length site.outs)) × IsMeantScan p site a s t
 StepsAsMeant p site a s (event.Block want words) r t = Steps site a.image (numbers_of a) a.budget s (event.Block want words) r t
 StepsAsMeant p site a s (event.Lost want) r t = Steps site a.image (numbers_of a) a.budget s (event.Lost want) r t
+StepsAsMeant p site a s (event.Time ms) r t = Steps site a.image (numbers_of a) a.budget s (event.Time ms) r t
 StepsAsMeant p site a s (event.Client pdu) r t = Steps site a.image (numbers_of a) a.budget s (event.Client pdu) r t
 
 -- one event at a core: the site run's step, a scan as the program means it, what it does to the machine, and nothing else changes

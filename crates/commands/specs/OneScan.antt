@@ -30,8 +30,8 @@ pub record IsSafe (site : Site) (a : Acceptance) (readings : List Reading) (befo
   pub variables : AreVariables a.image.vars end.variables
   pub outputs : AreSettings site.tags (stored_of site a end)
 
--- on a reading of each tag by what is known and set, the variables and outputs are those that the program means
+-- on a reading of each tag by what is known and set, and by the time since the scan before, the variables and outputs are those that the program means
 pub record IsMeant (site : Site) (a : Acceptance) (p : Program) (standing : Standing) (readings : List Reading) (end : State) : Type 0 where
   pub each : length readings ≡ length site.tags
-  pub read : AreReadings site.tags site.wants standing.blocks standing.sets readings
+  pub read : AreReadings site.tags site.wants standing.blocks standing.sets standing.elapsed readings
   pub computed : meaning p (inputs_of a readings) standing.variables ≡ Done end.variables end.outputs

@@ -3,8 +3,11 @@
 use Rattle.std.specs.Prelude.{◌≡◌, ℕ, List, [], ◌∷◌, Option}
 use Rattle.point_types.specs.declared.reading.Reading.{Reading}
 use Rattle.scan_code.specs.Machine.{State}
+use Rattle.gateway.specs.event_core.Control.{after_wait}
 use Rattle.gateway.specs.event_core.Core.{Gateway}
 use Rattle.gateway.specs.poller.Polling.{Polling}
+use Rattle.commands.specs.Clients.{ClientsAsk}
+use Rattle.commands.specs.declared.pace.Pace.{Pace}
 use Rattle.gateway.specs.declared.poller.cycle.Report.{Report}
 
 -- a moment: the link, and the core
@@ -22,10 +25,20 @@ pub record Scan : Type 0 where
   pub end : State
   pub report : Report
 
--- scans of which each begins where the one before it left off
-abbrev pub AreInOrder : (Scan → Type 0) → Moment → List Scan → Moment → Type 0
-AreInOrder Does first [] last = last ≡ first
-AreInOrder Does first (scan ∷ scans) last = (scan.before ≡ first) × Does scan × AreInOrder Does scan.behind scans last
+-- so many milliseconds later
+abbrev pub waited : ℕ → Moment → Moment
+waited every m = record m { core = after_wait every m.core }
+
+-- the core at another state, over the same link
+abbrev pub at_core : Moment → Gateway → Moment
+at_core m g = record m { core = g }
+
+-- scans of which each begins where the one before it left off, once clients asked, where they are asked at all, and so many
+-- milliseconds later
+abbrev pub AreInOrder : Pace → (Scan → Type 0) → Moment → List Scan → Moment → Type 0
+AreInOrder pace Does first [] last = last ≡ first
+AreInOrder pace Does first (scan ∷ scans) last =
+    (heard : Gateway) × ClientsAsk pace.asked first.core heard × (scan.before ≡ waited pace.every (at_core first heard)) × Does scan × AreInOrder pace Does scan.behind scans last
 
 -- What a run begins with and leaves: the poller of its link, what is printed, and the status.
 pub record Course : Type 0 where

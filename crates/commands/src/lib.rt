@@ -5,6 +5,7 @@
 #![tactic(auto)]
 
 mod accepted;
+mod clients;
 pub mod definitions;
 mod explained;
 mod given;
@@ -16,6 +17,7 @@ mod number;
 mod obeyed;
 mod obeyed_over;
 mod outcome;
+mod pace;
 mod plant;
 mod report;
 mod scan;
@@ -39,6 +41,10 @@ pub use plant::{plant_of, plant_told};
 // a program on a site
 pub use scan_watch::{ScanWatch, Unwatched};
 pub use site_scans::{DEPTH, scans, scans_noting};
+
+// how many scans, and how far apart
+pub use clients::{ClientTurn, MOST_TURNS, ScanClients};
+pub use pace::{Pace, USUAL_PERIOD};
 // a device
 pub use model_texts::models_told;
 pub use unit_points::probe;

@@ -3,7 +3,9 @@ ghost use Rattle.std.specs.Prelude.{map, string_bytes};
 ghost use Rattle.commands.specs.Obeyed.{ObeysOver, ProbesBy, Runs};
 
 use crate::accepted::DEPTH;
+use crate::clients::ScanClients;
 use crate::model_texts::models_told;
+use crate::pace::Pace;
 use crate::scan_watch::ScanWatch;
 use crate::site_scans::scans_noting;
 use crate::unit_points::probe;
@@ -16,12 +18,12 @@ use std::io::Write;
 /// What the program is asked for over a link, with the texts of the files that are named.
 #[derive(Clone, Copy)]
 pub enum LinkCommand<'a> {
-    /// So many scans of a program on a site.
+    /// So many scans of a program on a site, so far apart.
     Run {
         site: &'a str,
         program: &'a str,
         defs: &'a [String],
-        scans: u32,
+        scans: Pace,
     },
     /// The points of a unit, by the shipped definitions and those of the texts.
     Probe {
@@ -40,8 +42,8 @@ pub struct ObeyedOver {
 
 /// Does what a command asks for, on just its texts and over the poller's link, and prints what comes of it: as
 /// [`scans`](crate::scans) and [`probe`] do. Where a text is refused nothing is asked over the link. `watch` looks on at
-/// the scans.
-pub fn obey_over<L: Link, V: ScanWatch, W: Write>(
+/// the scans, and asks what clients ask between them.
+pub fn obey_over<L: Link, V: ScanWatch + ScanClients, W: Write>(
     alloc: Global,
     command: LinkCommand<'_>,
     poller: &mut Poller<L>,
@@ -68,22 +70,22 @@ pub fn obey_over<L: Link, V: ScanWatch, W: Write>(
     }
 }
 
-/// Does so many scans of a program on a site.
-fn run_by<L: Link, V: ScanWatch, W: Write>(
+/// Does so many scans of a program on a site, so far apart.
+fn run_by<L: Link, V: ScanWatch + ScanClients, W: Write>(
     alloc: Global,
     poller: &mut Poller<L>,
     site: &str,
     program: &str,
     defs: &[String],
-    n: u32,
+    pace: Pace,
     watch: &mut V,
     out: &mut W,
 ) -> ObeyedOver
-    ensures { Runs site.now program.now (map string_bytes defs.now) n poller.old poller.new (W.contents out.old) (W.contents out.new) result.core result.status }
+    ensures { Runs site.now program.now (map string_bytes defs.now) pace poller.old poller.new (W.contents out.old) (W.contents out.new) result.core result.status }
 {
     let mut cause = None;
     let (core, status) = scans_noting(
-        alloc, site, program, defs, n, poller, watch, &mut cause, out,
+        alloc, site, program, defs, pace, poller, watch, &mut cause, out,
     );
     ObeyedOver {
         core,

@@ -1,10 +1,13 @@
 //! The scans of a program on a site, whose devices are asked over a poller.
-ghost use Rattle.std.specs.Prelude.{◌≡◌, ◌≢◌, length, map, Err, None, string_bytes, IfNone, IfOk, IfSome, OnErr};
+ghost use Rattle.std.specs.Prelude.{◌≡◌, ◌≢◌, false, length, map, Err, None, string_bytes, IfNone, IfOk, IfSome, OnErr};
+ghost use Rattle.gateway.specs.event_core.Control.{after_wait};
 ghost use Rattle.gateway.specs.event_core.Fault.{core_fault_word};
 ghost use Rattle.gateway.specs.declared.event_core.fault.CoreFault.TheVariants.{Foreign};
 ghost use Rattle.modbus_frame.specs.Fault.{link_fault_word};
 ghost use Rattle.modbus_frame.specs.declared.link.LinkFault.TheVariants as link;
 ghost use Rattle.scan_vm.specs.Machine as vm;
+ghost use Rattle.gateway.specs.event_core.Core.{Gateway};
+ghost use Rattle.commands.specs.Clients.{ClientsAsk};
 ghost use Rattle.commands.specs.Headline.{IsAccepted, RunsProgram};
 ghost use Rattle.commands.specs.Opening.{IsRefused, IsSearched, LeavesPoller, MakesCore, OpensCore, StartsCore};
 ghost use Rattle.commands.specs.Printed.{unlinked_with};
@@ -15,10 +18,12 @@ ghost use Rattle.commands.specs.Told.{refused_with};
 
 pub use crate::accepted::DEPTH;
 use crate::accepted::{Accepted, accept};
+use crate::clients::{ScanClients, ask};
 use crate::outcome::{Outcome, tell_no_memory, tell_unlinked, write_lines};
+use crate::pace::Pace;
 use crate::report::no_core;
 use crate::scan_watch::{ScanWatch, Unwatched};
-use gateway::{Core, CoreFault, Poller, run_scan};
+use gateway::{Core, CoreFault, Event, Poller, run_scan};
 use modbus_frame::{Link, LinkFault};
 use refusal_notes::Cause;
 use register_map::Map;
@@ -27,8 +32,8 @@ use site_model::Site;
 use std::alloc::{AllocError, Global};
 use std::io::Write;
 
-/// Finds the devices of a site over a poller, and does n scans of a program on it, by the shipped model definitions and
-/// those of the texts `defs`: prints `scan K steps S writes W refused R lost T` for each, or the first refusal. Gives
+/// Finds the devices of a site over a poller, and does n scans of a program on it, a second apart for the program and with no
+/// client that asks between them, by the shipped model definitions and those of the texts `defs`: prints `scan K steps S writes W refused R lost T` for each, or the first refusal. Gives
 /// the core, where there is one, and the status: 0, 1 for a refusal or a failed write, 3 where the link failed.
 ///
 /// The core stands at the site run of all events so far, from the opening of the site and the program that were handed
@@ -44,24 +49,25 @@ pub fn scans<L: Link, W: Write>(
 ) -> (Option<Core<DEPTH>>, u8)
     ensures accepted { IfSome result.0 (λ core. IsAccepted site.now program.now (map string_bytes defs.now) core.site core.machine.accepted) }
     ensures texts { IfSome result.0 (λ core. HasTexts site.now program.now (map string_bytes defs.now) core.site core.machine.accepted) }
-    ensures run { IfSome result.0 (λ core. RunsProgram program.now n (record { link_before = poller.old; link_behind = poller.new; out_before = W.contents out.old; out_behind = W.contents out.new; status = result.1 }) core) }
+    ensures run { IfSome result.0 (λ core. RunsProgram program.now (record { scans = n; every = 1000; asked = false }) (record { link_before = poller.old; link_behind = poller.new; out_before = W.contents out.old; out_behind = W.contents out.new; status = result.1 }) core) }
     ensures refused { IfNone result.0 (IsRefused site.now program.now (map string_bytes defs.now) poller.old poller.new (W.contents out.old) (W.contents out.new) result.1) }
 {
     let mut cause = None;
     let watch = &mut Unwatched;
+    let pace = Pace::usual(n);
     scans_noting(
-        alloc, site, program, defs, n, poller, watch, &mut cause, out,
+        alloc, site, program, defs, pace, poller, watch, &mut cause, out,
     )
 }
 
-/// The same; `watch` looks on at each scan, and the cause is noted where the definitions, the site or the program are
-/// refused.
-pub fn scans_noting<L: Link, V: ScanWatch, W: Write>(
+/// The same, at a pace of one's own; `watch` looks on at each scan, and asks what clients ask before it where the pace says so. The
+/// cause is noted where the definitions, the site or the program are refused.
+pub fn scans_noting<L: Link, V: ScanWatch + ScanClients, W: Write>(
     alloc: Global,
     site: &str,
     program: &str,
     defs: &[String],
-    n: u32,
+    pace: Pace,
     poller: &mut Poller<L>,
     watch: &mut V,
     cause: &mut Option<Cause>,
@@ -69,13 +75,13 @@ pub fn scans_noting<L: Link, V: ScanWatch, W: Write>(
 ) -> (Option<Core<DEPTH>>, u8)
     ensures accepted { IfSome result.0 (λ core. IsAccepted site.now program.now (map string_bytes defs.now) core.site core.machine.accepted) }
     ensures texts { IfSome result.0 (λ core. HasTexts site.now program.now (map string_bytes defs.now) core.site core.machine.accepted) }
-    ensures run { IfSome result.0 (λ core. RunsProgram program.now n (record { link_before = poller.old; link_behind = poller.new; out_before = W.contents out.old; out_behind = W.contents out.new; status = result.1 }) core) }
+    ensures run { IfSome result.0 (λ core. RunsProgram program.now pace (record { link_before = poller.old; link_behind = poller.new; out_before = W.contents out.old; out_behind = W.contents out.new; status = result.1 }) core) }
     ensures refused { IfNone result.0 (IsRefused site.now program.now (map string_bytes defs.now) poller.old poller.new (W.contents out.old) (W.contents out.new) result.1) }
 {
     match core_of(alloc, site, program, defs, poller) {
         Ok(Ok(core)) => {
             let mut core = core;
-            let status = scan_times(alloc, &mut core, poller, n, watch, out);
+            let status = scan_times(alloc, &mut core, poller, pace, watch, out);
             (Some(core), status)
         }
         Ok(Err(outcome)) => {
@@ -87,20 +93,21 @@ pub fn scans_noting<L: Link, V: ScanWatch, W: Write>(
     }
 }
 
-/// Does n scans, with a line for each; the first that fails ends them, and is the one that nobody looks on at.
-fn scan_times<L: Link, V: ScanWatch, W: Write>(
+/// Does the scans, with a line for each; the first that fails ends them, and is the one that nobody looks on at.
+fn scan_times<L: Link, V: ScanWatch + ScanClients, W: Write>(
     alloc: Global,
     core: &mut Core<DEPTH>,
     poller: &mut Poller<L>,
-    n: u32,
+    pace: Pace,
     watch: &mut V,
     out: &mut W,
 ) -> u8
     requires { poller.old.fault ≡ None }
-    ensures { LeavesOff n poller.old core.old poller.new core.new (W.contents out.old) (W.contents out.new) result }
+    ensures { LeavesOff pace poller.old core.old poller.new core.new (W.contents out.old) (W.contents out.new) result }
 {
-    for k in 0..n {
-        let status = scan_once(alloc, core, poller, k + 1, out);
+    for k in 0..pace.scans {
+        ask(pace.asked, core, watch, k + 1);
+        let status = scan_once(alloc, core, poller, pace, k + 1, out);
         if status != 0 {
             return status;
         }
@@ -109,18 +116,20 @@ fn scan_times<L: Link, V: ScanWatch, W: Write>(
     0
 }
 
-/// Does the k-th scan, and prints its line.
+/// Does the k-th scan, at this pace after the one before, and prints its line. Whatever clients asked before it belongs to it.
 fn scan_once<L: Link, W: Write>(
     alloc: Global,
     core: &mut Core<DEPTH>,
     poller: &mut Poller<L>,
+    pace: Pace,
     k: u32,
     out: &mut W,
 ) -> u8
     requires { poller.old.fault ≡ None }
-    ensures printed { result ≡ 0 → IsPrinted k poller.old core.old poller.new core.new (W.contents out.old) (W.contents out.new) }
-    ensures last { result ≢ 0 → IsLast k poller.old core.old poller.new core.new (W.contents out.old) (W.contents out.new) result }
+    ensures printed { result ≡ 0 → (first : Gateway) → ClientsAsk pace.asked first core.old → IsPrinted pace k poller.old first poller.new core.new (W.contents out.old) (W.contents out.new) }
+    ensures last { result ≢ 0 → (first : Gateway) → ClientsAsk pace.asked first core.old → IsLast pace k poller.old first poller.new core.new (W.contents out.old) (W.contents out.new) result }
 {
+    wait(core, pace.every);
     match run_scan(core, poller) {
         Ok(report) => match report.told(alloc, u64::from(k)) {
             Ok(line) => write_lines(out, line.as_bytes(), 0),
@@ -128,6 +137,13 @@ fn scan_once<L: Link, W: Write>(
         },
         Err(fault) => tell_unlinked(alloc, fault, out),
     }
+}
+
+/// So many milliseconds go by for the core.
+fn wait(core: &mut Core<DEPTH>, elapsed: u32)
+    ensures { core.new ≡ after_wait elapsed core.old }
+{
+    core.step(Event::Time(elapsed));
 }
 
 /// The core of a program on a site, at the start; or what is told where there is none.

@@ -1,5 +1,6 @@
 //! What is found at an entry of a file: a key, what stands there, and the rule that it breaks.
 use file_keys::{numbers_in, text_at, texts_in};
+use model_defs::ModelDef;
 use toml::Value;
 
 /// An entry as it is named: a section that stands once, one of a list by its name and its number from 1, or by the number
@@ -74,6 +75,15 @@ pub enum Rule<'a> {
     Repeats(&'static str, EntryName<'a>),
 }
 
+/// What may be meant by what stands at a key.
+#[derive(Clone, Copy)]
+pub enum Meant<'a> {
+    Nothing,
+    Name(&'a str),
+    /// A model, of these definitions, that has a point of this name.
+    ModelWith(&'a [ModelDef], &'a str),
+}
+
 /// A key, what stands there, the rule that it breaks, and what to do about it where that isn't what the kind of the fault
 /// says.
 #[derive(Clone, Copy)]
@@ -83,8 +93,7 @@ pub struct Finding<'a> {
     pub rule: Rule<'a>,
     /// What to do; None for what the rule or the fault says.
     pub help: Option<&'static str>,
-    /// The name that may be meant.
-    pub meant: Option<&'a str>,
+    pub meant: Meant<'a>,
 }
 
 impl<'a> Finding<'a> {
@@ -95,7 +104,7 @@ impl<'a> Finding<'a> {
             stands,
             rule,
             help: None,
-            meant: None,
+            meant: Meant::Nothing,
         }
     }
 
@@ -134,7 +143,19 @@ impl<'a> Finding<'a> {
 
     /// The same with the name that may be meant.
     pub fn meaning(self, meant: Option<&'a str>) -> Finding<'a> {
+        let meant = match meant {
+            Some(name) => Meant::Name(name),
+            None => Meant::Nothing,
+        };
         Finding { meant, ..self }
+    }
+
+    /// The same with the models that may be meant: those of these definitions with a point of this name.
+    pub fn meaning_models(self, defs: &'a [ModelDef], point: &'a str) -> Finding<'a> {
+        Finding {
+            meant: Meant::ModelWith(defs, point),
+            ..self
+        }
     }
 }
 

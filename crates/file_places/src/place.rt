@@ -1,5 +1,6 @@
 //! Where in a file a fault was found.
-use crate::finding::{EntryName, Finding};
+use crate::finding::{EntryName, Finding, Meant};
+use crate::points::models_with;
 use crate::wording::{entry_shown, help_of, meaning_of, rule_shown, stands_shown};
 use std::alloc::{AllocError, Global};
 
@@ -26,21 +27,28 @@ pub enum FilePlace {
 pub struct Advice {
     /// What is wrong.
     pub meaning: Option<&'static str>,
-    /// What to do; `{}` stands for the key.
+    /// What to do; `{}` stands for what may be meant, or else for the key.
     pub help: Option<&'static str>,
-    /// The name that may be meant.
+    /// What may be meant: a name, or the numbers of models.
     pub meant: Option<String>,
 }
 
 impl Advice {
     fn of(alloc: Global, finding: Finding<'_>) -> Result<Advice, AllocError> {
-        let meant = match finding.meant {
-            Some(name) => Some(String::from_str(alloc, name)?),
-            None => None,
+        let (help, meant) = match finding.meant {
+            Meant::Nothing => (finding.help.or(help_of(finding.rule)), None),
+            Meant::Name(name) => (
+                Some("did you mean {}?"),
+                Some(String::from_str(alloc, name)?),
+            ),
+            Meant::ModelWith(defs, point) => (
+                Some("correct the model: a point of this name is in {}"),
+                Some(models_with(alloc, defs, point)?),
+            ),
         };
         Ok(Advice {
             meaning: meaning_of(finding.rule),
-            help: finding.help.or(help_of(finding.rule)),
+            help,
             meant,
         })
     }

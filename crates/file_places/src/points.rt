@@ -3,13 +3,14 @@ use crate::finding::{Finding, Rule, stands_at};
 use file_keys::{number_at, text_at};
 use model_defs::ModelDef;
 use source_notes::nearer;
+use std::alloc::{AllocError, Global};
 use toml::Value;
 
 /// What is found where an entry's model, of which this is the definition, has no point of the name that it says.
 pub(crate) fn no_point<'a>(
     entry: &'a Value,
     model: Option<&'a ModelDef>,
-    defs: &[ModelDef],
+    defs: &'a [ModelDef],
 ) -> Finding<'a> {
     let (Some(number), Some(model), Some(written)) = (
         number_at(entry, "model"),
@@ -26,8 +27,8 @@ pub(crate) fn no_point<'a>(
     if let Some(near) = nearest_point(model, written) {
         return finding.meaning(Some(near));
     }
-    if is_of_another(defs, written) {
-        return finding.helped("correct the model: another one has a point of this name");
+    if is_in_one(defs, written) {
+        return finding.meaning_models(defs, written);
     }
     finding.meaning(beginning.or(continuing(model, written)))
 }
@@ -49,13 +50,44 @@ fn nearest_point<'a>(model: &'a ModelDef, written: &str) -> Option<&'a str> {
     found.map(|near| near.name)
 }
 
-fn is_of_another(defs: &[ModelDef], written: &str) -> bool {
-    for model in defs {
-        if model.find(written).is_some() {
+/// Whether a model has a point of this name.
+fn is_in_one(defs: &[ModelDef], name: &str) -> bool {
+    for (place, model) in defs.iter().enumerate() {
+        if model.find(name).is_some() && is_last(defs, place, model.id) {
             return true;
         }
     }
     false
+}
+
+/// The numbers of the models that have a point of this name, with commas between them.
+pub(crate) fn models_with(
+    alloc: Global,
+    defs: &[ModelDef],
+    name: &str,
+) -> Result<String, AllocError> {
+    let mut numbers = String::new(alloc);
+    for (place, model) in defs.iter().enumerate() {
+        if model.find(name).is_some() && is_last(defs, place, model.id) {
+            if !numbers.is_empty() {
+                numbers.push_str(", ")?;
+            }
+            let number = model.id;
+            let shown = format!(in alloc; "{number}")?;
+            numbers.push_str(shown.as_str())?;
+        }
+    }
+    Ok(numbers)
+}
+
+/// Whether the definition at a place is the one of its number that counts: the last one.
+fn is_last(defs: &[ModelDef], place: usize, id: u16) -> bool {
+    for (other, model) in defs.iter().enumerate() {
+        if other > place && model.id == id {
+            return false;
+        }
+    }
+    true
 }
 
 /// The point with the longest name with which another one begins.

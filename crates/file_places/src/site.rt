@@ -4,6 +4,7 @@ mod named;
 mod served;
 mod tag_words;
 mod tags;
+mod time_words;
 
 use crate::finding::{EntryName, Finding, named_entry};
 use crate::looking::{entry_in, first_long, first_unlisted, no_table, no_table_in};

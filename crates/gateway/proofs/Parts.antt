@@ -64,6 +64,7 @@ pub ready_standing : (site : Site) (m : Running) (k : Memory) → IsOpening site
 ready_standing site m k h =
     let blocks = h.blocks in
     let sets = h.sets in
+    let elapsed = h.elapsed in
     let last = h.last in cc
 
 -- a link for each tag of an image

@@ -88,7 +88,7 @@ none_in tags xs i t n p q = go xs i q
 -- ---- what a scan leaves
 
 abbrev made : ℕ → (blocks : List (Option (List ℕ))) (sets : List (Option ℤ)) → List ℤ → (outputs : List (Option ℤ)) → List Reading → (scanned : List (Option (List ℕ))) → Standing
-made steps blocks sets variables outputs readings known = record { blocks = blocks; sets = sets; variables = variables; last = record { steps = steps; outputs = outputs; readings = readings; blocks = known } }
+made steps blocks sets variables outputs readings known = record { blocks = blocks; sets = sets; elapsed = Some 0; variables = variables; last = record { steps = steps; outputs = outputs; readings = readings; blocks = known } }
 
 pub same_made : (steps : ℕ) (blocks : List (Option (List ℕ))) (sets : List (Option ℤ)) (readings readings' : List Reading) (variables variables' : List ℤ) (outputs outputs' : List (Option ℤ)) (known : List (Option (List ℕ))) →
     variables ≡ variables' → outputs ≡ outputs' → readings ≡ readings' → known ≡ blocks → made steps blocks sets variables outputs readings known ≡ made steps blocks sets variables' outputs' readings' blocks

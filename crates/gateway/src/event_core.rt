@@ -1,6 +1,6 @@
 //! The core of a gateway: one state, one step for each event.
 ghost use Rattle.std.specs.Prelude.{◌≡◌, length};
-ghost use Rattle.gateway.specs.event_core.SiteRun.{told, with_block};
+ghost use Rattle.gateway.specs.event_core.SiteRun.{later, told, with_block};
 
 mod answering;
 mod event;
@@ -35,6 +35,9 @@ use std::marker::Model;
 
 /// The most values that a program may defer where it runs as a command or a service.
 pub const DEPTH: usize = 32;
+
+/// The most milliseconds that are told apart between two scans: an hour.
+pub const MOST_ELAPSED: u32 = 3_600_000;
 
 /// The core of a gateway: its site, the program that runs, what is known of the devices, and what clients set. It goes
 /// from event to event, takes memory only when it is made, and never waits.
@@ -88,7 +91,7 @@ impl<const DEPTH: usize> Core<DEPTH> {
     ghost use Rattle.gateway.specs.event_core.Core.{IsSame, RunsOn, StepsOn, gateway_of, numbers_of};
     ghost use Rattle.gateway.specs.event_core.Driving.{Drives, ScansOnce};
     ghost use Rattle.gateway.specs.event_core.Restoring.{NothingSets, SetsAlone};
-    ghost use Rattle.gateway.specs.event_core.SiteRun.{Does, IsScan, Replies, SaysWrote, WritesAt, after_block};
+    ghost use Rattle.gateway.specs.event_core.SiteRun.{Does, IsScan, Replies, SaysWrote, WritesAt, after_block, after_time};
 
     /// A core on which nothing happened yet; all memory that its events need is taken here. `maps` has an entry for each
     /// of the site's devices. Foreign: the program was accepted for tags that the site doesn't have so; that comes before
@@ -120,8 +123,8 @@ impl<const DEPTH: usize> Core<DEPTH> {
         }
     }
 
-    /// What happens on one event: the words of a wanted block are kept, or forgotten; the program runs once; a client's
-    /// request is answered. A block that isn't wanted is ignored, and one without words, or whose first word isn't the
+    /// What happens on one event: the words of a wanted block are kept, or forgotten; time goes by; the program runs once; a
+    /// client's request is answered. A block that isn't wanted is ignored, and one without words, or whose first word isn't the
     /// model's ID, is as a lost one.
     pub fn step(&mut self, event: Event) -> Answer
         ensures run { StepsOn self.old event result self.new }
@@ -154,6 +157,10 @@ impl<const DEPTH: usize> Core<DEPTH> {
             }
             Event::Lost(want) => {
                 self.note(*want, None);
+                Answer::None
+            }
+            Event::Time(elapsed) => {
+                self.wait(*elapsed);
                 Answer::None
             }
             Event::Scan => {
@@ -276,6 +283,18 @@ impl<const DEPTH: usize> Core<DEPTH> {
         note(self.site.wants(), &mut self.known.blocks, want, entry);
     }
 
+    /// So many milliseconds went by.
+    fn wait(&mut self, elapsed: u32)
+        ensures after { self.new.standing ≡ after_time elapsed self.old.standing }
+        ensures machine { self.new.machine ≡ self.old.machine }
+        ensures same { IsSame self.old self.new }
+    {
+        self.known.elapsed = match self.known.elapsed {
+            Some(before) => Some(later(before, elapsed)),
+            None => None,
+        };
+    }
+
     /// The program runs once.
     fn scan(&mut self)
         ensures scan { IsScan self.old.site self.old.machine.accepted.image (numbers_of self.old.machine.accepted) self.old.machine.accepted.budget self.old.standing self.new.standing }
@@ -357,6 +376,16 @@ fn told(model: u16, words: &Words) -> Option<Words>
     match words.as_slice() {
         [first, ..] if *first == model => Words::from_slice(words.as_slice()),
         _ => None,
+    }
+}
+
+/// So many milliseconds later; an hour at most.
+fn later(before: u32, elapsed: u32) -> u32
+    ensures { result ≡ later before elapsed }
+{
+    match before.checked_add(elapsed) {
+        Some(after) if after < MOST_ELAPSED => after,
+        _ => MOST_ELAPSED,
     }
 }
 

@@ -95,6 +95,7 @@ writes_writable access.Output false h e = cc
 writes_writable access.Input false h e = cc
 writes_writable access.Setting false h e = cc
 writes_writable access.Shown false h e = cc
+writes_writable access.Time false h e = cc
 
 -- what is written is a set point
 pub writes-set_point : (maps : List (Option Layout)) (wants : List Want) (blocks : List (Option (List ℕ))) (t : SiteTag) (o : Option ℤ) (w : Write) → t.access ≡ access.Output →

@@ -88,6 +88,7 @@ pub(crate) fn access_words(access: Access) -> &'static str {
         Access::Output => "out, which programs store",
         Access::Setting => "set, which programs load",
         Access::Shown => "site, which programs store",
+        Access::Time => "time, which programs load",
     }
 }
 

@@ -31,7 +31,7 @@ const NO_END_VAR: Hint = Hint {
 
 const NO_QUALIFIER: Hint = Hint {
     meaning: "VAR has no such word after it",
-    help: "leave it out: variables keep their values between scans anyway, and begin anew with each start; what clients set is kept with serve --state",
+    help: "leave it out: variables keep their values between scans anyway; to keep one over a restart, write retain = [\"NAME\"] in [gateway] of the site file, and start serve with --state",
 };
 
 const NO_CONSTANT: Hint = Hint {

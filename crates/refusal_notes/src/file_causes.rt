@@ -201,11 +201,10 @@ fn put_advice(cause: &mut Cause, key: &'static str, advice: &Advice) {
     }
     if let Some(help) = advice.help {
         cause.help = help;
-        let _ = cause.name.push_str(key);
-    }
-    if let Some(meant) = &advice.meant {
-        cause.help = "did you mean {}?";
         cause.name.clear();
-        let _ = cause.name.push_str(meant.as_str());
+        let _ = match &advice.meant {
+            Some(meant) => cause.name.push_str(meant.as_str()),
+            None => cause.name.push_str(key),
+        };
     }
 }

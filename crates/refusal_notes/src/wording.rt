@@ -29,8 +29,8 @@ const COMPARED: Hint = Hint {
 
 /// A time, by its literal or its type.
 pub(crate) const NO_TIME: Hint = Hint {
-    meaning: "there are no times: a program has no clock",
-    help: "count scans in a variable, as n : INT (0..500); with LD n / ADD 1 / MIN 500 / ST n, or load a tag whose point counts seconds; serve makes a scan each --every milliseconds",
+    meaning: "there are no times: a program counts milliseconds itself",
+    help: "give the site a tag with access = \"time\", as dt, and count what it reads, as ms : DINT (0..5000); with LD ms / ADD dt / MIN 5000 / ST ms; T#5s is 5000",
 };
 
 /// What stands before the # of a time.

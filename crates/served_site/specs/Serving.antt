@@ -8,9 +8,9 @@ use Rattle.scan_vm.specs.Resuming.{resumed}
 use Rattle.il_assemble.specs.Meaning.{Program}
 use Rattle.verifier.specs.Verified.{Acceptance, HasLinks}
 use Rattle.gateway.specs.event_core.Core.{gateway_of, numbers_of}
-use Rattle.gateway.specs.event_core.SiteRun.{none_of, scanned}
+use Rattle.gateway.specs.event_core.SiteRun.{Standing, after_time, none_of, scanned}
 use Rattle.service_core.specs.OneRound.{IsOfItsRound}
-use Rattle.service_core.specs.Rounds.{ArePlanned}
+use Rattle.service_core.specs.Rounds.{ArePlanned, since}
 use Rattle.service_core.specs.Stages.{AnyStep, CourseBy, IsFirst, Scans, Stage}
 use Rattle.commands.specs.Accepted.{Accepts}
 use Rattle.commands.specs.OneScan.{IsMeant, IsSafe}
@@ -21,9 +21,13 @@ pub record IsStart (site : Site) (a : Acceptance) (kept : List (Option ℤ)) (s 
   pub core : s.core ≡ gateway_of site (none_of site.devices) (resumed a kept)
   pub first : IsFirst s
 
--- A scan from the one stage to the other, of what was told in its own round, or is known no more. As in `run` it is safe, and
--- computes what the program means; and for each output just what is due is to be written.
-pub record IsScanOf (site : Site) (p : Program) (a : Acceptance) (old new : Stage) : Type 0 where
+-- how a core stands at a scan at this time of the service: the time since the scan before went by
+abbrev pub at_scan : ℕ → Stage → Standing
+at_scan now s = after_time (since s.round.at now) s.core.standing
+
+-- A scan from the one stage to the other, at this time of the service, of what was told in its own round, or is known no more.
+-- As in `run` it is safe, and computes what the program means; and for each output just what is due is to be written.
+pub record IsScanOf (site : Site) (p : Program) (a : Acceptance) (now : ℕ) (old new : Stage) : Type 0 where
   pub same_site : old.core.site ≡ site
   pub same_program : old.core.machine.accepted ≡ a
   pub round : IsOfItsRound old
@@ -31,8 +35,8 @@ pub record IsScanOf (site : Site) (p : Program) (a : Acceptance) (old new : Stag
   pub steps : ℕ
   pub end : State
   pub safe : IsSafe site a readings old.core.standing.variables steps end
-  pub means : IsMeant site a p old.core.standing readings end
-  pub leaves : new.core.standing ≡ scanned site (numbers_of a) old.core.standing readings steps end
+  pub means : IsMeant site a p (at_scan now old) readings end
+  pub leaves : new.core.standing ≡ scanned site (numbers_of a) (at_scan now old) readings steps end
   pub planned : ArePlanned new.core new.round.writes
 
 -- The texts of a site and a program are accepted, and a service was begun for them, whatever was kept of the variables:
@@ -40,4 +44,4 @@ pub record IsScanOf (site : Site) (p : Program) (a : Acceptance) (old new : Stag
 abbrev pub ScansMeanTheProgram : Type 0
 ScansMeanTheProgram = (site_text program_text : List ℕ) (texts : List (List ℕ)) (site : Site) (p : Program) (a : Acceptance)
     → Accepts site_text program_text texts site p a → HasLinks site.tags a.links
-    → (kept : List (Option ℤ)) (first old new : Stage) → IsStart site a kept first → CourseBy AnyStep first old → Scans old new → IsScanOf site p a old new
+    → (kept : List (Option ℤ)) (first old new : Stage) (now : ℕ) → IsStart site a kept first → CourseBy AnyStep first old → Scans now old new → IsScanOf site p a now old new

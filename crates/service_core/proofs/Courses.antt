@@ -32,7 +32,7 @@ use Rattle.service_parts.proofs.Rightful.{right_behind_clients, right_on}
 use Rattle.service_core.specs.declared.round.Turn as Turns
 use Rattle.service_core.specs.declared.scan_cycle.ScanCycle.{ScanCycle}
 use Rattle.service_core.specs.Cycle.{Answers, AnswersIf, DevicesLeadOn, EndsOwn, Settles, is_answer, stage_of}
-use Rattle.service_core.specs.Rounds.{IsRoundFor, Progress, begun, event_told}
+use Rattle.service_core.specs.Rounds.{IsRoundFor, Progress, begun, event_told, since}
 use Rattle.service_core.specs.Stages.{AnyStep, Asks, Begins, ClientStep, CourseBy, Ends, Forgets, IsFirst, IsReached, LeadsOnBy, OpensNext, OwnStep, RoundStep, Scans, Stage, TakesEvent, begins, opens, gives_up, scans, learns, forgets, stays, goes}
 use Rattle.service_core.proofs.Told.{closed_of_rounds, turn_of_rounds}
 
@@ -66,7 +66,10 @@ module _ (Kinds : Event → Type 0) (all : (e : Event) → IsOfRounds e → Kind
   round_core f s t (begins is) before = subst (λ (x : Stage). GoesBy Kinds f x.core) (sym is) before
   round_core f s t (opens device turn is) before = moved Kinds f s.core t.core (event_told turn) (λ e same. all e (turn_of_rounds turn e same)) is.told before
   round_core f s t (gives_up device is) before = ends_core f s t device fate.Lost is before
-  round_core f s t (scans is) before = moved Kinds f s.core t.core (Some event.Scan) (one_kind Kinds event.Scan (all event.Scan tt)) is.runs before
+  round_core f s t (scans now is) before =
+      let wait = event.Time (since s.round.at now) in
+      let waited = moved Kinds f s.core is.waited (Some wait) (one_kind Kinds wait (all wait tt)) is.waits before in
+      moved Kinds f is.waited t.core (Some event.Scan) (one_kind Kinds event.Scan (all event.Scan tt)) is.runs waited
   round_core f s t (learns device found is) before = subst (λ (x : Stage). GoesBy Kinds f x.core) (sym is.same) (core.learns before device found is.own)
   round_core f s t (forgets want is) before = moved Kinds f s.core t.core (Some (event.Lost want)) (one_kind Kinds (event.Lost want) (all (event.Lost want) tt)) is.told before
 
@@ -253,8 +256,8 @@ goes_opens s t device turn is = one_step RoundStep s t (opens device turn is)
 pub goes_gives_up : (s t : Stage) (device : ℕ) → Ends device fate.Lost s t → LeadsOnBy RoundStep s t
 goes_gives_up s t device is = one_step RoundStep s t (gives_up device is)
 
-pub goes_scans : (s t : Stage) → Scans s t → LeadsOnBy RoundStep s t
-goes_scans s t is = one_step RoundStep s t (scans is)
+pub goes_scans : (s t : Stage) (now : ℕ) → Scans now s t → LeadsOnBy RoundStep s t
+goes_scans s t now is = one_step RoundStep s t (scans now is)
 
 pub goes_forgets : (s t : Stage) (want : Want) → Forgets want s t → LeadsOnBy RoundStep s t
 goes_forgets s t want is = one_step RoundStep s t (forgets want is)

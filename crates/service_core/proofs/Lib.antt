@@ -10,6 +10,7 @@ pub mod Opening
 pub mod Whole
 pub mod Once
 pub mod Sent
+pub mod WritesOnce
 pub mod Stays
 pub mod Mapped
 pub mod Planned

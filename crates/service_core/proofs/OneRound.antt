@@ -240,7 +240,7 @@ record Standing_in (s : Stage) : Type 0 where
 abbrev InItsRound : Stage → Type 0
 InItsRound s = s.round.scanned ≡ false → Standing_in s
 
-opens_scanned : (b : Bool) (s t : Stage) (device : ℕ) (next : Turn) → OpensBy b s.core device s.round next t.round → t.round.scanned ≡ s.round.scanned
+pub opens_scanned : (b : Bool) (s t : Stage) (device : ℕ) (next : Turn) → OpensBy b s.core device s.round next t.round → t.round.scanned ≡ s.round.scanned
 opens_scanned false s t device next opens = by_place (next_place device s.round.reads) opens
   where
     by_place : (o : Option ℕ) → OpensRead s.core.site s.core.maps o s.round next t.round → t.round.scanned ≡ s.round.scanned
@@ -260,7 +260,7 @@ opens_scanned true s t device next opens = by_place (next_place device s.round.w
         by_call None asks = ap (λ (p : Progress). p.scanned) asks.1
         by_call (Some call) asks = ap (λ (p : Progress). p.scanned) asks.1
 
-closes_scanned : (b : Bool) (site : Site) (device : ℕ) (f : Fate) (old new : Progress) (happens : Option Event) → ClosesBy b site device f old happens new → new.scanned ≡ old.scanned
+pub closes_scanned : (b : Bool) (site : Site) (device : ℕ) (f : Fate) (old new : Progress) (happens : Option Event) → ClosesBy b site device f old happens new → new.scanned ≡ old.scanned
 closes_scanned false site device f old new happens closes = by_place (position (is_asked device) old.reads) closes
   where
     by_place : (o : Option ℕ) → ClosesRead site o f old happens new → new.scanned ≡ old.scanned
@@ -291,7 +291,7 @@ round_stands s t reached (stages.begins is) stands = λ unscanned. record { befo
 round_stands s t reached (stages.opens device next is) stands =
     stands_again s t (opens_scanned s.round.scanned s t device next is.opens) stands (λ began events run still. (_, one.opened run device next t still is))
 round_stands s t reached (stages.gives_up device is) stands = ends_stands s t device fate.Lost is stands
-round_stands s t reached (stages.scans is) stands = λ unscanned. absurd (true_differs (sym (ap (λ (p : Progress). p.scanned) is.same) ∙ unscanned))
+round_stands s t reached (stages.scans now is) stands = λ unscanned. absurd (true_differs (sym (ap (λ (p : Progress). p.scanned) is.same) ∙ unscanned))
 round_stands s t reached (stages.learns device found is) stands =
     stands_again s t (ap (λ (x : Stage). x.round.scanned) is.same) stands (λ began events run still. (events, one.learned run device found t is))
 round_stands s t reached (stages.forgets want is) stands =
@@ -308,7 +308,7 @@ course_stands first s opening (stages.goes {t = middle} course u step) =
     any_stands middle s (record { first = first; opening = opening; course = course }) step (course_stands first middle opening course)
 
 pub scans_are_of_their_rounds : ScansAreOfTheirRounds
-scans_are_of_their_rounds s t reached scans =
+scans_are_of_their_rounds s t now reached scans =
     let stands = course_stands reached.first s reached.opening reached.course scans.first in
     let run = asking stands.began stands.events s stands.course in
     let P : Stage → Type 0 = λ x. Asking x.core.site x.round stands.events s.round in

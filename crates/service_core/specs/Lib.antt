@@ -6,9 +6,12 @@ pub mod GivingUp
 pub mod Maps
 pub mod Noting
 pub mod OneRound
+pub mod Phases
 pub mod Rounds
+pub mod Running
 pub mod Stages
 pub mod Standing
 pub mod Telling
 pub mod Told
 pub mod Whole
+pub mod WrittenOnce

@@ -33,6 +33,7 @@ event_for i (x ∷ told) = if x.0 == i then Some x.1 else event_for i told
 abbrev pub block_by : Option Event → Option (List ℕ)
 block_by (Some (event.Block want words)) = told want.model words
 block_by (Some (event.Lost want)) = None
+block_by (Some (event.Time ms)) = None
 block_by (Some event.Scan) = None
 block_by (Some (event.Client pdu)) = None
 block_by None = None
@@ -51,4 +52,4 @@ pub record IsOfItsRound (s : Stage) : Type 0 where
 
 -- Whatever steps a service makes, each scan is of the blocks of its own round.
 abbrev pub ScansAreOfTheirRounds : Type 0
-ScansAreOfTheirRounds = (s t : Stage) → IsReached s → Scans s t → IsOfItsRound s
+ScansAreOfTheirRounds = (s t : Stage) (now : ℕ) → IsReached s → Scans now s t → IsOfItsRound s

@@ -1,6 +1,6 @@
 -- One scan with requests to several devices under way at once: what is asked next, and what comes of it
 -- (Modbus Application Protocol V1.1b3, sections 6.3, 6.6 and 6.12).
-use Rattle.std.specs.Prelude.{◌≡◌, ℕ, ◌<◌, ◌≤◌, ◌==◌, Bool, true, false, List, [], ◌∷◌, ◌++◌, map, length, ◌+◌, slice_get, All, ⊤, Option, None, Some, Result, Ok, Err, if◌then◌else◌}
+use Rattle.std.specs.Prelude.{◌≡◌, ℕ, ◌<◌, ◌≤◌, ◌==◌, Bool, true, false, List, [], ◌∷◌, ◌++◌, map, length, ◌+◌, ◌-◌, nat_le, slice_get, All, ⊤, Option, None, Some, Result, Ok, Err, if◌then◌else◌}
 use Rattle.std.specs.List.{position}
 use Rattle.modbus_frame.specs.Message.{HasQuantity}
 use Rattle.register_map.specs.Layout.{Layout}
@@ -14,6 +14,7 @@ use Rattle.gateway.specs.declared.event_core.event.Event.TheVariants as event
 use Rattle.gateway.specs.declared.poller.cycle.Call.{Call}
 use Rattle.gateway.specs.event_core.Control.{IsPlanned}
 use Rattle.gateway.specs.event_core.Core.{Gateway}
+use Rattle.gateway.specs.event_core.SiteRun.{most_elapsed}
 use Rattle.gateway.specs.poller.Cycle.{read_of, event_by}
 use Rattle.service.specs.declared.fate.Fate.{Fate}
 use Rattle.service.specs.declared.fate.Fate.TheVariants as fate
@@ -28,11 +29,12 @@ use Rattle.service.specs.declared.task.Task.{Task}
 
 -- ---- a round
 
--- the requests for the wanted blocks, those for the outputs, and whether the program ran
+-- the requests for the wanted blocks, those for the outputs, whether the program ran, and the service's time at its last run
 pub record Progress : Type 0 where
   pub reads : List Task
   pub writes : List Task
   pub scanned : Bool
+  pub at : ℕ
 
 -- It has a request for each of the site's wants, to its device, and one for each output.
 pub record IsRoundFor (site : Site) (p : Progress) : Type 0 where
@@ -116,6 +118,10 @@ IsUnderWay aim.Map device p = ⊥
 IsUnderWay aim.Past device p = ⊥
 
 -- ---- the scan
+
+-- the milliseconds from the one time to the other, an hour at most
+abbrev pub since : (at now : ℕ) → ℕ
+since at now = if nat_le most_elapsed (now - at) then most_elapsed else now - at
 
 -- a request to the device of what is to be written, where there is one
 abbrev pub task_of : Result Write NoWrite → Task

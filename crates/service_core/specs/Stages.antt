@@ -17,7 +17,7 @@ use Rattle.service_parts.specs.Course.{IsNew}
 use Rattle.service_parts.specs.Seeking.{IsFound}
 use Rattle.service_core.specs.declared.round.Turn.{Turn}
 use Rattle.service_core.specs.Maps.{has_map}
-use Rattle.service_core.specs.Rounds.{ArePlanned, Closes, IsRoundFor, Opens, Progress, begun, event_told}
+use Rattle.service_core.specs.Rounds.{ArePlanned, Closes, IsRoundFor, Opens, Progress, begun, event_told, since}
 
 -- a core, and the round that is under way
 pub record Stage : Type 0 where
@@ -46,18 +46,21 @@ pub record Ends (device : ℕ) (f : Fate) (old new : Stage) : Type 0 where
   pub closes : Closes old.core.site device f old.round happens new.round
   pub told : TakesEvent happens old.core new.core
 
--- The program runs: once in a round, when each wanted block was told in it. What it set is to be written.
-pub record Scans (old new : Stage) : Type 0 where
+-- The program runs, at this time of the service: once in a round, when each wanted block was told in it. The core is told
+-- before how long ago the scan before was. What the program set is to be written.
+pub record Scans (now : ℕ) (old new : Stage) : Type 0 where
   pub first : old.round.scanned ≡ false
   pub read : All IsDone old.round.reads
-  pub runs : TakesEvent (Some event.Scan) old.core new.core
+  pub waited : Gateway
+  pub waits : TakesEvent (Some (event.Time (since old.round.at now))) old.core waited
+  pub runs : TakesEvent (Some event.Scan) waited new.core
   pub planned : ArePlanned new.core new.round.writes
-  pub same : new.round ≡ record old.round { writes = new.round.writes; scanned = true }
+  pub same : new.round ≡ record old.round { writes = new.round.writes; scanned = true; at = now }
 
 -- It runs, where this says so. Else it isn't due, and nothing happens.
-abbrev pub ScansIf : Bool → Stage → Stage → Type 0
-ScansIf true old new = Scans old new
-ScansIf false old new = (new ≡ old) × (old.round.scanned ≡ false → All IsDone old.round.reads → ⊥)
+abbrev pub ScansIf : Bool → ℕ → Stage → Stage → Type 0
+ScansIf true now old new = Scans now old new
+ScansIf false now old new = (new ≡ old) × (old.round.scanned ≡ false → All IsDone old.round.reads → ⊥)
 
 -- A search found the device's map, or it is forgotten.
 pub record Learns (device : ℕ) (found : Option Layout) (old new : Stage) : Type 0 where
@@ -82,7 +85,7 @@ pub data RoundStep (s t : Stage) : Type 0 where
   begins : Begins s t → RoundStep s t
   opens : (device : ℕ) (turn : Turn) → OpensNext device turn s t → RoundStep s t
   gives_up : (device : ℕ) → Ends device fate.Lost s t → RoundStep s t
-  scans : Scans s t → RoundStep s t
+  scans : (now : ℕ) → Scans now s t → RoundStep s t
   learns : (device : ℕ) (found : Option Layout) → Learns device found s t → RoundStep s t
   forgets : (want : Want) → Forgets want s t → RoundStep s t
 

@@ -1,7 +1,9 @@
 //! The devices' side of a service, apart from its core and its connections: devices, outputs, and the times of rounds.
 ghost use Rattle.std.specs.Prelude.{◌≡◌, ◌<◌, ℕ, Bool, Option, Some, length, max, slice_get};
 ghost use Rattle.service_core.specs.declared.device.Device.{Device as DeviceValue};
+ghost use Rattle.service_core.specs.Counting.{asked_once_more, counts_at};
 ghost use Rattle.service_core.specs.Noting.{Finds, HearsFrom, Loses};
+ghost use Rattle.service_core.specs.Phases.{is_reading};
 ghost use Rattle.service_core.specs.GivingUp.{is_rested};
 ghost use Rattle.service_core.specs.Telling.{told_at};
 ghost use Rattle.service_core.specs.declared.output.OutputState.{OutputState as StateValue};
@@ -115,6 +117,7 @@ impl DeviceSide {
     }
 
     fn seek_at(&mut self, device: usize, at: u64)
+        ensures counts { counts_at self.new device ≡ counts_at self.old device }
         ensures now { self.new.now ≡ self.old.now }
         ensures stands { Goes self.old self.new }
     {
@@ -161,6 +164,7 @@ impl DeviceSide {
 
     /// A request to a device is counted.
     pub(crate) fn count(&mut self, device: usize)
+        ensures counts { (own : DeviceValue) → slice_get self.old.devices.items device ≡ Some own → counts_at self.new device ≡ Some (asked_once_more own.counts) }
         ensures now { self.new.now ≡ self.old.now }
         ensures stands { Goes self.old self.new }
     {
@@ -197,6 +201,7 @@ impl DeviceSide {
 
     /// A device didn't answer: it isn't asked for a while.
     pub(crate) fn miss(&mut self, device: usize)
+        ensures counts { counts_at self.new device ≡ counts_at self.old device }
         ensures now { self.new.now ≡ self.old.now }
         ensures stands { Goes self.old self.new }
     {
@@ -218,8 +223,10 @@ impl DeviceSide {
     }
 
     /// Whether wanted blocks are asked for.
-    pub(crate) fn is_reading(&self) -> bool {
-        self.phase == Phase::Reading
+    pub(crate) fn is_reading(&self) -> bool
+        ensures { result ≡ is_reading self.entry.now.phase }
+    {
+        matches!(self.phase, Phase::Reading)
     }
 
     /// Whether the program ran in this round, and outputs are written.

@@ -29,7 +29,9 @@ impl Output {
     }
 
     /// What became of it last.
-    pub fn told(&self) -> Option<OutputState> {
+    pub fn told(&self) -> Option<OutputState>
+        ensures { result ≡ self.now.told }
+    {
         self.told
     }
 

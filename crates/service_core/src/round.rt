@@ -2,16 +2,14 @@
 ghost use Rattle.std.specs.Prelude.{◌≡◌, ◌<◌, ◌≤◌, ◌↔◌, All, IfOk, IfSome, IsTrue, false, length, map, slice_get, slice_index_or, true, None, Some};
 ghost use Rattle.std.specs.List.{position};
 ghost use Rattle.modbus_frame.specs.Message.{HasQuantity};
-ghost use Rattle.gateway.specs.declared.event_core.event.Event.TheVariants.{Scan as ScanEvent};
-ghost use Rattle.gateway.specs.declared.event_core.event.Answer.TheVariants.{Writes as WritesAnswer};
 ghost use Rattle.gateway.specs.event_core.Control.{IsPlanned};
-ghost use Rattle.gateway.specs.event_core.Driving.{Happens};
 ghost use Rattle.service.specs.Tasks.{IsDone, is_asked, is_asked_at, is_due_at, next_place};
 ghost use Rattle.service_parts.specs.Calls.{write_to};
 ghost use Rattle.service_parts.specs.declared.wire.Aim.TheVariants.{Block as BlockAim, Output as OutputAim};
-ghost use Rattle.service_core.specs.Rounds.{ArePlanned, Closes, ClosesRead, IsUnderWay, ClosesWrite, IsRoundFor, IsSendable, Opens, OpensRead, OpensWrite, begun, event_of, requests_now, task_of};
+ghost use Rattle.service_core.specs.Running.{ScansAfter};
+ghost use Rattle.service_core.specs.Rounds.{ArePlanned, Closes, ClosesRead, IsUnderWay, ClosesWrite, IsRoundFor, IsSendable, Opens, OpensRead, OpensWrite, begun, event_of, requests_now, since, task_of};
 
-use gateway::{Call, Core, DEPTH, Event, event_by, read_of, write_of};
+use gateway::{Call, Core, DEPTH, Event, MOST_ELAPSED, event_by, read_of, write_of};
 use point_writer::{NoWrite, Write};
 use register_map::Map;
 use service::{Fate, Mark, Task, Tasks};
@@ -30,6 +28,8 @@ pub struct Round {
     /// The request for each of its outputs.
     writes: Tasks,
     scanned: bool,
+    /// The service's time at the program's last run, in milliseconds.
+    at: u64,
 }
 
 impl Model for Round {
@@ -37,7 +37,7 @@ impl Model for Round {
 
     ghost Value = { Progress };
 
-    ghost view = { λ r. record { reads = r.reads; writes = r.writes; scanned = r.scanned } };
+    ghost view = { λ r. record { reads = r.reads; writes = r.writes; scanned = r.scanned; at = r.at } };
 }
 
 /// What comes next for a device.
@@ -66,6 +66,7 @@ impl Round {
             reads,
             writes,
             scanned: true,
+            at: 0,
         })
     }
 
@@ -239,19 +240,42 @@ impl Round {
         self.scanned && self.writes.are_done()
     }
 
-    /// Runs the program once: what it set is to be written.
-    pub fn scan(&mut self, core: &mut Core<DEPTH>)
+    /// Runs the program once, at this time: what it set is to be written. The core is told before how long ago its last run
+    /// was.
+    pub fn scan(&mut self, core: &mut Core<DEPTH>, now: u64)
         requires round { IsRoundFor core.old.site self.old }
         requires read { All IsDone self.old.reads }
         requires first { self.old.scanned ≡ false }
-        ensures scanned { Happens core.old ScanEvent (WritesAnswer (length core.old.site.outs)) core.new }
+        ensures scanned { ScansAfter (since self.old.at now) core.old core.new }
         ensures planned { ArePlanned core.new self.new.writes }
-        ensures same { self.new ≡ record self.old { writes = self.new.writes; scanned = true } }
+        ensures same { self.new ≡ record self.old { writes = self.new.writes; scanned = true; at = now } }
         ensures round { IsRoundFor core.new.site self.new }
     {
-        core.step(Event::Scan);
+        run_after(core, since(self.at, now));
         plan_writes(core, &mut self.writes);
         self.scanned = true;
+        self.at = now;
+    }
+}
+
+/// Tells the core that so many milliseconds went by, and runs the program.
+fn run_after(core: &mut Core<DEPTH>, elapsed: u32)
+    ensures scanned { ScansAfter elapsed core.old core.new }
+    ensures site { core.new.site ≡ core.old.site }
+{
+    core.step(Event::Time(elapsed));
+    core.step(Event::Scan);
+}
+
+/// The milliseconds from the one time to the other, an hour at most.
+fn since(at: u64, now: u64) -> u32
+    ensures { result ≡ since at now }
+{
+    let elapsed = now.saturating_sub(at);
+    if u64::from(MOST_ELAPSED) <= elapsed {
+        MOST_ELAPSED
+    } else {
+        elapsed as u32
     }
 }
 

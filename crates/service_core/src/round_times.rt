@@ -188,7 +188,7 @@ impl Service {
         ensures time { self.new.side.now ≡ self.old.side.now }
         ensures stands { Goes self.old.side self.new.side }
     {
-        if !self.cycle.scan() {
+        if !self.cycle.scan(self.side.now) {
             return false;
         }
         self.side.count_scan(self.cycle.core());

@@ -1,7 +1,8 @@
 //! How a service stands, for whoever looks after it.
 ghost use Rattle.std.specs.Prelude.{◌≡◌, ◌≤◌, IfNone, IfSome, Some, length, slice_get};
 ghost use Rattle.service_core.specs.declared.device.Device.{Device as Own};
-ghost use Rattle.service_core.specs.Standing.{IsStatus};
+ghost use Rattle.service_core.specs.Standing.{IsStatus, is_reached};
+ghost use Rattle.service_core.specs.Telling.{told_at};
 
 use crate::counts::Counts;
 use crate::note::Loss;
@@ -26,16 +27,12 @@ pub struct DeviceStatus {
 impl Service {
     /// How a device stands, by its number; None where the site has no such device.
     pub fn device_status(&self, device: usize) -> Option<DeviceStatus>
-        ensures stands { IfSome result (λ status. (own : Own) → slice_get self.now.side.devices.items device ≡ Some own → IsStatus self.now.cycle.core.value device own status) }
+        ensures stands { IfSome result (λ status. (own : Own) → slice_get self.now.side.devices.items device ≡ Some own → IsStatus self.now.cycle.core.value self.now.lines device own status) }
         ensures none { IfNone result (length self.now.side.devices.items ≤ device) }
     {
         let found = self.side.devices.get(device)?;
-        let is_up = match self.lines.station(device) {
-            Some(station) => self.lines.is_up(station.link),
-            None => false,
-        };
         Some(DeviceStatus {
-            is_up,
+            is_up: self.is_reached(device),
             is_mapped: self.cycle.is_mapped(device),
             is_lost: found.is_lost,
             last_loss: found.last_loss,
@@ -43,8 +40,20 @@ impl Service {
         })
     }
 
+    /// Whether the connection over which a device is reached is up.
+    fn is_reached(&self, device: usize) -> bool
+        ensures { result ≡ is_reached self.now.lines device }
+    {
+        match self.lines.station(device) {
+            Some(station) => self.lines.is_up(station.link),
+            None => false,
+        }
+    }
+
     /// What became of an output last, by its number among the site's outputs; None before its first scan.
-    pub fn output_state(&self, output: usize) -> Option<OutputState> {
+    pub fn output_state(&self, output: usize) -> Option<OutputState>
+        ensures { result ≡ told_at self.now.side.outputs.items output }
+    {
         self.side.outputs.get(output)?.told()
     }
 }

@@ -321,13 +321,13 @@ impl ScanCycle {
         self.core.step(Event::Client(request_pdu(request)));
     }
 
-    /// Runs the program, where each wanted block was told and it hasn't run in this round; whether it did.
-    pub fn scan(&mut self) -> bool
-        ensures scans { ScansIf result (stage_of self.old) (stage_of self.new) }
+    /// Runs the program at this time, where each wanted block was told and it hasn't run in this round; whether it did.
+    pub fn scan(&mut self, now: u64) -> bool
+        ensures scans { ScansIf result now (stage_of self.old) (stage_of self.new) }
         ensures goes { LeadsOn self.old self.new }
     {
         if self.may_scan() {
-            self.round.scan(&mut self.core);
+            self.round.scan(&mut self.core, now);
             true
         } else {
             false

@@ -44,6 +44,10 @@ IsToEnd now None w = (w.is_up ≡ true) × (w.is_bad ≡ true)
 abbrev pub IsToHangUp : ℕ → Wire → Type 0
 IsToHangUp now w = IsToEnd now w.dial_until w
 
+-- whether the connection of a link is up
+abbrev pub is_up_at : List Line → ℕ → Bool
+is_up_at lines link = option_map_or (λ (line : Line). line.wire.is_up) (slice_get lines link) false
+
 -- whether the connection of a link is up, and nothing is wrong with it
 abbrev pub is_well_at : List Line → ℕ → Bool
 is_well_at lines link = option_map_or (λ (line : Line). line.wire.is_up && not line.wire.is_bad) (slice_get lines link) false

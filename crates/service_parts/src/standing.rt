@@ -3,7 +3,7 @@ ghost use Rattle.std.specs.Prelude.{◌≡◌, ◌↔◌, IfNone, IfSome, IsTrue
 ghost use Rattle.service_parts.specs.declared.line.Line.{Line as LineValue};
 ghost use Rattle.service_parts.specs.Frames.{LinesGo};
 ghost use Rattle.service_parts.specs.Requests.{StayRightful};
-ghost use Rattle.service_parts.specs.Waking.{IsToDial, IsToHangUp, is_well_at};
+ghost use Rattle.service_parts.specs.Waking.{IsToDial, IsToHangUp, is_up_at, is_well_at};
 
 use crate::lines::Lines;
 use crate::wire::Wire;
@@ -39,9 +39,12 @@ impl Lines {
         }
     }
 
-    pub fn is_up(&self, link: usize) -> bool {
-        match self.wire(link) {
-            Some(wire) => wire.is_up(),
+    /// Whether a connection is up.
+    pub fn is_up(&self, link: usize) -> bool
+        ensures { result ≡ is_up_at self.now.lines.items link }
+    {
+        match self.lines.get(link) {
+            Some(line) => line.wire().is_up(),
             None => false,
         }
     }

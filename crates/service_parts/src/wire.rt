@@ -82,7 +82,9 @@ impl Wire {
         }
     }
 
-    pub fn is_up(&self) -> bool {
+    pub fn is_up(&self) -> bool
+        ensures { result ≡ self.now.is_up }
+    {
         self.is_up
     }
 

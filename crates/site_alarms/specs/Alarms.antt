@@ -71,6 +71,7 @@ of_access access.Input i r = of_reading i r
 of_access access.Output i r = []
 of_access access.Setting i r = []
 of_access access.Shown i r = []
+of_access access.Time i r = []
 
 abbrev pub of_input : List Reading → ℕ → SiteTag → List Alarm
 of_input readings i t = of_access t.access i (slice_get readings i)

@@ -84,6 +84,7 @@ HidesAccess access.Shown site stored t h = HidesStored (demand_of_stored site t)
 HidesAccess access.Input site stored t h = h ≡ None
 HidesAccess access.Output site stored t h = h ≡ None
 HidesAccess access.Setting site stored t h = h ≡ None
+HidesAccess access.Time site stored t h = h ≡ None
 
 abbrev pub HidesTag : Site → Option ℤ → Option SiteTag → Option Hidden → Type 0
 HidesTag site stored None h = h ≡ None

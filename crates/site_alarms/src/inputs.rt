@@ -31,7 +31,7 @@ fn push_input(
 {
     match tag.access {
         Access::Input => push_missing(alarms, i, reading_at(readings, i)),
-        Access::Output | Access::Setting | Access::Shown => Ok(()),
+        Access::Output | Access::Setting | Access::Shown | Access::Time => Ok(()),
     }
 }
 

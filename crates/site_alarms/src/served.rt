@@ -210,7 +210,7 @@ fn hidden_tag(site: &Site, tag: &SiteTag, stored: Option<i64>) -> Option<Hidden>
 {
     match tag.access {
         Access::Shown => hidden_number_stored(demand_of_stored(site, tag), stored),
-        Access::Input | Access::Output | Access::Setting => None,
+        Access::Input | Access::Output | Access::Setting | Access::Time => None,
     }
 }
 

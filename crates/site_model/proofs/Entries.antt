@@ -24,17 +24,17 @@ known-read (x ∷ xs) (suc i) = known-read xs i
 
 -- the entry of a tag is its reading, where it was read at its place
 pub entry-read :
-    (tags : List SiteTag) (wants : List Want) (blocks : List (Option (List ℕ))) (sets : List (Option ℤ)) (i : ℕ) (tag : SiteTag) (block : Option (List ℕ)) (reading : Reading) →
-    tag ≡ get_or tags i tag → block ≡ block_of wants blocks tag → IsTagReading tag block (get_or sets i None) reading →
-    (k : ℕ) (t : SiteTag) (r : Reading) → k ≡ i → r ≡ reading → slice_get tags k ≡ Some t → IsTagReading t (block_of wants blocks t) (known_at sets k) r
-entry-read tags wants blocks sets i tag block reading z y x k t r e f p =
+    (tags : List SiteTag) (wants : List Want) (blocks : List (Option (List ℕ))) (sets : List (Option ℤ)) (elapsed : Option ℕ) (i : ℕ) (tag : SiteTag) (block : Option (List ℕ)) (reading : Reading) →
+    tag ≡ get_or tags i tag → block ≡ block_of wants blocks tag → IsTagReading tag block (get_or sets i None) elapsed reading →
+    (k : ℕ) (t : SiteTag) (r : Reading) → k ≡ i → r ≡ reading → slice_get tags k ≡ Some t → IsTagReading t (block_of wants blocks t) (known_at sets k) elapsed r
+entry-read tags wants blocks sets elapsed i tag block reading z y x k t r e f p =
     let q = subst (λ n. slice_get tags n ≡ Some t) e p in
     let s : tag ≡ t = z ∙ get_or_from_slice_get tags i t tag q in
-    let a = subst (λ (b : Option (List ℕ)). IsTagReading tag b (get_or sets i None) reading) y x in
-    let b = subst (λ (o : Option ℤ). IsTagReading tag (block_of wants blocks tag) o reading) (known-read sets i) a in
-    let d = subst (λ (u : SiteTag). IsTagReading u (block_of wants blocks u) (known_at sets i) reading) s b in
-    let g = subst (λ n. IsTagReading t (block_of wants blocks t) (known_at sets n) reading) (sym e) d in
-    subst (λ (u : Reading). IsTagReading t (block_of wants blocks t) (known_at sets k) u) (sym f) g
+    let a = subst (λ (b : Option (List ℕ)). IsTagReading tag b (get_or sets i None) elapsed reading) y x in
+    let b = subst (λ (o : Option ℤ). IsTagReading tag (block_of wants blocks tag) o elapsed reading) (known-read sets i) a in
+    let d = subst (λ (u : SiteTag). IsTagReading u (block_of wants blocks u) (known_at sets i) elapsed reading) s b in
+    let g = subst (λ n. IsTagReading t (block_of wants blocks t) (known_at sets n) elapsed reading) (sym e) d in
+    subst (λ (u : Reading). IsTagReading t (block_of wants blocks t) (known_at sets k) elapsed u) (sym f) g
 
 pub setting-in : (In : ℤ → Type 0) (sets : List (Option ℤ)) (k : ℕ) → ((n : ℤ) → slice_get sets k ≡ Some (Some n) → In n) → IfSome (known_at sets k) In
 setting-in In sets k h = go (slice_get sets k) refl

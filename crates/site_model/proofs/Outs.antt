@@ -11,6 +11,7 @@ written access.Input e = cc
 written access.Output e = refl
 written access.Setting e = cc
 written access.Shown e = cc
+written access.Time e = cc
 
 -- the tag at a place from the first one on, whose number is n
 IsAt : ℕ → List SiteTag → ℕ → Type 0

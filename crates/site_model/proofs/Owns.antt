@@ -1,5 +1,5 @@
 -- A tag's reading before its default is a number in the tag's range, or one that was set, or absent.
-use Rattle.std.proofs.Common.{◌≡◌, ℕ, Bool, true, false, ◌&&◌, if◌then◌else◌, List, ℤ, pos, negsuc, ◌≤ℤ◌, int_le, Option, Some, None, IfSome, IsTrue, refl, sym, subst, arith, leb-true, true≢false}
+use Rattle.std.proofs.Common.{◌≡◌, ℕ, Bool, true, false, ◌&&◌, if◌then◌else◌, List, ℤ, pos, negsuc, ◌≤ℤ◌, int_le, Option, Some, None, IfSome, IsTrue, refl, sym, subst, arith, leb-true, leb-false, true≢false}
 use Rattle.std.proofs.lemmas.Int.{ints}
 use Rattle.point_types.specs.declared.reading.Cause.{Cause}
 use Rattle.point_types.specs.declared.reading.Cause.TheVariants as cause
@@ -12,7 +12,7 @@ use Rattle.site_model.specs.declared.access.Access.{Access}
 use Rattle.site_model.specs.declared.access.Access.TheVariants as access
 use Rattle.site_model.specs.declared.tag.SiteTag.{SiteTag}
 use Rattle.site_model.specs.Tag.{start_of}
-use Rattle.site_model.specs.Readings.{registers_at, scale_for, bit_of, number_reading, IsOfRaw, IsOfValue, IsOfRegisters, IsOfBlock, setting_reading, IsOwn, IsTagReading, IsUsable}
+use Rattle.site_model.specs.Readings.{registers_at, scale_for, bit_of, number_reading, IsOfRaw, IsOfValue, IsOfRegisters, IsOfBlock, setting_reading, time_within, IsOwn, IsTagReading, IsUsable}
 
 -- a reading that is no default, and whose number is so
 abbrev pub IsPlain : (ℤ → Type 0) → Reading → Type 0
@@ -27,7 +27,7 @@ both : (a b : Bool) → IsTrue (a && b) → IsTrue a × IsTrue b
 both true b h = (refl, h)
 both false b h = absurd (true≢false (sym h))
 
-at_most : (a b : ℤ) → IsTrue (int_le a b) → a ≤ℤ b
+pub at_most : (a b : ℤ) → IsTrue (int_le a b) → a ≤ℤ b
 at_most (pos a) (pos b) h = let x = leb-true a b h in omega (arith, ints)
 at_most (pos a) (negsuc b) h = absurd (true≢false (sym h))
 at_most (negsuc a) (pos b) h = omega (arith, ints)
@@ -55,6 +55,34 @@ by-plain : (K : ℤ → Type 0) (Is : (raw s e n : ℤ) → Type 0) (raw : ℤ) 
 by-plain K Is raw None exponent low high r k h = absent K r cause.BadScale h
 by-plain K Is raw (Some s) exponent low high r k h = reads-plain K (Is raw s exponent) low high r k h
 
+-- what a tag begins with, its default or its least number, stands in its range
+start-in : (t : SiteTag) → IsIn t.low t.high (start_of t.low t.default)
+start-in t =
+    let n = start_of t.low t.default in
+    let a = both (int_le (low_of t.kind) t.low && is_within t.low t.high n) (int_le t.high (high_of t.kind)) t.ranged in
+    let b = both (int_le (low_of t.kind) t.low) (is_within t.low t.high n) a.0 in
+    within t.low t.high n b.1
+
+above : (a b : ℤ) → int_le a b ≡ false → b ≤ℤ a
+above (pos a) (pos b) h = omega (arith, ints, leb-false a b h)
+above (pos a) (negsuc b) h = omega (arith, ints)
+above (negsuc a) (pos b) h = absurd (true≢false h)
+above (negsuc a) (negsuc b) h = omega (arith, ints, leb-false b a h)
+
+-- time that is held in a range lies in it, where the range isn't empty
+held-in : (low high : ℤ) (elapsed : Option ℕ) → low ≤ℤ high → IsIn low high (time_within low high elapsed)
+held-in low high None h = (omega (arith, ints), h)
+held-in low high (Some n) h = go (int_le (pos n) low) refl (int_le high (pos n)) refl
+  where
+    go : (b : Bool) → int_le (pos n) low ≡ b → (c : Bool) → int_le high (pos n) ≡ c → IsIn low high (if b then low else if c then high else pos n)
+    go true p c q = (omega (arith, ints), h)
+    go false p true q = (h, omega (arith, ints))
+    go false p false q = (above (pos n) low p, above high (pos n) q)
+
+-- and no tag's range is empty
+time-in : (t : SiteTag) (elapsed : Option ℕ) → IsIn t.low t.high (time_within t.low t.high elapsed)
+time-in t elapsed = held-in t.low t.high elapsed (omega (arith, ints, (start-in t).0, (start-in t).1))
+
 module _ (K : ℤ → Type 0) (t : SiteTag) (r : Reading) (k : (m : ℤ) → IsIn t.low t.high m → K m) where
   raw-plain : (bit : Option ℕ) (down : Bool) (raw : ℤ) (factor : Option ℤ) → IsOfRaw bit down t raw factor r → IsPlain K r
   raw-plain (Some bit) down raw factor h = number-plain K t.low t.high (bit_of raw bit) r k h
@@ -78,34 +106,34 @@ module _ (K : ℤ → Type 0) (t : SiteTag) (r : Reading) (k : (m : ℤ) → IsI
   setting-plain None s h = absent K r cause.NotImplemented h
   setting-plain (Some n) s h = subst (IsPlain K) (sym h) s
 
-  pub own-plain : (a : Access) (block : Option (List ℕ)) (set : Option ℤ) → IfSome set K → IsOwn a t block set r → IsPlain K r
-  own-plain access.Input block set s h = block-plain block h
-  own-plain access.Setting block set s h = setting-plain set s h
-  own-plain access.Output block set s h = absent K r cause.NoBlock h
-  own-plain access.Shown block set s h = absent K r cause.NoBlock h
+  time-plain : (elapsed : Option ℕ) → r ≡ reading.Value (time_within t.low t.high elapsed) → IsPlain K r
+  time-plain elapsed h = subst (IsPlain K) (sym h) (k (time_within t.low t.high elapsed) (time-in t elapsed))
+
+  pub own-plain : (a : Access) (block : Option (List ℕ)) (set : Option ℤ) (elapsed : Option ℕ) → IfSome set K → IsOwn a t block set elapsed r → IsPlain K r
+  own-plain access.Input block set elapsed s h = block-plain block h
+  own-plain access.Setting block set elapsed s h = setting-plain set s h
+  own-plain access.Output block set elapsed s h = absent K r cause.NoBlock h
+  own-plain access.Shown block set elapsed s h = absent K r cause.NoBlock h
+  own-plain access.Time block set elapsed s h = time-plain elapsed h
 
 -- so the default stands in the tag's range, too
 default-in : (t : SiteTag) (n : ℤ) → t.default ≡ Some n → IsIn t.low t.high n
-default-in t n e =
-    let h : IsTrue (is_ranged t.kind t.low t.high (start_of t.low (Some n))) = subst (λ d. IsTrue (is_ranged t.kind t.low t.high (start_of t.low d))) e t.ranged in
-    let a = both (int_le (low_of t.kind) t.low && is_within t.low t.high n) (int_le t.high (high_of t.kind)) h in
-    let b = both (int_le (low_of t.kind) t.low) (is_within t.low t.high n) a.0 in
-    within t.low t.high n b.1
+default-in t n e = subst (λ d. IsIn t.low t.high (start_of t.low d)) e (start-in t)
 
-no_number-plain : (t : SiteTag) (block : Option (List ℕ)) (set : Option ℤ) (n : ℤ) (why : Cause) → IsOwn t.access t block set (reading.Default n why) → ⊥
-no_number-plain t block set n why h = own-plain (λ _. Unit {0}) t (reading.Default n why) (λ m i. tt) t.access block set (any set) h
+no_number-plain : (t : SiteTag) (block : Option (List ℕ)) (set : Option ℤ) (elapsed : Option ℕ) (n : ℤ) (why : Cause) → IsOwn t.access t block set elapsed (reading.Default n why) → ⊥
+no_number-plain t block set elapsed n why h = own-plain (λ _. Unit {0}) t (reading.Default n why) (λ m i. tt) t.access block set elapsed (any set) h
   where
     any : (o : Option ℤ) → IfSome o (λ _. Unit {0})
     any None = tt
     any (Some m) = tt
 
 -- a reading that isn't absent stands as it is
-pub tag-own : (t : SiteTag) (block : Option (List ℕ)) (set : Option ℤ) (r : Reading) → ((why : Cause) → r ≡ reading.Absent why → ⊥) → IsOwn t.access t block set r → IsTagReading t block set r
-tag-own t block set (reading.Value n) other h = h
-tag-own t block set (reading.Default n why) other h = absurd (no_number-plain t block set n why h)
-tag-own t block set (reading.Absent why) other h = absurd (other why refl)
+pub tag-own : (t : SiteTag) (block : Option (List ℕ)) (set : Option ℤ) (elapsed : Option ℕ) (r : Reading) → ((why : Cause) → r ≡ reading.Absent why → ⊥) → IsOwn t.access t block set elapsed r → IsTagReading t block set elapsed r
+tag-own t block set elapsed (reading.Value n) other h = h
+tag-own t block set elapsed (reading.Default n why) other h = absurd (no_number-plain t block set elapsed n why h)
+tag-own t block set elapsed (reading.Absent why) other h = absurd (other why refl)
 
-pub tag-usable : (t : SiteTag) (block : Option (List ℕ)) (set : Option ℤ) (r : Reading) → IfSome set (IsIn t.low t.high) → IsTagReading t block set r → IsUsable t r
-tag-usable t block set (reading.Value n) s h = own-plain (IsIn t.low t.high) t (reading.Value n) (λ m i. i) t.access block set s h
-tag-usable t block set (reading.Default n why) s h = default-in t n h.1
-tag-usable t block set (reading.Absent why) s h = h.1
+pub tag-usable : (t : SiteTag) (block : Option (List ℕ)) (set : Option ℤ) (elapsed : Option ℕ) (r : Reading) → IfSome set (IsIn t.low t.high) → IsTagReading t block set elapsed r → IsUsable t r
+tag-usable t block set elapsed (reading.Value n) s h = own-plain (IsIn t.low t.high) t (reading.Value n) (λ m i. i) t.access block set elapsed s h
+tag-usable t block set elapsed (reading.Default n why) s h = default-in t n h.1
+tag-usable t block set elapsed (reading.Absent why) s h = h.1

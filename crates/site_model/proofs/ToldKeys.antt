@@ -32,6 +32,10 @@ pub spared : {A E : Type 0} (b : Bool) (r : Result A E) (e : E) (a : A) → (if 
 spared true r e a h = absurd (cc)
 spared false r e a h = h
 
+pub unsaid : {A E : Type 0} (b : Bool) (r : Result A E) (e : E) (a : A) → (if b then Err e else r) ≡ Ok a → b ≡ false
+unsaid true r e a h = absurd (cc)
+unsaid false r e a h = refl
+
 -- the first that passes a test is there, and passes it
 pub stands_at : {T : Type 0} (p : T → Bool) (xs : List T) (i : ℕ) → position p xs ≡ Some i → (x : T) × (slice_get xs i ≡ Some x) × (p x ≡ true)
 stands_at p [] i h = absurd (cc)

@@ -1,11 +1,13 @@
 -- A site that is read is the one that its file says.
-use Rattle.std.proofs.Common.{◌≡◌, ℕ, suc, pos, true, ◌&&◌, ◌||◌, List, [], ◌∷◌, ◌++◌, map, if◌then◌else◌, Option, Some, None, option_map, option_and_then, Ok, Err, slice_get, codes, refl, sym, ap, subst, ◌∙◌, append_assoc, append-nil}
+use Rattle.std.proofs.Common.{◌≡◌, ◌⊎◌, inl, inr, ℕ, ℤ, suc, pos, ◌≤ℤ◌, int_le, Bool, true, false, true≢false, ◌&&◌, ◌||◌, List, [], ◌∷◌, ◌++◌, map, if◌then◌else◌, Option, Some, None, option_map, option_and_then, Ok, Err, slice_get, codes, refl, sym, ap, subst, ◌∙◌, append_assoc, append-nil}
 use Rattle.std.proofs.lemmas.Option.{cond_some}
 use Rattle.std.specs.List.{list_any}
-use Rattle.std.specs.Option.{ok_or}
+use Rattle.std.proofs.lemmas.Slice.Eq.{bytes_eq-Decides}
+use Rattle.std.specs.Option.{ok_or, option_map_or}
+use Rattle.std.specs.Str.{bytes_eq}
 use Rattle.toml.specs.Data.{Data, Items, Members, as_integer, get, item, no_items, table}
 use Rattle.toml.specs.Parse.{parse_document}
-use Rattle.point_types.specs.Value.{◌>>=◌}
+use Rattle.point_types.specs.Value.{◌>>=◌, is_bool}
 use Rattle.point_types.specs.declared.il_type.IlType.{IlType}
 use Rattle.model_defs.specs.declared.point.Point.{Point}
 use Rattle.model_defs.specs.declared.model.ModelDef.{ModelDef}
@@ -15,9 +17,9 @@ use Rattle.site_model.specs.File.{Layout, has_too_many, layout_of, layout_over, 
 use Rattle.site_model.specs.Gateway.{Gateway, definition_of, gateway_of}
 use Rattle.site_model.specs.Lengths.{lengths_of}
 use Rattle.site_model.specs.Serving.{served_behind}
-use Rattle.site_model.specs.Tagging.{Tag, TagKeys, access_of, clashes, device_for, goes_together, is_bit_place, is_on_heading, is_place, is_rounding, may_be_written, model_for, numbers_of, place_of, point_for, tag_keys, tag_name, tag_of, tag_over, tag_placed, tag_typed, tags_behind, type_of, unit_of}
+use Rattle.site_model.specs.Tagging.{Tag, TagKeys, access_of, clashes, device_for, goes_together, is_bit_place, is_on_heading, is_place, is_rounding, may_be_written, model_for, numbers_of, place_of, point_for, point_tag_of, tag_keys, tag_name, tag_of, tag_over, tag_placed, tag_typed, tags_behind, type_of, unit_of, TimeKeys, has_point_words, has_range, has_time_range, is_time, time_keys, time_over, time_placed, time_tag_of, time_typed}
 use Rattle.site_model.specs.Tagging as tagging
-use Rattle.site_model.specs.Told.{AreIn, AreTold, IsDefined, IsDevice, IsPlaced, IsPoint, IsTag, IsTold, SitesAreTold}
+use Rattle.site_model.specs.Told.{AreIn, AreTold, IsDefined, IsDevice, IsPlaced, IsPoint, IsPointTag, IsTag, IsTimeTag, IsTold, SitesAreTold}
 use Rattle.site_model.specs.Views.{site_view, tag_view}
 use Rattle.site_model.specs.Wants.{length_of}
 use Rattle.site_model.specs.declared.access.Access.{Access}
@@ -26,8 +28,9 @@ use Rattle.site_model.specs.declared.fault.SiteFault.TheVariants as fault
 use Rattle.site_model.specs.declared.served.Served.{Served}
 use Rattle.site_model.specs.declared.site.Site.{Site}
 use Rattle.site_model.specs.declared.tag.SiteTag.{SiteTag}
-use Rattle.site_model.proofs.ToldKeys.{by_both, chosen, given, ok_is, spared, text_there}
+use Rattle.site_model.proofs.ToldKeys.{by_both, chosen, given, ok_is, some_is, spared, text_there, unsaid}
 use Rattle.site_model.proofs.ToldModels.{IsSaid, defined_by_its_id, gateway_said, model_length, own_defined}
+use Rattle.site_model.proofs.Owns.{at_most}
 use Rattle.site_model.proofs.ToldTags.{bit_told, devices_told, keys_told, model_told, name_told, numbers_told, place_told, placed, point_told, round_told, unit_told}
 use Rattle.point_types.proofs.Truths.{both}
 
@@ -46,7 +49,7 @@ record IsMade (devices : List SiteDevice) (own defs : List ModelDef) (tree : Dat
   pub in_unit : unit_of (type_of keys.kind) point.kind keys.numbers keys.bit ≡ Some unit
   pub typed : tag_typed keys unit device model point ≡ Some t
 
-made_by : (devices : List SiteDevice) (own defs : List ModelDef) (seen : List Tag) (tree : Data) (t : Tag) → tag_of devices own defs seen tree ≡ Ok t → IsMade devices own defs tree t
+made_by : (devices : List SiteDevice) (own defs : List ModelDef) (seen : List Tag) (tree : Data) (t : Tag) → point_tag_of devices own defs seen tree ≡ Ok t → IsMade devices own defs tree t
 made_by devices own defs seen tree t e =
     by_both (ok_or (tag_keys tree) fault.MissingKey) (λ keys. device_for devices (access_of keys.access) keys.place.device >>= λ device. tag_placed own defs keys device >>= λ x. (if is_on_heading x || list_any (clashes x) seen then Err fault.Duplicate else Ok x)) t e (λ keys p f.
     by_both (device_for devices (access_of keys.access) keys.place.device) (λ device. tag_placed own defs keys device >>= λ x. (if is_on_heading x || list_any (clashes x) seen then Err fault.Duplicate else Ok x)) t f (λ device q g.
@@ -77,12 +80,49 @@ made_by devices own defs seen tree t e =
           typed = given (tag_typed keys unit device model point) fault.BadType t i;
         })))
 
+-- what the time since the scan before was made of
+record IsTimed (tree : Data) (t : Tag) : Type 0 where
+  pub said : is_time tree ≡ true
+  pub keys : TimeKeys
+  pub read : time_keys tree ≡ Some keys
+  pub ranged : has_time_range (type_of keys.kind) keys ≡ true
+  pub pointless : has_point_words tree ≡ false
+  pub typed : time_typed keys ≡ Some t
+
+timed_by : (seen : List Tag) (tree : Data) (t : Tag) → is_time tree ≡ true → time_tag_of seen tree ≡ Ok t → IsTimed tree t
+timed_by seen tree t said e =
+    by_both (ok_or (time_keys tree) fault.MissingKey) (λ keys. time_placed keys (has_point_words tree) >>= λ x. (if list_any (clashes x) seen then Err fault.Duplicate else Ok x)) t e (λ keys p f.
+    by_both (time_placed keys (has_point_words tree)) (λ x. if list_any (clashes x) seen then Err fault.Duplicate else Ok x) t f (λ x q g.
+    let same = ok_is x t (spared (list_any (clashes x) seen) (Ok x) fault.Duplicate t g) in
+    let placed = q ∙ ap Ok same in
+    let c = chosen (has_time_range (type_of keys.kind) keys) (if has_point_words tree then Err fault.BadType else ok_or (time_typed keys) fault.BadType) fault.BadRange t placed in
+    record {
+      said = said;
+      keys = keys;
+      read = given (time_keys tree) fault.MissingKey keys p;
+      ranged = c.0;
+      pointless = unsaid (has_point_words tree) (ok_or (time_typed keys) fault.BadType) fault.BadType t c.1;
+      typed = given (time_typed keys) fault.BadType t (spared (has_point_words tree) (ok_or (time_typed keys) fault.BadType) fault.BadType t c.1);
+    }))
+
+-- what a tag was made of
+IsEntry : (devices : List SiteDevice) (own defs : List ModelDef) → Data → Tag → Type 0
+IsEntry devices own defs tree t = IsMade devices own defs tree t ⊎ IsTimed tree t
+
+entry_by : (devices : List SiteDevice) (own defs : List ModelDef) (seen : List Tag) (tree : Data) (t : Tag) → tag_of devices own defs seen tree ≡ Ok t → IsEntry devices own defs tree t
+unfolding IsEntry
+entry_by devices own defs seen tree t e = by_access (is_time tree) refl e
+  where
+    by_access : (b : Bool) → is_time tree ≡ b → (if b then time_tag_of seen tree else point_tag_of devices own defs seen tree) ≡ Ok t → IsMade devices own defs tree t ⊎ IsTimed tree t
+    by_access true p f = inr (timed_by seen tree t p f)
+    by_access false p f = inl (made_by devices own defs seen tree t f)
+
 made_all : (devices : List SiteDevice) (own defs : List ModelDef) (seen : List Tag) (trees : Items) (all : List Tag) → tags_behind devices own defs seen trees ≡ Ok all
-    → (rest : List Tag) × (all ≡ seen ++ rest) × AreTold (IsMade devices own defs) trees rest
+    → (rest : List Tag) × (all ≡ seen ++ rest) × AreTold (IsEntry devices own defs) trees rest
 made_all devices own defs seen no_items all e = ([], sym (append-nil seen ∙ ok_is seen all e), tt)
 made_all devices own defs seen (item tree trees) all e = by_both (tag_of devices own defs seen tree) (λ t. tags_behind devices own defs (seen ++ t ∷ []) trees) all e (λ t p f.
     let k = made_all devices own defs (seen ++ t ∷ []) trees all f in
-    (t ∷ k.0, k.1 ∙ append_assoc seen (t ∷ []) k.0, (made_by devices own defs seen tree t p, k.2)))
+    (t ∷ k.0, k.1 ∙ append_assoc seen (t ∷ []) k.0, (entry_by devices own defs seen tree t p, k.2)))
 
 -- ---- what its words are
 
@@ -108,6 +148,63 @@ words_told keys unit device model p t e = by_words (tag_name keys.name) refl (ac
     by_words (Some n) x (Some a) y (Some k) z f =
         let c = cond_some (goes_together a k p.kind keys) (tag_over keys unit device model p n a k) t f in
         record { name = n; named = x; access = a; accessed = y; kind = k; kinded = z; together = c.0; is = c.1 }
+
+-- ---- the time since the scan before
+
+time_keys_told : (name kind : Option (List ℕ)) (low high : Option ℤ) (keys : TimeKeys)
+    → option_and_then (λ n. option_and_then (λ k. option_and_then (λ l. option_map (λ h. record { name = n; kind = k; low = l; high = h }) high) low) kind) name ≡ Some keys
+    → (name ≡ Some keys.name) × (kind ≡ Some keys.kind) × (low ≡ Some keys.low) × (high ≡ Some keys.high)
+time_keys_told None kind low high keys e = absurd (cc)
+time_keys_told (Some n) None low high keys e = absurd (cc)
+time_keys_told (Some n) (Some k) None high keys e = absurd (cc)
+time_keys_told (Some n) (Some k) (Some l) None keys e = absurd (cc)
+time_keys_told (Some n) (Some k) (Some l) (Some h) keys e =
+    let own : TimeKeys = record { name = n; kind = k; low = l; high = h } in
+    let same : own ≡ keys = some_is own keys e in
+    (ap (λ (k : TimeKeys). Some k.name) same, ap (λ (k : TimeKeys). Some k.kind) same, ap (λ (k : TimeKeys). Some k.low) same, ap (λ (k : TimeKeys). Some k.high) same)
+
+record AreTimeWords (keys : TimeKeys) (t : Tag) : Type 0 where
+  pub name : List ℕ
+  pub named : tag_name keys.name ≡ Some name
+  pub kind : IlType
+  pub kinded : type_of keys.kind ≡ Some kind
+  pub whole : is_bool kind ≡ false
+  pub is : time_over keys name kind ≡ t
+
+time_words_told : (keys : TimeKeys) (t : Tag) → time_typed keys ≡ Some t → AreTimeWords keys t
+time_words_told keys t e = by_words (tag_name keys.name) refl (type_of keys.kind) refl e
+  where
+    by_kind : (n : List ℕ) → tag_name keys.name ≡ Some n → (k : IlType) → type_of keys.kind ≡ Some k → (b : Bool) → is_bool k ≡ b → (if b then None else Some (time_over keys n k)) ≡ Some t → AreTimeWords keys t
+    by_kind n x k z true p f = absurd (cc)
+    by_kind n x k z false p f = record { name = n; named = x; kind = k; kinded = z; whole = p; is = some_is (time_over keys n k) t f }
+
+    by_words : (n : Option (List ℕ)) → tag_name keys.name ≡ n → (k : Option IlType) → type_of keys.kind ≡ k
+        → option_and_then (λ n. option_and_then (λ k. if is_bool k then None else Some (time_over keys n k)) k) n ≡ Some t → AreTimeWords keys t
+    by_words None x k z f = absurd (cc)
+    by_words (Some n) x None z f = absurd (cc)
+    by_words (Some n) x (Some k) z f = by_kind n x k z (is_bool k) refl f
+
+word_said : (o : Option (List ℕ)) → option_map_or (λ word. bytes_eq word (codes "time")) o false ≡ true → o ≡ Some (codes "time")
+word_said None e = absurd (true≢false (sym e))
+word_said (Some word) e = ap Some ((bytes_eq-Decides word (codes "time")).0 e)
+
+time_said : (tree : Data) (t : SiteTag) → IsTimed tree (tag_view t) → IsTimeTag tree t
+time_said tree t timed =
+    let keys = timed.keys in
+    let words = time_words_told keys (tag_view t) timed.typed in
+    let k = time_keys_told (text_at (codes "name") tree) (text_at (codes "type") tree) (number_at (codes "low") tree) (number_at (codes "high") tree) keys timed.read in
+    let low : keys.low ≡ t.low = ap (λ (x : Tag). x.low) words.is in
+    record {
+      said = word_said (text_at (codes "access") tree) timed.said;
+      timed = sym (ap (λ (x : Tag). x.access) words.is);
+      name = k.0 ∙ ap Some (name_told keys.name words.name words.named ∙ ap (λ (x : Tag). x.name) words.is);
+      kind = ap (option_and_then type_of) k.1 ∙ words.kinded ∙ ap (λ (x : Tag). Some x.kind) words.is;
+      whole = sym (ap (λ (x : Tag). is_bool x.kind) words.is) ∙ words.whole;
+      low = k.2 ∙ ap Some low;
+      positive = subst (λ z. pos 0 ≤ℤ z) low (at_most (pos 0) keys.low (both (int_le (pos 0) keys.low) (has_range (type_of keys.kind) keys.low keys.high keys.low) timed.ranged).0);
+      high = k.3 ∙ ap Some (ap (λ (x : Tag). x.high) words.is);
+      pointless = timed.pointless;
+    }
 
 -- ---- a tag
 
@@ -135,7 +232,7 @@ module _ (defs : List ModelDef) (site : Site) (ids : Items) (own : List ModelDef
         writable = sym (ap (λ (x : Tag). x.writable) words.is);
       }
 
-  tag_said : (tree : Data) (i : ℕ) (t : SiteTag) → slice_get site.tags i ≡ Some t → IsMade site.devices own defs tree (tag_view t) → IsTag defs site tree t
+  tag_said : (tree : Data) (i : ℕ) (t : SiteTag) → slice_get site.tags i ≡ Some t → IsMade site.devices own defs tree (tag_view t) → IsPointTag defs site tree t
   tag_said tree i t at made =
       let keys = made.keys in
       let words = words_told keys made.unit made.device made.model made.point (tag_view t) made.typed in
@@ -161,11 +258,16 @@ module _ (defs : List ModelDef) (site : Site) (ids : Items) (own : List ModelDef
         point = point_said tree i t at made words p.1 p.2;
       }
 
-  tags_said : (trees : Items) (ts : List SiteTag) → ((i : ℕ) (t : SiteTag) → slice_get ts i ≡ Some t → (k : ℕ) × (slice_get site.tags k ≡ Some t)) → AreTold (IsMade site.devices own defs) trees (map tag_view ts) → AreTold (IsTag defs site) trees ts
+  entry_said : (tree : Data) (i : ℕ) (t : SiteTag) → slice_get site.tags i ≡ Some t → IsEntry site.devices own defs tree (tag_view t) → IsTag defs site tree t
+  unfolding IsEntry
+  entry_said tree i t at (inl made) = inl (tag_said tree i t at made)
+  entry_said tree i t at (inr timed) = inr (time_said tree t timed)
+
+  tags_said : (trees : Items) (ts : List SiteTag) → ((i : ℕ) (t : SiteTag) → slice_get ts i ≡ Some t → (k : ℕ) × (slice_get site.tags k ≡ Some t)) → AreTold (IsEntry site.devices own defs) trees (map tag_view ts) → AreTold (IsTag defs site) trees ts
   tags_said no_items [] there made = tt
   tags_said no_items (t ∷ ts) there made = absurd made
   tags_said (item tree trees) [] there made = absurd made
-  tags_said (item tree trees) (t ∷ ts) there made = let k = there 0 t refl in (tag_said tree k.0 t k.1 made.0, tags_said trees ts (λ i u. there (suc i) u) made.1)
+  tags_said (item tree trees) (t ∷ ts) there made = let k = there 0 t refl in (entry_said tree k.0 t k.1 made.0, tags_said trees ts (λ i u. there (suc i) u) made.1)
 
 -- ---- the site
 
@@ -180,7 +282,7 @@ record IsLaid (defs : List ModelDef) (doc : Data) (l : Layout) : Type 0 where
   pub tag_entries : Items
   pub tag_section : section_at (codes "tag") doc ≡ Some tag_entries
   pub tags : List Tag
-  pub tags_are : AreTold (IsMade devices gateway.models defs) tag_entries tags
+  pub tags_are : AreTold (IsEntry devices gateway.models defs) tag_entries tags
   pub served : List Served
   pub is : layout_over defs gateway devices tags served ≡ l
 
@@ -204,7 +306,7 @@ laid_by defs doc l e =
       tag_entries = ts;
       tag_section = given (section_at (codes "tag") doc) fault.MissingKey ts c;
       tags = tags;
-      tags_are = subst (λ (xs : List Tag). AreTold (IsMade devices g.models defs) ts xs) (sym m.1) m.2;
+      tags_are = subst (λ (xs : List Tag). AreTold (IsEntry devices g.models defs) ts xs) (sym m.1) m.2;
       served = served;
       is = ok_is (layout_over defs g devices tags served) l j;
     }))))))
@@ -220,8 +322,8 @@ told_by defs text members site parsed laid =
     let devices : laid.devices ≡ site.devices = ap (λ (l : Layout). l.devices) laid.is in
     let tags : laid.tags ≡ map tag_view site.tags = ap (λ (l : Layout). l.tags) laid.is in
     let lengths : site.lengths ≡ lengths_of g.models defs (map tag_view site.tags) = sym (ap (λ (l : Layout). l.lengths) laid.is) ∙ ap (lengths_of g.models defs) tags in
-    let made : AreTold (IsMade site.devices g.models defs) laid.tag_entries laid.tags = subst (λ (ds : List SiteDevice). AreTold (IsMade ds g.models defs) laid.tag_entries laid.tags) devices laid.tags_are in
-    let own : AreTold (IsMade site.devices g.models defs) laid.tag_entries (map tag_view site.tags) = subst (λ (ts : List Tag). AreTold (IsMade site.devices g.models defs) laid.tag_entries ts) tags made in
+    let made : AreTold (IsEntry site.devices g.models defs) laid.tag_entries laid.tags = subst (λ (ds : List SiteDevice). AreTold (IsEntry ds g.models defs) laid.tag_entries laid.tags) devices laid.tags_are in
+    let own : AreTold (IsEntry site.devices g.models defs) laid.tag_entries (map tag_view site.tags) = subst (λ (ts : List Tag). AreTold (IsEntry site.devices g.models defs) laid.tag_entries ts) tags made in
     record {
       file = table members;
       toml = ap (option_map table) parsed;

@@ -172,6 +172,7 @@ placed devices access.Input text name n said e = placed_in devices access.Input 
 placed devices access.Output text name n said e = placed_in devices access.Output text name n said refl e
 placed devices access.Setting text name n said e = own_place devices access.Setting text n refl e
 placed devices access.Shown text name n said e = own_place devices access.Shown text n refl e
+placed devices access.Time text name n said e = own_place devices access.Time text n refl e
 
 -- the model of an ID: of all that are defined, or of the gateway's own, which are among these
 pub model_told : (own defs : List ModelDef) (a : Access) (id : ℤ) (m : ModelDef) → (find (has_id id) own ≡ Some m → definition_of defs id ≡ Some m) → model_for own defs (Some a) id ≡ Some m → definition_of defs id ≡ Some m
@@ -179,6 +180,7 @@ model_told own defs access.Input id m among e = e
 model_told own defs access.Output id m among e = e
 model_told own defs access.Setting id m among e = among e
 model_told own defs access.Shown id m among e = among e
+model_told own defs access.Time id m among e = among e
 
 pub point_told : (name : List ℕ) (model : ModelDef) (p : Point) → point_for name model ≡ Some p → (i : ℕ) × (slice_get model.points i ≡ Some p) × (name ≡ p.name)
 point_told name model p e = by_number (point_number name model) refl e

@@ -1,6 +1,6 @@
 -- Readings of a site's tags: what the words of the devices say that a tag is, or why it has no value of its own.
 -- SunSpec Device Information Model Specification, points and scale factors.
-use Rattle.std.specs.Prelude.{◌≡◌, ℕ, ◌+◌, ◌/◌, ◌%◌, ◌^◌, nat_le, Bool, true, false, List, length, slice_get, slice_range, ℤ, pos, ◌≤ℤ◌, unsigned_abs, Option, Some, None, option_map, option_and_then, if◌then◌else◌}
+use Rattle.std.specs.Prelude.{◌≡◌, ℕ, ◌+◌, ◌/◌, ◌%◌, ◌^◌, nat_le, Bool, true, false, List, length, slice_get, slice_range, ℤ, pos, ◌≤ℤ◌, int_le, unsigned_abs, Option, Some, None, option_map, option_and_then, if◌then◌else◌}
 use Rattle.std.specs.List.{position}
 use Rattle.point_types.specs.declared.kind.Kind.TheVariants as kinds
 use Rattle.point_types.specs.declared.reading.Cause.TheVariants as cause
@@ -70,18 +70,24 @@ abbrev pub setting_reading : Option ℤ → Reading
 setting_reading None = reading.Absent cause.NotImplemented
 setting_reading (Some n) = reading.Value n
 
--- a tag's reading before its default, by the words of its block and by what was set
-abbrev pub IsOwn : Access → SiteTag → Option (List ℕ) → Option ℤ → Reading → Type 0
-IsOwn access.Input t block set r = IsOfBlock t block r
-IsOwn access.Setting t block set r = r ≡ setting_reading set
-IsOwn access.Output t block set r = r ≡ reading.Absent cause.NoBlock
-IsOwn access.Shown t block set r = r ≡ reading.Absent cause.NoBlock
+-- the milliseconds since the scan before, held in a range; its least number where there was none
+abbrev pub time_within : (low high : ℤ) → Option ℕ → ℤ
+time_within low high None = low
+time_within low high (Some n) = if int_le (pos n) low then low else if int_le high (pos n) then high else pos n
+
+-- a tag's reading before its default, by the words of its block, by what was set, and by the time since the scan before
+abbrev pub IsOwn : Access → SiteTag → Option (List ℕ) → Option ℤ → Option ℕ → Reading → Type 0
+IsOwn access.Input t block set elapsed r = IsOfBlock t block r
+IsOwn access.Setting t block set elapsed r = r ≡ setting_reading set
+IsOwn access.Output t block set elapsed r = r ≡ reading.Absent cause.NoBlock
+IsOwn access.Shown t block set elapsed r = r ≡ reading.Absent cause.NoBlock
+IsOwn access.Time t block set elapsed r = r ≡ reading.Value (time_within t.low t.high elapsed)
 
 -- a tag's reading: its default, where it has one, in place of being absent
-abbrev pub IsTagReading : SiteTag → Option (List ℕ) → Option ℤ → Reading → Type 0
-IsTagReading t block set (reading.Value n) = IsOwn t.access t block set (reading.Value n)
-IsTagReading t block set (reading.Default n why) = IsOwn t.access t block set (reading.Absent why) × (t.default ≡ Some n)
-IsTagReading t block set (reading.Absent why) = IsOwn t.access t block set (reading.Absent why) × (t.default ≡ None)
+abbrev pub IsTagReading : SiteTag → Option (List ℕ) → Option ℤ → Option ℕ → Reading → Type 0
+IsTagReading t block set elapsed (reading.Value n) = IsOwn t.access t block set elapsed (reading.Value n)
+IsTagReading t block set elapsed (reading.Default n why) = IsOwn t.access t block set elapsed (reading.Absent why) × (t.default ≡ Some n)
+IsTagReading t block set elapsed (reading.Absent why) = IsOwn t.access t block set elapsed (reading.Absent why) × (t.default ≡ None)
 
 -- an entry of a list in which some are missing
 abbrev pub known_at : {T : Type 0} → List (Option T) → ℕ → Option T
@@ -92,10 +98,10 @@ abbrev pub block_of : List Want → List (Option (List ℕ)) → SiteTag → Opt
 block_of wants blocks t = option_and_then (λ w. option_and_then (known_at blocks) (position (same_want w) wants)) (want_of t)
 
 -- the readings of the tags, one each
-abbrev pub AreReadings : List SiteTag → List Want → List (Option (List ℕ)) → List (Option ℤ) → List Reading → Type 0
-AreReadings tags wants blocks sets readings =
+abbrev pub AreReadings : List SiteTag → List Want → List (Option (List ℕ)) → List (Option ℤ) → Option ℕ → List Reading → Type 0
+AreReadings tags wants blocks sets elapsed readings =
     (i : ℕ) (t : SiteTag) (r : Reading) → slice_get tags i ≡ Some t → slice_get readings i ≡ Some r →
-    IsTagReading t (block_of wants blocks t) (known_at sets i) r
+    IsTagReading t (block_of wants blocks t) (known_at sets i) elapsed r
 
 -- ---- what a program may count on
 

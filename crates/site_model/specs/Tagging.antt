@@ -1,10 +1,10 @@
 -- Which tags the entries of the section `tag` of a site file stand for.
 -- SunSpec Device Information Model Specification, points; IEC 61131-3 edition 2, 2.1.2 identifiers, 2.3.1 elementary data types.
-use Rattle.std.specs.Prelude.{ℕ, ◌-◌, ℤ, pos, neg_ℤ, nat_eq, nat_lt, Bool, true, false, not, ◌&&◌, ◌||◌, is_some, List, [], ◌∷◌, ◌++◌, length, drop, find, position, slice_get, Option, None, Some, option_map, option_and_then, if◌then◌else◌, Result, Ok, Err, codes}
+use Rattle.std.specs.Prelude.{ℕ, ◌-◌, ℤ, pos, neg_ℤ, int_le, nat_eq, nat_lt, Bool, true, false, not, ◌&&◌, ◌||◌, is_some, List, [], ◌∷◌, ◌++◌, length, drop, find, position, slice_get, Option, None, Some, option_map, option_and_then, if◌then◌else◌, Result, Ok, Err, codes}
 use Rattle.std.specs.List.{list_any, position}
 use Rattle.std.specs.Option.{ok_or, option_map_or}
 use Rattle.std.specs.Str.{bytes_eq}
-use Rattle.toml.specs.Data.{Data, Items, no_items, item}
+use Rattle.toml.specs.Data.{Data, Items, no_items, item, get}
 use Rattle.point_types.specs.Name.{name_of}
 use Rattle.point_types.specs.Value.{◌>>=◌, is_within, is_ranged, is_bool}
 use Rattle.point_types.specs.declared.il_type.IlType.{IlType}
@@ -121,7 +121,9 @@ is_polled other = false
 
 -- its point is the gateway's own
 abbrev pub is_own : Access → Bool
-is_own a = not (is_polled a)
+is_own access.Setting = true
+is_own access.Shown = true
+is_own other = false
 
 abbrev pub is_input : Access → Bool
 is_input access.Input = true
@@ -284,10 +286,9 @@ tag_typed keys unit device model p =
 
 -- both are `out`, or both are points of the gateway's own
 abbrev pub is_same_side : Access → Access → Bool
-is_same_side access.Input b = false
 is_same_side access.Output access.Output = true
 is_same_side access.Output b = false
-is_same_side a b = is_own b
+is_same_side a b = is_own a && is_own b
 
 abbrev pub is_same_device : Option ℕ → Option ℕ → Bool
 is_same_device None None = true
@@ -315,13 +316,94 @@ tag_placed own defs keys device =
     (ok_or (unit_of (type_of keys.kind) p.kind keys.numbers keys.bit) fault.BadRange >>= λ unit.
     ok_or (tag_typed keys unit device model p) fault.BadType) else Err fault.NotWritable)
 
--- a tag behind those before it, or the first rule that is broken
-abbrev pub tag_of : List SiteDevice → List ModelDef → List ModelDef → List Tag → Data → Result Tag SiteFault
-tag_of devices own defs seen tree =
+-- a tag over a point, after those before it, or the first rule that is broken
+abbrev pub point_tag_of : List SiteDevice → List ModelDef → List ModelDef → List Tag → Data → Result Tag SiteFault
+point_tag_of devices own defs seen tree =
     ok_or (tag_keys tree) fault.MissingKey >>= λ keys.
     device_for devices (access_of keys.access) keys.place.device >>= λ device.
     tag_placed own defs keys device >>= λ t.
     (if is_on_heading t || list_any (clashes t) seen then Err fault.Duplicate else Ok t)
+
+-- ---- the time since the scan before, which has no point
+
+abbrev pub is_time : Data → Bool
+is_time tree = option_map_or (λ word. bytes_eq word (codes "time")) (text_at (codes "access") tree) false
+
+pub record TimeKeys : Type 0 where
+  pub name : List ℕ
+  pub kind : List ℕ
+  pub low : ℤ
+  pub high : ℤ
+
+-- nothing where a key is missing or of another kind
+abbrev pub time_keys : Data → Option TimeKeys
+time_keys tree =
+    option_and_then (λ name.
+    option_and_then (λ kind.
+    option_and_then (λ low.
+    option_map (λ high. record { name = name; kind = kind; low = low; high = high })
+    (number_at (codes "high") tree))
+    (number_at (codes "low") tree))
+    (text_at (codes "type") tree))
+    (text_at (codes "name") tree)
+
+abbrev pub has_key : Data → List ℕ → Bool
+has_key tree key = is_some (get key tree)
+
+-- the keys that speak of a point, and of what it is worth while it has no value
+abbrev pub point_words : List (List ℕ)
+point_words = codes "device" ∷ codes "model" ∷ codes "point" ∷ codes "exponent" ∷ codes "default" ∷ codes "bit" ∷ codes "round" ∷ []
+
+abbrev pub has_point_words : Data → Bool
+has_point_words tree = list_any (has_key tree) point_words
+
+-- no time is negative
+abbrev pub has_time_range : Option IlType → TimeKeys → Bool
+has_time_range kind keys = int_le (pos 0) keys.low && has_range kind keys.low keys.high keys.low
+
+-- it always has a number, and is worth its least one at least
+abbrev pub time_over : TimeKeys → List ℕ → IlType → Tag
+time_over keys name kind = record {
+  name = name;
+  access = access.Time;
+  kind = kind;
+  low = keys.low;
+  high = keys.high;
+  default = Some keys.low;
+  exponent = pos 0;
+  bit = None;
+  down = false;
+  device = None;
+  model = 0;
+  point = kinds.Uint32;
+  writable = false;
+  offset = 0;
+  sf = factors.None;
+}
+
+-- nothing where a word isn't allowed
+abbrev pub time_typed : TimeKeys → Option Tag
+time_typed keys =
+    option_and_then (λ name.
+    option_and_then (λ kind. if is_bool kind then None else Some (time_over keys name kind)) (type_of keys.kind))
+    (tag_name keys.name)
+
+-- its ranges, then its words
+abbrev pub time_placed : TimeKeys → Bool → Result Tag SiteFault
+time_placed keys has_point =
+    if has_time_range (type_of keys.kind) keys then (if has_point then Err fault.BadType else ok_or (time_typed keys) fault.BadType) else Err fault.BadRange
+
+-- such a tag after those before it, or the first rule that is broken
+abbrev pub time_tag_of : List Tag → Data → Result Tag SiteFault
+time_tag_of seen tree =
+    ok_or (time_keys tree) fault.MissingKey >>= λ keys.
+    time_placed keys (has_point_words tree) >>= λ t.
+    (if list_any (clashes t) seen then Err fault.Duplicate else Ok t)
+
+-- ---- all tags
+
+abbrev pub tag_of : List SiteDevice → List ModelDef → List ModelDef → List Tag → Data → Result Tag SiteFault
+tag_of devices own defs seen tree = if is_time tree then time_tag_of seen tree else point_tag_of devices own defs seen tree
 
 -- the tags in order
 abbrev pub tags_behind : List SiteDevice → List ModelDef → List ModelDef → List Tag → Items → Result (List Tag) SiteFault

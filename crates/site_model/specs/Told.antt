@@ -1,7 +1,7 @@
 -- What a site file says of a site: its gateway, its devices and its tags, entry by entry.
 -- The rules that a file may break are those of File: a site that was read breaks none of them.
 -- SunSpec Device Information Model Specification, points and scale factors; site files are this project's, written in TOML 1.0.
-use Rattle.std.specs.Prelude.{◌≡◌, ℕ, ℤ, pos, true, false, List, [], ◌∷◌, slice_get, Option, None, Some, option_map, option_and_then, if◌then◌else◌, Ok, codes}
+use Rattle.std.specs.Prelude.{◌≡◌, ◌⊎◌, ℕ, ℤ, pos, ◌≤ℤ◌, true, false, List, [], ◌∷◌, slice_get, Option, None, Some, option_map, option_and_then, if◌then◌else◌, Ok, codes}
 use Rattle.toml.specs.Data.{Data, table, Items, no_items, item, get, as_integer}
 use Rattle.toml.specs.Parse.{parse_document}
 use Rattle.model_defs.specs.declared.model.ModelDef.{ModelDef}
@@ -10,10 +10,12 @@ use Rattle.file_keys.specs.Keys.{list_at, number_at, number_or, optional_number_
 use Rattle.site_model.specs.Devices.{write_of}
 use Rattle.site_model.specs.File.{site_in}
 use Rattle.site_model.specs.Gateway.{definition_of}
-use Rattle.site_model.specs.Tagging.{access_of, factor_in, type_of}
+use Rattle.point_types.specs.Value.{is_bool}
+use Rattle.site_model.specs.Tagging.{access_of, factor_in, has_point_words, type_of}
 use Rattle.site_model.specs.Views.{site_view}
 use Rattle.site_model.specs.Wants.{is_of_device, length_of}
 use Rattle.site_model.specs.declared.access.Access.{Access}
+use Rattle.site_model.specs.declared.access.Access.TheVariants as access
 use Rattle.site_model.specs.declared.device.SiteDevice.{SiteDevice}
 use Rattle.site_model.specs.declared.site.Site.{Site}
 use Rattle.site_model.specs.declared.tag.SiteTag.{SiteTag}
@@ -72,7 +74,8 @@ pub record IsPoint (defs : List ModelDef) (lengths : List (ℕ × ℕ)) (entry :
   pub scaled : t.sf ≡ factor_in model point.sf
   pub writable : t.writable ≡ point.writable
 
-pub record IsTag (defs : List ModelDef) (site : Site) (entry : Data) (t : SiteTag) : Type 0 where
+-- a tag over a point
+pub record IsPointTag (defs : List ModelDef) (site : Site) (entry : Data) (t : SiteTag) : Type 0 where
   pub name : text_at (codes "name") entry ≡ Some t.name
   pub access : option_and_then access_of (text_at (codes "access") entry) ≡ Some t.access
   pub kind : option_and_then type_of (text_at (codes "type") entry) ≡ Some t.kind
@@ -84,6 +87,21 @@ pub record IsTag (defs : List ModelDef) (site : Site) (entry : Data) (t : SiteTa
   pub round : text_at (codes "round") entry ≡ (if t.down then Some (codes "down") else None)
   pub device : IsPlaced site.devices (text_at (codes "device") entry) t.access t.device
   pub point : IsPoint defs site.lengths entry t
+
+-- a tag that is the time since the scan before; such an entry says nothing of a point
+pub record IsTimeTag (entry : Data) (t : SiteTag) : Type 0 where
+  pub said : text_at (codes "access") entry ≡ Some (codes "time")
+  pub timed : t.access ≡ access.Time
+  pub name : text_at (codes "name") entry ≡ Some t.name
+  pub kind : option_and_then type_of (text_at (codes "type") entry) ≡ Some t.kind
+  pub whole : is_bool t.kind ≡ false
+  pub low : number_at (codes "low") entry ≡ Some t.low
+  pub positive : pos 0 ≤ℤ t.low
+  pub high : number_at (codes "high") entry ≡ Some t.high
+  pub pointless : has_point_words entry ≡ false
+
+abbrev pub IsTag : List ModelDef → Site → Data → SiteTag → Type 0
+IsTag defs site entry t = IsPointTag defs site entry t ⊎ IsTimeTag entry t
 
 -- ---- the site
 

@@ -13,6 +13,7 @@ use Rattle.site_model.specs.declared.site.Site.{Site}
 use Rattle.site_model.specs.declared.tag_keys.Numbers.{Numbers}
 use Rattle.site_model.specs.declared.tag_keys.Place.{Place}
 use Rattle.site_model.specs.declared.tag_keys.TagKeys.{TagKeys}
+use Rattle.site_model.specs.declared.time_tag.TimeKeys.{TimeKeys}
 use Rattle.site_model.specs.declared.unit.Unit.{Unit}
 use Rattle.site_model.specs.declared.tag.SiteTag.{SiteTag}
 use Rattle.site_model.specs.declared.gateway.GatewayKeys.{GatewayKeys}
@@ -44,6 +45,9 @@ tag_keys_view keys = record {
   bit = keys.bit;
   round = option_map (λ s. s.now) keys.round;
 }
+
+abbrev pub time_keys_view : TimeKeys → tagging.TimeKeys
+time_keys_view keys = record { name = keys.name.now; kind = keys.kind.now; low = keys.low; high = keys.high }
 
 abbrev pub unit_view : Unit → tagging.Unit
 unit_view u = record { exponent = u.exponent; bit = u.bit }

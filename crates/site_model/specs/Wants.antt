@@ -16,6 +16,7 @@ is_of_device access.Input = true
 is_of_device access.Output = true
 is_of_device access.Setting = false
 is_of_device access.Shown = false
+is_of_device access.Time = false
 
 -- the device and the model of a tag whose point lies in a device
 abbrev pub want_of : SiteTag → Option Want

@@ -11,4 +11,6 @@ pub enum Access {
     Setting,
     /// `site`: the program stores it, and clients read it.
     Shown,
+    /// `time`: how long ago the scan before was, in milliseconds; the program reads it. It has no point.
+    Time,
 }

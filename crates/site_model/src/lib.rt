@@ -24,6 +24,7 @@ mod tag_keys;
 mod tag_rules;
 mod tags;
 mod text;
+mod time_tag;
 mod unit;
 mod want;
 pub mod wants;

@@ -44,16 +44,23 @@ impl Site {
         length_of(self.lengths.as_slice(), model)
     }
 
-    /// Reads all tags, one entry of `into` each, by the known blocks of `wants()` and the numbers that were set, as
-    /// [`readings`] says. Each number in a reading lies in its tag's range, and a tag with a default isn't Absent.
-    pub fn readings(&self, blocks: &[Option<Words>], sets: &[Option<i64>], into: &mut [Reading])
+    /// Reads all tags, one entry of `into` each, by the known blocks of `wants()`, the numbers that were set, and the
+    /// milliseconds since the scan before, None where there was none, as [`readings`] says. Each number in a reading lies in
+    /// its tag's range, and a tag with a default isn't Absent.
+    pub fn readings(
+        &self,
+        blocks: &[Option<Words>],
+        sets: &[Option<i64>],
+        elapsed: Option<u32>,
+        into: &mut [Reading],
+    )
         requires blocks { length blocks.now ≡ length self.now.wants }
         requires sets { length sets.now ≡ length self.now.tags }
         requires entries { length into.old ≡ length self.now.tags }
         requires settings { AreSettings self.now.tags sets.now }
-        ensures readings { AreReadings self.now.tags self.now.wants blocks.now sets.now into.new }
+        ensures readings { AreReadings self.now.tags self.now.wants blocks.now sets.now elapsed into.new }
         ensures usable { AreUsable self.now.tags into.new }
     {
-        readings(self.tags(), self.wants(), blocks, sets, into);
+        readings(self.tags(), self.wants(), blocks, sets, elapsed, into);
     }
 }

@@ -1,6 +1,6 @@
 //! What the words of the devices say that the tags are.
 ghost use Rattle.std.specs.Prelude.{◌≡◌, ◌≢◌, ◌≤◌, ◌<◌, ◌^◌, length, option_copied, unsigned_abs};
-ghost use Rattle.site_model.specs.Readings.{AreReadings, AreSettings, AreUsable, IsOfBlock, IsOfRaw, IsOwn, IsTagReading, IsUsable, bit_of, block_of, number_reading, setting_reading};
+ghost use Rattle.site_model.specs.Readings.{AreReadings, AreSettings, AreUsable, IsOfBlock, IsOfRaw, IsOwn, IsTagReading, IsUsable, bit_of, block_of, number_reading, setting_reading, time_within};
 
 use crate::access::Access;
 use crate::registers::{registers_at, scale_for};
@@ -11,28 +11,30 @@ use modbus_frame::Words;
 use point_types::{Cause, Reading, scaled, scaled_down, value};
 
 /// Reads all tags, one entry of `into` each: `in` tags by the known words of their blocks, `set` tags by the numbers that
-/// were set. A tag with a default is Default where it would be Absent (SunSpec Device Information Model Specification,
+/// were set, `time` tags by the milliseconds since the scan before, None where there was none. A tag with a default is Default where it would be Absent (SunSpec Device Information Model Specification,
 /// points and scale factors). Takes no memory.
 ///
 /// `blocks` are those of `wants`, by number. An `in` tag is Absent with the first cause that holds: NoBlock, ShortModel,
 /// NotImplemented, BadScale, Inexact, OutOfRange. A `set` tag without a number is NotImplemented; an `out` or a `site` tag
-/// is NoBlock.
+/// is NoBlock. A `time` tag always has a number: the milliseconds, or the end of its range that is next to them; its least
+/// number where there was no scan.
 pub fn readings(
     tags: &[SiteTag],
     wants: &[Want],
     blocks: &[Option<Words>],
     sets: &[Option<i64>],
+    elapsed: Option<u32>,
     into: &mut [Reading],
 )
     requires blocks { length blocks.now ≡ length wants.now }
     requires sets { length sets.now ≡ length tags.now }
     requires entries { length into.old ≡ length tags.now }
     requires settings { AreSettings tags.now sets.now }
-    ensures readings { AreReadings tags.now wants.now blocks.now sets.now into.new }
+    ensures readings { AreReadings tags.now wants.now blocks.now sets.now elapsed into.new }
     ensures usable { AreUsable tags.now into.new }
 {
     for (i, tag) in tags.iter().enumerate() {
-        into[i] = tag_reading(tag, known_block(tag, wants, blocks), sets[i]);
+        into[i] = tag_reading(tag, known_block(tag, wants, blocks), sets[i], elapsed);
     }
 }
 
@@ -53,10 +55,15 @@ pub fn known_block<'a>(
     }
 }
 
-fn tag_reading(tag: &SiteTag, block: Option<&[u16]>, set: Option<i64>) -> Reading
-    ensures { IsTagReading tag.now (option_copied block.entry) set result }
+fn tag_reading(
+    tag: &SiteTag,
+    block: Option<&[u16]>,
+    set: Option<i64>,
+    elapsed: Option<u32>,
+) -> Reading
+    ensures { IsTagReading tag.now (option_copied block.entry) set elapsed result }
 {
-    match own_reading(tag, block, set) {
+    match own_reading(tag, block, set, elapsed) {
         Reading::Absent(cause) => match tag.default {
             Some(n) => Reading::Default(n, cause),
             None => Reading::Absent(cause),
@@ -66,13 +73,19 @@ fn tag_reading(tag: &SiteTag, block: Option<&[u16]>, set: Option<i64>) -> Readin
 }
 
 /// A tag's reading before its default.
-fn own_reading(tag: &SiteTag, block: Option<&[u16]>, set: Option<i64>) -> Reading
-    ensures { IsOwn tag.now.access tag.now (option_copied block.entry) set result }
+fn own_reading(
+    tag: &SiteTag,
+    block: Option<&[u16]>,
+    set: Option<i64>,
+    elapsed: Option<u32>,
+) -> Reading
+    ensures { IsOwn tag.now.access tag.now (option_copied block.entry) set elapsed result }
 {
     match tag.access {
         Access::Input => block_reading(tag, block),
         Access::Setting => setting_reading(set),
         Access::Output | Access::Shown => Reading::Absent(Cause::NoBlock),
+        Access::Time => Reading::Value(time_within(tag.low, tag.high, elapsed)),
     }
 }
 
@@ -82,6 +95,23 @@ fn setting_reading(set: Option<i64>) -> Reading
     match set {
         Some(n) => Reading::Value(n),
         None => Reading::Absent(Cause::NotImplemented),
+    }
+}
+
+/// The milliseconds since the scan before, held in a range; its least number where there was none.
+fn time_within(low: i64, high: i64, elapsed: Option<u32>) -> i64
+    ensures { result ≡ time_within low high elapsed }
+{
+    let Some(elapsed) = elapsed else {
+        return low;
+    };
+    let elapsed = i64::from(elapsed);
+    if elapsed <= low {
+        low
+    } else if high <= elapsed {
+        high
+    } else {
+        elapsed
     }
 }
 

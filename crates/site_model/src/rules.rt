@@ -4,3 +4,4 @@ pub use crate::gateway::definition_of;
 pub use crate::tag_keys::{access_of, tag_name, type_of};
 pub use crate::tag_rules::{is_polled, last_bit};
 pub use crate::tags::{is_same_side, point_for};
+pub use crate::time_tag::is_time;

@@ -25,7 +25,7 @@ pub fn is_polled(access: Access) -> bool
 pub(crate) fn is_own(access: Access) -> bool
     ensures { result ≡ is_own access }
 {
-    !is_polled(access)
+    matches!(access, Access::Setting | Access::Shown)
 }
 
 /// Whether the tag is read from a device.
@@ -82,7 +82,7 @@ fn unit_within(point: Kind, exponent: i64, bit: Option<i64>) -> Option<Unit>
 }
 
 /// Whether low, the start and high ascend, within the type where it is known.
-fn has_range(kind: Option<IlType>, low: i64, high: i64, start: i64) -> bool
+pub(crate) fn has_range(kind: Option<IlType>, low: i64, high: i64, start: i64) -> bool
     ensures { result ≡ has_range kind low high start }
 {
     match kind {

@@ -5,7 +5,7 @@ ghost use Rattle.toml.specs.View.{view, items_view};
 ghost use Rattle.name_places.specs.Places.{IsPlaced};
 ghost use Rattle.site_model.specs.Parts.{IsTagRefused};
 ghost use Rattle.site_model.specs.Tag.{start_of};
-ghost use Rattle.site_model.specs.Tagging.{clashes, device_for, device_named, device_number, is_device_named, is_on_heading, is_same_device, is_same_point, is_same_side, model_for, point_for, tag_of, tag_placed, tags_behind};
+ghost use Rattle.site_model.specs.Tagging.{clashes, device_for, device_named, device_number, is_device_named, is_on_heading, is_same_device, is_same_point, is_same_side, model_for, point_for, point_tag_of, tag_of, tag_placed, tags_behind};
 ghost use Rattle.site_model.specs.Views.{tag_keys_view, tag_view};
 ghost use Rattle.site_model.specs.declared.fault.SiteFault.{SiteFault};
 ghost use Rattle.site_model.specs.declared.fault.SiteFault.TheVariants as fault;
@@ -18,6 +18,7 @@ use crate::part::SitePart;
 use crate::tag::SiteTag;
 use crate::tag_keys::{TagKeys, access_of, keys_of, type_of};
 use crate::tag_rules::{is_own, is_polled, may_be_written, tag_typed, unit_of};
+use crate::time_tag::{is_time, read_time_tag};
 use model_defs::{ModelDef, Point};
 use name_places::{Places, place_of};
 use point_types::Items;
@@ -57,11 +58,28 @@ pub(crate) fn read_tags(
     Ok(tags)
 }
 
-/// Reads a tag behind those before it.
+/// Reads a tag after those before it.
 fn read_tag(scope: Scope<'_, '_>, seen: &[SiteTag], entry: &Value) -> Result<SiteTag, SiteFault>
     ensures { MatchResult result
         (λ t. tag_of scope.entry.devices.now scope.entry.own.now scope.entry.defs.now (map tag_view seen.now) (view entry.now) ≡ Ok (tag_view t))
         (λ e. tag_of scope.entry.devices.now scope.entry.own.now scope.entry.defs.now (map tag_view seen.now) (view entry.now) ≡ Err e) }
+{
+    if is_time(entry) {
+        read_time_tag(seen, entry)
+    } else {
+        read_point_tag(scope, seen, entry)
+    }
+}
+
+/// Reads a tag over a point after those before it.
+fn read_point_tag(
+    scope: Scope<'_, '_>,
+    seen: &[SiteTag],
+    entry: &Value,
+) -> Result<SiteTag, SiteFault>
+    ensures { MatchResult result
+        (λ t. point_tag_of scope.entry.devices.now scope.entry.own.now scope.entry.defs.now (map tag_view seen.now) (view entry.now) ≡ Ok (tag_view t))
+        (λ e. point_tag_of scope.entry.devices.now scope.entry.own.now scope.entry.defs.now (map tag_view seen.now) (view entry.now) ≡ Err e) }
 {
     let keys = keys_of(entry).ok_or(SiteFault::MissingKey)?;
     let device = device_for(scope, access_of(keys.access), keys.place.device)?;
@@ -148,7 +166,7 @@ fn is_on_heading(tag: &SiteTag) -> bool
 }
 
 /// Whether a tag has this one's name or its place.
-fn is_taken(seen: &[SiteTag], tag: &SiteTag) -> bool
+pub(crate) fn is_taken(seen: &[SiteTag], tag: &SiteTag) -> bool
     ensures { result ≡ list_any (clashes (tag_view tag.now)) (map tag_view seen.now) }
 {
     for other in seen {
@@ -179,10 +197,9 @@ pub fn is_same_side(access: Access, other: Access) -> bool
     ensures { result ≡ is_same_side access other }
 {
     match (access, other) {
-        (Access::Input, _) => false,
         (Access::Output, Access::Output) => true,
         (Access::Output, _) => false,
-        (_, other) => is_own(other),
+        (access, other) => is_own(access) && is_own(other),
     }
 }
 

@@ -96,7 +96,7 @@ fn is_of_device(access: Access) -> bool
 {
     match access {
         Access::Input | Access::Output => true,
-        Access::Setting | Access::Shown => false,
+        Access::Setting | Access::Shown | Access::Time => false,
     }
 }
 

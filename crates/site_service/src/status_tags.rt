@@ -53,6 +53,7 @@ fn access_word(access: Access) -> &'static str {
         Access::Output => "out",
         Access::Setting => "set",
         Access::Shown => "site",
+        Access::Time => "time",
     }
 }
 

@@ -26,7 +26,7 @@ use Rattle.service_core.proofs.Runs.{courses_are_site_runs}
 use Rattle.site_survey.specs.Surveying.{IsOfReads, IsRestOfRead, IsSurveyStart, SurveysAskForReadsAlone}
 
 -- the request reads
-abbrev IsRead : Request → Type 0
+abbrev pub IsRead : Request → Type 0
 IsRead request = (address : ℕ) × (count : ℕ) × (request ≡ Read address count)
 
 -- ---- a wanted block is read
@@ -54,7 +54,7 @@ module _ (call : Call) where
   by_device defined model map None is = absurd (cc)
   by_device defined model map (Some device) is = by_map device defined model map is
 
-  of_read : (site : Site) (maps : List (Option Layout)) (want : Want) → read_of site maps want ≡ Some call → IsRead call.request
+  pub of_read : (site : Site) (maps : List (Option Layout)) (want : Want) → read_of site maps want ≡ Some call → IsRead call.request
   unfolding call_to
   of_read site maps want is = by_device (length_of site.lengths want.model) want.model (known_at maps want.device) (slice_get site.devices want.device) is
 

@@ -1,10 +1,10 @@
 //! The rows of inputs.
-use crate::decimals::decimal;
 use crate::point_name::point_name;
 use crate::row::Rows;
 use crate::seen::Wrongs;
 use crate::survey::Survey;
 use crate::units::push_unit;
+use decimal_text::decimal;
 use escaped_text::{escaped, push_escaped};
 use gateway::{Core, DEPTH};
 use point_types::{Cause, Reading};
@@ -112,7 +112,7 @@ fn value_text(
     met: Option<Met>,
 ) -> Result<String, AllocError> {
     let mut text = decimal(alloc, n, tag.exponent)?;
-    push_unit(&mut text, survey.models, tag)?;
+    push_unit(&mut text, survey, tag)?;
     if let Some(met) = met {
         let met = met_text(alloc, met)?;
         text.push_str(met.as_str())?;

@@ -5,8 +5,8 @@
 #![tactic(auto)]
 
 mod asked_text;
-mod decimals;
 mod device_rows;
+mod handed_defs;
 mod helps;
 mod identity;
 mod input_rows;
@@ -24,8 +24,8 @@ mod units;
 
 // the site file as a survey asks it
 pub use asked_text::{AskedFault, asked_site};
-// a value as a decimal number
-pub use decimals::decimal;
+// definitions that are handed in
+pub use handed_defs::HandedDefs;
 // the table
 pub use survey::Survey;
 pub use table::{Table, table_of};

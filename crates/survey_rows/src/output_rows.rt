@@ -1,11 +1,11 @@
 //! The rows of outputs: what they are now, and what of their ranges can't be written.
-use crate::decimals::decimal;
 use crate::input_rows::{met_text, missing, tag_subject};
 use crate::range_text::{no_factor, range_text};
 use crate::row::Rows;
 use crate::seen::Wrongs;
 use crate::survey::Survey;
 use crate::units::push_unit;
+use decimal_text::decimal;
 use point_types::Cause;
 use point_writer::factor;
 use served_notes::reason_of;
@@ -89,7 +89,7 @@ fn output_text(alloc: Global, survey: &Survey<'_>, tag: &SiteTag) -> Result<Stri
     let low = decimal(alloc, i128::from(tag.low), tag.exponent)?;
     let high = decimal(alloc, i128::from(tag.high), tag.exponent)?;
     let mut text = format!(in alloc; "{low}..{high}")?;
-    push_unit(&mut text, survey.models, tag)?;
+    push_unit(&mut text, survey, tag)?;
     let now = now_text(alloc, met_at(survey.service.core(), tag))?;
     text.push_str(" now ")?;
     text.push_str(now.as_str())?;

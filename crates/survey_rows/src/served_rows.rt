@@ -1,9 +1,9 @@
 //! The rows of what clients are shown: sums, and what the program stores.
-use crate::decimals::decimal;
 use crate::row::Rows;
 use crate::seen::Wrongs;
 use crate::survey::Survey;
 use crate::units::push_unit_of;
+use decimal_text::decimal;
 use escaped_text::escaped;
 use gateway::total_of;
 use served_ranges::point_of_entry;
@@ -62,7 +62,7 @@ fn total_text(
         return Ok(String::new(alloc));
     };
     let mut text = decimal(alloc, i128::from(total), exponent)?;
-    push_unit_of(&mut text, entry.model, served_name(survey, entry))?;
+    push_unit_of(&mut text, survey, entry.model, served_name(survey, entry))?;
     Ok(text)
 }
 

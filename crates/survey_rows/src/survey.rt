@@ -1,4 +1,5 @@
 //! What a survey is of.
+use crate::handed_defs::HandedDefs;
 use model_defs::ModelDef;
 use service_core::Service;
 use service_texts::Addresses;
@@ -13,6 +14,8 @@ pub struct Survey<'a> {
     pub site: &'a Site,
     /// The definitions of models; of several of one ID the last one counts.
     pub models: &'a [ModelDef],
+    /// The definitions of them that are handed in.
+    pub handed: &'a HandedDefs,
     /// Where the devices are.
     pub addresses: &'a Addresses,
 }

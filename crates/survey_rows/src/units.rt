@@ -1,6 +1,7 @@
 //! The units of the points of published models (SunSpec Device Information Model Specification, units of a point).
 use crate::point_name::point_name;
-use model_defs::ModelDef;
+use crate::survey::Survey;
+use escaped_text::push_escaped;
 use site_model::SiteTag;
 use std::alloc::AllocError;
 
@@ -160,25 +161,31 @@ const METER: Units = &[
 /// Appends a blank and the unit of a tag's point, where it has one.
 pub(crate) fn push_unit(
     text: &mut String,
-    models: &[ModelDef],
+    survey: &Survey<'_>,
     tag: &SiteTag,
 ) -> Result<(), AllocError> {
-    push_unit_of(text, tag.model, point_name(models, tag))
+    push_unit_of(text, survey, tag.model, point_name(survey.models, tag))
 }
 
 /// Appends a blank and the unit of a model's point, where it has one.
-pub(crate) fn push_unit_of(text: &mut String, model: u16, point: &str) -> Result<(), AllocError> {
-    match unit_of(model, point) {
+pub(crate) fn push_unit_of(
+    text: &mut String,
+    survey: &Survey<'_>,
+    model: u16,
+    point: &str,
+) -> Result<(), AllocError> {
+    let handed = survey.handed.unit_of(model, point);
+    match handed.or(published_unit(model, point)) {
         Some(unit) => {
             text.push_str(" ")?;
-            text.push_str(unit)
+            push_escaped(text, unit)
         }
         None => Ok(()),
     }
 }
 
 /// The unit of a point; None where its number has none, and for a model that isn't among these.
-fn unit_of(model: u16, point: &str) -> Option<&'static str> {
+fn published_unit(model: u16, point: &str) -> Option<&'static str> {
     for (name, unit) in units_of(model) {
         if *name == point {
             return Some(*unit);

@@ -21,6 +21,7 @@ is_stored access.Input = false
 is_stored access.Output = true
 is_stored access.Setting = false
 is_stored access.Shown = true
+is_stored access.Time = false
 
 abbrev pub allowed : Tag → TagLink → Result TagLink RefusalKind
 allowed tag link =

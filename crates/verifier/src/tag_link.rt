@@ -88,7 +88,7 @@ fn is_stored(access: Access) -> bool
 {
     match access {
         Access::Output | Access::Shown => true,
-        Access::Input | Access::Setting => false,
+        Access::Input | Access::Setting | Access::Time => false,
     }
 }
 

@@ -3,7 +3,7 @@ use crate::fault::Fault;
 use crate::named_text::NamedText;
 use crate::text_form::TextForm;
 use std::alloc::Global;
-use std::fs;
+use std::{fs, io};
 
 /// The name of standard input.
 const INPUT: &str = "-";
@@ -77,7 +77,7 @@ impl Texts {
     pub(crate) fn begin_case(&mut self, rt: &HostRuntime) {
         for text in self.all.iter().skip(self.shared) {
             if text.name() != INPUT {
-                let _ = fs::remove_file(rt, text.name());
+                remove(rt, text.name());
             }
         }
         self.all.truncate(self.shared);
@@ -92,7 +92,7 @@ impl Texts {
             if text.name() == INPUT {
                 input = whole;
             } else {
-                fs::write(rt, text.name(), whole.as_str())?;
+                write(rt, text.name(), whole.as_str())?;
             }
         }
         Ok(input)
@@ -106,5 +106,21 @@ impl Texts {
             None if wants_row => Err(Fault::NoRow),
             _ => Ok(()),
         }
+    }
+}
+
+/// Writes a text into the file of a name, and makes the folder that stands before it.
+fn write(rt: &HostRuntime, name: &str, text: &str) -> io::Result<()> {
+    if let Some((folder, _)) = name.rsplit_once("/") {
+        fs::create_dir_all(rt, folder)?;
+    }
+    fs::write(rt, name, text)
+}
+
+/// Removes the file of a name, and the folder that stands before it once nothing else is in it.
+fn remove(rt: &HostRuntime, name: &str) {
+    let _ = fs::remove_file(rt, name);
+    if let Some((folder, _)) = name.rsplit_once("/") {
+        let _ = fs::remove_dir(rt, folder);
     }
 }

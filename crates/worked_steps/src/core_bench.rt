@@ -19,6 +19,8 @@ pub(crate) enum CoreStep<'a> {
     Block(usize, u16, &'a [&'a str]),
     /// It doesn't answer for one.
     Lost(usize, u16),
+    /// So many milliseconds go by.
+    Wait(u32),
     /// The program runs once.
     Scan,
     /// A client asks this.
@@ -47,6 +49,7 @@ impl<'a> CoreStep<'a> {
                 words,
             )),
             ("lost", [device, model]) => Some(Self::Lost(number(device)?, number(model)?)),
+            ("wait", [elapsed]) => Some(Self::Wait(number(elapsed)?)),
             ("scan", []) => Some(Self::Scan),
             ("asks", pdu) => Some(Self::Client(pdu)),
             ("replay", [device, model]) => Some(Self::Replay(number(device)?, number(model)?)),
@@ -106,6 +109,7 @@ impl CoreBench {
                 self.step(page, Event::Block(Want { device, model }, words))
             }
             CoreStep::Lost(device, model) => self.step(page, Event::Lost(Want { device, model })),
+            CoreStep::Wait(elapsed) => self.step(page, Event::Time(elapsed)),
             CoreStep::Scan => self.step(page, Event::Scan),
             CoreStep::Client(pdu) => {
                 let pdu = pdu_of(self.alloc, pdu)?;

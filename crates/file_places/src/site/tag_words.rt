@@ -8,7 +8,7 @@ use site_model::rules::tag_name;
 use source_notes::nearest_of;
 use toml::Value;
 
-const ACCESSES: &[&str] = &["in", "out", "set", "site"];
+const ACCESSES: &[&str] = &["in", "out", "set", "site", "time"];
 
 const TYPES: &[&str] = &[
     "BOOL", "SINT", "INT", "DINT", "LINT", "USINT", "UINT", "UDINT",
@@ -16,24 +16,40 @@ const TYPES: &[&str] = &[
 
 /// The word that isn't allowed, or the key that doesn't go with the others.
 pub(super) fn bad_word(entry: &Value) -> Finding<'_> {
-    if !is_name(entry) {
-        return Finding::advised(
-            entry,
-            "name",
-            "is no name of a tag",
-            "write it in lower case, with letters, digits and single underscores, 32 at most; it is no word of Instruction List and doesn't end in _ok",
-        );
+    if let Some(finding) = no_name(entry) {
+        return finding;
     }
     if access(entry).is_none() {
-        let finding = Finding::at(entry, "access", "is none of in, out, set, site");
+        let finding = Finding::at(entry, "access", "is none of in, out, set, site, time");
         return finding.meaning(meant(entry, "access", ACCESSES));
     }
-    if kind(entry).is_none() {
-        let words = "is none of BOOL, SINT, INT, DINT, LINT, USINT, UINT, UDINT";
-        let finding = Finding::at(entry, "type", words);
-        return finding.meaning(meant(entry, "type", TYPES));
+    match no_type(entry) {
+        Some(finding) => finding,
+        None => unlike_others(entry),
     }
-    unlike_others(entry)
+}
+
+/// A name that is none of a tag.
+pub(super) fn no_name(entry: &Value) -> Option<Finding<'_>> {
+    if is_name(entry) {
+        return None;
+    }
+    Some(Finding::advised(
+        entry,
+        "name",
+        "is no name of a tag",
+        "write it in lower case, with letters, digits and single underscores, 32 at most; it is no word of Instruction List and doesn't end in _ok",
+    ))
+}
+
+/// A type that is none.
+pub(super) fn no_type(entry: &Value) -> Option<Finding<'_>> {
+    if kind(entry).is_some() {
+        return None;
+    }
+    let words = "is none of BOOL, SINT, INT, DINT, LINT, USINT, UINT, UDINT";
+    let finding = Finding::at(entry, "type", words);
+    Some(finding.meaning(meant(entry, "type", TYPES)))
 }
 
 fn is_name(entry: &Value) -> bool {
@@ -90,7 +106,7 @@ fn unlike_others(entry: &Value) -> Finding<'_> {
     )
 }
 
-fn has(entry: &Value, key: &str) -> bool {
+pub(super) fn has(entry: &Value, key: &str) -> bool {
     entry.get(key).is_some()
 }
 

@@ -1,12 +1,13 @@
 //! What breaks a rule in the entry of a tag.
 use super::named::{nearest_entry, point_at, unknown_point};
 use super::tag_words::bad_word;
+use super::time_words::time_finding;
 use crate::finding::{EntryName, Finding, KeyRule, Kind, Rule, Stands, named_entry, stands_at};
 use crate::looking::{first_alike, first_broken, first_outside, is_alike};
 use file_keys::{number_at, text_at};
 use model_defs::ModelDef;
 use point_types::IlType;
-use site_model::rules::{access_of, is_polled, is_same_side, last_bit, type_of};
+use site_model::rules::{access_of, is_polled, is_same_side, is_time, last_bit, type_of};
 use site_model::{Access, SiteFault};
 use toml::Value;
 
@@ -38,6 +39,9 @@ pub(super) fn tag_finding<'a>(
     entry: &'a Value,
     fault: SiteFault,
 ) -> Option<Finding<'a>> {
+    if is_time(entry) {
+        return time_finding(before, entry, fault);
+    }
     match fault {
         SiteFault::MissingKey => missing(entry),
         SiteFault::UnknownDevice => Some(unknown_device(file, entry)),
@@ -136,7 +140,7 @@ fn no_bit<'a>(entry: &'a Value, defs: &[ModelDef]) -> Finding<'a> {
 }
 
 /// Of low, default and high two that don't ascend.
-fn out_of_order(entry: &Value) -> Option<Finding<'_>> {
+pub(super) fn out_of_order(entry: &Value) -> Option<Finding<'_>> {
     let low = number_at(entry, "low")?;
     let high = number_at(entry, "high")?;
     if low > high {
@@ -156,7 +160,7 @@ fn numbered(key: &'static str, number: i64, rule: Rule<'static>) -> Finding<'sta
     Finding::by(key, Stands::Number(number), rule)
 }
 
-fn out_of_type(entry: &Value) -> Option<Finding<'_>> {
+pub(super) fn out_of_type(entry: &Value) -> Option<Finding<'_>> {
     let kind = kind(entry)?;
     let (low, high) = (kind.low(), kind.high());
     first_outside(entry, &[("low", low, high), ("high", low, high)])
@@ -164,9 +168,8 @@ fn out_of_type(entry: &Value) -> Option<Finding<'_>> {
 
 /// The name that a tag before has, or its point.
 fn known_tag<'a>(before: &'a [Value], entry: &'a Value) -> Finding<'a> {
-    if let Some(other) = first_alike("[[tag]]", before, entry, &["name"]) {
-        let rule = Rule::Repeats("is the name of", other);
-        return Finding::by("name", stands_at(entry, "name"), rule);
+    if let Some(finding) = known_name(before, entry) {
+        return finding;
     }
     match on_same_point(before, entry) {
         Some(other) => {
@@ -180,6 +183,13 @@ fn known_tag<'a>(before: &'a [Value], entry: &'a Value) -> Finding<'a> {
             "take another point: the gateway has these two itself",
         ),
     }
+}
+
+/// The name that a tag before has.
+pub(super) fn known_name<'a>(before: &'a [Value], entry: &'a Value) -> Option<Finding<'a>> {
+    let other = first_alike("[[tag]]", before, entry, &["name"])?;
+    let rule = Rule::Repeats("is the name of", other);
+    Some(Finding::by("name", stands_at(entry, "name"), rule))
 }
 
 /// The tag before that has the same point for itself.

@@ -16,16 +16,21 @@ use Rattle.gateway.specs.declared.event_core.event.Event.TheVariants as event
 use Rattle.gateway.specs.declared.event_core.event.Answer.{Answer}
 use Rattle.gateway.specs.declared.event_core.event.Answer.TheVariants as answer
 use Rattle.gateway.specs.event_core.Core.{Gateway, IsSame, StepsOn, numbers_of}
-use Rattle.gateway.specs.event_core.SiteRun.{after_block, scanned, told}
+use Rattle.gateway.specs.event_core.SiteRun.{after_block, after_time, scanned, told}
 
 -- one event of the site run, and nothing else changes
 abbrev pub Advances : Gateway → Event → Answer → Gateway → Type 0
 Advances old e a new = StepsOn old e a new × IsSame old new
 
--- A block that came or was lost: what is known of it is that from now on, and nothing else changes.
+-- so many milliseconds went by, and nothing else changes
+abbrev pub after_wait : ℕ → Gateway → Gateway
+after_wait ms g = record g { standing = after_time ms g.standing }
+
+-- A block that came or was lost: what is known of it is that from now on. Time that went by. Nothing else changes.
 abbrev pub Notes : Gateway → Event → Answer → Gateway → Type 0
 Notes old (event.Block want words) a new = new ≡ record old { standing = after_block old.site want (told want.model words) old.standing }
 Notes old (event.Lost want) a new = new ≡ record old { standing = after_block old.site want None old.standing }
+Notes old (event.Time ms) a new = new ≡ after_wait ms old
 Notes old event.Scan a new = ⊥
 Notes old (event.Client pdu) a new = ⊥
 

@@ -1,6 +1,6 @@
 -- What is seen of a gateway's core, and the site run of the program that it runs.
 -- IEC 61131-3 edition 2, 3.2 (one scan after another).
-use Rattle.std.specs.Prelude.{◌≡◌, ℕ, ℤ, List, Option, length, map}
+use Rattle.std.specs.Prelude.{◌≡◌, ℕ, ℤ, List, Option, None, length, map}
 use Rattle.register_map.specs.Layout.{Layout}
 use Rattle.scan_vm.specs.Machine.{Running}
 use Rattle.site_model.specs.declared.site.Site.{Site}
@@ -57,7 +57,7 @@ abbrev pub last_of : Memory → Scanned
 last_of k = record { steps = k.steps; outputs = k.outputs.items; readings = k.readings.items; blocks = k.scanned.items }
 
 abbrev pub standing_of : Running → Memory → Standing
-standing_of m k = record { blocks = k.blocks.items; sets = k.sets.items; variables = m.variables; last = last_of k }
+standing_of m k = record { blocks = k.blocks.items; sets = k.sets.items; elapsed = k.elapsed; variables = m.variables; last = last_of k }
 
 -- an entry for each want and each tag of a site, each number in its tag's range
 pub record IsKnown (site : Site) (k : Memory) : Type 0 where
@@ -73,6 +73,7 @@ pub record IsKnown (site : Site) (k : Memory) : Type 0 where
 pub record IsOpening (site : Site) (k : Memory) : Type 0 where
   pub blocks : k.blocks.items ≡ none_of site.wants
   pub sets : k.sets.items ≡ none_of site.tags
+  pub elapsed : k.elapsed ≡ None
   pub last : last_of k ≡ unscanned site
 
 -- what a core makes for a site and a program of such links: nothing is known, and the registers are those of the served image

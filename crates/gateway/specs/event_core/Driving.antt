@@ -19,6 +19,7 @@ abbrev pub Drives : ℕ → Gateway → Event → Gateway → Type 0
 Drives depth old event.Scan new = ScansOnce depth old new
 Drives depth old (event.Block want words) new = new.machine ≡ old.machine
 Drives depth old (event.Lost want) new = new.machine ≡ old.machine
+Drives depth old (event.Time ms) new = new.machine ≡ old.machine
 Drives depth old (event.Client pdu) new = new.machine ≡ old.machine
 
 -- one event of the site run, what it does to the machine, and nothing else changes

@@ -1,6 +1,6 @@
 -- The site run: what a gateway knows, event by event, and what it answers.
 -- Modbus Application Protocol V1.1b3, sections 6.3, 6.6, 6.12 and 7; IEC 61131-3 edition 2, 3.2 (one scan after another).
-use Rattle.std.specs.Prelude.{◌≡◌, ℕ, zero, suc, ◌+◌, ◌-◌, ◌≤◌, nat_eq, nat_le, Bool, true, false, ◌&&◌, List, [], ◌∷◌, length, map, take, drop, is_some, slice_get, slice_set, ℤ, Option, Some, None, option_and_then, if◌then◌else◌, Result, Ok, Err}
+use Rattle.std.specs.Prelude.{◌≡◌, ℕ, zero, suc, ◌+◌, ◌-◌, ◌≤◌, nat_eq, nat_le, Bool, true, false, ◌&&◌, List, [], ◌∷◌, length, map, take, drop, is_some, slice_get, slice_set, ℤ, Option, Some, None, option_map, option_and_then, if◌then◌else◌, Result, Ok, Err}
 use Rattle.std.specs.List.{position}
 use Rattle.std.specs.Option.{option_map_or}
 use Rattle.point_types.specs.declared.kind.Kind.{Kind}
@@ -42,10 +42,11 @@ pub record Scanned : Type 0 where
   pub readings : List Reading
   pub blocks : List (Option (List ℕ))
 
--- what is known of the wanted blocks, what clients set, the program's variables, and the last scan
+-- what is known of the wanted blocks, what clients set, the milliseconds since the last scan, where there was one, the program's variables, and the last scan
 pub record Standing : Type 0 where
   pub blocks : List (Option (List ℕ))
   pub sets : List (Option ℤ)
+  pub elapsed : Option ℕ
   pub variables : List ℤ
   pub last : Scanned
 
@@ -67,7 +68,7 @@ unscanned site = record {
 }
 
 abbrev pub opened : Site → List ℤ → Standing
-opened site variables = record { blocks = none_of site.wants; sets = none_of site.tags; variables = variables; last = unscanned site }
+opened site variables = record { blocks = none_of site.wants; sets = none_of site.tags; elapsed = None; variables = variables; last = unscanned site }
 
 -- ---- blocks
 
@@ -82,6 +83,20 @@ with_block wants want entry blocks = option_map_or (λ i. slice_set blocks i ent
 
 abbrev pub after_block : Site → Want → Option (List ℕ) → Standing → Standing
 after_block site want entry s = record s { blocks = with_block site.wants want entry s.blocks }
+
+-- ---- time
+
+-- an hour; longer times aren't told apart
+abbrev pub most_elapsed : ℕ
+most_elapsed = 3600000
+
+-- so many milliseconds later
+abbrev pub later : ℕ → ℕ → ℕ
+later n ms = if nat_le most_elapsed (n + ms) then most_elapsed else n + ms
+
+-- so many milliseconds went by
+abbrev pub after_time : ℕ → Standing → Standing
+after_time ms s = record s { elapsed = option_map (λ n. later n ms) s.elapsed }
 
 -- ---- what clients write
 
@@ -185,15 +200,16 @@ stored_at (n ∷ links) (o ∷ outputs) stored = stored_at links outputs (slice_
 -- what one scan of a program leaves, where its i-th tag is the site's tag number links[i]
 abbrev pub scanned : Site → (links : List ℕ) → Standing → List Reading → (steps : ℕ) → State → Standing
 scanned site links s readings steps end = record s {
+  elapsed = Some 0;
   variables = end.variables;
   last = record { steps = steps; outputs = stored_at links end.outputs (none_of site.tags); readings = readings; blocks = s.blocks };
 }
 
--- The machine ends without a trap after at most so many steps, on the readings of the known blocks and the set values.
+-- The machine ends without a trap after at most so many steps, on the readings of the known blocks, the set values and the time since the last scan.
 pub record IsScan (site : Site) (image : Image) (links : List ℕ) (budget : ℕ) (s t : Standing) : Type 0 where
   pub readings : List Reading
   pub each : length readings ≡ length site.tags
-  pub read : AreReadings site.tags site.wants s.blocks s.sets readings
+  pub read : AreReadings site.tags site.wants s.blocks s.sets s.elapsed readings
   pub steps : ℕ
   pub end : State
   pub ended : run image (map (reading_at readings) links) 0 budget (opening image s.variables) ≡ Ended steps end
@@ -205,6 +221,7 @@ pub record IsScan (site : Site) (image : Image) (links : List ℕ) (budget : ℕ
 abbrev pub Steps : Site → Image → (links : List ℕ) → (budget : ℕ) → Standing → Event → Answer → Standing → Type 0
 Steps site image links budget s (event.Block want words) a t = (a ≡ answer.None) × (t ≡ after_block site want (told want.model words) s)
 Steps site image links budget s (event.Lost want) a t = (a ≡ answer.None) × (t ≡ after_block site want None s)
+Steps site image links budget s (event.Time ms) a t = (a ≡ answer.None) × (t ≡ after_time ms s)
 Steps site image links budget s event.Scan a t = (a ≡ answer.Writes (length site.outs)) × IsScan site image links budget s t
 Steps site image links budget s (event.Client pdu) a t = (reply : List ℕ) × (a ≡ answer.Reply reply) × Replies site s pdu (request_of pdu) reply t
 

@@ -108,6 +108,7 @@ WritesPoints devices (plan ∷ plans) es =
 abbrev pub is_lost : Event → Bool
 is_lost (event.Lost want) = true
 is_lost (event.Block want words) = false
+is_lost (event.Time ms) = false
 is_lost event.Scan = false
 is_lost (event.Client pdu) = false
 

@@ -9,6 +9,8 @@ pub enum Event {
     Block(Want, Words),
     /// A device didn't answer for one of its models.
     Lost(Want),
+    /// So many milliseconds went by since what was told before.
+    Time(u32),
     /// The program is to run once.
     Scan,
     /// A client of the gateway sent a request.

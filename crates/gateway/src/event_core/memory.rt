@@ -8,6 +8,8 @@ pub(crate) struct Memory {
     pub(crate) blocks: Vec<Option<Words>>,
     /// What clients set.
     pub(crate) sets: Vec<Option<i64>>,
+    /// The milliseconds since the last scan, where there was one; an hour at most.
+    pub(crate) elapsed: Option<u32>,
     /// What the program stored in the last scan.
     pub(crate) outputs: Vec<Option<i64>>,
     /// What the tags were in the last scan.
@@ -24,6 +26,7 @@ impl Drop for Memory {
         let Memory {
             blocks: _,
             sets: _,
+            elapsed: _,
             outputs: _,
             readings: _,
             steps: _,

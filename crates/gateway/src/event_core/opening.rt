@@ -72,6 +72,7 @@ fn nothing_known(alloc: Global, site: &Site) -> Result<Memory, AllocError>
     Ok(Memory {
         blocks,
         sets,
+        elapsed: None,
         outputs,
         readings,
         steps: 0,

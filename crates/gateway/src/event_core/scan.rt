@@ -29,11 +29,17 @@ pub(crate) fn scan<const DEPTH: usize>(
     ensures known { IsKnown site.now known.new }
     ensures inputs { length inputs.new ≡ length inputs.old }
 {
-    site.readings(&known.blocks, &known.sets, &mut known.readings);
+    site.readings(
+        &known.blocks,
+        &known.sets,
+        known.elapsed,
+        &mut known.readings,
+    );
     gather(machine.verified().links(), &known.readings, inputs);
     known.steps = run_once(machine, inputs);
     scatter(machine, &mut known.outputs);
     copy_blocks(&known.blocks, &mut known.scanned);
+    known.elapsed = Some(0);
 }
 
 /// Runs the program once, and gives the number of its instructions.

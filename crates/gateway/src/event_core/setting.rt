@@ -133,7 +133,7 @@ fn if_setting(n: usize, tag: &SiteTag) -> Option<usize>
 {
     match tag.access {
         Access::Setting => Some(n),
-        Access::Input | Access::Output | Access::Shown => None,
+        Access::Input | Access::Output | Access::Shown | Access::Time => None,
     }
 }
 

@@ -174,6 +174,6 @@ fn number_of_tag(known: &Memory, access: Access, n: usize) -> Option<i64>
     match access {
         Access::Shown => *known.outputs.get(n)?,
         Access::Setting => *known.sets.get(n)?,
-        Access::Input | Access::Output => None,
+        Access::Input | Access::Output | Access::Time => None,
     }
 }

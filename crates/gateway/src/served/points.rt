@@ -126,7 +126,7 @@ fn is_own(access: Access) -> bool
     ensures { result ≡ is_own access }
 {
     match access {
-        Access::Input | Access::Output => false,
+        Access::Input | Access::Output | Access::Time => false,
         Access::Setting | Access::Shown => true,
     }
 }

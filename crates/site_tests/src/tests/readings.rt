@@ -94,7 +94,7 @@ fn read(rt: &impl Abort, tag: &SiteTag, registers: &[u16]) -> Reading {
         device: 0,
         model: 103,
     };
-    readings(&[*tag], &[want], &[block], &[None], &mut read);
+    readings(&[*tag], &[want], &[block], &[None], None, &mut read);
     read[0]
 }
 
@@ -206,7 +206,7 @@ fn read_set(tag: &SiteTag, set: Option<i64>) -> Reading
     requires { (n : ℤ) → set ≡ Some n → (tag.now.low ≤ℤ n) × (n ≤ℤ tag.now.high) }
 {
     let mut read = [Reading::Absent(Cause::BadScale)];
-    readings(&[*tag], &[], &[], &[set], &mut read);
+    readings(&[*tag], &[], &[], &[set], None, &mut read);
     read[0]
 }
 
@@ -242,7 +242,12 @@ fn half_a_watt() -> Option<Words> {
 fn first_reading(rt: &impl Abort, site: &Site) -> Reading {
     assert!(rt; site.tags().len() == 5 && site.wants().len() == 3);
     let mut readings = [Reading::Absent(Cause::NotImplemented); 5];
-    site.readings(&[half_a_watt(), None, None], &[None; 5], &mut readings);
+    site.readings(
+        &[half_a_watt(), None, None],
+        &[None; 5],
+        None,
+        &mut readings,
+    );
     readings[0]
 }
 

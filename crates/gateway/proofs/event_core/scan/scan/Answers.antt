@@ -54,8 +54,8 @@ returns-clause-scan g c =
     record {
       readings = c.readings.new.into;
       each = sized;
-      read = subst (λ (bs : List (Option (List ℕ))). AreReadings tags c.args.site.now.wants bs known.sets.items c.readings.new.into) c.deref.ensures.value
-          (subst (λ (ss : List (Option ℤ)). AreReadings tags c.args.site.now.wants c.deref.result.now ss c.readings.new.into) c.deref-2.ensures.value c.readings.ensures.readings);
+      read = subst (λ (bs : List (Option (List ℕ))). AreReadings tags c.args.site.now.wants bs known.sets.items known.elapsed c.readings.new.into) c.deref.ensures.value
+          (subst (λ (ss : List (Option ℤ)). AreReadings tags c.args.site.now.wants c.deref.result.now ss known.elapsed c.readings.new.into) c.deref-2.ensures.value c.readings.ensures.readings);
       steps = c.run_once-known.result;
       end = k.last;
       ended = subst (λ (rs : List Reading). run m.accepted.image rs 0 m.accepted.budget (opening m.accepted.image m.variables) ≡ Ended c.run_once-known.result k.last) e3 k.ends;

@@ -1,0 +1,94 @@
+//! The command `run`, by the words of its command line.
+use crate::command_words::file_command;
+use crate::file_command::{FileCommand, warn_of_site};
+use crate::plant_run::{PlantRun, run_plant};
+use crate::run_files::{RunPaths, run_into_files};
+use crate::set_lines::{SetsFault, read_settings};
+use crate::set_player::tell_late;
+use clap::ArgMatches;
+use commands::{tell_no_memory, write_lines};
+use refusal_notes::{Notes, escaped};
+use std::alloc::{AllocError, Global};
+use std::io::Write;
+use std::net::Net;
+use std::process::Processes;
+use std::rt::Files;
+
+/// The status of words that are none of `run`.
+const BAD_COMMAND_LINE: u8 = 2;
+
+/// Does a run: on the texts of its files, with what clients set in it by the lines of a text, and into the files that are
+/// wanted of it. `itself` is this program's path.
+pub(crate) fn run_on<R: Files + Net + Processes + Eprint + AllocGlobal, W: Write>(
+    rt: &R,
+    alloc: Global,
+    itself: &str,
+    matches: &ArgMatches<'_>,
+    notes: &Notes<'_>,
+    sets: &str,
+    out: &mut W,
+) -> u8
+where
+    R::File: Drop,
+{
+    let Some(FileCommand::Run { plant, pace, exe }) = file_command("run", matches) else {
+        return BAD_COMMAND_LINE;
+    };
+    let settings = match read_settings(alloc, sets) {
+        Ok(settings) => settings,
+        Err(fault) => return tell_bad_sets(rt, alloc, matches, notes, fault, out),
+    };
+    if !notes.quiet {
+        tell_late(rt, alloc, settings.as_slice(), pace.scans);
+    }
+    let run = PlantRun {
+        notes: *notes,
+        plant,
+        pace,
+        settings: settings.as_slice(),
+        exe: exe.unwrap_or(itself),
+    };
+    let paths = RunPaths::of(matches);
+    if paths.are_any() {
+        return run_into_files(rt, alloc, &run, paths, out);
+    }
+    warn_of_site(rt, notes);
+    run_plant(rt, alloc, &run, out)
+}
+
+/// Tells which line of the set values isn't one, with a note on it, and gives the status.
+fn tell_bad_sets<R: Eprint + AllocGlobal, W: Write>(
+    rt: &R,
+    alloc: Global,
+    matches: &ArgMatches<'_>,
+    notes: &Notes<'_>,
+    fault: SetsFault,
+    out: &mut W,
+) -> u8 {
+    let SetsFault::Line(line) = fault else {
+        return tell_no_memory(out);
+    };
+    let Ok(text) = refusal(alloc, line) else {
+        return tell_no_memory(out);
+    };
+    let status = write_lines(out, text.as_bytes(), 1);
+    let path = matches.get_str("sets").unwrap_or("");
+    if !notes.quiet {
+        if let Ok(note) = note(alloc, path, line) {
+            let _ = rt.eprint(note.as_str());
+        }
+    }
+    status
+}
+
+fn refusal(alloc: Global, line: usize) -> Result<String, AllocError> {
+    format!(in alloc; "refused: sets line {line}\n")
+}
+
+fn note(alloc: Global, path: &str, line: usize) -> Result<String, AllocError> {
+    let path = escaped(alloc, path)?;
+    let path = path.as_str();
+    format!(in alloc;
+        "{path}:{line}: isn't SCAN NAME=NUMBER\n  help: write the number of a scan, from 1 on, a blank, and what a client sets before it, as 3 target=40\n"
+    )
+}

@@ -1,0 +1,95 @@
+-- What goes out of a service is of its site and its program.
+use Rattle.std.proofs.Common.{◌≡◌, ◌⊎◌, inl, inr, ℕ, ℤ, Bool, true, false, List, [], Option, None, Some, Ok, slice_get, sym, ap, subst, ◌∙◌, if◌then◌else◌}
+use Rattle.std.specs.Prelude.{◌==◌}
+use Rattle.std.proofs.Math.Logic.{∥∥₁_elim, ∥∥₁_prop}
+use Rattle.modbus_frame.specs.declared.message.Request.{Request}
+use Rattle.site_model.specs.declared.device.SiteDevice.{SiteDevice}
+use Rattle.site_model.specs.declared.site.Site.{Site}
+use Rattle.point_writer.specs.declared.write.Write.{Write}
+use Rattle.verifier.specs.Verified.{Acceptance}
+use Rattle.gateway.specs.declared.poller.cycle.Call.{Call}
+use Rattle.gateway.specs.event_core.Control.{SetsItsTag}
+use Rattle.gateway.specs.event_core.Core.{Gateway}
+use Rattle.gateway.specs.poller.Cycle.{write_of}
+use Rattle.service_parts.specs.Calls.{IsCallFor, write_to}
+use Rattle.service_parts.specs.declared.limits.Station.{Station}
+use Rattle.service_parts.specs.declared.wire.Aim.{Aim}
+use Rattle.service_parts.specs.declared.wire.Aim.TheVariants as aim
+use Rattle.service_parts.specs.Requests.{IsRest, IsRightful, MayBeAsked}
+use Rattle.service_core.specs.Stages.{AnyStep, CourseBy, Stage}
+use Rattle.service_core.proofs.Courses.{any_goes}
+use Rattle.service_core.proofs.Runs.{courses_are_site_runs}
+use Rattle.site_survey.proofs.ReadsAlone.{IsRead, of_read}
+use Rattle.served_site.specs.Serving.{IsStart}
+use Rattle.served_site.specs.Going.{IsOfTheSite, IsRestOfSetPoint, SetPointsAloneAreWritten}
+
+-- a call writes a set point of this state
+record Writes (g : Gateway) (call : Call) : Type 0 where
+  output : ℕ
+  write : Write
+  sets : SetsItsTag g output write
+  written : write_of g.site.devices (Ok write) ≡ Some call
+
+chosen : {A : Type 0} (b : Bool) (o : Option A) (x : A) → (if b then o else None) ≡ Some x → o ≡ Some x
+chosen true o x is = is
+chosen false o x is = absurd (cc)
+
+of_call : (g : Gateway) (made_for : Aim) (device : ℕ) (call : Call) → IsCallFor g made_for device call → IsRead call.request ⊎ Writes g call
+of_call g (aim.Block want) device call is = inl (of_read call g.site g.maps is.want is.read)
+of_call g (aim.Output output) device call is = inr (record {
+  output = output;
+  write = is.write;
+  sets = is.sets;
+  written = chosen (is.write.device == device) (write_of g.site.devices (Ok is.write)) call is.written;
+})
+of_call g aim.Map device call is = absurd is
+of_call g aim.Past device call is = absurd is
+
+-- a request that may be asked, with the unit that it is for where it writes
+abbrev IsAllowed : Gateway → Request → Type 0
+IsAllowed g request = IsRead request ⊎ ((unit : ℕ) × Writes g (record { unit = unit; request = request }))
+
+of_asked : (g : Gateway) (found_on : List (Option ℕ)) (number : ℕ) (made_for : Aim) (device : ℕ) (request : Request) → MayBeAsked g found_on number made_for device request → IsAllowed g request
+of_asked g found_on number made_for device request (inr (map, sought)) = inl (sought.comes.0, sought.comes.1, sought.comes.2)
+of_asked g found_on number made_for device request (inl (round, found)) = go (of_call g made_for device (record { unit = round.unit; request = request }) round.call)
+  where
+    go : IsRead request ⊎ Writes g (record { unit = round.unit; request = request }) → IsAllowed g request
+    go (inl read) = inl read
+    go (inr writes) = inr (round.unit, writes)
+
+module _ (site : Site) (a : Acceptance) where
+  of_rest : (now : Gateway) (stations : List Station) (found_on : List (Option ℕ)) (link number : ℕ) (bytes : List ℕ) → now.site ≡ site → now.machine.accepted ≡ a → IsRest now stations found_on link number bytes
+      → IsOfTheSite site a bytes
+  of_rest now stations found_on link number bytes same_site same_program rest =
+      let (events, answers, run, stays, accepted) = courses_are_site_runs rest.made.core now rest.made.since in
+      let here : rest.made.core.site ≡ site = sym stays ∙ same_site in
+      go here (sym accepted ∙ same_program) (of_asked rest.made.core found_on number rest.made_for rest.device rest.frame.request rest.made.asked)
+    where
+      go : rest.made.core.site ≡ site → rest.made.core.machine.accepted ≡ a → IsAllowed rest.made.core rest.frame.request → IsOfTheSite site a bytes
+      go on_site on_program (inl read) = inr (inl (record { frame = rest.frame; address = read.0; count = read.1; reads = read.2; gone = rest.gone; whole = rest.whole }))
+      go on_site on_program (inr (unit, writes)) = inr (inr (record {
+        state = rest.made.core;
+        same_site = on_site;
+        same_program = on_program;
+        output = writes.output;
+        write = writes.write;
+        sets = writes.sets;
+        frame = rest.frame;
+        unit = unit;
+        written = ap (λ (x : Site). write_of x.devices (Ok writes.write)) (sym on_site) ∙ writes.written;
+        gone = rest.gone;
+        whole = rest.whole;
+      }))
+
+  of_rightful : (now : Gateway) (stations : List Station) (found_on : List (Option ℕ)) (link number : ℕ) (bytes : List ℕ) → now.site ≡ site → now.machine.accepted ≡ a → IsRightful now stations found_on link number bytes
+      → IsOfTheSite site a bytes
+  of_rightful now stations found_on link number bytes same_site same_program (inl empty) = inl empty
+  of_rightful now stations found_on link number bytes same_site same_program (inr rest) = of_rest now stations found_on link number bytes same_site same_program rest
+
+pub set_points_alone_are_written : SetPointsAloneAreWritten
+set_points_alone_are_written site_text program_text texts site p a accepts matched kept first now start course lines link number bytes at rightful =
+    let (events, answers, run, same, accepted) = courses_are_site_runs first.core now.core (any_goes first now course) in
+    let on_site : now.core.site ≡ site = same ∙ ap (λ (g : Gateway). g.site) start.core in
+    let on_program : now.core.machine.accepted ≡ a = accepted ∙ ap (λ (g : Gateway). g.machine.accepted) start.core in
+    ∥∥₁_elim (rightful number at) ∥∥₁_prop
+    (λ is. ∣ of_rightful site a now.core lines.links.stations.items lines.found_on.items link number bytes on_site on_program is ∣₁)
