@@ -1,10 +1,10 @@
 (* Disconnects the inverter at night. Three scans in a row with under 20 W are night: then it is disconnected for five
    scans. After that it is connected again for a try: where it still gives under 20 W, it is disconnected for five more.
-   Where it can't be read, all stays as it is. *)
+   Where it can't be read, all stays as it is. While the grid operator doesn't allow it, it isn't connected. *)
 PROGRAM night_standby
 VAR_EXTERNAL
   power : DINT;
-  connect : BOOL;
+  connect, allowed : BOOL;
   state : INT;
 END_VAR
 VAR
@@ -39,6 +39,7 @@ resting:
 tell:
   LD rest
   EQ 0
+  AND allowed
   ST connect
   SEL INT#8, 4                 (* standby, or producing *)
   ST state
