@@ -1,6 +1,7 @@
 -- Devices and outputs stand by what was told of them.
 use Rattle.std.proofs.Common.{◌≡◌, ◌≢◌, ◌⊎◌, inl, inr, ℕ, Bool, true, false, not, ◌&&◌, eqb, List, Option, None, Some, set, slice_get, refl, sym, ap, subst, ◌∙◌, if◌then◌else◌}
 use Rattle.std.specs.Prelude.{◌==◌, option_and_then}
+use Rattle.std.specs.List.{list_all}
 use Rattle.std.specs.Option.{option_map_or}
 use Rattle.std.proofs.lemmas.Bool.Decides.{eqb_tells}
 use Rattle.std.proofs.Math.Logic.{∥∥₁_elim, ∥∥₁_prop}
@@ -15,15 +16,19 @@ use Rattle.service_core.specs.declared.output.OutputState.{OutputState}
 use Rattle.service_core.specs.declared.output.OutputState.TheVariants as state
 use Rattle.service_core.specs.Noting.{HearsFrom, Loses, heard_by, lost_by, told, told_if}
 use Rattle.service_core.specs.Telling.{told_at}
-use Rattle.service_core.specs.Told.{Course, Goes, StatesAreByNotes, Tells, TellsNothing, goes, happened, lost_after, lost_at, lost_then, note_of, state_after, state_at, state_then, stays, tells}
+use Rattle.service_core.specs.Losing.{IsLost}
+use Rattle.service_core.specs.Told.{Course, Goes, Losses, LosesBy, StatesAreByNotes, Tells, TellsNothing, allows, goes, happened, lost_after, lost_at, lost_then, note_of, state_after, state_at, state_then, stays, tells}
 
 -- ---- one step
 
-told_step : (n : Note) (old new : DeviceSide) → Tells n old new → Goes old new
-told_step n old new step from before = ∥∥₁_elim before ∥∥₁_prop (λ course. ∣ tells course n new step ∣₁)
+told_step : (n : Note) (old new : DeviceSide) → ((may : Losses) → allows may n ≡ true) → Tells n old new → Goes old new
+told_step n old new allowed step may from before = ∥∥₁_elim before ∥∥₁_prop (λ course. ∣ tells course n new (allowed may) step ∣₁)
+
+lost_step : (device : ℕ) (loss : Loss) (old new : DeviceSide) → Tells (note.Lost device loss) old new → LosesBy (IsLost device loss) old new
+lost_step device loss old new step may has from before = ∥∥₁_elim before ∥∥₁_prop (λ course. ∣ tells course (note.Lost device loss) new (has device loss (refl, refl)) step ∣₁)
 
 silent_step : (old new : DeviceSide) → TellsNothing old new → Goes old new
-silent_step old new step from before = ∥∥₁_elim before ∥∥₁_prop (λ course. ∣ goes course new step ∣₁)
+silent_step old new step may from before = ∥∥₁_elim before ∥∥₁_prop (λ course. ∣ goes course new step ∣₁)
 
 pub same_goes : (old new : DeviceSide) → new.devices ≡ old.devices → new.outputs ≡ old.outputs → new.notes ≡ old.notes → Goes old new
 same_goes old new devices outputs notes = silent_step old new (record {
@@ -87,25 +92,26 @@ module _ (old new : DeviceSide) (device : ℕ) (own : Device) (at : slice_get ol
   })
 
   -- it is told that it is lost from now on, or isn't any more
-  noted_goes : (n : Note) (is_lost : Bool) (next : Device) → ((k : ℕ) (was : Bool) → lost_then n k was ≡ (if k == device then is_lost else was)) → ((k : ℕ) (was : Option OutputState) → state_then n k was ≡ was)
-      → new.devices.items ≡ set old.devices.items device next → next.is_lost ≡ is_lost → new.outputs ≡ old.outputs → new.notes.items.items ≡ told n old.notes → Goes old new
-  noted_goes n is_lost next says silent devices is outputs notes = told_step n old new (record {
+  noted_so : (n : Note) (is_lost : Bool) (next : Device) → ((k : ℕ) (was : Bool) → lost_then n k was ≡ (if k == device then is_lost else was)) → ((k : ℕ) (was : Option OutputState) → state_then n k was ≡ was)
+      → new.devices.items ≡ set old.devices.items device next → next.is_lost ≡ is_lost → new.outputs ≡ old.outputs → new.notes.items.items ≡ told n old.notes → Tells n old new
+  noted_so n is_lost next says silent devices is outputs notes = record {
     notes = notes;
     devices = λ k. ap (λ l. option_map_or (λ (d : Device). d.is_lost) (slice_get l k) false) devices
         ∙ (put_there (λ (d : Device). d.is_lost) false old.devices.items device k own next at
         ∙ (ap (λ b. if k == device then b else lost_at old k) is ∙ sym (says k (lost_at old k))));
     outputs = λ k. ap (λ o. told_at o.items k) outputs ∙ sym (silent k (state_at old k));
-  })
+  }
 
-  pub lost_goes : (loss : Loss) (was : Bool) → own.is_lost ≡ was → new.devices.items ≡ set old.devices.items device (lost_by loss own) → new.outputs ≡ old.outputs → new.notes.items.items ≡ told_if (not was) (note.Lost device loss) old.notes → Goes old new
-  lost_goes loss true was devices outputs notes = device_goes (lost_by loss own) devices (sym was) outputs notes
-  lost_goes loss false was devices outputs notes = noted_goes (note.Lost device loss) true (lost_by loss own) (λ k b. refl) (λ k b. refl) devices refl outputs notes
+  pub lost_goes : (loss : Loss) (was : Bool) → own.is_lost ≡ was → new.devices.items ≡ set old.devices.items device (lost_by loss own) → new.outputs ≡ old.outputs → new.notes.items.items ≡ told_if (not was) (note.Lost device loss) old.notes
+      → LosesBy (IsLost device loss) old new
+  lost_goes loss true was devices outputs notes may has = device_goes (lost_by loss own) devices (sym was) outputs notes may
+  lost_goes loss false was devices outputs notes may has = lost_step device loss old new (noted_so (note.Lost device loss) true (lost_by loss own) (λ k b. refl) (λ k b. refl) devices refl outputs notes) may has
 
   pub found_goes : (next : Device) → new.devices.items ≡ set old.devices.items device next → next.is_lost ≡ false → new.outputs ≡ old.outputs → new.notes.items.items ≡ told (note.Found device) old.notes → Goes old new
-  found_goes next devices is outputs notes = noted_goes (note.Found device) false next (λ k b. refl) (λ k b. refl) devices is outputs notes
+  found_goes next devices is outputs notes = told_step (note.Found device) old new (λ may. refl) (noted_so (note.Found device) false next (λ k b. refl) (λ k b. refl) devices is outputs notes)
 
   pub back_goes : (next : Device) → new.devices.items ≡ set old.devices.items device next → next.is_lost ≡ false → new.outputs ≡ old.outputs → new.notes.items.items ≡ told (note.Back device) old.notes → Goes old new
-  back_goes next devices is outputs notes = noted_goes (note.Back device) false next (λ k b. refl) (λ k b. refl) devices is outputs notes
+  back_goes next devices is outputs notes = told_step (note.Back device) old new (λ may. refl) (noted_so (note.Back device) false next (λ k b. refl) (λ k b. refl) devices is outputs notes)
 
 pub was_by : (b c : Bool) → not b ≡ c → b ≡ not c
 was_by true true is = absurd (cc)
@@ -179,12 +185,16 @@ output_goes old new output own at next outputs same devices notes = silent_step 
 -- this became of it, which is told
 pub settled_goes : (old new : DeviceSide) (output : ℕ) (own : Output) → slice_get old.outputs.items output ≡ Some own → (next : Output) (s : OutputState) → new.outputs.items ≡ set old.outputs.items output next → next.told ≡ Some s
     → new.devices ≡ old.devices → {n : Note} → new.notes.items.items ≡ told n old.notes → n ≡ note_of output s → Goes old new
-settled_goes old new output own at next s outputs is devices {n = n} notes named = told_step (note_of output s) old new (record {
+settled_goes old new output own at next s outputs is devices {n = n} notes named = told_step (note_of output s) old new (free s) (record {
   notes = notes ∙ ap (λ m. told m old.notes) named;
   devices = λ k. ap (λ d. option_map_or (λ (x : Device). x.is_lost) (slice_get d.items k) false) devices ∙ sym (no_loss s k (lost_at old k));
   outputs = λ k. ap (λ l. told_at l k) outputs ∙ (told_set old.outputs.items output k own next at ∙ (ap (λ t. if k == output then t else state_at old k) is ∙ sym (says s k (state_at old k))));
 })
   where
+    free : (x : OutputState) (may : Losses) → allows may (note_of output x) ≡ true
+    free state.Written may = refl
+    free (state.Unwritten cause) may = refl
+
     no_loss : (x : OutputState) (k : ℕ) (was : Bool) → lost_then (note_of output x) k was ≡ was
     no_loss state.Written k was = refl
     no_loss (state.Unwritten cause) k was = refl
@@ -195,16 +205,16 @@ settled_goes old new output own at next s outputs is devices {n = n} notes named
 
 -- a device that isn't there
 pub found_none : (old new : DeviceSide) (device : ℕ) → slice_get old.devices.items device ≡ None → new.devices ≡ old.devices → new.outputs ≡ old.outputs → new.notes.items.items ≡ told (note.Found device) old.notes → Goes old new
-found_none old new device none devices outputs notes = told_step (note.Found device) old new (record {
+found_none old new device none devices outputs notes = told_step (note.Found device) old new (λ may. refl) (record {
   notes = notes;
   devices = λ k. ap (λ d. option_map_or (λ (own : Device). own.is_lost) (slice_get d.items k) false) devices ∙ sym (put_none (λ (d : Device). d.is_lost) false old.devices.items device k none);
   outputs = λ k. ap (λ o. told_at o.items k) outputs;
 })
 
 -- a note that says nothing of a device's loss or of an output
-pub other_goes : (n : Note) (old new : DeviceSide) → ((k : ℕ) (was : Bool) → lost_then n k was ≡ was) → ((k : ℕ) (was : Option OutputState) → state_then n k was ≡ was) → new.devices ≡ old.devices → new.outputs ≡ old.outputs
+pub other_goes : (n : Note) (old new : DeviceSide) → ((may : Losses) → allows may n ≡ true) → ((k : ℕ) (was : Bool) → lost_then n k was ≡ was) → ((k : ℕ) (was : Option OutputState) → state_then n k was ≡ was) → new.devices ≡ old.devices → new.outputs ≡ old.outputs
     → new.notes.items.items ≡ told n old.notes → Goes old new
-other_goes n old new lost_same state_same devices outputs notes = told_step n old new (record {
+other_goes n old new allowed lost_same state_same devices outputs notes = told_step n old new allowed (record {
   notes = notes;
   devices = λ k. ap (λ d. option_map_or (λ (own : Device). own.is_lost) (slice_get d.items k) false) devices ∙ sym (lost_same k (lost_at old k));
   outputs = λ k. ap (λ o. told_at o.items k) outputs ∙ sym (state_same k (state_at old k));
@@ -212,15 +222,24 @@ other_goes n old new lost_same state_same devices outputs notes = told_step n ol
 
 -- ---- over all calls
 
-lost_so : (old new : DeviceSide) (course : Course old new) (device : ℕ) → lost_at new device ≡ lost_after (happened course) device (lost_at old device)
-lost_so old new (stays side) device = refl
-lost_so old new (tells {middle = middle} course n side step) device = step.devices device ∙ ap (λ was. lost_then n device was) (lost_so old middle course device)
-lost_so old new (goes {middle = middle} course side step) device = step.devices device ∙ lost_so old middle course device
+lost_so : (may : Losses) (old new : DeviceSide) (course : Course may old new) (device : ℕ) → lost_at new device ≡ lost_after (happened course) device (lost_at old device)
+lost_so may old new (stays side) device = refl
+lost_so may old new (tells {middle = middle} course n side allowed step) device = step.devices device ∙ ap (λ was. lost_then n device was) (lost_so may old middle course device)
+lost_so may old new (goes {middle = middle} course side step) device = step.devices device ∙ lost_so may old middle course device
 
-state_so : (old new : DeviceSide) (course : Course old new) (output : ℕ) → state_at new output ≡ state_after (happened course) output (state_at old output)
-state_so old new (stays side) output = refl
-state_so old new (tells {middle = middle} course n side step) output = step.outputs output ∙ ap (λ was. state_then n output was) (state_so old middle course output)
-state_so old new (goes {middle = middle} course side step) output = step.outputs output ∙ state_so old middle course output
+state_so : (may : Losses) (old new : DeviceSide) (course : Course may old new) (output : ℕ) → state_at new output ≡ state_after (happened course) output (state_at old output)
+state_so may old new (stays side) output = refl
+state_so may old new (tells {middle = middle} course n side allowed step) output = step.outputs output ∙ ap (λ was. state_then n output was) (state_so may old middle course output)
+state_so may old new (goes {middle = middle} course side step) output = step.outputs output ∙ state_so may old middle course output
+
+both : (a b : Bool) → a ≡ true → b ≡ true → (a && b) ≡ true
+both true b is other = other
+both false b is other = absurd (cc)
+
+losses_so : (may : Losses) (old new : DeviceSide) (course : Course may old new) → list_all (allows may) (happened course) ≡ true
+losses_so may old new (stays side) = refl
+losses_so may old new (tells {middle = middle} course n side allowed step) = both (allows may n) (list_all (allows may) (happened course)) allowed (losses_so may old middle course)
+losses_so may old new (goes {middle = middle} course side step) = losses_so may old middle course
 
 pub states_are_by_notes : StatesAreByNotes
-states_are_by_notes = record { devices = lost_so; outputs = state_so }
+states_are_by_notes = record { devices = lost_so; outputs = state_so; losses = losses_so }

@@ -16,5 +16,6 @@ pub mod Mapped
 pub mod Planned
 pub mod Carried
 pub mod ByNotes
+pub mod Losing
 pub mod Forgetting
 pub mod GivingUp

@@ -1,9 +1,11 @@
 -- How devices and outputs stand, by what was told of them: over all calls. No standard says what is told; it is this
 -- project's.
 use Rattle.std.specs.Prelude.{◌≡◌, ℕ, ◌==◌, Bool, true, false, List, [], ◌∷◌, Option, Some, slice_get, if◌then◌else◌}
+use Rattle.std.specs.List.{list_all}
 use Rattle.std.specs.Option.{option_map_or}
 use Rattle.service_core.specs.declared.device.Device.{Device}
 use Rattle.service_core.specs.declared.device_side.DeviceSide.{DeviceSide}
+use Rattle.service_core.specs.declared.note.Loss.{Loss}
 use Rattle.service_core.specs.declared.note.Note.{Note}
 use Rattle.service_core.specs.declared.note.Note.TheVariants as note
 use Rattle.service_core.specs.declared.output.OutputState.{OutputState}
@@ -64,19 +66,43 @@ pub record TellsNothing (old new : DeviceSide) : Type 0 where
 
 -- ---- one step after another
 
-pub data Course : DeviceSide → DeviceSide → Type 0 where
-  stays : (side : DeviceSide) → Course side side
-  tells : {old middle : DeviceSide} → Course old middle → (n : Note) (new : DeviceSide) → Tells n middle new → Course old new
-  goes : {old middle : DeviceSide} → Course old middle → (new : DeviceSide) → TellsNothing middle new → Course old new
+-- which losses may be told, by the number of the device
+abbrev pub Losses : Type 0
+Losses = ℕ → Loss → Bool
+
+abbrev pub allows : Losses → Note → Bool
+allows may (note.Lost device why) = may device why
+allows may (note.Found device) = true
+allows may (note.Back device) = true
+allows may (note.NoMap device) = true
+allows may (note.Scanned report) = true
+allows may (note.Late by) = true
+allows may (note.Unwritten output cause) = true
+allows may (note.Written output) = true
+
+-- From the one to the other by such steps, on which only these losses are told.
+pub data Course (may : Losses) : DeviceSide → DeviceSide → Type 0 where
+  stays : (side : DeviceSide) → Course may side side
+  tells : {old middle : DeviceSide} → Course may old middle → (n : Note) (new : DeviceSide) → allows may n ≡ true → Tells n middle new → Course may old new
+  goes : {old middle : DeviceSide} → Course may old middle → (new : DeviceSide) → TellsNothing middle new → Course may old new
 
 -- whatever such steps led to the one, they lead to the other
+abbrev pub GoesBy : Losses → DeviceSide → DeviceSide → Type 0
+GoesBy may old new = (from : DeviceSide) → ∥ Course may from old ∥₁ → ∥ Course may from new ∥₁
+
+-- the same, and no loss is told on the way
 abbrev pub Goes : DeviceSide → DeviceSide → Type 0
-Goes old new = (from : DeviceSide) → ∥ Course from old ∥₁ → ∥ Course from new ∥₁
+Goes old new = (may : Losses) → GoesBy may old new
+
+-- The same, and a loss is told on the way only where this says why: wherever all losses may be told of which it does, those
+-- suffice.
+abbrev pub LosesBy : (ℕ → Loss → Type 0) → DeviceSide → DeviceSide → Type 0
+LosesBy Why old new = (may : Losses) → ((device : ℕ) (why : Loss) → Why device why → may device why ≡ true) → GoesBy may old new
 
 -- what was told on the way, the last one first
-abbrev pub happened : {old new : DeviceSide} → Course old new → List Note
+abbrev pub happened : {may : Losses} {old new : DeviceSide} → Course may old new → List Note
 happened (stays side) = []
-happened (tells course n new step) = n ∷ happened course
+happened (tells course n new allowed step) = n ∷ happened course
 happened (goes course new step) = happened course
 
 abbrev pub lost_after : List Note → ℕ → Bool → Bool
@@ -87,7 +113,9 @@ abbrev pub state_after : List Note → ℕ → Option OutputState → Option Out
 state_after [] output was = was
 state_after (n ∷ earlier) output was = state_then n output (state_after earlier output was)
 
--- Over all calls a device is lost, and an output is written or isn't, just by what was told of it.
+-- Over all calls a device is lost, and an output is written or isn't, just by what was told of it; and only losses were told
+-- that a call may tell.
 pub record StatesAreByNotes : Type 0 where
-  pub devices : (old new : DeviceSide) (course : Course old new) (device : ℕ) → lost_at new device ≡ lost_after (happened course) device (lost_at old device)
-  pub outputs : (old new : DeviceSide) (course : Course old new) (output : ℕ) → state_at new output ≡ state_after (happened course) output (state_at old output)
+  pub devices : (may : Losses) (old new : DeviceSide) (course : Course may old new) (device : ℕ) → lost_at new device ≡ lost_after (happened course) device (lost_at old device)
+  pub outputs : (may : Losses) (old new : DeviceSide) (course : Course may old new) (output : ℕ) → state_at new output ≡ state_after (happened course) output (state_at old output)
+  pub losses : (may : Losses) (old new : DeviceSide) (course : Course may old new) → list_all (allows may) (happened course) ≡ true

@@ -1,11 +1,14 @@
 //! Connections to devices, and what comes over them.
-ghost use Rattle.std.specs.Prelude.{◌≡◌, ◌+◌, ◌<◌, ◌^◌, ◌↔◌, ℕ, IsTrue, Some, max, set, slice_get, take, length, true, false};
+ghost use Rattle.std.specs.Prelude.{◌≡◌, ◌+◌, ◌<◌, ◌^◌, ◌↔◌, ℕ, IsTrue, None, Some, max, set, slice_get, take, length, true, false};
 ghost use Rattle.service_parts.specs.declared.line.Line.{Line as LineValue};
 ghost use Rattle.service_parts.specs.declared.wire.Aim.TheVariants.{Output as OutputAim};
+ghost use Rattle.service.specs.declared.fate.Fate.TheVariants.{Told};
 ghost use Rattle.service_parts.specs.Frames.{LinesGo, OthersGo};
 ghost use Rattle.service_parts.specs.Requests.{IsRightfulOn};
 ghost use Rattle.service_parts.specs.Waking.{IsToDial, IsToHangUp};
-ghost use Rattle.service_core.specs.Told.{Goes};
+ghost use Rattle.service_core.specs.declared.note.Loss.TheVariants.{Down as down, Frame as frame, Stale as stale};
+ghost use Rattle.service_core.specs.Losing.{AreForTime, AreLost, AreLostWith, IsLost, LostByFate, LostByHearing, LostByWait, LostByWaitAt, SameTimes};
+ghost use Rattle.service_core.specs.Told.{Goes, LosesBy};
 ghost use Rattle.service_core.specs.Connections.{GoesAfterSent, GoesFromCut, Hears};
 ghost use Rattle.service_core.specs.Cycle.{Answers, AnswersIf, DevicesLeadOn, EndsOwn, LeadsOn, Settles, SettlesIf, is_answer, stage_of};
 ghost use Rattle.service_core.specs.Telling.{state_by, told_at};
@@ -94,7 +97,7 @@ impl Service {
         ensures goes { LeadsOn self.old.cycle self.new.cycle }
         ensures places { self.new.places.items ≡ self.old.places.items }
         ensures time { self.new.side.now ≡ max self.old.side.now now }
-        ensures stands { Goes self.old.side self.new.side }
+        ensures stands { LosesBy (AreLost self.old.lines.links.stations.items link down) self.old.side self.new.side }
     {
         self.side.turn_to(now);
         self.lines.go_down(link, self.side.now, &self.side.limits);
@@ -112,26 +115,26 @@ impl Service {
     /// Bytes of a connection; how many of them were used. The rest is to be given again. Of what they answer the core is told
     /// as of the request that is under way there, and of no other.
     pub fn from_link(&mut self, link: usize, bytes: &[u8], now: u64) -> usize
-        ensures hears { (line : LineValue) → slice_get self.old.lines.lines.items link ≡ Some line → Hears link line (take result bytes.now) self.old.cycle self.new.cycle self.new.lines.lines.items }
+        ensures hears { (line : LineValue) → slice_get self.old.lines.lines.items link ≡ Some line → Hears self.old.lines.links.stations.items link line (take result bytes.now) self.old.cycle self.new.cycle self.old.side self.new.side self.new.lines.lines.items }
         ensures links { self.new.lines.links ≡ self.old.lines.links }
         ensures others { OthersGo link self.old.lines.lines.items self.new.lines.lines.items }
         ensures goes { DevicesLeadOn self.old.cycle self.new.cycle }
         ensures places { self.new.places.items ≡ self.old.places.items }
         ensures time { self.new.side.now ≡ max self.old.side.now now }
-        ensures stands { Goes self.old.side self.new.side }
+        ensures stands { slice_get self.old.lines.lines.items link ≡ None → Goes self.old.side self.new.side }
     {
         self.side.turn_to(now);
         self.hear(link, bytes)
     }
 
     fn hear(&mut self, link: usize, bytes: &[u8]) -> usize
-        ensures hears { (line : LineValue) → slice_get self.old.lines.lines.items link ≡ Some line → Hears link line (take result bytes.now) self.old.cycle self.new.cycle self.new.lines.lines.items }
+        ensures hears { (line : LineValue) → slice_get self.old.lines.lines.items link ≡ Some line → Hears self.old.lines.links.stations.items link line (take result bytes.now) self.old.cycle self.new.cycle self.old.side self.new.side self.new.lines.lines.items }
         ensures links { self.new.lines.links ≡ self.old.lines.links }
         ensures others { OthersGo link self.old.lines.lines.items self.new.lines.lines.items }
         ensures goes { DevicesLeadOn self.old.cycle self.new.cycle }
         ensures places { self.new.places.items ≡ self.old.places.items }
         ensures time { self.new.side.now ≡ self.old.side.now }
-        ensures stands { Goes self.old.side self.new.side }
+        ensures stands { slice_get self.old.lines.lines.items link ≡ None → Goes self.old.side self.new.side }
     {
         let asked = self.lines.asked(link);
         let (used, fate) = self.lines.take(link, bytes);
@@ -154,13 +157,13 @@ impl Service {
     /// So many bytes are written to a connection, and the rest of them waits. Once a request is written whole, what came
     /// before is looked at.
     pub fn sent_to_link(&mut self, link: usize, n: usize)
-        ensures sends { (line : LineValue) → slice_get self.old.lines.lines.items link ≡ Some line → GoesAfterSent link n line self.old.cycle self.new.cycle self.new.lines.lines.items }
+        ensures sends { (line : LineValue) → slice_get self.old.lines.lines.items link ≡ Some line → GoesAfterSent self.old.lines.links.stations.items link n line self.old.cycle self.new.cycle self.old.side self.new.side self.new.lines.lines.items }
         ensures links { self.new.lines.links ≡ self.old.lines.links }
         ensures others { OthersGo link self.old.lines.lines.items self.new.lines.lines.items }
         ensures goes { DevicesLeadOn self.old.cycle self.new.cycle }
         ensures places { self.new.places.items ≡ self.old.places.items }
         ensures time { self.new.side.now ≡ self.old.side.now }
-        ensures stands { Goes self.old.side self.new.side }
+        ensures stands { slice_get self.old.lines.lines.items link ≡ None → Goes self.old.side self.new.side }
     {
         self.lines.sent(link, n);
         if self.lines.is_asked(link) {
@@ -194,7 +197,9 @@ impl Service {
         ensures goes { LeadsOn self.old.cycle self.new.cycle }
         ensures places { self.new.places.items ≡ self.old.places.items }
         ensures time { self.new.side.now ≡ self.old.side.now }
-        ensures stands { Goes self.old.side self.new.side }
+        ensures times { SameTimes self.old.side self.new.side }
+        ensures same { self.new.lines ≡ self.old.lines }
+        ensures stands { LosesBy (AreLost self.old.lines.links.stations.items link loss) self.old.side self.new.side }
     {
         for device in 0..self.cycle.devices() {
             if self.lines.is_at(device, link) {
@@ -210,7 +215,9 @@ impl Service {
         ensures goes { LeadsOn self.old.cycle self.new.cycle }
         ensures places { self.new.places.items ≡ self.old.places.items }
         ensures time { self.new.side.now ≡ self.old.side.now }
-        ensures stands { Goes self.old.side self.new.side }
+        ensures times { SameTimes self.old.side self.new.side }
+        ensures same { self.new.lines ≡ self.old.lines }
+        ensures stands { LosesBy (IsLost device loss) self.old.side self.new.side }
     {
         self.cycle.give_up(device);
         self.side.lose(device, loss);
@@ -224,7 +231,7 @@ impl Service {
         ensures lines { LinesGo self.old.lines.lines.items self.new.lines.lines.items }
         ensures places { self.new.places.items ≡ self.old.places.items }
         ensures time { self.new.side.now ≡ self.old.side.now }
-        ensures stands { Goes self.old.side self.new.side }
+        ensures stands { LosesBy (LostByHearing self.old.lines.links.stations.items link asked (Some fate)) self.old.side self.new.side }
     {
         match asked {
             Some(asked) => self.settle_asked(link, asked, fate),
@@ -238,7 +245,7 @@ impl Service {
         ensures lines { LinesGo self.old.lines.lines.items self.new.lines.lines.items }
         ensures places { self.new.places.items ≡ self.old.places.items }
         ensures time { self.new.side.now ≡ self.old.side.now }
-        ensures stands { Goes self.old.side self.new.side }
+        ensures stands { LosesBy (LostByFate self.old.lines.links.stations.items link asked fate) self.old.side self.new.side }
     {
         match fate {
             Fate::Lost => self.lose_stream(link, asked),
@@ -253,7 +260,7 @@ impl Service {
         ensures goes { LeadsOn self.old.cycle self.new.cycle }
         ensures places { self.new.places.items ≡ self.old.places.items }
         ensures time { self.new.side.now ≡ self.old.side.now }
-        ensures stands { Goes self.old.side self.new.side }
+        ensures stands { LosesBy (AreLost self.old.lines.links.stations.items link frame) self.old.side self.new.side }
     {
         self.side.lose_write(asked.aim);
         self.lines.spoil(link);
@@ -267,7 +274,7 @@ impl Service {
         ensures lines { LinesGo self.old.lines.lines.items self.new.lines.lines.items }
         ensures places { self.new.places.items ≡ self.old.places.items }
         ensures time { self.new.side.now ≡ self.old.side.now }
-        ensures stands { Goes self.old.side self.new.side }
+        ensures stands { LosesBy (LostByFate self.old.lines.links.stations.items link asked (Told outcome)) self.old.side self.new.side }
     {
         if is_answer(&outcome) {
             self.take_answer(link, asked, outcome);
@@ -283,7 +290,7 @@ impl Service {
         ensures goes { LeadsOn self.old.cycle self.new.cycle }
         ensures places { self.new.places.items ≡ self.old.places.items }
         ensures time { self.new.side.now ≡ self.old.side.now }
-        ensures stands { Goes self.old.side self.new.side }
+        ensures stands { LosesBy (AreLostWith self.old.lines.links.stations.items link asked.device stale) self.old.side self.new.side }
     {
         self.side.lose_write(asked.aim);
         self.miss(link, asked.device, Loss::Stale);
@@ -327,7 +334,9 @@ impl Service {
         ensures goes { LeadsOn self.old.cycle self.new.cycle }
         ensures places { self.new.places.items ≡ self.old.places.items }
         ensures time { self.new.side.now ≡ self.old.side.now }
-        ensures stands { Goes self.old.side self.new.side }
+        ensures times { SameTimes self.old.side self.new.side }
+        ensures others { (other : ℕ) → (other ≡ link → ⊥) → slice_get self.new.lines.lines.items other ≡ slice_get self.old.lines.lines.items other }
+        ensures stands { LosesBy (AreLostWith self.old.lines.links.stations.items link device loss) self.old.side self.new.side }
     {
         self.side.miss(device);
         self.lines.missed(link);
@@ -383,7 +392,8 @@ impl Service {
         ensures goes { LeadsOn self.old.cycle self.new.cycle }
         ensures places { self.new.places.items ≡ self.old.places.items }
         ensures time { self.new.side.now ≡ self.old.side.now }
-        ensures stands { Goes self.old.side self.new.side }
+        ensures times { SameTimes self.old.side self.new.side }
+        ensures stands { LosesBy (LostByWait self.old.lines.links.stations.items self.old.lines.lines.items self.old.side.now) self.old.side self.new.side }
     {
         for link in 0..self.lines.count() {
             self.end_wait(link);
@@ -396,7 +406,9 @@ impl Service {
         ensures goes { LeadsOn self.old.cycle self.new.cycle }
         ensures places { self.new.places.items ≡ self.old.places.items }
         ensures time { self.new.side.now ≡ self.old.side.now }
-        ensures stands { Goes self.old.side self.new.side }
+        ensures times { SameTimes self.old.side self.new.side }
+        ensures others { (other : ℕ) → (other ≡ link → ⊥) → slice_get self.new.lines.lines.items other ≡ slice_get self.old.lines.lines.items other }
+        ensures stands { LosesBy (LostByWaitAt self.old.lines.links.stations.items self.old.lines.lines.items self.old.side.now link) self.old.side self.new.side }
     {
         if let Some(asked) = self.lines.overdue(link, self.side.now) {
             self.give_up(link, asked);
@@ -409,7 +421,9 @@ impl Service {
         ensures goes { LeadsOn self.old.cycle self.new.cycle }
         ensures places { self.new.places.items ≡ self.old.places.items }
         ensures time { self.new.side.now ≡ self.old.side.now }
-        ensures stands { Goes self.old.side self.new.side }
+        ensures times { SameTimes self.old.side self.new.side }
+        ensures others { (other : ℕ) → (other ≡ link → ⊥) → slice_get self.new.lines.lines.items other ≡ slice_get self.old.lines.lines.items other }
+        ensures stands { LosesBy (AreForTime self.old.lines.links.stations.items link asked.device) self.old.side self.new.side }
     {
         self.lines.give_up(link);
         self.side.lose_write(asked.aim);

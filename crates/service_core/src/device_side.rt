@@ -1,5 +1,5 @@
 //! The devices' side of a service, apart from its core and its connections: devices, outputs, and the times of rounds.
-ghost use Rattle.std.specs.Prelude.{◌≡◌, ◌<◌, ℕ, Bool, Option, Some, length, max, slice_get};
+ghost use Rattle.std.specs.Prelude.{◌≡◌, ◌≤◌, ◌<◌, ℕ, Bool, IsTrue, Option, Some, true, length, max, slice_get};
 ghost use Rattle.service_core.specs.declared.device.Device.{Device as DeviceValue};
 ghost use Rattle.service_core.specs.Counting.{asked_once_more, counts_at};
 ghost use Rattle.service_core.specs.Noting.{Finds, HearsFrom, Loses};
@@ -7,7 +7,8 @@ ghost use Rattle.service_core.specs.Phases.{is_reading};
 ghost use Rattle.service_core.specs.GivingUp.{is_rested};
 ghost use Rattle.service_core.specs.Telling.{told_at};
 ghost use Rattle.service_core.specs.declared.output.OutputState.{OutputState as StateValue};
-ghost use Rattle.service_core.specs.Told.{Goes, lost_then, note_of, state_then};
+ghost use Rattle.service_core.specs.Losing.{IsLost, SameTimes};
+ghost use Rattle.service_core.specs.Told.{Goes, LosesBy, Losses, allows, lost_then, note_of, state_then};
 
 use crate::device::Device;
 use crate::note::{Loss, Note, Unwritten};
@@ -129,6 +130,7 @@ impl DeviceSide {
     /// Tells what is no loss of a device, and nothing of an output.
     #[tactic(auto, using(crate::proofs::ByNotes::other_goes))]
     fn tell(&mut self, note: Note)
+        requires allowed { (may : Losses) → allows may note ≡ true }
         requires device { (device : ℕ) (was : Bool) → lost_then note device was ≡ was }
         requires output { (output : ℕ) (was : Option StateValue) → state_then note output was ≡ was }
         ensures now { self.new.now ≡ self.old.now }
@@ -177,7 +179,8 @@ impl DeviceSide {
     pub(crate) fn lose(&mut self, device: usize, loss: Loss)
         ensures loses { (own : DeviceValue) → slice_get self.old.devices.items device ≡ Some own → Loses device loss own self.old self.new }
         ensures now { self.new.now ≡ self.old.now }
-        ensures stands { Goes self.old self.new }
+        ensures times { SameTimes self.old self.new }
+        ensures stands { LosesBy (IsLost device loss) self.old self.new }
     {
         if let Some(found) = self.devices.get_mut(device) {
             if found.lose(loss) {
@@ -203,6 +206,7 @@ impl DeviceSide {
     pub(crate) fn miss(&mut self, device: usize)
         ensures counts { counts_at self.new device ≡ counts_at self.old device }
         ensures now { self.new.now ≡ self.old.now }
+        ensures times { SameTimes self.old self.new }
         ensures stands { Goes self.old self.new }
     {
         if let Some(found) = self.devices.get_mut(device) {
@@ -213,12 +217,16 @@ impl DeviceSide {
 
 impl DeviceSide {
     /// Whether the next round is to begin.
-    pub(crate) fn is_due(&self) -> bool {
+    pub(crate) fn is_due(&self) -> bool
+        ensures { IsTrue result → self.entry.now.next_round ≤ self.entry.now.now }
+    {
         self.now >= self.next_round
     }
 
     /// Whether wanted blocks aren't waited for any more.
-    pub(crate) fn is_past_deadline(&self) -> bool {
+    pub(crate) fn is_past_deadline(&self) -> bool
+        ensures { IsTrue result → self.entry.now.deadline ≤ self.entry.now.now }
+    {
         self.now >= self.deadline
     }
 
@@ -350,6 +358,7 @@ impl DeviceSide {
     #[tactic(auto, using(crate::proofs::ByNotes::same_goes))]
     pub(crate) fn lose_write(&mut self, aim: Aim)
         ensures now { self.new.now ≡ self.old.now }
+        ensures times { SameTimes self.old self.new }
         ensures stands { Goes self.old self.new }
     {
         if let Aim::Output(_) = aim {

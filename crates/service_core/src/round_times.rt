@@ -1,6 +1,7 @@
 //! Rounds, by the time.
 ghost use Rattle.std.specs.Prelude.{◌≡◌, ◌==◌, ◌&&◌, not, length, map, max, nat_lt};
-ghost use Rattle.service_core.specs.Told.{Goes};
+ghost use Rattle.service_core.specs.Losing.{AreLate, LostByRound, LostByTime, SameTimes};
+ghost use Rattle.service_core.specs.Told.{Goes, LosesBy};
 ghost use Rattle.service_core.specs.Cycle.{LeadsOn};
 ghost use Rattle.service_core.specs.GivingUp.{GivesUp, may_be_asked};
 ghost use Rattle.service_parts.specs.Frames.{LinesGo};
@@ -19,7 +20,7 @@ impl Service {
         ensures goes { LeadsOn self.old.cycle self.new.cycle }
         ensures places { self.new.places.items ≡ map (closed_if_idle (max self.old.side.now now) self.old.side.limits.idle) self.old.places.items }
         ensures time { self.new.side.now ≡ max self.old.side.now now }
-        ensures stands { Goes self.old.side self.new.side }
+        ensures stands { LosesBy (LostByTime self.old.lines.links.stations.items self.old.lines.lines.items self.old.side (max self.old.side.now now)) self.old.side self.new.side }
     {
         self.side.turn_to(now);
         close_idle(&mut self.places, self.side.now, self.side.limits.idle);
@@ -70,7 +71,8 @@ impl Service {
         ensures goes { LeadsOn self.old.cycle self.new.cycle }
         ensures places { self.new.places.items ≡ self.old.places.items }
         ensures time { self.new.side.now ≡ self.old.side.now }
-        ensures stands { Goes self.old.side self.new.side }
+        ensures times { SameTimes self.old.side self.new.side }
+        ensures stands { LosesBy AreLate self.old.side self.new.side }
     {
         for device in 0..self.cycle.devices() {
             self.cut_off(device);
@@ -84,7 +86,8 @@ impl Service {
         ensures goes { LeadsOn self.old.cycle self.new.cycle }
         ensures places { self.new.places.items ≡ self.old.places.items }
         ensures time { self.new.side.now ≡ self.old.side.now }
-        ensures stands { Goes self.old.side self.new.side }
+        ensures times { SameTimes self.old.side self.new.side }
+        ensures stands { LosesBy AreLate self.old.side self.new.side }
     {
         let lost = self.cycle.lost();
         self.cycle.give_up(device);
@@ -100,7 +103,7 @@ impl Service {
         ensures goes { LeadsOn self.old.cycle self.new.cycle }
         ensures places { self.new.places.items ≡ self.old.places.items }
         ensures time { self.new.side.now ≡ self.old.side.now }
-        ensures stands { Goes self.old.side self.new.side }
+        ensures stands { LosesBy (LostByRound self.old.side self.old.side.now) self.old.side self.new.side }
     {
         if !self.side.is_due() {
             return;
@@ -119,7 +122,7 @@ impl Service {
         ensures goes { LeadsOn self.old.cycle self.new.cycle }
         ensures places { self.new.places.items ≡ self.old.places.items }
         ensures time { self.new.side.now ≡ self.old.side.now }
-        ensures stands { Goes self.old.side self.new.side }
+        ensures stands { LosesBy AreLate self.old.side self.new.side }
     {
         // a round whose deadline comes after the next one's start
         if self.side.is_reading() {

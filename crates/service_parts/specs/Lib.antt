@@ -6,3 +6,4 @@ pub mod Requests
 pub mod Clients
 pub mod Places
 pub mod Waking
+pub mod Overdue

@@ -3,6 +3,7 @@ ghost use Rattle.std.specs.Prelude.{◌≡◌, ◌+◌, ◌<◌, ◌^◌, ℕ, A
 ghost use Rattle.service_parts.specs.declared.line.Line.{Line as LineValue};
 ghost use Rattle.gateway.specs.event_core.Core.{Gateway};
 ghost use Rattle.service_parts.specs.Frames.{IsCut, OthersGo};
+ghost use Rattle.service_parts.specs.Overdue.{IsAt};
 ghost use Rattle.service_parts.specs.Requests.{AreRightfulBy, IsFoundOn, StayRightful};
 
 use crate::limits::{Limits, Station};
@@ -59,7 +60,10 @@ impl Lines {
     }
 
     /// Whether a device is reached over a link.
-    pub fn is_at(&self, device: usize, link: usize) -> bool {
+    pub fn is_at(&self, device: usize, link: usize) -> bool
+        ensures there { IsTrue result → IsAt self.now.links.stations.items link device }
+        ensures elsewhere { IsAt self.now.links.stations.items link device → IsTrue result }
+    {
         self.unit_at(device, link).is_some()
     }
 

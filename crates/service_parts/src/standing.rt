@@ -1,5 +1,5 @@
 //! How the connections of links stand.
-ghost use Rattle.std.specs.Prelude.{◌≡◌, ◌↔◌, IfNone, IfSome, IsTrue, Some, slice_get};
+ghost use Rattle.std.specs.Prelude.{◌≡◌, ◌↔◌, ℕ, IfNone, IfSome, IsTrue, Some, slice_get};
 ghost use Rattle.service_parts.specs.declared.line.Line.{Line as LineValue};
 ghost use Rattle.service_parts.specs.Frames.{LinesGo};
 ghost use Rattle.service_parts.specs.Requests.{StayRightful};
@@ -161,6 +161,7 @@ impl Lines {
         ensures links { self.new.links ≡ self.old.links }
         ensures found { self.new.found_on ≡ self.old.found_on }
         ensures lines { LinesGo self.old.lines.items self.new.lines.items }
+        ensures others { (other : ℕ) → (other ≡ link → ⊥) → slice_get self.new.lines.items other ≡ slice_get self.old.lines.items other }
     {
         if let Some(line) = self.lines.get_mut(link) {
             line.missed();

@@ -1,10 +1,11 @@
 //! Requests to devices, and what comes of them.
-ghost use Rattle.std.specs.Prelude.{◌≡◌, ◌≤◌, ℕ, IsTrue, Some, [], slice_get, take};
+ghost use Rattle.std.specs.Prelude.{◌≡◌, ◌≤◌, ℕ, IsTrue, None, Some, [], slice_get, take};
 ghost use Rattle.modbus_frame.specs.Message.{HasQuantity};
 ghost use Rattle.gateway.specs.event_core.Core.{Gateway};
 ghost use Rattle.service_parts.specs.declared.line.Line.{Line as LineValue};
 ghost use Rattle.service_parts.specs.Course.{Reached};
 ghost use Rattle.service_parts.specs.Frames.{Hears, LinesGo, OthersGo, Sends};
+ghost use Rattle.service_parts.specs.Overdue.{asked_at, overdue_at};
 ghost use Rattle.service_parts.specs.Requests.{AreRightfulBy, IsRightfulOn, MayGoOver, StayRightful};
 ghost use Rattle.service_parts.specs.Waking.{due_at};
 
@@ -56,6 +57,7 @@ impl Lines {
         ensures links { self.new.links ≡ self.old.links }
         ensures sends { (line : LineValue) → slice_get self.old.lines.items link ≡ Some line → (rest : LineValue) × (slice_get self.new.lines.items link ≡ Some rest) × Sends n line rest }
         ensures others { OthersGo link self.old.lines.items self.new.lines.items }
+        ensures none { slice_get self.old.lines.items link ≡ None → slice_get self.new.lines.items link ≡ None }
     {
         if let Some(line) = self.lines.get_mut(link) {
             line.sent(n);
@@ -64,7 +66,7 @@ impl Lines {
 
     /// The request that is under way on a link.
     pub fn asked(&self, link: usize) -> Option<Asked>
-        ensures { (line : LineValue) → slice_get self.now.lines.items link ≡ Some line → result ≡ line.wire.asked }
+        ensures { result ≡ asked_at self.now.lines.items link }
     {
         match self.lines.get(link) {
             Some(line) => line.wire().asked(),
@@ -97,7 +99,9 @@ impl Lines {
     }
 
     /// The request that is under way on a link, where its time is over.
-    pub fn overdue(&self, link: usize, now: u64) -> Option<Asked> {
+    pub fn overdue(&self, link: usize, now: u64) -> Option<Asked>
+        ensures { result ≡ overdue_at self.now.lines.items now link }
+    {
         let asked = self.asked(link)?;
         if now < asked.until {
             return None;
@@ -110,6 +114,7 @@ impl Lines {
         ensures rightful { StayRightful self.old self.new }
         ensures links { self.new.links ≡ self.old.links }
         ensures lines { LinesGo self.old.lines.items self.new.lines.items }
+        ensures others { (other : ℕ) → (other ≡ link → ⊥) → slice_get self.new.lines.items other ≡ slice_get self.old.lines.items other }
     {
         if let Some(line) = self.lines.get_mut(link) {
             line.give_up();
