@@ -5,13 +5,19 @@ mod entries;
 use crate::finding::{EntryName, Finding, named_entry};
 use crate::looking::{entry_in, first_long, first_unlisted, no_table_in};
 use crate::place::FilePlace;
-use device::{EACH_VALUE, device_finding};
+use device::{EACH_VALUE, device_finding, kind_of};
 use entries::{fault_finding, value_finding, value_name};
-use inverter_sim::rules::{MOST_DEVICES, MOST_FAULTS, MOST_MODELS, MOST_WATTS};
+use inverter_sim::rules::{
+    DeviceKind, MOST_DEVICES, MOST_FAULTS, MOST_MODELS, MOST_UNITS, MOST_WATTS,
+};
 use inverter_sim::{PlantFault, PlantPart};
 use model_defs::ModelDef;
 use std::alloc::Global;
 use toml::{Value, table_from_str};
+
+/// The most entries of a meter's lists.
+const METER_HOLDS: &str =
+    "make it smaller: 1,024 entries of load and 64 units in behind are the most";
 
 /// Where a fault of that part of a plant file, read over these definitions, is found; None where memory was refused.
 pub fn place_in_plant(
@@ -123,9 +129,21 @@ fn in_device<'a>(
     fault: PlantFault,
 ) -> Option<Finding<'a>> {
     match fault {
-        PlantFault::TooMany => {
-            first_long(entry, &[("models", MOST_MODELS), ("available", MOST_WATTS)])
-        }
+        PlantFault::TooMany => long_in_device(entry),
         fault => device_finding(before, entry, defs, fault),
+    }
+}
+
+/// The list of a device that is too long.
+fn long_in_device(entry: &Value) -> Option<Finding<'_>> {
+    if let Some(finding) = first_long(entry, &[("models", MOST_MODELS)]) {
+        return Some(finding);
+    }
+    match kind_of(entry) {
+        DeviceKind::Inverter => first_long(entry, &[("available", MOST_WATTS)]),
+        DeviceKind::Meter => {
+            let limits = [("load", MOST_WATTS), ("behind", MOST_UNITS)];
+            Some(first_long(entry, &limits)?.helped(METER_HOLDS))
+        }
     }
 }

@@ -2,6 +2,7 @@ pub mod Upcoming
 pub mod Refused
 pub mod Powers
 pub mod Lists
+pub mod Meters
 pub mod Answering
 pub mod Entries
 pub mod Devices

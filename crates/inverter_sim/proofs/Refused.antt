@@ -80,7 +80,7 @@ long_is_many doc part (inr (n, entries, is, few, listed, first)) = rw (few, list
 -- a device whose values are refused is read apart from them
 pub in_values :
     (defs : List ModelDef) (seen : List DeviceState) (n : ℕ) (tree : Data) (part : PlantPart) (e : PlantFault) (keys : DeviceKeys) (models : List ModelDef) (registers : List ℕ) →
-    device_keys tree ≡ Some keys → definitions_of defs keys.models ≡ Some models → is_in_range keys models ≡ true → is_duplicate seen keys ≡ false → registers ≡ (blank_device keys models).registers →
+    device_keys tree ≡ Ok keys → definitions_of defs keys.models ≡ Some models → is_in_range seen keys models ≡ true → is_duplicate seen keys ≡ false → registers ≡ (blank_device keys models).registers →
     IsInValues models registers n tree (parts.Device n) part e → IsInDevice defs seen n tree part e
 in_values defs seen n tree part e keys models registers keyed defined ranged new blank (inl (is, same, unlisted)) =
     inl (is, rw (keyed, defined, ranged, new, unlisted, same) refl)

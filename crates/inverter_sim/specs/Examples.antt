@@ -1,14 +1,14 @@
 -- Worked values of a tick, of writes, of replies that are wrong and of plant files.
--- SunSpec inverter models 101 to 103 and 123; MODBUS Messaging on TCP/IP Implementation Guide, section 3.1.
-use Rattle.std.specs.Prelude.{◌≡◌, true, false, [], ◌∷◌, take, pos, negsuc, None, Some, Ok, Err, refl, codes}
+-- SunSpec inverter models 101 to 103 and 123, meter models 201 to 204; MODBUS Messaging on TCP/IP Implementation Guide, section 3.1.
+use Rattle.std.specs.Prelude.{◌≡◌, ◌-◌, true, false, [], ◌∷◌, take, pos, negsuc, None, Some, Ok, Err, refl, codes}
 use Rattle.toml.specs.Data.{no_items, item, no_members, member, integer, string, array, table}
 use Rattle.inverter_sim.specs.declared.fault.PlantFault.TheVariants as fault
 use Rattle.inverter_sim.specs.declared.misbehaviour.Misbehaviour.TheVariants as wrong
-use Rattle.inverter_sim.specs.Tick.{one, power_of, percent_of, scaled_watts, later}
+use Rattle.inverter_sim.specs.Tick.{one, power_of, percent_of, scaled_watts, stepped, scaled_drawn, later}
 use Rattle.inverter_sim.specs.Serve.{are_whole}
 use Rattle.inverter_sim.specs.Image.{split, padded, places_from}
 use Rattle.inverter_sim.specs.Link.{earlier, garbled, counted}
-use Rattle.inverter_sim.specs.File.{words_of_kind, misbehaviour_of, fault_of, plant_of}
+use Rattle.inverter_sim.specs.File.{words_of_kind, misbehaviour_of, device_of, fault_of, plant_of}
 use Rattle.point_types.specs.declared.kind.Kind.TheVariants as kinds
 
 -- 55.0 percent of 5000 W
@@ -23,6 +23,32 @@ tens_of_watts = refl
 
 pub more_than_an_int16 : scaled_watts 32768 one ≡ 0x8000
 more_than_an_int16 = refl
+
+-- from 1,000 W by at most 300 W at a tick
+pub a_step_up : stepped 1000 5000 300 ≡ 1300
+a_step_up = refl
+
+pub a_step_down : stepped 1000 0 300 ≡ 700
+a_step_down = refl
+
+pub the_last_step : stepped 1000 1100 300 ≡ 1100
+the_last_step = refl
+
+-- 1,005 W drawn, and 1,005 W fed into the grid, in tens of watts
+pub tens_of_watts_drawn : scaled_drawn (pos 1005) (power_of (pos 1)) ≡ 100
+tens_of_watts_drawn = refl
+
+pub tens_of_watts_fed : scaled_drawn (negsuc 1004) (power_of (pos 1)) ≡ 65536 - 101
+tens_of_watts_fed = refl
+
+pub as_much_as_is_used : scaled_drawn (pos 0) one ≡ 0
+as_much_as_is_used = refl
+
+pub the_least_int16 : scaled_drawn (negsuc 32766) one ≡ 0x8001
+the_least_int16 = refl
+
+pub less_than_an_int16 : scaled_drawn (negsuc 32767) one ≡ 0x8000
+less_than_an_int16 = refl
 
 pub the_last_watts_stay : later (4000 ∷ []) ≡ 4000 ∷ []
 the_last_watts_stay = refl
@@ -69,7 +95,13 @@ no_cut = refl
 pub no_number : fault_of [] (table (member (codes "kind") (string (codes "stale")) (member (codes "request") (integer (pos 1)) no_members))) ≡ Err fault.MissingKey
 no_number = refl
 
-pub nothing : plant_of [] (table no_members) ≡ Ok (record { devices = []; faults = []; frames = 0 })
+pub no_such_kind : device_of [] [] (table (member (codes "kind") (string (codes "battery")) no_members)) ≡ Err fault.BadRange
+no_such_kind = refl
+
+pub a_meter_without_keys : device_of [] [] (table (member (codes "kind") (string (codes "meter")) no_members)) ≡ Err fault.MissingKey
+a_meter_without_keys = refl
+
+pub nothing : plant_of [] (table no_members) ≡ Ok (record { devices = []; faults = []; frames = 0; pace = None })
 nothing = refl
 
 pub no_list_of_devices : plant_of [] (table (member (codes "device") (integer (pos 5)) no_members)) ≡ Err fault.MissingKey

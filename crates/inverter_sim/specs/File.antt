@@ -8,20 +8,24 @@ use Rattle.std.specs.Option.{ok_or, option_map_or}
 use Rattle.std.specs.Str.{bytes_eq}
 use Rattle.toml.specs.Data.{Data, Items, Members, no_items, item, table, as_integer}
 use Rattle.toml.specs.Parse.{parse_document}
-use Rattle.file_keys.specs.Keys.{number_at, number_or, text_at, list_at, section_at, count, has_over}
+use Rattle.file_keys.specs.Keys.{number_at, number_or, optional_number_at, text_at, optional_text_at, list_at, section_at, count, has_over}
 use Rattle.point_types.specs.Value.{◌>>=◌}
 use Rattle.point_types.specs.Point.{row_of}
 use Rattle.point_types.specs.declared.kind.Kind.{Kind}
 use Rattle.point_types.specs.declared.kind.Kind.TheVariants as kinds
 use Rattle.model_defs.specs.declared.model.ModelDef.{ModelDef}
 use Rattle.model_defs.specs.declared.point.Point.{Point}
+use Rattle.inverter_sim.specs.declared.device_kind.DeviceKind.{DeviceKind}
+use Rattle.inverter_sim.specs.declared.device_kind.DeviceKind.TheVariants as kind
 use Rattle.inverter_sim.specs.declared.fault.PlantFault.{PlantFault}
 use Rattle.inverter_sim.specs.declared.fault.PlantFault.TheVariants as fault
 use Rattle.inverter_sim.specs.declared.misbehaviour.Fault.{Fault}
 use Rattle.inverter_sim.specs.declared.misbehaviour.Misbehaviour.{Misbehaviour}
 use Rattle.inverter_sim.specs.declared.misbehaviour.Misbehaviour.TheVariants as wrong
+use Rattle.inverter_sim.specs.declared.works.Works.{Works}
+use Rattle.inverter_sim.specs.declared.works.Works.TheVariants as works
 use Rattle.inverter_sim.specs.State.{DeviceState, PlantState}
-use Rattle.inverter_sim.specs.Image.{image_of, places_of, placed, point_named, tick_points, split, stored}
+use Rattle.inverter_sim.specs.Image.{image_of, places_of, placed, point_named, inverter_points, meter_points, split, stored}
 
 -- ---- keys
 
@@ -39,10 +43,19 @@ abbrev pub any_of : (Data → Bool) → Items → Bool
 any_of test no_items = false
 any_of test (item tree trees) = test tree || any_of test trees
 
-abbrev pub device_has_too_many : Data → Bool
-device_has_too_many tree = has_over 16 (codes "models") tree || has_over 1024 (codes "available") tree
+-- the entry of a meter
+abbrev pub is_meter_entry : Data → Bool
+is_meter_entry tree = option_map_or (λ word. bytes_eq word (codes "meter")) (text_at (codes "kind") tree) false
 
--- more devices, models of a device or watts of a device than a plant has, wherever in the file
+abbrev pub works_has_too_many : Data → Bool
+works_has_too_many tree =
+    if is_meter_entry tree then has_over 1024 (codes "load") tree || has_over 64 (codes "behind") tree else
+    has_over 1024 (codes "available") tree
+
+abbrev pub device_has_too_many : Data → Bool
+device_has_too_many tree = has_over 16 (codes "models") tree || works_has_too_many tree
+
+-- more devices, or models, watts or units of a device, than a plant has, wherever in the file
 abbrev pub has_too_many : Data → Bool
 has_too_many tree = has_over 64 (codes "device") tree || option_map_or (any_of device_has_too_many) (list_at (codes "device") tree) false
 
@@ -51,26 +64,56 @@ has_too_many tree = has_over 64 (codes "device") tree || option_map_or (any_of d
 abbrev pub is_in : ℤ → ℤ → ℤ → Bool
 is_in lowest highest n = int_le lowest n && int_le n highest
 
+-- the kind of a device by its word
+abbrev pub kind_named : List ℕ → Option DeviceKind
+kind_named word = if bytes_eq word (codes "inverter") then Some kind.Inverter else (if bytes_eq word (codes "meter") then Some kind.Meter else None)
+
+-- a device without a word is an inverter
+abbrev pub kind_of : Data → Result DeviceKind PlantFault
+kind_of tree =
+    ok_or (optional_text_at (codes "kind") tree) fault.MissingKey >>= λ word.
+    ok_or (option_map_or kind_named word (Some kind.Inverter)) fault.BadRange
+
+-- the keys that an inverter has, and those that a meter has
+pub data WorksKeys : Type 0 where
+  inverter : (wmax : ℤ) (available : List ℤ) (ramp : Option ℤ) → WorksKeys
+  meter : (load behind : List ℤ) → WorksKeys
+
 pub record DeviceKeys : Type 0 where
   pub unit : ℤ
   pub models : List ℤ
-  pub wmax : ℤ
-  pub available : List ℤ
+  pub works : WorksKeys
   pub base : ℤ
 
 -- nothing where a key is missing or of another kind
-abbrev pub device_keys : Data → Option DeviceKeys
-device_keys tree =
-    option_and_then (λ unit.
-    option_and_then (λ models.
+abbrev pub works_keys : DeviceKind → Data → Option WorksKeys
+works_keys kind.Inverter tree =
     option_and_then (λ wmax.
     option_and_then (λ available.
-    option_map (λ base. record { unit = unit; models = models; wmax = wmax; available = available; base = base })
-    (number_or (codes "base") (pos 40000) tree))
+    option_map (λ ramp. inverter wmax available ramp)
+    (optional_number_at (codes "ramp") tree))
     (integers_at (codes "available") tree))
-    (number_at (codes "wmax") tree))
+    (number_at (codes "wmax") tree)
+works_keys kind.Meter tree =
+    option_and_then (λ load.
+    option_map (λ behind. meter load behind)
+    (integers_at (codes "behind") tree))
+    (integers_at (codes "load") tree)
+
+abbrev pub keys_of : DeviceKind → Data → Option DeviceKeys
+keys_of kind tree =
+    option_and_then (λ unit.
+    option_and_then (λ models.
+    option_and_then (λ works.
+    option_map (λ base. record { unit = unit; models = models; works = works; base = base })
+    (number_or (codes "base") (pos 40000) tree))
+    (works_keys kind tree))
     (integers_at (codes "models") tree))
     (number_at (codes "unit") tree)
+
+-- the kind comes first, since it says which keys there are
+abbrev pub device_keys : Data → Result DeviceKeys PlantFault
+device_keys tree = kind_of tree >>= λ kind. ok_or (keys_of kind tree) fault.MissingKey
 
 -- of two definitions with one id the last one counts
 abbrev pub definition_of : List ModelDef → ℤ → Option ModelDef
@@ -97,27 +140,50 @@ map_length models = 4 + sum_by (λ m. m.length + 2) models
 abbrev pub has_room : ℤ → List ModelDef → Bool
 has_room base models = is_in (pos 0) (pos 65534) base && nat_le (unsigned_abs base + map_length models) 65536
 
-abbrev pub is_in_range : DeviceKeys → List ModelDef → Bool
-is_in_range keys models = (is_in (pos 0) (pos 255) keys.unit && is_in (pos 0) (pos 1000000) keys.wmax) && (are_watts keys.available && (begins_with_one keys.models && has_room keys.base models))
+abbrev pub is_inverter : Works → Bool
+is_inverter (works.Inverter i) = true
+is_inverter (works.Meter m) = false
+
+-- the unit of an inverter before it
+abbrev pub is_inverter_of : List DeviceState → ℤ → Bool
+is_inverter_of seen unit = list_any (λ d. is_inverter d.works && int_eq (pos d.unit) unit) seen
+
+-- some watts, units of inverters before it, and a meter model
+abbrev pub is_in_works_range : List DeviceState → List ℤ → WorksKeys → Bool
+is_in_works_range seen models (inverter wmax available ramp) = is_in (pos 0) (pos 1000000) wmax && (are_watts available && option_map_or (is_in (pos 0) (pos 1000000)) ramp true)
+is_in_works_range seen models (meter load behind) = are_watts load && (list_all (is_inverter_of seen) behind && list_any (is_in (pos 201) (pos 204)) models)
+
+abbrev pub is_in_range : List DeviceState → DeviceKeys → List ModelDef → Bool
+is_in_range seen keys models =
+    is_in (pos 0) (pos 255) keys.unit && (begins_with_one keys.models && (has_room keys.base models && is_in_works_range seen keys.models keys.works))
 
 abbrev pub has_repeat : List ℤ → Bool
 has_repeat [] = false
 has_repeat (n ∷ ns) = list_any (int_eq n) ns || has_repeat ns
 
--- a unit that a device before it has, or a model twice
+abbrev pub works_has_repeat : WorksKeys → Bool
+works_has_repeat (inverter wmax available ramp) = false
+works_has_repeat (meter load behind) = has_repeat behind
+
+-- a unit that a device before it has, a model twice, or an inverter twice
 abbrev pub is_duplicate : List DeviceState → DeviceKeys → Bool
-is_duplicate seen keys = list_any (λ d. int_eq (pos d.unit) keys.unit) seen || has_repeat keys.models
+is_duplicate seen keys = list_any (λ d. int_eq (pos d.unit) keys.unit) seen || (has_repeat keys.models || works_has_repeat keys.works)
+
+-- nothing is produced before the first tick
+abbrev pub first_works : List ModelDef → WorksKeys → Works
+first_works models (inverter wmax available ramp) =
+    works.Inverter (record { wmax = unsigned_abs wmax; available = map unsigned_abs available; ramp = option_map unsigned_abs ramp; produced = 0; points = inverter_points models })
+first_works models (meter load behind) =
+    works.Meter (record { load = map unsigned_abs load; behind = map unsigned_abs behind; points = meter_points models })
 
 -- the device before its points have values
 abbrev pub blank_device : DeviceKeys → List ModelDef → DeviceState
 blank_device keys models = record {
   unit = unsigned_abs keys.unit;
   base = unsigned_abs keys.base;
-  wmax = unsigned_abs keys.wmax;
-  upcoming = map unsigned_abs keys.available;
+  works = first_works models keys.works;
   registers = image_of models;
   places = places_of models;
-  points = tick_points models;
 }
 
 -- ---- the values of its points
@@ -196,12 +262,12 @@ values_of models registers tree =
 
 abbrev pub checked : List DeviceState → DeviceKeys → List ModelDef → Result DeviceState PlantFault
 checked seen keys models =
-    if not (is_in_range keys models) then Err fault.BadRange else
+    if not (is_in_range seen keys models) then Err fault.BadRange else
     (if is_duplicate seen keys then Err fault.Duplicate else Ok (blank_device keys models))
 
 abbrev pub device_of : List ModelDef → List DeviceState → Data → Result DeviceState PlantFault
 device_of defs seen tree =
-    ok_or (device_keys tree) fault.MissingKey >>= λ keys.
+    device_keys tree >>= λ keys.
     ok_or (definitions_of defs keys.models) fault.UnknownModel >>= λ models.
     checked seen keys models >>= λ d.
     values_of models d.registers tree >>= λ registers.
@@ -280,14 +346,22 @@ faults_of tree = ok_or (section_at (codes "fault") tree) fault.MissingKey >>= fa
 
 -- ---- the plant
 
--- The plant of a tree, or the first rule that it breaks: the numbers of devices, models and watts; each device's keys,
--- models, ranges and duplicates, then its values one by one; the faults one by one.
+abbrev pub first_unit : List DeviceState → Option ℕ
+first_unit [] = None
+first_unit (d ∷ ds) = Some d.unit
+
+-- In a plant without a meter the first device's requests tick it; else that is open.
+abbrev pub first_pace : List DeviceState → Option ℕ
+first_pace devices = if list_all (λ d. is_inverter d.works) devices then first_unit devices else None
+
+-- The plant of a tree, or the first rule that it breaks: the numbers of devices, models, watts and units; each device's
+-- kind, keys, models, ranges and duplicates, then its values one by one; the faults one by one.
 abbrev pub plant_of : List ModelDef → Data → Result PlantState PlantFault
 plant_of defs tree =
     if has_too_many tree then Err fault.TooMany else
     (devices_of defs tree >>= λ devices.
     faults_of tree >>= λ faults.
-    Ok (record { devices = devices; faults = faults; frames = 0 }))
+    Ok (record { devices = devices; faults = faults; frames = 0; pace = first_pace devices }))
 
 -- The text is TOML, and its tree stands for this plant.
 abbrev pub StandsFor : List ModelDef → List ℕ → PlantState → Type 0

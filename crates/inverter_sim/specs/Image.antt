@@ -12,9 +12,10 @@ use Rattle.model_defs.specs.declared.point.Point.{Point}
 use Rattle.model_defs.specs.declared.point.Sf.{Sf}
 use Rattle.model_defs.specs.declared.point.Sf.TheVariants as factors
 use Rattle.inverter_sim.specs.declared.place.Place.{Place}
+use Rattle.inverter_sim.specs.declared.points.InverterPoints.{InverterPoints}
+use Rattle.inverter_sim.specs.declared.points.MeterPoints.{MeterPoints}
 use Rattle.inverter_sim.specs.declared.points.Scale.{Scale}
 use Rattle.inverter_sim.specs.declared.points.Scale.TheVariants as scale
-use Rattle.inverter_sim.specs.declared.points.TickPoints.{TickPoints}
 
 -- ---- the words of the registers
 
@@ -140,10 +141,10 @@ scale_by m (factors.At i) = option_map_or (λ q. scale.At (m.at + q.offset)) (sl
 abbrev pub scale_of : List ℕ → Placed → Scale
 scale_of name m = option_map_or (λ p. scale_by m p.sf) (point_named name m.model) (scale.Fixed (pos 0))
 
--- The points of the rule of ticks: W, W_SF and St of the first of models 101 to 103, and Conn, WMaxLim_Ena and WMaxLimPct
--- of model 123.
-abbrev pub tick_points_of : Option Placed → Option Placed → TickPoints
-tick_points_of inverter controls = record {
+-- The points of the rule of ticks: of an inverter W, W_SF and St of the first of models 101 to 103, and Conn, WMaxLim_Ena
+-- and WMaxLimPct of model 123; of a meter W and W_SF of the first of models 201 to 204.
+abbrev pub inverter_points_of : Option Placed → Option Placed → InverterPoints
+inverter_points_of inverter controls = record {
   inverter = option_map (λ m. m.at) inverter;
   watts = option_and_then (register_of is_int16 (codes "W")) inverter;
   watts_scale = option_and_then (register_of is_sunssf (codes "W_SF")) inverter;
@@ -154,5 +155,15 @@ tick_points_of inverter controls = record {
   limit_scale = option_map_or (scale_of (codes "WMaxLimPct")) controls (scale.Fixed (pos 0));
 }
 
-abbrev pub tick_points : List ModelDef → TickPoints
-tick_points models = tick_points_of (placed (pos 101) (pos 103) models) (placed (pos 123) (pos 123) models)
+abbrev pub inverter_points : List ModelDef → InverterPoints
+inverter_points models = inverter_points_of (placed (pos 101) (pos 103) models) (placed (pos 123) (pos 123) models)
+
+abbrev pub meter_points_of : Option Placed → MeterPoints
+meter_points_of meter = record {
+  meter = option_map (λ m. m.at) meter;
+  watts = option_and_then (register_of is_int16 (codes "W")) meter;
+  watts_scale = option_and_then (register_of is_sunssf (codes "W_SF")) meter;
+}
+
+abbrev pub meter_points : List ModelDef → MeterPoints
+meter_points models = meter_points_of (placed (pos 201) (pos 204) models)

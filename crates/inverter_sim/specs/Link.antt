@@ -13,6 +13,8 @@ use Rattle.modbus_frame.specs.Served.{reply_to}
 use Rattle.modbus_frame.specs.Serving.{copies}
 use Rattle.inverter_sim.specs.declared.misbehaviour.Misbehaviour.{Misbehaviour}
 use Rattle.inverter_sim.specs.declared.misbehaviour.Misbehaviour.TheVariants as wrong
+use Rattle.inverter_sim.specs.declared.works.Works.{Works}
+use Rattle.inverter_sim.specs.declared.works.Works.TheVariants as works
 use Rattle.inverter_sim.specs.State.{DeviceState, PlantState}
 use Rattle.inverter_sim.specs.Tick.{all_ticked}
 use Rattle.inverter_sim.specs.Serve.{after_serving, reply_of}
@@ -30,22 +32,32 @@ one_frame_more p = record p { frames = counted p.frames }
 abbrev pub next_fault : PlantState → Option Misbehaviour
 next_fault p = option_map (λ f. f.kind) (find (λ f. f.request == counted p.frames) p.faults)
 
--- The request reads more than two registers, from the device's inverter model on.
+-- where the ID of the model stands that shows a device's watts: an inverter's inverter model, a meter's meter model
+abbrev pub watts_model : Works → Option ℕ
+watts_model (works.Inverter i) = i.points.inverter
+watts_model (works.Meter m) = m.points.meter
+
+-- The request reads more than two registers, from that model on.
 abbrev pub begins_scan : DeviceState → Request → Bool
-begins_scan d (Read addr qty) = nat_lt 2 qty && option_map_or (λ at. addr == d.base + at) d.points.inverter false
+begins_scan d (Read addr qty) = nat_lt 2 qty && option_map_or (λ at. addr == d.base + at) (watts_model d.works) false
 begins_scan d other = false
 
 abbrev pub parsed_begins_scan : DeviceState → Result Request Exception → Bool
 parsed_begins_scan d (Ok request) = begins_scan d request
 parsed_begins_scan d (Err e) = false
 
--- such a request to the first device: the plant ticks before it is done
-abbrev pub ticks_before : List DeviceState → Frame → Bool
-ticks_before [] frame = false
-ticks_before (d ∷ ds) frame = d.unit == frame.unit && parsed_begins_scan d (request_of frame.pdu)
+-- such a request to the device of the frame's unit
+abbrev pub begins_among : List DeviceState → Frame → Bool
+begins_among [] frame = false
+begins_among (d ∷ ds) frame = if d.unit == frame.unit then parsed_begins_scan d (request_of frame.pdu) else begins_among ds frame
 
+-- the plant ticks before it is done, where it is of the unit that ticks the plant; while that is open, each unit does
+abbrev pub ticks_before : PlantState → Frame → Bool
+ticks_before p frame = begins_among p.devices frame && option_map_or (λ unit. unit == frame.unit) p.pace true
+
+-- the unit that ticked the plant once goes on to do so
 abbrev pub ticked_before : PlantState → Frame → PlantState
-ticked_before p frame = if ticks_before p.devices frame then all_ticked p else p
+ticked_before p frame = if ticks_before p frame then record (all_ticked p) { pace = Some frame.unit } else p
 
 -- the plant when the request is done, and the right reply
 abbrev pub done : PlantState → Frame → PlantState

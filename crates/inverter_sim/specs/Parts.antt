@@ -24,7 +24,7 @@ pub record IsFirst (test : Data → Bool) (n : ℕ) (entries : Items) : Type 0 w
   pub holds : test entry ≡ true
   pub none_before : any_of test (before n entries) ≡ false
 
--- too many devices, or else the first device with too many models or watts
+-- too many devices, or else the first device with too many models, watts or units
 abbrev pub IsTooLong : Data → PlantPart → Type 0
 IsTooLong doc part =
     ((part ≡ parts.File) × (has_over 64 (codes "device") doc ≡ true)) ⊎
@@ -41,7 +41,7 @@ pub record Valueless : Type 0 where
 
 abbrev pub valueless : List ModelDef → List DeviceState → Data → Result Valueless PlantFault
 valueless defs seen tree =
-    ok_or (device_keys tree) fault.MissingKey >>= λ keys.
+    device_keys tree >>= λ keys.
     ok_or (definitions_of defs keys.models) fault.UnknownModel >>= λ models.
     checked seen keys models >>= λ d.
     ok_or (section_at (codes "value") tree) fault.MissingKey >>= λ values.

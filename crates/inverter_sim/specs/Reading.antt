@@ -7,7 +7,9 @@ use Rattle.inverter_sim.specs.File as told
 use Rattle.inverter_sim.specs.Image as lies
 use Rattle.inverter_sim.specs.declared.reader.faults.FaultKeys.{FaultKeys}
 use Rattle.inverter_sim.specs.declared.reader.values.ValueKeys.{ValueKeys}
-use Rattle.inverter_sim.specs.declared.reader.device.DeviceKeys.{DeviceKeys}
+use Rattle.inverter_sim.specs.declared.reader.device_entry.DeviceKeys.{DeviceKeys}
+use Rattle.inverter_sim.specs.declared.reader.device_entry.WorksKeys.{WorksKeys}
+use Rattle.inverter_sim.specs.declared.reader.device_entry.WorksKeys.TheVariants as keys
 use Rattle.inverter_sim.specs.declared.reader.layout.Placed.{Placed}
 
 abbrev pub fault_keys_view : FaultKeys → told.FaultKeys
@@ -16,8 +18,12 @@ fault_keys_view k = record { request = k.request; kind = k.kind.now; number = k.
 abbrev pub value_keys_view : ValueKeys → told.ValueKeys
 value_keys_view k = record { model = k.model; point = k.point.now; raw = k.raw }
 
+abbrev pub works_keys_view : WorksKeys → told.WorksKeys
+works_keys_view (keys.Inverter k) = told.inverter k.wmax k.available.items k.ramp
+works_keys_view (keys.Meter k) = told.meter k.load.items k.behind.items
+
 abbrev pub device_keys_view : DeviceKeys → told.DeviceKeys
-device_keys_view k = record { unit = k.unit; models = k.models.items; wmax = k.wmax; available = k.available.items; base = k.base }
+device_keys_view k = record { unit = k.unit; models = k.models.items; works = works_keys_view k.works; base = k.base }
 
 abbrev pub placed_view : Placed → lies.Placed
 placed_view p = record { at = p.at; model = p.model.now }

@@ -1,23 +1,23 @@
 -- The state of a simulated plant: its devices with their registers, and what it does wrong at which frame.
 -- SunSpec Device Information Model Specification, device modbus maps.
-use Rattle.std.specs.Prelude.{ℕ, List}
+use Rattle.std.specs.Prelude.{ℕ, List, Option}
 use Rattle.inverter_sim.specs.declared.misbehaviour.Fault.{Fault}
 use Rattle.inverter_sim.specs.declared.place.Place.{Place}
-use Rattle.inverter_sim.specs.declared.points.TickPoints.{TickPoints}
+use Rattle.inverter_sim.specs.declared.works.Works.{Works}
 
--- a device: its registers from the base on with the place of each, and the watts that are available at the ticks to
--- come, of which the last stays
+-- a device: its registers from the base on with the place of each, and what it works as: an inverter with the watts that
+-- are available at the ticks to come, or a meter with the load at the ticks to come; the last of these watts stay
 pub record DeviceState : Type 0 where
   pub unit : ℕ
   pub base : ℕ
-  pub wmax : ℕ
-  pub upcoming : List ℕ
+  pub works : Works
   pub registers : List ℕ
   pub places : List Place
-  pub points : TickPoints
 
--- a plant: its devices, its faults, and how many frames it was sent
+-- a plant: its devices, its faults, how many frames it was sent, and the unit whose requests tick it; none where that is
+-- still open
 pub record PlantState : Type 0 where
   pub devices : List DeviceState
   pub faults : List Fault
   pub frames : ℕ
+  pub pace : Option ℕ

@@ -1,12 +1,19 @@
--- What a tick does to a device: the watts that it produces, and its state.
--- SunSpec inverter models 101 to 103 (W, W_SF, St) and 123, immediate controls (Conn, WMaxLim_Ena, WMaxLimPct).
-use Rattle.std.specs.Prelude.{ℕ, ◌*◌, ◌/◌, ◌^◌, ◌==◌, nat_le, nat_lt, min, Bool, false, List, [], ◌∷◌, map, slice_get, slice_set, ℤ, pos, ◌+ℤ◌, unsigned_abs, Option, None, Some, option_map, option_and_then, if◌then◌else◌}
+-- What a tick does to a plant: the watts that its inverters produce and their states, and what its meters show of that.
+-- SunSpec inverter models 101 to 103 (W, W_SF, St), 123, immediate controls (Conn, WMaxLim_Ena, WMaxLimPct), and meter
+-- models 201 to 204 (W, W_SF).
+use Rattle.std.specs.Prelude.{ℕ, ◌+◌, ◌-◌, ◌*◌, ◌/◌, ◌^◌, ◌==◌, nat_le, nat_lt, min, max, Bool, false, ◌&&◌, List, [], ◌∷◌, map, sum_by, slice_get, slice_set, ℤ, pos, neg_ℤ, ◌+ℤ◌, ◌-ℤ◌, ◌*ℤ◌, int_le, unsigned_abs, Option, None, Some, option_map, option_and_then, if◌then◌else◌}
+use Rattle.std.specs.Int.{int_div_euclid, int_rem_euclid}
+use Rattle.std.specs.List.{list_any}
 use Rattle.std.specs.Option.{option_map_or}
 use Rattle.point_types.specs.Point.{value_of}
 use Rattle.point_types.specs.Reading.{factor_of}
 use Rattle.point_types.specs.declared.kind.Kind.TheVariants as kinds
 use Rattle.inverter_sim.specs.declared.points.Scale.{Scale}
 use Rattle.inverter_sim.specs.declared.points.Scale.TheVariants as scale
+use Rattle.inverter_sim.specs.declared.works.Inverter.{Inverter}
+use Rattle.inverter_sim.specs.declared.works.Meter.{Meter}
+use Rattle.inverter_sim.specs.declared.works.Works.{Works}
+use Rattle.inverter_sim.specs.declared.works.Works.TheVariants as works
 use Rattle.inverter_sim.specs.State.{DeviceState, PlantState}
 
 -- ---- the registers that a tick looks at
@@ -44,64 +51,139 @@ abbrev pub power_by : List ℕ → Scale → Option ℕ
 power_by registers (scale.Fixed s) = option_map power_of (factor_of (Some s))
 power_by registers (scale.At i) = power_at registers (Some i)
 
--- ---- the rule
+-- ---- watts at the ticks to come
 
--- the watts that are available now; the last number stays
-abbrev pub available : List ℕ → ℕ
-available [] = 0
-available (w ∷ ws) = w
+-- the watts now; the last number stays
+abbrev pub present : List ℕ → ℕ
+present [] = 0
+present (w ∷ ws) = w
 
 abbrev pub later : List ℕ → List ℕ
 later [] = []
 later (w ∷ []) = w ∷ []
 later (w ∷ v ∷ ws) = v ∷ ws
 
-abbrev pub is_off : DeviceState → Bool
-is_off d = is_number 0 (number_at d.registers d.points.connected)
+-- the register set, where the device has it
+abbrev pub set_at : Option ℕ → ℕ → List ℕ → List ℕ
+set_at None w registers = registers
+set_at (Some i) w registers = slice_set registers i w
 
-abbrev pub is_limited : DeviceState → Bool
-is_limited d = is_number 1 (number_at d.registers d.points.limited)
+-- ---- an inverter
+
+abbrev pub is_off : List ℕ → Inverter → Bool
+is_off registers i = is_number 0 (number_at registers i.points.connected)
+
+abbrev pub is_limited : List ℕ → Inverter → Bool
+is_limited registers i = is_number 1 (number_at registers i.points.limited)
 
 -- wmax * raw * 10^sf / 100, rounded down
 abbrev pub percent_of : ℕ → ℕ → ℕ → ℕ
 percent_of wmax raw power = wmax * raw * power / (100 * one)
 
 -- the most watts that the controls allow: none where WMaxLim_Ena isn't 1, or WMaxLimPct is absent
-abbrev pub limit_of : DeviceState → Option ℕ
-limit_of d =
-    if is_limited d then
-    option_and_then (λ raw. option_map (percent_of d.wmax raw) (power_by d.registers d.points.limit_scale))
-    (number_at d.registers d.points.limit)
+abbrev pub limit_of : List ℕ → Inverter → Option ℕ
+limit_of registers i =
+    if is_limited registers i then
+    option_and_then (λ raw. option_map (percent_of i.wmax raw) (power_by registers i.points.limit_scale))
+    (number_at registers i.points.limit)
     else None
 
--- the watts that the inverter produces
-abbrev pub watts_of : DeviceState → ℕ
-watts_of d = if is_off d then 0 else option_map_or (min (available d.upcoming)) (limit_of d) (available d.upcoming)
+-- the watts that are available, or the limit where that is less
+abbrev pub wanted_of : List ℕ → Inverter → ℕ
+wanted_of registers i = option_map_or (min (present i.available)) (limit_of registers i) (present i.available)
+
+-- as near to what is wanted as so many watts up or down lead from the watts before
+abbrev pub stepped : ℕ → ℕ → ℕ → ℕ
+stepped before wanted ramp = max (before - ramp) (min (before + ramp) wanted)
+
+-- the same of an inverter with a ramp, which never gives more than is available
+abbrev pub ramped : List ℕ → Inverter → ℕ → ℕ
+ramped registers i ramp = min (present i.available) (stepped i.produced (wanted_of registers i) ramp)
+
+-- the watts that the inverter produces at its next tick
+abbrev pub watts_of : List ℕ → Inverter → ℕ
+watts_of registers i = if is_off registers i then 0 else option_map_or (ramped registers i) i.ramp (wanted_of registers i)
 
 -- watts / 10^sf, rounded down, where an int16 holds it
 abbrev pub scaled_watts : ℕ → ℕ → ℕ
 scaled_watts watts power = let n = watts * one / power in if nat_le n 32767 then n else 0x8000
 
 -- what W shows: the unimplemented word where W_SF is absent or the number is too great
-abbrev pub watts_word : DeviceState → ℕ
-watts_word d = option_map_or (scaled_watts (watts_of d)) (power_at d.registers d.points.watts_scale) 0x8000
+abbrev pub watts_word : List ℕ → Inverter → ℕ
+watts_word registers i = option_map_or (scaled_watts (watts_of registers i)) (power_at registers i.points.watts_scale) 0x8000
 
 -- what St shows: OFF, SLEEPING, THROTTLED or MPPT
-abbrev pub state_word : DeviceState → ℕ
-state_word d = if is_off d then 1 else (if available d.upcoming == 0 then 2 else (if nat_lt (watts_of d) (available d.upcoming) then 5 else 4))
+abbrev pub state_word : List ℕ → Inverter → ℕ
+state_word registers i = if is_off registers i then 1 else (if present i.available == 0 then 2 else (if nat_lt (watts_of registers i) (present i.available) then 5 else 4))
 
--- the register set, where the device has it
-abbrev pub set_at : Option ℕ → ℕ → List ℕ → List ℕ
-set_at None w registers = registers
-set_at (Some i) w registers = slice_set registers i w
+-- An inverter after its next tick, and its registers.
+abbrev pub gone_on : List ℕ → Inverter → Inverter
+gone_on registers i = record i { available = later i.available; produced = watts_of registers i }
 
--- A device after its next tick.
+abbrev pub shown : List ℕ → Inverter → List ℕ
+shown registers i = set_at i.points.state (state_word registers i) (set_at i.points.watts (watts_word registers i) registers)
+
+abbrev pub ticked_as : Works → DeviceState → DeviceState
+ticked_as (works.Inverter i) d = record d { works = works.Inverter (gone_on d.registers i); registers = shown d.registers i }
+ticked_as (works.Meter m) d = d
+
+-- A device when the inverters have ticked; a meter is as it was.
 abbrev pub ticked : DeviceState → DeviceState
-ticked d = record d {
-  upcoming = later d.upcoming;
-  registers = set_at d.points.state (state_word d) (set_at d.points.watts (watts_word d) d.registers);
+ticked d = ticked_as d.works d
+
+-- ---- a meter
+
+-- the watts that a device has produced since its last tick; a meter produces none
+abbrev pub produced_as : Works → ℕ
+produced_as (works.Inverter i) = i.produced
+produced_as (works.Meter m) = 0
+
+-- the watts of the device, where its unit is one of these
+abbrev pub produced_for : List ℕ → DeviceState → ℕ
+produced_for units d = if list_any (λ unit. unit == d.unit) units then produced_as d.works else 0
+
+-- the watts that the devices of these units have produced since their last tick
+abbrev pub produced_by : List ℕ → List DeviceState → ℕ
+produced_by units devices = sum_by (produced_for units) devices
+
+-- those of the inverters whose watts go through the meter
+abbrev pub produced_behind : Works → List DeviceState → ℕ
+produced_behind (works.Inverter i) devices = 0
+produced_behind (works.Meter m) devices = produced_by m.behind devices
+
+-- the watts that are drawn from the grid: the load less what these inverters produce
+abbrev pub drawn : ℕ → Meter → ℤ
+drawn produced m = pos (present m.load) -ℤ pos produced
+
+-- a number as an int16 in two's complement, where an int16 holds it and it isn't the unimplemented word
+abbrev pub int16_word : ℤ → ℕ
+int16_word n = if int_le (neg_ℤ (pos 32767)) n && int_le n (pos 32767) then unsigned_abs (int_rem_euclid n (pos 65536)) else 0x8000
+
+-- watts / 10^sf, rounded down, which is away from zero where power is fed into the grid
+abbrev pub scaled_drawn : ℤ → ℕ → ℕ
+scaled_drawn watts power = int16_word (int_div_euclid (watts *ℤ pos one) (pos power))
+
+-- what W shows: the unimplemented word where W_SF is absent or the number doesn't fit
+abbrev pub drawn_word : List ℕ → ℕ → Meter → ℕ
+drawn_word registers produced m = option_map_or (scaled_drawn (drawn produced m)) (power_at registers m.points.watts_scale) 0x8000
+
+abbrev pub metered_as : Works → ℕ → DeviceState → DeviceState
+metered_as (works.Inverter i) produced d = d
+metered_as (works.Meter m) produced d = record d {
+  works = works.Meter (record m { load = later m.load });
+  registers = set_at m.points.watts (drawn_word d.registers produced m) d.registers;
 }
+
+-- A device when the meters have ticked too, among these devices; an inverter is as it was.
+abbrev pub metered : List DeviceState → DeviceState → DeviceState
+metered devices d = metered_as d.works (produced_behind d.works devices) d
+
+-- ---- the plant
+
+-- The devices after the next tick: the inverters tick, and then the meters show what came of that.
+abbrev pub devices_ticked : List DeviceState → List DeviceState
+devices_ticked devices = let produced = map ticked devices in map (metered produced) produced
 
 -- A plant after its next tick.
 abbrev pub all_ticked : PlantState → PlantState
-all_ticked p = record p { devices = map ticked p.devices }
+all_ticked p = record p { devices = devices_ticked p.devices }

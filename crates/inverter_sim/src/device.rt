@@ -1,34 +1,30 @@
-//! A simulated inverter: its registers, its power and how it misbehaves.
+//! A simulated device: its registers, and what it works as.
 ghost use Rattle.std.specs.Prelude.{◌≡◌, ◌≤◌, ◌+◌, ◌-◌, ◌<◌, take, drop, length, Some, None, IfSome, MatchOption, true, false};
 ghost use Rattle.std.specs.Option.{SomeIff};
 ghost use Rattle.modbus_frame.specs.Message.{IsRequest};
 ghost use Rattle.inverter_sim.specs.Serve.{is_within, is_writable, are_whole, written, acknowledged, after_request, answer_to, after_pdu, reply_pdu};
-ghost use Rattle.inverter_sim.specs.Tick.{ticked};
 
 use crate::place::Place;
-use crate::points::TickPoints;
+use crate::works::Works;
 use modbus_frame::{
     Exception, Pdu, Request, Response, Words, exception_pdu, parse_request, response_pdu,
 };
 use std::marker::Model;
 
-/// An inverter behind its registers.
+/// An inverter or a meter behind its registers.
 ///
-/// A contract sees its registers from the base on, the place of each, and the watts of the ticks to come.
+/// A contract sees its registers from the base on, the place of each, and what it works as.
 #[derive(Debug, Drop)]
 pub(crate) struct Device {
     pub(crate) unit: u8,
     pub(crate) base: u16,
-    pub(crate) wmax: u32,
-    pub(crate) available: Vec<u32>,
-    pub(crate) next: usize,
+    pub(crate) works: Works,
     pub(crate) registers: Vec<u16>,
     pub(crate) places: Vec<Place>,
-    pub(crate) points: TickPoints,
 }
 
 impl Model for Device {
-    ghost use Rattle.std.specs.Prelude.{◌≡◌, ◌<◌, ◌≤◌, drop, length};
+    ghost use Rattle.std.specs.Prelude.{◌≡◌, length};
     ghost use Rattle.inverter_sim.specs.State.{DeviceState};
 
     ghost Value = { DeviceState };
@@ -36,14 +32,12 @@ impl Model for Device {
     ghost view = { λ d. record {
       unit = d.unit;
       base = d.base;
-      wmax = d.wmax;
-      upcoming = drop d.next d.available.items;
+      works = d.works;
       registers = d.registers.items;
       places = d.places.items;
-      points = d.points;
     } };
 
-    ghost invariant = { λ d. (d.next < length d.available.items) × (length d.places.items ≡ length d.registers.items) × (d.wmax ≤ 1000000) };
+    ghost invariant = { λ d. length d.places.items ≡ length d.registers.items };
 }
 
 impl Device {

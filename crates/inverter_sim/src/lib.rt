@@ -1,8 +1,11 @@
-//! A simulator of inverters: the registers of a plant that a file describes, served over links that may misbehave.
+//! A simulator of inverters and meters: the registers of a plant that a file describes, served over links that may
+//! misbehave.
 #![tactic(auto)]
 
 mod device;
+mod device_kind;
 mod fault;
+mod metering;
 mod misbehaviour;
 mod part;
 mod place;
@@ -10,10 +13,13 @@ mod plant;
 mod points;
 mod reader;
 pub mod rules;
+mod series;
 mod serving;
 mod tick;
+mod watts;
+mod works;
 
-// a plant of inverters, and what one of its devices does wrong
+// a plant of inverters and meters, and what one of its devices does wrong
 pub use fault::PlantFault;
 pub use misbehaviour::{Fault, Misbehaviour};
 pub use part::PlantPart;
@@ -22,4 +28,4 @@ pub use plant::Plant;
 pub use serving::serve_link;
 // where a device's points lie, and which of them its ticks set
 pub use place::Place;
-pub use points::{Scale, TickPoints};
+pub use points::{InverterPoints, MeterPoints, Scale};

@@ -1,16 +1,18 @@
-//! A plant: simulated inverters at their units.
+//! A plant: simulated inverters and meters at their units.
 ghost use Rattle.std.specs.Prelude.{◌≡◌, ◌≢◌, map, Ok, Err, IfOk, IfErr, OnOk, MatchResult};
 ghost use Rattle.toml.specs.View.{view};
-ghost use Rattle.inverter_sim.specs.File.{plant_of, StandsFor, Breaks};
+ghost use Rattle.std.specs.List.{list_all};
+ghost use Rattle.inverter_sim.specs.File.{is_inverter, first_unit, first_pace, plant_of, StandsFor, Breaks};
 ghost use Rattle.inverter_sim.specs.Parts.{IsAtFault, IsTreeFault};
 ghost use Rattle.inverter_sim.specs.declared.part.PlantPart.TheVariants as parts;
 ghost use Rattle.inverter_sim.specs.declared.fault.PlantFault.{PlantFault as FaultOfPlant};
 ghost use Rattle.inverter_sim.specs.declared.fault.PlantFault.TheVariants as fault;
-ghost use Rattle.inverter_sim.specs.Tick.{ticked, all_ticked};
+ghost use Rattle.inverter_sim.specs.Tick.{ticked, devices_ticked, all_ticked};
 ghost use Rattle.inverter_sim.specs.Serve.{after_among, reply_among, after_serving, reply_of};
 
 use crate::device::Device;
 use crate::fault::PlantFault;
+use crate::metering::meter_all;
 use crate::misbehaviour::Fault;
 use crate::part::PlantPart;
 use crate::reader::{devices_of, faults_of, too_long};
@@ -21,14 +23,15 @@ use std::alloc::Global;
 use std::marker::Model;
 use toml::{Value, table_from_str};
 
-/// A simulated plant of inverters.
+/// A simulated plant of inverters and meters.
 ///
-/// A contract sees its devices, its faults, and how many frames it was sent.
+/// A contract sees its devices, its faults, how many frames it was sent, and the unit whose requests tick it.
 #[derive(Debug, Drop)]
 pub struct Plant {
     pub(crate) devices: Vec<Device>,
     pub(crate) faults: Vec<Fault>,
     pub(crate) frames: u32,
+    pub(crate) pace: Option<u8>,
 }
 
 impl Model for Plant {
@@ -37,23 +40,24 @@ impl Model for Plant {
 
     ghost Value = { PlantState };
 
-    ghost view = { λ p. record { devices = p.devices.items; faults = p.faults.items; frames = p.frames } };
+    ghost view = { λ p. record { devices = p.devices.items; faults = p.faults.items; frames = p.frames; pace = p.pace } };
 
     ghost invariant = { λ p. p.frames ≤ 1000001 };
 }
 
 impl Plant {
     /// Reads a plant file: `[[device]]` with `unit`, `models` (1 first), `wmax`, `available` (watts, one number for each
-    /// tick) and `base` (40000 where it is missing); `[[device.value]]` with `model`, `point` and `raw`, the number in a
-    /// point's registers; `[[fault]]` with `request` and `kind`: `exception` with `code`, `stale` with `count`, `garbage`
-    /// with `word`, `length`, `cut` with `bytes`. Other keys aren't looked at. Registers without a value are
-    /// unimplemented. Of two definitions with one id the last one counts.
+    /// tick), optional `ramp` (watts) and `base` (40000 where it is missing), or with `kind = "meter"`, `unit`, `models`
+    /// (one of 201 to 204 among them), `load` (watts likewise), `behind` (units of inverters before it) and `base`;
+    /// `[[device.value]]` with `model`, `point` and `raw`, the number in a point's registers; `[[fault]]` with `request` and `kind`: `exception`
+    /// with `code`, `stale` with `count`, `garbage` with `word`, `length`, `cut` with `bytes`. Other keys aren't looked at.
+    /// Registers without a value are unimplemented. Of two definitions with one id the last one counts.
     ///
-    /// The first rule that the file breaks is the fault: the numbers of devices, models and watts anywhere in the file;
-    /// then each device by keys, models, ranges and duplicates, and its values one by one in the same way; then the
-    /// number of faults, and the faults one by one. A unit is in 0..255, a base in 0..65534, `wmax` and `available` are
-    /// in 0..1,000,000, `request` in 1..1,000,000, `code` in 1..255, `count` in 1..100, `word` in 0..65535 and `bytes` in
-    /// 0..259. There are at most 64 devices, 16 models and 1,024 watts of each, and 256 faults.
+    /// The first rule that the file breaks is the fault: the numbers of devices, models, watts and units anywhere in the
+    /// file; then each device by its kind, keys, models, ranges and duplicates, and its values one by one in the same way;
+    /// then the number of faults, and the faults one by one. A unit is in 0..255, a base in 0..65534, `wmax`,
+    /// `available`, `ramp` and `load` are in 0..1,000,000, `request` in 1..1,000,000, `code` in 1..255, `count` in 1..100, `word` in 0..65535
+    /// and `bytes` in 0..259. There are at most 64 devices, 16 models, 1,024 watts and 64 units of each, and 256 faults.
     pub fn read(alloc: Global, toml: &str, defs: &[ModelDef]) -> Result<Plant, PlantFault>
         ensures ok { IfOk result (StandsFor defs.now toml.now) }
         ensures unbroken { OnOk result ((e : FaultOfPlant) → ¬ Breaks defs.now toml.now e) }
@@ -81,12 +85,14 @@ impl Plant {
         }
     }
 
-    /// One step of time: each device produces the watts that its controls allow of those that are available now, shows
+    /// One step of time: each inverter produces the watts that its controls allow of those that are available now, shows
     /// them in W by W_SF, rounded down, and its state in St (SunSpec inverter models 101 to 103; 123, immediate controls).
+    /// Then each meter shows its load of now less the watts of its inverters in W by W_SF, rounded down (SunSpec meter
+    /// models 201 to 204).
     pub fn tick(&mut self)
         ensures { self.new ≡ all_ticked self.old }
     {
-        tick_all(&mut self.devices);
+        tick_devices(&mut self.devices);
     }
 
     /// Answers a PDU for a unit, and does what it asks for: registers from the device's mark to its end model are read,
@@ -140,11 +146,51 @@ fn read_tree(
     }
     let devices = devices_of(alloc, tree, defs, part)?;
     let faults = faults_of(alloc, tree, part)?;
+    let pace = first_pace(&devices);
     Ok(Plant {
         devices,
         faults,
         frames: 0,
+        pace,
     })
+}
+
+// In a plant without a meter the first device's requests tick it.
+fn first_pace(devices: &[Device]) -> Option<u8>
+    ensures { result ≡ first_pace devices.now }
+{
+    if are_inverters(devices) {
+        first_unit(devices)
+    } else {
+        None
+    }
+}
+
+fn are_inverters(devices: &[Device]) -> bool
+    ensures { result ≡ list_all (λ d. is_inverter d.works) devices.now }
+{
+    for device in devices {
+        if !device.works.is_inverter() {
+            return false;
+        }
+    }
+    true
+}
+
+fn first_unit(devices: &[Device]) -> Option<u8>
+    ensures { result ≡ first_unit devices.now }
+{
+    match devices {
+        [device, ..] => Some(device.unit()),
+        [] => None,
+    }
+}
+
+fn tick_devices(devices: &mut [Device])
+    ensures { devices.new ≡ devices_ticked devices.old }
+{
+    tick_all(devices);
+    meter_all(devices);
 }
 
 fn tick_all(devices: &mut [Device])

@@ -5,11 +5,12 @@ ghost use Rattle.std.specs.Option.{option_map_or};
 ghost use Rattle.modbus_frame.specs.Link.{CountsCalls};
 ghost use Rattle.modbus_frame.specs.Message.{request_of, words_reply};
 ghost use Rattle.modbus_frame.specs.Serving.{Serves};
-ghost use Rattle.inverter_sim.specs.Link.{AnswersFrame, parsed_begins_scan, one_frame_more, next_fault, ticks_before, done, right_reply, done_by, garbled, reply_by, earlier, copies_by, spelled_by, sent_by, goes_on_by};
+ghost use Rattle.inverter_sim.specs.Link.{AnswersFrame, watts_model, parsed_begins_scan, begins_among, one_frame_more, next_fault, ticks_before, ticked_before, done, right_reply, done_by, garbled, reply_by, earlier, copies_by, spelled_by, sent_by, goes_on_by};
 
 use crate::device::Device;
 use crate::misbehaviour::Misbehaviour;
 use crate::plant::Plant;
+use crate::works::Works;
 use modbus_frame::{
     Exception, Frame, FrameReply, Link, LinkFault, Pdu, Request, Responder, Response, Words,
     exception_pdu, parse_request, response_pdu, serve, write_frame,
@@ -17,8 +18,9 @@ use modbus_frame::{
 
 /// Answers the frames that come over a link, to its end between two frames or to a reply that the plant's faults cut
 /// off, and gives their number. Each reply has its frame's transaction and unit; an unknown unit is answered by
-/// exception 0B. The plant ticks before each request of function 3 for more than two registers that reads its first
-/// device from the inverter model on.
+/// exception 0B. The plant ticks before each request of function 3 for more than two registers that reads a device from
+/// its inverter model, or its meter model, on: in a plant without a meter its first device, else the one that was asked so
+/// first.
 ///
 /// [`LinkFault`]: Read and Write where the link failed, Frame where the bytes that came are no frame, End where they end
 /// inside one, Turns after 1,000,000 reads and writes. The frames before stay answered, and what they changed stands.
@@ -83,42 +85,73 @@ impl Plant {
         ensures after { self.new ≡ done self.old frame.now }
         ensures reply { result ≡ right_reply self.old frame.now }
     {
-        if self.ticks_before(frame) {
-            self.tick();
-        }
+        self.tick_before(frame);
         self.serve(frame.unit, &frame.pdu)
     }
 
-    fn ticks_before(&self, frame: &Frame) -> bool
-        ensures { result ≡ ticks_before self.now.devices frame.now }
+    // Ticks where the frame is one that ticks the plant.
+    fn tick_before(&mut self, frame: &Frame)
+        ensures { self.new ≡ ticked_before self.old frame.now }
     {
-        match self.devices.as_slice() {
-            [device, ..] => device.begins_scan(frame),
-            [] => false,
+        if self.ticks_before(frame) {
+            self.tick();
+            self.pace = Some(frame.unit);
+        }
+    }
+
+    fn ticks_before(&self, frame: &Frame) -> bool
+        ensures { result ≡ ticks_before self.now frame.now }
+    {
+        if !begins_among(&self.devices, frame) {
+            return false;
+        }
+        match self.pace {
+            Some(unit) => unit == frame.unit,
+            None => true,
         }
     }
 }
 
-impl Device {
-    // Whether a frame asks this device for more than two registers from its inverter model on.
-    fn begins_scan(&self, frame: &Frame) -> bool
-        ensures { result ≡ (self.now.unit == frame.now.unit && parsed_begins_scan self.now (request_of frame.now.pdu)) }
-    {
-        if self.unit != frame.unit {
-            return false;
+// Whether a frame asks the device of its unit for a scan.
+fn begins_among(devices: &[Device], frame: &Frame) -> bool
+    ensures { result ≡ begins_among devices.now frame.now }
+{
+    for device in devices {
+        if device.unit() == frame.unit {
+            return device.begins_scan(frame);
         }
+    }
+    false
+}
+
+impl Device {
+    // Whether a frame asks for more than two registers from the model on that shows the device's watts.
+    fn begins_scan(&self, frame: &Frame) -> bool
+        ensures { result ≡ parsed_begins_scan self.now (request_of frame.now.pdu) }
+    {
         match parse_request(&frame.pdu) {
-            Ok(Request::Read { addr, qty }) => qty > 2 && self.is_inverter_at(addr),
+            Ok(Request::Read { addr, qty }) => qty > 2 && self.has_watts_at(addr),
             _ => false,
         }
     }
 
-    fn is_inverter_at(&self, addr: u16) -> bool
-        ensures { result ≡ option_map_or (λ at. addr == self.now.base + at) self.now.points.inverter false }
+    fn has_watts_at(&self, addr: u16) -> bool
+        ensures { result ≡ option_map_or (λ at. addr == self.now.base + at) (watts_model self.now.works) false }
     {
-        match self.points.inverter {
+        match self.works.watts_model() {
             Some(at) => addr >= self.base && (addr - self.base) as usize == at,
             None => false,
+        }
+    }
+}
+
+impl Works {
+    fn watts_model(&self) -> Option<usize>
+        ensures { result ≡ watts_model self.now }
+    {
+        match self {
+            Works::Inverter(inverter) => inverter.points.inverter,
+            Works::Meter(meter) => meter.points.meter,
         }
     }
 }

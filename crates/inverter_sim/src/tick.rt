@@ -1,19 +1,21 @@
-//! A tick of a device: the watts that it produces, as its controls allow, and its state.
+//! A tick of an inverter: the watts that it produces, as its controls allow, and its state.
 ghost use Rattle.std.specs.Prelude.{◌≡◌, ◌≤◌, ◌<◌, ◌^◌, ◌*◌, ◌/◌, min, drop, length, take, Some, None, IfSome, option_map, map};
 ghost use Rattle.point_types.specs.Reading.{factor_of};
-ghost use Rattle.inverter_sim.specs.Tick.{word_at, implemented, number_at, is_number, power_of, power_in, power_at, power_by, one, percent_of, scaled_watts, limit_of, watts_of, watts_word, state_word, set_at, is_off, is_limited, ticked, available};
+ghost use Rattle.inverter_sim.specs.Tick.{word_at, implemented, number_at, is_number, power_of, power_in, power_at, power_by, one, percent_of, scaled_watts, limit_of, wanted_of, stepped, watts_of, watts_word, state_word, set_at, is_off, is_limited, gone_on, shown, ticked, present};
 
 use crate::device::Device;
 use crate::points::Scale;
+use crate::watts::Watts;
+use crate::works::{Inverter, Works};
 use point_types::{Kind, value};
 
 // 10^10, which stands for the factor 0.
-const ONE: u128 = 10_000_000_000;
+pub(crate) const ONE: u128 = 10_000_000_000;
 
 // The greatest number that W, an int16, shows.
 const MOST_WATTS: u128 = 32767;
 
-const UNIMPLEMENTED: u16 = 0x8000;
+pub(crate) const UNIMPLEMENTED: u16 = 0x8000;
 
 // The state of an inverter (SunSpec models 101 to 103, St).
 const OFF: u16 = 1;
@@ -25,85 +27,127 @@ const MPPT: u16 = 4;
 const THROTTLED: u16 = 5;
 
 impl Device {
-    /// Sets the watts that are produced now, and the state; the next tick has the next watts available.
-    #[tactic(auto, using(crate::proofs::Upcoming::later_more, crate::proofs::Upcoming::later_last))]
+    /// Sets the watts that an inverter produces now, and its state; the next tick has the next watts available. A meter
+    /// stays as it is.
     pub(crate) fn tick(&mut self)
         ensures { self.new ≡ ticked self.old }
     {
-        let watts = self.watts_word();
-        let state = self.state_word();
-        set_at(&mut self.registers, self.points.watts, watts);
-        set_at(&mut self.registers, self.points.state, state);
-        if self.next + 1 < self.available.len() {
-            self.next += 1;
+        match &mut self.works {
+            Works::Inverter(inverter) => inverter.tick(&mut self.registers),
+            Works::Meter(_) => {}
         }
     }
+}
 
-    fn available(&self) -> u32
-        ensures { result ≡ available self.now.upcoming }
+impl Inverter {
+    fn tick(&mut self, registers: &mut Vec<u16>)
+        ensures after { self.new ≡ gone_on registers.old.items self.old }
+        ensures shown { registers.new.items ≡ shown registers.old.items self.old }
+        ensures len { length registers.new.items ≡ length registers.old.items }
     {
-        self.available[self.next]
+        let watts = self.watts_word(registers);
+        let state = self.state_word(registers);
+        self.produced = Watts::new(self.watts(registers));
+        self.available.go_on();
+        set_at(registers, self.points.watts, watts);
+        set_at(registers, self.points.state, state);
     }
 
-    fn is_off(&self) -> bool
-        ensures { result ≡ is_off self.now }
+    fn is_off(&self, registers: &[u16]) -> bool
+        ensures { result ≡ is_off registers.now self.now }
     {
-        number_at(&self.registers, self.points.connected) == Some(0)
+        number_at(registers, self.points.connected) == Some(0)
     }
 
-    fn is_limited(&self) -> bool
-        ensures { result ≡ is_limited self.now }
+    fn is_limited(&self, registers: &[u16]) -> bool
+        ensures { result ≡ is_limited registers.now self.now }
     {
-        number_at(&self.registers, self.points.limited) == Some(1)
+        number_at(registers, self.points.limited) == Some(1)
     }
 
     // The most watts that the controls allow.
-    fn limit(&self) -> Option<u128>
-        ensures { result ≡ limit_of self.now }
+    fn limit(&self, registers: &[u16]) -> Option<u128>
+        ensures { result ≡ limit_of registers.now self.now }
     {
-        if !self.is_limited() {
+        if !self.is_limited(registers) {
             return None;
         }
-        let raw = number_at(&self.registers, self.points.limit)?;
-        let power = power_by(&self.registers, self.points.limit_scale)?;
+        let raw = number_at(registers, self.points.limit)?;
+        let power = power_by(registers, self.points.limit_scale)?;
         Some(percent_of(self.wmax, raw, power))
     }
 
     // The watts that the inverter produces.
-    fn watts(&self) -> u32
-        ensures { result ≡ watts_of self.now }
+    fn watts(&self, registers: &[u16]) -> u32
+        ensures watts { result ≡ watts_of registers.now self.now }
+        ensures limited { result ≤ 1000000 }
     {
-        if self.is_off() {
+        if self.is_off(registers) {
             return 0;
         }
-        let available = self.available();
-        match self.limit() {
+        let wanted = self.wanted(registers);
+        match self.ramp {
+            Some(ramp) => {
+                let stepped = stepped(self.produced.number(), wanted, ramp);
+                self.available.present().min(stepped)
+            }
+            None => wanted,
+        }
+    }
+
+    // The watts that are available, or the limit where that is less.
+    fn wanted(&self, registers: &[u16]) -> u32
+        ensures watts { result ≡ wanted_of registers.now self.now }
+        ensures limited { result ≤ 1000000 }
+    {
+        let available = self.available.present();
+        match self.limit(registers) {
             Some(limit) => lesser(available, limit),
             None => available,
         }
     }
 
-    fn watts_word(&self) -> u16
-        ensures { result ≡ watts_word self.now }
+    fn watts_word(&self, registers: &[u16]) -> u16
+        ensures { result ≡ watts_word registers.now self.now }
     {
-        match power_at(&self.registers, self.points.watts_scale) {
-            Some(power) => scaled_watts(self.watts(), power),
+        match power_at(registers, self.points.watts_scale) {
+            Some(power) => scaled_watts(self.watts(registers), power),
             None => UNIMPLEMENTED,
         }
     }
 
-    fn state_word(&self) -> u16
-        ensures { result ≡ state_word self.now }
+    fn state_word(&self, registers: &[u16]) -> u16
+        ensures { result ≡ state_word registers.now self.now }
     {
-        if self.is_off() {
+        if self.is_off(registers) {
             OFF
-        } else if self.available() == 0 {
+        } else if self.available.present() == 0 {
             SLEEPING
-        } else if self.watts() < self.available() {
+        } else if self.watts(registers) < self.available.present() {
             THROTTLED
         } else {
             MPPT
         }
+    }
+}
+
+// As near to what is wanted as so many watts up or down lead from the watts before.
+fn stepped(before: u32, wanted: u32, ramp: u32) -> u32
+    requires before { before ≤ 1000000 }
+    requires wanted { wanted ≤ 1000000 }
+    ensures watts { result ≡ stepped before wanted ramp }
+    ensures limited { result ≤ 1000000 }
+{
+    if before < wanted {
+        if wanted - before <= ramp {
+            wanted
+        } else {
+            before + ramp
+        }
+    } else if before - wanted <= ramp {
+        wanted
+    } else {
+        before - ramp
     }
 }
 
@@ -144,7 +188,7 @@ fn ten_to(exponent: u32) -> u128
     10u128.pow(exponent)
 }
 
-fn power_at(registers: &[u16], at: Option<usize>) -> Option<u128>
+pub(crate) fn power_at(registers: &[u16], at: Option<usize>) -> Option<u128>
     ensures power { result ≡ power_at registers.now at }
     ensures positive { IfSome result (λ p. 0 < p) }
     ensures bound { IfSome result (λ p. p ≤ 10 ^ 20) }
@@ -173,7 +217,8 @@ fn percent_of(wmax: u32, raw: u16, power: u128) -> u128
 }
 
 fn lesser(available: u32, limit: u128) -> u32
-    ensures { result ≡ min available limit }
+    ensures lesser { result ≡ min available limit }
+    ensures limited { result ≤ available }
 {
     if (available as u128) <= limit {
         available
@@ -196,7 +241,8 @@ fn scaled_watts(watts: u32, power: u128) -> u16
 }
 
 pub(crate) fn set_at(registers: &mut Vec<u16>, at: Option<usize>, word: u16)
-    ensures { registers.new.items ≡ set_at at word registers.old.items }
+    ensures set { registers.new.items ≡ set_at at word registers.old.items }
+    ensures len { length registers.new.items ≡ length registers.old.items }
 {
     if let Some(at) = at
         && at < registers.len()

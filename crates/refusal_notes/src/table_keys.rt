@@ -1,6 +1,6 @@
 //! The keys of site and plant files that are read, and which others stand there.
 use crate::unread_keys::{Unread, is_among};
-use file_keys::list_at;
+use file_keys::{list_at, text_at};
 use file_places::{EntryName, named_entry};
 use std::alloc::AllocError;
 use toml::Value;
@@ -21,6 +21,20 @@ const SERVED: &[&str] = &["model", "point", "value", "text", "sum"];
 const PLANT: &[&str] = &["device", "fault"];
 
 const INVERTER: &[&str] = &["unit", "models", "wmax", "available", "base", "value"];
+
+/// The keys of an inverter that says what it is, or how fast its power changes.
+const KINDED: &[&str] = &[
+    "kind",
+    "unit",
+    "models",
+    "wmax",
+    "available",
+    "ramp",
+    "base",
+    "value",
+];
+
+const METER: &[&str] = &["kind", "unit", "models", "load", "behind", "base", "value"];
 
 const VALUE: &[&str] = &["model", "point", "raw"];
 
@@ -46,7 +60,7 @@ pub(crate) fn push_unread_of_plant<'a>(
     tree: &'a Value,
 ) -> Result<(), AllocError> {
     push_unread(found, EntryName::Alone("the file"), tree, PLANT)?;
-    push_each(found, tree, "device", "[[device]]", INVERTER)?;
+    push_unread_of_plants_devices(found, tree)?;
     push_each(found, tree, "fault", "[[fault]]", FAULT)?;
     let Some(devices) = list_at(tree, "device") else {
         return Ok(());
@@ -55,6 +69,32 @@ pub(crate) fn push_unread_of_plant<'a>(
         push_each(found, device, "value", "[[device.value]]", VALUE)?;
     }
     Ok(())
+}
+
+/// Appends what nothing reads of the devices of a plant.
+fn push_unread_of_plants_devices<'a>(
+    found: &mut Vec<Unread<'a>>,
+    tree: &'a Value,
+) -> Result<(), AllocError> {
+    let Some(devices) = list_at(tree, "device") else {
+        return Ok(());
+    };
+    for (number, device) in devices.iter().enumerate() {
+        let entry = named_entry("[[device]]", device, number);
+        push_unread(found, entry, device, keys_of(device))?;
+    }
+    Ok(())
+}
+
+/// The keys that are read of a device of a plant, by its kind.
+fn keys_of(device: &Value) -> &'static [&'static str] {
+    if text_at(device, "kind") == Some("meter") {
+        METER
+    } else if device.get("kind").is_some() || device.get("ramp").is_some() {
+        KINDED
+    } else {
+        INVERTER
+    }
 }
 
 /// Appends what nothing reads of each entry of a section.

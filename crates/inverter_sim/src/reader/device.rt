@@ -1,27 +1,27 @@
 //! The `[[device]]` entries of a plant file.
-ghost use Rattle.std.specs.Prelude.{◌≡◌, ◌≢◌, ◌≤◌, ◌<◌, ◌↔◌, [], ◌∷◌, Some, None, Ok, Err, pos, true, false, option_map, map, length, unsigned_abs, IsTrue, IfErr, IfOk, MatchOption, MatchResult, codes};
+ghost use Rattle.std.specs.Prelude.{◌≡◌, ◌≢◌, ◌≤◌, ◌↔◌, [], ◌∷◌, Some, None, Ok, Err, pos, true, false, option_map, length, unsigned_abs, IsTrue, IfErr, IfOk, MatchOption, MatchResult, codes};
 ghost use Rattle.std.specs.List.{list_any};
 ghost use Rattle.std.specs.Ordering.{int_eq};
 ghost use Rattle.toml.specs.View.{view, items_view};
-ghost use Rattle.inverter_sim.specs.File.{map_length, device_keys, definition_of, definitions_of, begins_with_one, are_watts, has_room, is_in_range, has_repeat, is_duplicate, blank_device, device_of, devices_from, devices_of};
+ghost use Rattle.inverter_sim.specs.File.{map_length, device_keys, definition_of, definitions_of, begins_with_one, has_room, is_in_range, has_repeat, works_has_repeat, is_duplicate, first_works, blank_device, device_of, devices_from, devices_of};
 ghost use Rattle.inverter_sim.specs.Parts.{IsDeviceRefused, IsInDevice, IsInSection};
-ghost use Rattle.inverter_sim.specs.Reading.{models_view, device_keys_view};
+ghost use Rattle.inverter_sim.specs.Reading.{models_view, works_keys_view, device_keys_view};
 ghost use Rattle.inverter_sim.specs.declared.fault.PlantFault.TheVariants as fault;
 
+use super::device_entry::{DeviceKeys, WorksKeys, device_keys};
 use super::image::{image_of, places_of};
-use super::keys::{integers_at, within};
-use super::layout::{has_room, tick_points};
+use super::keys::within;
+use super::layout::has_room;
 use super::values::give_values;
+use super::working::works_of;
 use crate::device::Device;
 use crate::fault::PlantFault;
 use crate::part::PlantPart;
-use file_keys::{number_at, number_or, section_at};
+use crate::works::Works;
+use file_keys::section_at;
 use model_defs::ModelDef;
 use std::alloc::Global;
 use toml::Value;
-
-/// The base of a device whose entry has none.
-const USUAL_BASE: i64 = 40000;
 
 /// The devices of a plant file; the part that the reader has come to is noted.
 pub(crate) fn devices_of(
@@ -60,40 +60,6 @@ fn devices_in(
     Ok(devices)
 }
 
-/// The keys of an entry.
-#[derive(Drop)]
-struct DeviceKeys {
-    unit: i64,
-    models: Vec<i64>,
-    wmax: i64,
-    available: Vec<i64>,
-    base: i64,
-}
-
-fn device_keys(alloc: Global, entry: &Value) -> Result<DeviceKeys, PlantFault>
-    ensures { MatchResult result (λ k. device_keys (view entry.now) ≡ Some (device_keys_view k))
-        (λ e. e ≢ fault.OutOfMemory → (e ≡ fault.MissingKey) × (device_keys (view entry.now) ≡ None)) }
-{
-    let Some(unit) = number_at(entry, "unit") else {
-        return Err(PlantFault::MissingKey);
-    };
-    let models = integers_at(alloc, entry, "models")?;
-    let Some(wmax) = number_at(entry, "wmax") else {
-        return Err(PlantFault::MissingKey);
-    };
-    let available = integers_at(alloc, entry, "available")?;
-    let Some(base) = number_or(entry, "base", USUAL_BASE) else {
-        return Err(PlantFault::MissingKey);
-    };
-    Ok(DeviceKeys {
-        unit,
-        models,
-        wmax,
-        available,
-        base,
-    })
-}
-
 /// The definition of an ID; of two the last one counts.
 pub fn definition_of(defs: &[ModelDef], number: i64) -> Option<&ModelDef>
     ensures { option_map (λ d. d.now) result ≡ definition_of defs.now number }
@@ -128,33 +94,12 @@ fn begins_with_one(numbers: &[i64]) -> bool
     }
 }
 
-/// The watts, where there are some and each is in 0..1,000,000.
-fn watts_of(alloc: Global, numbers: &[i64]) -> Result<Vec<u32>, PlantFault>
-    ensures watts { MatchResult result
-        (λ v. (are_watts numbers.now ≡ true) × (v.items ≡ map unsigned_abs numbers.now))
-        (λ e. e ≢ fault.OutOfMemory → (e ≡ fault.BadRange) × (are_watts numbers.now ≡ false)) }
-    ensures some { IfOk result (λ v. 0 < length v.items) }
-{
-    if numbers.is_empty() {
-        return Err(PlantFault::BadRange);
-    }
-    let mut watts = Vec::new(alloc);
-    for number in numbers {
-        let Some(n) = within(*number, 0, 1_000_000) else {
-            return Err(PlantFault::BadRange);
-        };
-        watts.push(n)?;
-    }
-    Ok(watts)
-}
-
 /// The numbers of a device, each in its limits.
 #[derive(Drop)]
 struct Ranges {
     unit: u8,
     base: u16,
-    wmax: u32,
-    available: Vec<u32>,
+    works: Works,
 }
 
 fn has_repeat(numbers: &[i64]) -> bool
@@ -173,7 +118,16 @@ fn has_repeat(numbers: &[i64]) -> bool
 fn is_duplicate(seen: &[Device], keys: &DeviceKeys) -> bool
     ensures { result ≡ is_duplicate seen.now (device_keys_view keys.now) }
 {
-    has_unit(seen, keys.unit) || has_repeat(&keys.models)
+    has_unit(seen, keys.unit) || has_repeat(&keys.models) || works_has_repeat(&keys.works)
+}
+
+fn works_has_repeat(keys: &WorksKeys) -> bool
+    ensures { result ≡ works_has_repeat (works_keys_view keys.now) }
+{
+    match keys {
+        WorksKeys::Inverter(_) => false,
+        WorksKeys::Meter(keys) => has_repeat(&keys.behind),
+    }
 }
 
 fn has_unit(devices: &[Device], unit: i64) -> bool
@@ -220,53 +174,48 @@ fn device_of(
     *part = PlantPart::Device(seen.len());
     let keys = device_keys(alloc, entry)?;
     let models = definitions_of(alloc, defs, &keys.models)?;
-    let ranges = ranges_of(alloc, &keys, &models)?;
+    let ranges = ranges_of(alloc, seen, &keys, &models)?;
     if is_duplicate(seen, &keys) {
         return Err(PlantFault::Duplicate);
     }
     let places = places_of(alloc, &models)?;
     let mut registers = image_of(alloc, &models)?;
     give_values(alloc, &models, &mut registers, entry, seen.len(), part)?;
-    let points = tick_points(&models);
     Ok(Device {
         unit: ranges.unit,
         base: ranges.base,
-        wmax: ranges.wmax,
-        available: ranges.available,
-        next: 0,
+        works: ranges.works,
         registers,
         places,
-        points,
     })
 }
 
-fn ranges_of(alloc: Global, keys: &DeviceKeys, models: &[&ModelDef]) -> Result<Ranges, PlantFault>
+fn ranges_of(
+    alloc: Global,
+    seen: &[Device],
+    keys: &DeviceKeys,
+    models: &[&ModelDef],
+) -> Result<Ranges, PlantFault>
     ensures ranges { MatchResult result
-        (λ r. (is_in_range (device_keys_view keys.now) (models_view models.now) ≡ true)
-        × (unsigned_abs keys.now.unit ≡ r.unit) × (unsigned_abs keys.now.base ≡ r.base) × (unsigned_abs keys.now.wmax ≡ r.wmax)
-        × (map unsigned_abs keys.now.available.items ≡ r.available.items))
-        (λ e. e ≢ fault.OutOfMemory → (e ≡ fault.BadRange) × (is_in_range (device_keys_view keys.now) (models_view models.now) ≡ false)) }
-    ensures some { IfOk result (λ r. 0 < length r.available.items) }
-    ensures limited { IfOk result (λ r. r.wmax ≤ 1000000) }
+        (λ r. (is_in_range seen.now (device_keys_view keys.now) (models_view models.now) ≡ true)
+        × (unsigned_abs keys.now.unit ≡ r.unit) × (unsigned_abs keys.now.base ≡ r.base)
+        × (first_works (models_view models.now) (works_keys_view keys.now.works) ≡ r.works))
+        (λ e. e ≢ fault.OutOfMemory → (e ≡ fault.BadRange) × (is_in_range seen.now (device_keys_view keys.now) (models_view models.now) ≡ false)) }
     ensures room { IfOk result (λ _. map_length (models_view models.now) ≤ 65536) }
 {
     let Some(unit) = within(keys.unit, 0, 255) else {
         return Err(PlantFault::BadRange);
     };
-    let Some(wmax) = within(keys.wmax, 0, 1_000_000) else {
-        return Err(PlantFault::BadRange);
-    };
-    let available = watts_of(alloc, &keys.available)?;
     let Some(base) = within(keys.base, 0, 65534) else {
         return Err(PlantFault::BadRange);
     };
     if !begins_with_one(&keys.models) || !has_room(keys.base, models) {
         return Err(PlantFault::BadRange);
     }
+    let works = works_of(alloc, seen, &keys.models, &keys.works, models)?;
     Ok(Ranges {
         unit: unit as u8,
         base: base as u16,
-        wmax,
-        available,
+        works,
     })
 }

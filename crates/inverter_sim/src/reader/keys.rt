@@ -1,13 +1,13 @@
 //! The numbers and the lists of a plant file, and how many entries they have.
 ghost use Rattle.std.specs.Prelude.{◌≡◌, ◌≢◌, ◌≤ℤ◌, pos, true, false, Some, None, MatchOption, MatchResult};
 ghost use Rattle.toml.specs.View.{view, items_view};
-ghost use Rattle.inverter_sim.specs.File.{is_in, integers_in, integers_at, any_of, device_has_too_many, has_too_many};
+ghost use Rattle.inverter_sim.specs.File.{is_in, integers_in, integers_at, any_of, is_meter_entry, works_has_too_many, device_has_too_many, has_too_many};
 ghost use Rattle.inverter_sim.specs.Parts.{IsFirst, IsTooLong};
 ghost use Rattle.inverter_sim.specs.declared.fault.PlantFault.TheVariants as fault;
 
 use crate::fault::PlantFault;
 use crate::part::PlantPart;
-use file_keys::{has_over, list_at};
+use file_keys::{has_over, list_at, text_at};
 use std::alloc::Global;
 use toml::Value;
 
@@ -50,20 +50,41 @@ fn integers_in(alloc: Global, trees: &Vec<Value>) -> Result<Vec<i64>, PlantFault
     Ok(integers)
 }
 
-/// The most devices, models of a device and watts of a device.
+/// The most devices, models of a device, watts of a device and units of a meter.
 pub const MOST_DEVICES: usize = 64;
 
 pub const MOST_MODELS: usize = 16;
 
 pub const MOST_WATTS: usize = 1024;
 
+pub const MOST_UNITS: usize = 64;
+
+fn is_meter_entry(tree: &Value) -> bool
+    ensures { result ≡ is_meter_entry (view tree.now) }
+{
+    match text_at(tree, "kind") {
+        Some(word) => word == "meter",
+        None => false,
+    }
+}
+
+fn works_has_too_many(tree: &Value) -> bool
+    ensures { result ≡ works_has_too_many (view tree.now) }
+{
+    if is_meter_entry(tree) {
+        has_over(MOST_WATTS, "load", tree) || has_over(MOST_UNITS, "behind", tree)
+    } else {
+        has_over(MOST_WATTS, "available", tree)
+    }
+}
+
 fn device_has_too_many(tree: &Value) -> bool
     ensures { result ≡ device_has_too_many (view tree.now) }
 {
-    has_over(MOST_MODELS, "models", tree) || has_over(MOST_WATTS, "available", tree)
+    has_over(MOST_MODELS, "models", tree) || works_has_too_many(tree)
 }
 
-/// The number of the first device that has too many models or watts.
+/// The number of the first device that has too many models, watts or units.
 fn first_too_long(trees: &Vec<Value>) -> Option<usize>
     ensures { MatchOption result (any_of device_has_too_many (items_view trees.now.items) ≡ false)
         (λ n. IsFirst device_has_too_many n (items_view trees.now.items)) }
@@ -78,7 +99,7 @@ fn first_too_long(trees: &Vec<Value>) -> Option<usize>
     None
 }
 
-/// The part that has more devices, models of a device or watts of a device than a plant has.
+/// The part that has more devices, or models, watts or units of a device, than a plant has.
 pub(crate) fn too_long(tree: &Value) -> Option<PlantPart>
     ensures { MatchOption result (has_too_many (view tree.now) ≡ false) (IsTooLong (view tree.now)) }
 {

@@ -2,10 +2,10 @@
 ghost use Rattle.std.specs.Prelude.{◌≡◌, ◌+◌, ◌≤◌, ℕ, Some, None, option_map, option_and_then, IfSome};
 ghost use Rattle.std.specs.Option.{option_map_or};
 ghost use Rattle.inverter_sim.specs.File.{map_length, has_room};
-ghost use Rattle.inverter_sim.specs.Image.{placed, point_named, point_of_kind, register_of, is_int16, is_uint16, is_enum16, is_sunssf, scale_by, scale_of, tick_points_of, tick_points};
+ghost use Rattle.inverter_sim.specs.Image.{placed, point_named, point_of_kind, register_of, is_int16, is_uint16, is_enum16, is_sunssf, scale_by, scale_of, inverter_points_of, inverter_points, meter_points_of, meter_points};
 ghost use Rattle.inverter_sim.specs.Reading.{placed_view, models_view};
 
-use crate::points::{Scale, TickPoints};
+use crate::points::{InverterPoints, MeterPoints, Scale};
 use model_defs::{ModelDef, Point, Sf};
 use point_types::Kind;
 
@@ -120,18 +120,37 @@ fn scale_of(placed: Placed<'_>, name: &str) -> Scale
     }
 }
 
-/// The registers that a tick looks at and sets: those of the first inverter model, and those of the immediate controls.
-pub(super) fn tick_points(models: &[&ModelDef]) -> TickPoints
+/// The registers that a tick of an inverter looks at and sets: those of the first inverter model, and those of the
+/// immediate controls.
+pub(super) fn inverter_points(models: &[&ModelDef]) -> InverterPoints
     requires { map_length (models_view models.now) ≤ 65536 }
-    ensures { result ≡ tick_points (models_view models.now) }
+    ensures { result ≡ inverter_points (models_view models.now) }
 {
-    tick_points_of(locate(models, 101, 103), locate(models, 123, 123))
+    inverter_points_of(locate(models, 101, 103), locate(models, 123, 123))
 }
 
-fn tick_points_of(inverter: Option<Placed<'_>>, controls: Option<Placed<'_>>) -> TickPoints
-    ensures { result ≡ tick_points_of (option_map placed_view inverter.entry) (option_map placed_view controls.entry) }
+/// Those of a meter: of the first meter model.
+pub(super) fn meter_points(models: &[&ModelDef]) -> MeterPoints
+    requires { map_length (models_view models.now) ≤ 65536 }
+    ensures { result ≡ meter_points (models_view models.now) }
 {
-    TickPoints {
+    meter_points_of(locate(models, 201, 204))
+}
+
+fn meter_points_of(meter: Option<Placed<'_>>) -> MeterPoints
+    ensures { result ≡ meter_points_of (option_map placed_view meter.entry) }
+{
+    MeterPoints {
+        meter: meter.map(|m| m.at as usize),
+        watts: meter.and_then(|m| int16_at(m, "W")),
+        watts_scale: meter.and_then(|m| sunssf_at(m, "W_SF")),
+    }
+}
+
+fn inverter_points_of(inverter: Option<Placed<'_>>, controls: Option<Placed<'_>>) -> InverterPoints
+    ensures { result ≡ inverter_points_of (option_map placed_view inverter.entry) (option_map placed_view controls.entry) }
+{
+    InverterPoints {
         inverter: inverter.map(|m| m.at as usize),
         watts: inverter.and_then(|m| int16_at(m, "W")),
         watts_scale: inverter.and_then(|m| sunssf_at(m, "W_SF")),

@@ -15,7 +15,7 @@ returns-in_err-give_values-clause-placed c =
     let seen = c.args.seen.now in
     let registers = c.in_ok-registers.registers.items in
     let defined = subst (λ ids. definitions_of c.args.defs.now ids ≡ Some models) c.deref.ensures.value c.in_ok-models.ensures in
-    let ranged = subst (λ ms. is_in_range keys ms ≡ true) (ap models_view c.deref-2.ensures.value) c.in_ok-ranges.ensures.ranges.0 in
+    let ranged = subst (λ ms. is_in_range seen keys ms ≡ true) (ap models_view c.deref-2.ensures.value) c.in_ok-ranges.ensures.ranges.0 in
     let blank = c.in_ok-registers.ensures ∙ ap image_of (ap models_view c.deref-4.ensures.value) in
     told_of_fault c.from_residual-in_err-give_values.result c.in_err-give_values.field-0.0 _ c.from_residual-in_err-give_values.ensures.1 (λ real.
     in_values c.args.defs.now seen (length seen) (view c.args.entry.now) _ c.in_err-give_values.field-0.0 keys models registers
