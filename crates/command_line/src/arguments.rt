@@ -52,6 +52,7 @@ fn explain_command<'a>(alloc: Global) -> Result<Command<'a>, AllocError> {
         .arg(site_file(alloc))?
         .arg(program_file(alloc))?
         .arg(listing_flag(alloc))?
+        .arg(traced_option(alloc))?
         .arg(quiet_flag(alloc))?
         .arg(definition_files(alloc))
 }
@@ -161,6 +162,14 @@ fn sets_option<'a>(alloc: Global) -> Arg<'a> {
         "FILE",
         "what clients set and when: lines SCAN NAME=NUMBER, each set before that scan",
     )
+}
+
+/// A trace that is read, where that of `run` is written.
+fn traced_option<'a>(alloc: Global) -> Arg<'a> {
+    Arg::new(alloc, "traced")
+        .long("trace")
+        .value_name("FILE")
+        .help("a trace (CSV) of 'run': says last which numbers each variable had in it")
 }
 
 fn trace_option<'a>(alloc: Global) -> Arg<'a> {

@@ -2,6 +2,7 @@
 use crate::arguments::command;
 use crate::command_words::{file_command, probe_address};
 use crate::definition_folder::warn_of_none;
+use crate::explain_run::{TraceText, explain_with};
 use crate::file_command::{obey_on, warn_of_site};
 use crate::help;
 use crate::run_command::run_on;
@@ -280,12 +281,21 @@ fn obey_on_texts<W: Write>(
             out,
         );
     }
-    match file_command(name, matches) {
-        Some(command) => obey_on(rt, alloc, itself, command, &notes, out),
-        None if name == "serve" => served(rt, alloc, itself, matches, &notes, out),
-        None if name == "survey" => surveyed(rt, alloc, matches, &notes, out),
-        None => BAD_COMMAND_LINE,
+    let trace = trace_of(matches, sources);
+    match (file_command(name, matches), trace) {
+        (Some(command), Some(trace)) => explain_with(rt, alloc, command, &notes, trace, out),
+        (Some(command), None) => obey_on(rt, alloc, itself, command, &notes, out),
+        (None, _) if name == "serve" => served(rt, alloc, itself, matches, &notes, out),
+        (None, _) if name == "survey" => surveyed(rt, alloc, matches, &notes, out),
+        (None, _) => BAD_COMMAND_LINE,
     }
+}
+
+/// The trace that `explain` compares a program with, where one is named.
+fn trace_of<'m, 's>(matches: &ArgMatches<'m>, sources: &'s Sources) -> Option<TraceText<'m, 's>> {
+    let path = matches.get_str("traced")?;
+    let text = sources.trace.as_str();
+    Some(TraceText { path, text })
 }
 
 /// Tells why the texts of the files aren't had, with a note on the file, and gives the status.

@@ -34,6 +34,8 @@ pub(crate) const EXPLAIN: &str =
 refused where one is. One of the files can be '-', standard input:
   sunsite explain examples/site.toml examples/limiter.il
   sunsite explain examples/site.toml examples/limiter.il --listing
+With --trace a trace of 'run' is read, and last comes which numbers each variable had in it:
+  sunsite explain examples/site.toml examples/limiter.il --trace trace.csv
 
 Status: 0 accepted; 1 refused; 2 no such command line";
 

@@ -167,7 +167,7 @@ fn scans_by<L: Link, V: RunLook + ScanClients, W: Write>(
         site,
         program,
         defs,
-        scans: run.pace,
+        pace: run.pace,
     };
     let mut ran = obey_over(alloc, command, poller, watch, out);
     tell_refused(poller.link(), watch);

@@ -3,13 +3,15 @@ ghost use Rattle.std.specs.Prelude.{◌<◌, length};
 
 use crate::plant_run::PlantRun;
 use crate::run_watch::RunLook;
+use crate::set_lines::Setting;
+use crate::set_player::LATE;
 use crate::trace_rows::variables;
 use crate::write_fault::WriteFault;
 use commands::{DEPTH, ScanWatch};
 use gateway::Core;
 use point_types::{Reading, Var};
 use refusal_notes::escaped;
-use run_report::{Report, Role, Sample, Series, Source, page_of};
+use run_report::{Report, Role, Sample, Series, Source, Unset, page_of};
 use site_alarms::missing_word;
 use site_model::{Access, SiteTag};
 use start_texts::digits_of;
@@ -90,6 +92,43 @@ impl<W: Write + Drop> RunLook for Recorder<W> {
             mark_sample(self.report.series.as_mut_slice(), *sent, REFUSED);
         }
     }
+
+    fn unset(&mut self, setting: Setting<'_>, why: &'static str) {
+        if self.hindered.is_ok() {
+            self.hindered = push_unset(self.alloc, &mut self.report.unset, setting, why);
+        }
+    }
+}
+
+/// Records what clients couldn't set.
+fn push_unset(
+    alloc: Global,
+    unset: &mut Vec<Unset>,
+    setting: Setting<'_>,
+    why: &'static str,
+) -> Result<(), AllocError> {
+    unset.push(Unset {
+        scan: setting.scan,
+        name: escaped(alloc, setting.name)?,
+        number: setting.number,
+        why,
+    })?;
+    Ok(())
+}
+
+/// What was to be set before scans that don't come.
+fn late_unset(
+    alloc: Global,
+    settings: &[Setting<'_>],
+    scans: u32,
+) -> Result<Vec<Unset>, AllocError> {
+    let mut unset = Vec::new(alloc);
+    for setting in settings {
+        if setting.scan > scans {
+            push_unset(alloc, &mut unset, *setting, LATE)?;
+        }
+    }
+    Ok(unset)
 }
 
 /// The report of a run before its first scan.
@@ -104,6 +143,7 @@ fn report_of(alloc: Global, run: &PlantRun<'_, '_>) -> Result<Report, AllocError
         budget: 0,
         steps: line(alloc, "instructions", Role::Steps, 0, (0, 0))?,
         series: Vec::new(alloc),
+        unset: late_unset(alloc, run.settings, run.pace.scans)?,
     })
 }
 

@@ -4,6 +4,7 @@ use crate::file_command::warn_of_site;
 use crate::plant_run::{PlantRun, run_watched};
 use crate::recorder::Recorder;
 use crate::run_watch::RunLook;
+use crate::set_lines::Setting;
 use crate::trace::Trace;
 use crate::write_fault::WriteFault;
 use clap::ArgMatches;
@@ -62,6 +63,12 @@ impl<W: Write + Drop> RunLook for RunFiles<W> {
     fn refused(&mut self, write: usize) {
         if let Some(report) = &mut self.report {
             report.refused(write);
+        }
+    }
+
+    fn unset(&mut self, setting: Setting<'_>, why: &'static str) {
+        if let Some(report) = &mut self.report {
+            report.unset(setting, why);
         }
     }
 }

@@ -12,10 +12,15 @@ pub trait RunLook: ScanWatch {
     /// After the last scan, once for each write that a device refused, in order: which one it is of all that the scans sent,
     /// counted from 0. A scan sends those of its outputs in the order of the site file.
     fn refused(&mut self, write: usize);
+
+    /// What clients were to set and couldn't, as soon as that is known, and why.
+    fn unset(&mut self, setting: Setting<'_>, why: &'static str);
 }
 
 impl RunLook for Unwatched {
     fn refused(&mut self, _write: usize) {}
+
+    fn unset(&mut self, _setting: Setting<'_>, _why: &'static str) {}
 }
 
 /// Tells on standard error what the scans of a run don't read, don't show and don't write, has one more look on, and sets what
@@ -46,9 +51,13 @@ impl<'r, R: Eprint, V: ScanWatch> RunWatch<'r, R, V> {
     }
 }
 
-impl<R: Eprint, V: ScanWatch> ScanClients for RunWatch<'_, R, V> {
+impl<R: Eprint, V: RunLook> ScanClients for RunWatch<'_, R, V> {
     fn turn(&mut self, core: &Core<DEPTH>, scan: u32, i: u32) -> ClientTurn {
-        self.clients.turn(core, scan, i)
+        let turn = self.clients.turn(core, scan, i);
+        if let ClientTurn::Passes = turn {
+            self.clients.tell_refused(core, scan, i, self.beside);
+        }
+        turn
     }
 }
 
@@ -63,5 +72,9 @@ impl<R: Eprint, V: ScanWatch> ScanWatch for RunWatch<'_, R, V> {
 impl<R: Eprint, V: RunLook> RunLook for RunWatch<'_, R, V> {
     fn refused(&mut self, write: usize) {
         self.beside.refused(write);
+    }
+
+    fn unset(&mut self, setting: Setting<'_>, why: &'static str) {
+        self.beside.unset(setting, why);
     }
 }

@@ -2,14 +2,16 @@
 ghost use Rattle.std.specs.Prelude.{IfSome};
 ghost use Rattle.modbus_frame.specs.Message.{IsRequest};
 
+use crate::run_watch::RunLook;
 use crate::set_lines::Setting;
 use commands::{ClientTurn, DEPTH, ScanClients};
 use gateway::Core;
 use modbus_frame::{Request, request_pdu};
+use refusal_notes::escaped;
 use site_model::{Access, SiteTag};
 use std::alloc::{AllocError, Global};
 
-/// Sets what is said for each scan, as clients' writes do, and tells on standard error what no client can set.
+/// Sets what is said for each scan, as clients' writes do, and knows what no client can set.
 #[derive(Drop)]
 pub struct SetPlayer<'r, R> {
     rt: &'r R,
@@ -34,11 +36,16 @@ impl<'r, R: Eprint> SetPlayer<'r, R> {
         }
     }
 
-    fn tell(&self, core: &Core<DEPTH>, setting: Setting<'_>) {
-        if self.quiet {
+    /// Tells what no client can set in the turn of this number before a scan, and why.
+    pub fn tell_refused<V: RunLook>(&self, core: &Core<DEPTH>, scan: u32, i: u32, beside: &mut V) {
+        let Some(setting) = setting_at(self.settings, scan, i) else {
             return;
+        };
+        let why = why_unset(core, setting);
+        if !self.quiet {
+            tell_unset(self.rt, self.alloc, setting, why);
         }
-        tell_unset(self.rt, self.alloc, setting, why_unset(core, setting));
+        beside.unset(setting, why);
     }
 }
 
@@ -49,19 +56,19 @@ impl<R: Eprint> ScanClients for SetPlayer<'_, R> {
         };
         match request_for(core, setting) {
             Some(request) => ClientTurn::Asks(request_pdu(&request)),
-            None => {
-                self.tell(core, setting);
-                ClientTurn::Passes
-            }
+            None => ClientTurn::Passes,
         }
     }
 }
+
+/// Why what is said for a scan that doesn't come isn't set.
+pub(crate) const LATE: &str = "the run ends before this scan";
 
 /// Tells on standard error what is said for scans that don't come.
 pub(crate) fn tell_late<R: Eprint>(rt: &R, alloc: Global, settings: &[Setting<'_>], scans: u32) {
     for setting in settings {
         if setting.scan > scans {
-            tell_unset(rt, alloc, *setting, "the run ends before this scan");
+            tell_unset(rt, alloc, *setting, LATE);
         }
     }
 }
@@ -96,7 +103,8 @@ fn request_for(core: &Core<DEPTH>, setting: Setting<'_>) -> Option<Request>
 
 /// `scan K: NAME=NUMBER isn't set: WHY`.
 fn unset_note(alloc: Global, setting: Setting<'_>, why: &str) -> Result<String, AllocError> {
-    let (scan, name, number) = (setting.scan, setting.name, setting.number);
+    let name = escaped(alloc, setting.name)?;
+    let (scan, name, number) = (setting.scan, name.as_str(), setting.number);
     format!(in alloc; "scan {scan}: {name}={number} isn't set: {why}\n")
 }
 

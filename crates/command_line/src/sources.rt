@@ -19,6 +19,8 @@ pub(crate) struct Sources {
     pub plant: String,
     /// What clients set in a run.
     pub sets: String,
+    /// What a run was, for `explain`.
+    pub trace: String,
     pub definitions: Definitions,
 }
 
@@ -83,7 +85,7 @@ impl<T: Drop> From<AllocFailed<T>> for Refusal {
     }
 }
 
-/// Reads the files that the command names, in the order site, program, plant, set values, definitions.
+/// Reads the files that the command names, in the order site, program, plant, set values, trace, definitions.
 pub(crate) fn read_sources(
     rt: &(impl Input + AllocGlobal + Files),
     alloc: Global,
@@ -93,12 +95,14 @@ pub(crate) fn read_sources(
     let program = named_text(rt, alloc, matches.get_str("PROGRAM"))?;
     let plant = named_text(rt, alloc, matches.get_str("PLANT"))?;
     let sets = named_text(rt, alloc, matches.get_str("sets"))?;
+    let trace = named_text(rt, alloc, matches.get_str("traced"))?;
     let definitions = read_definitions(rt, alloc, matches.get_strs("def").unwrap_or(&[]))?;
     Ok(Sources {
         site,
         program,
         plant,
         sets,
+        trace,
         definitions,
     })
 }

@@ -27,6 +27,8 @@ pub(crate) fn misuse(command: &str, matches: &ArgMatches<'_>) -> Option<&'static
         file(matches, "SITE"),
         file(matches, "PROGRAM"),
         file(matches, "PLANT"),
+        file(matches, "sets"),
+        file(matches, "traced"),
     ];
     if inputs(&files).saturating_add(handed_on) > 1 {
         return Some("'-' can be one file alone: standard input is read once");

@@ -23,7 +23,7 @@ pub enum LinkCommand<'a> {
         site: &'a str,
         program: &'a str,
         defs: &'a [String],
-        scans: Pace,
+        pace: Pace,
     },
     /// The points of a unit, by the shipped definitions and those of the texts.
     Probe {
@@ -32,7 +32,7 @@ pub enum LinkCommand<'a> {
     },
 }
 
-/// What came of a command over a link: the core behind the scans, its status, and why a text is refused.
+/// What came of a command over a link: the core after the scans, its status, and why a text is refused.
 #[derive(Drop)]
 pub struct ObeyedOver {
     pub core: Option<Core<DEPTH>>,
@@ -57,8 +57,8 @@ pub fn obey_over<L: Link, V: ScanWatch + ScanClients, W: Write>(
             site,
             program,
             defs,
-            scans,
-        } => run_by(alloc, poller, site, program, defs, scans, watch, out),
+            pace,
+        } => run_by(alloc, poller, site, program, defs, pace, watch, out),
         LinkCommand::Probe { unit, defs } => {
             let (status, cause) = probe_by(alloc, poller, unit, defs, out);
             ObeyedOver {

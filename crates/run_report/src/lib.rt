@@ -18,12 +18,10 @@ mod remarks;
 mod spans;
 mod style;
 mod table;
-#[cfg(test)]
-mod tests;
 mod ticks;
 
 // what a run was
-pub use recorded::{Report, Role, Sample, Series, Source};
+pub use recorded::{Report, Role, Sample, Series, Source, Unset};
 // its page
 pub use page::page_of;
 // a text in HTML

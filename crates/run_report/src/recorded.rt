@@ -16,6 +16,21 @@ pub struct Report {
     /// How many each scan took: there are as many scans as samples.
     pub steps: Series,
     pub series: Vec<Series>,
+    /// What clients were to set and couldn't, in the order in which it was found.
+    pub unset: Vec<Unset>,
+}
+
+/// A number that no client could set.
+#[derive(Drop)]
+pub struct Unset {
+    /// The number of the scan before which it was to be set, counted from 1.
+    pub scan: u32,
+    /// The name of the tag.
+    pub name: String,
+    /// The number, in the unit of the tag's exponent.
+    pub number: i64,
+    /// Why it wasn't set.
+    pub why: &'static str,
 }
 
 /// A file that a run was of.

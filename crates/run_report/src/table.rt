@@ -1,6 +1,6 @@
-//! The table of what was missing or wasn't written.
+//! The table of what was missing, wasn't set or wasn't written.
 use crate::html::push_html;
-use crate::recorded::{Report, Series};
+use crate::recorded::{Report, Series, Unset};
 use crate::spans::{Span, spans_of};
 use std::alloc::{AllocError, Global};
 
@@ -10,14 +10,15 @@ pub(crate) fn push_table(
     alloc: Global,
     report: &Report,
 ) -> Result<(), AllocError> {
-    page.push_str("<h2 id=\"missing\">Missing and not written</h2>\n")?;
+    page.push_str("<h2 id=\"missing\">Missing, not set and not written</h2>\n")?;
     let mut rows = String::new(alloc);
     for series in &report.series {
         push_rows(&mut rows, alloc, series)?;
     }
+    push_unset_rows(&mut rows, &report.unset)?;
     if rows.is_empty() {
         return page.push_str(
-            "<p>Nothing was missing, and all that the program stored was written.</p>\n",
+            "<p>Nothing was missing, and all that clients set and the program stored was taken.</p>\n",
         );
     }
     page.push_str(
@@ -32,6 +33,26 @@ fn push_rows(rows: &mut String, alloc: Global, series: &Series) -> Result<(), Al
         push_row(rows, series.name.as_str(), span)?;
     }
     Ok(())
+}
+
+/// Appends what clients were to set and couldn't.
+fn push_unset_rows(rows: &mut String, unset: &[Unset]) -> Result<(), AllocError> {
+    for it in unset {
+        push_unset_row(rows, it)?;
+    }
+    Ok(())
+}
+
+fn push_unset_row(rows: &mut String, unset: &Unset) -> Result<(), AllocError> {
+    let (scan, number, why) = (unset.scan, unset.number, unset.why);
+    rows.push_str("<tr><td>")?;
+    push_html(rows, unset.name.as_str())?;
+    write!(
+        rows,
+        "</td><td class=\"unwritten\">not set to {number}</td><td>{scan}</td><td>{scan}</td><td>"
+    )?;
+    push_html(rows, why)?;
+    rows.push_str("</td></tr>\n")
 }
 
 fn push_row(rows: &mut String, name: &str, span: Span) -> Result<(), AllocError> {
