@@ -1,8 +1,13 @@
 //! What the tests of the commands share.
+mod decimals;
 mod links;
 mod memory;
+mod names;
+mod notes;
+mod pages;
 mod probe;
 mod standard_error;
+mod surveys;
 mod words;
 
 use std::fmt::Debug;

@@ -1,9 +1,6 @@
 //! Values as decimal numbers.
 #![tactic(auto)]
 
-#[cfg(test)]
-mod tests;
-
 use std::alloc::{AllocError, Global};
 
 /// The value `number * 10^exponent` as a decimal number, with as many places after the point as the exponent has.

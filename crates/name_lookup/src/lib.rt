@@ -4,8 +4,6 @@
 mod answer;
 mod lookup;
 mod target;
-#[cfg(test)]
-mod tests;
 
 // where a text of the form `HOST:PORT` leads
 pub use target::{Target, target_of};

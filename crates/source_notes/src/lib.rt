@@ -6,8 +6,6 @@ mod code;
 mod marking;
 mod nearest;
 mod note;
-#[cfg(test)]
-mod tests;
 
 pub use code::Code;
 pub use escaped_text::{escaped, plain_letter, push_letter};

@@ -18,8 +18,6 @@ mod seen;
 mod served_rows;
 mod survey;
 mod table;
-#[cfg(test)]
-mod tests;
 mod units;
 
 // the site file as a survey asks it

@@ -1,6 +1,6 @@
 //! Values as decimal numbers.
-use crate::decimal;
-use std::rt::HostRuntime;
+use crate::tests::assert_same;
+use decimal_text::decimal;
 
 /// Numbers, their exponents, and how they are shown.
 const VALUES: &[(i128, i8, &str)] = &[
@@ -18,6 +18,6 @@ const VALUES: &[(i128, i8, &str)] = &[
 fn values_are_decimal(rt: HostRuntime) {
     for (number, exponent, shown) in VALUES {
         let text = decimal(rt.alloc(), *number, *exponent).expect(&rt, "memory");
-        assert_eq!(&rt; text.as_str(), *shown);
+        assert_same(&rt, &text.as_str(), shown);
     }
 }

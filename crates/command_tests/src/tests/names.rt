@@ -1,8 +1,8 @@
 //! Texts of addresses and of answers, those included that say nothing.
-use crate::{Target, address_in, target_of};
+use crate::tests::assert_same;
+use name_lookup::{Target, address_in, target_of};
 use std::alloc::{AllocError, Global};
 use std::net::SocketAddr;
-use std::process::Abort;
 
 /// Texts, and where they lead.
 static TARGETS: [(&str, &str); 16] = [
@@ -49,7 +49,7 @@ static ANSWERS: [(&[u8], &str); 11] = [
 fn texts_lead_to_addresses_and_names(rt: HostRuntime) {
     for (text, wanted) in &TARGETS {
         let told = told_target(rt.alloc(), target_of(text)).expect(&rt, "memory");
-        assert_told(&rt, told.as_str(), wanted);
+        assert_same(&rt, &told.as_str(), wanted);
     }
 }
 
@@ -57,12 +57,8 @@ fn texts_lead_to_addresses_and_names(rt: HostRuntime) {
 fn answers_say_addresses(rt: HostRuntime) {
     for (answer, wanted) in &ANSWERS {
         let told = told_address(rt.alloc(), address_in(answer, 502)).expect(&rt, "memory");
-        assert_told(&rt, told.as_str(), wanted);
+        assert_same(&rt, &told.as_str(), wanted);
     }
-}
-
-fn assert_told(rt: &impl Abort, told: &str, wanted: &str) {
-    assert_eq!(rt; told, wanted);
 }
 
 fn told_target(alloc: Global, target: Option<Target<'_>>) -> Result<String, AllocError> {

@@ -1,5 +1,6 @@
 //! Tests of the notes: their lines, by text, line and mark.
-use crate::{Mark, Note};
+use crate::tests::assert_same;
+use source_notes::{Mark, Note};
 use std::process::Abort;
 
 /// The text that the notes are on.
@@ -69,7 +70,7 @@ fn each_note_shows_the_line_and_what_is_meant(rt: HostRuntime) {
             .shown(rt.alloc())
             .expect(&rt, "memory");
         let wanted = wanted(&rt, *line, source);
-        assert_eq!(rt; note.as_str(), wanted.as_str());
+        assert_same(&rt, &note.as_str(), &wanted.as_str());
     }
 }
 
@@ -78,7 +79,7 @@ fn a_note_on_a_file_has_no_line(rt: HostRuntime) {
     let note = note_on(0, Mark::Line)
         .shown(rt.alloc())
         .expect(&rt, "memory");
-    assert_eq!(rt; note.as_str(), "p.il: Kind: what\n  help: do\n");
+    assert_same(&rt, &note.as_str(), &"p.il: Kind: what\n  help: do\n");
 }
 
 fn note_on(line: u32, mark: Mark) -> Note<'static> {
@@ -134,6 +135,6 @@ fn a_note_has_the_name_and_what_is_known(rt: HostRuntime) {
         note.name = name;
         note.detail = detail;
         let shown = note.shown(rt.alloc()).expect(&rt, "memory");
-        assert_eq!(rt; shown.as_str(), *wanted);
+        assert_same(&rt, &shown.as_str(), wanted);
     }
 }

@@ -1,7 +1,7 @@
 //! The page of a run of two scans.
-use crate::{Report, Role, Sample, Series, Source, page_of};
+use crate::tests::assert_same;
+use run_report::{Report, Role, Sample, Series, Source, Unset, page_of};
 use std::alloc::{AllocError, Global};
-use std::rt::HostRuntime;
 
 /// What a line is: its name, its role, the power of ten that it counts, its range, and what it was in two scans.
 type Line = (&'static str, Role, i8, i64, i64, [Sample; 2]);
@@ -75,6 +75,12 @@ fn page(alloc: Global) -> Result<String, AllocError> {
     for line in [POWER, TARGET, LIMIT, COUNT] {
         lines.push(series(alloc, line)?)?;
     }
+    let unset = Unset {
+        scan: 2,
+        name: String::from_str(alloc, "tar<get")?,
+        number: 101,
+        why: "it is outside the tag's range",
+    };
     let report = Report {
         site: source(alloc, "a <b>&\"c\".toml")?,
         program: source(alloc, "p.il")?,
@@ -84,6 +90,7 @@ fn page(alloc: Global) -> Result<String, AllocError> {
         budget: 18,
         steps: series(alloc, STEPS)?,
         series: lines,
+        unset: Vec::from_array(alloc, [unset])?,
     };
     page_of(alloc, &report)
 }
@@ -100,10 +107,10 @@ fn a_page_has_a_chart_for_each_line(rt: HostRuntime) {
     let page = page(rt.alloc()).expect(&rt, "memory");
     match plain(page.as_str()) {
         Some((head, body)) => {
-            assert_eq!(&rt; head, HEAD);
-            assert_eq!(&rt; body, BODY);
+            assert_same(&rt, &head, &HEAD);
+            assert_same(&rt, &body, &BODY);
         }
-        None => assert_eq!(&rt; page.as_str(), "a page with a style"),
+        None => assert_same(&rt, &page.as_str(), &"a page with a style"),
     }
 }
 
@@ -246,7 +253,7 @@ const BODY: &str = r#"</head>
 </svg>
 </figure>
 </section>
-<h2 id="missing">Missing and not written</h2>
+<h2 id="missing">Missing, not set and not written</h2>
 <table>
 <thead><tr><th>Name</th><th>What</th><th>From scan</th><th>To scan</th><th>Cause</th></tr></thead>
 <tbody>
@@ -254,6 +261,7 @@ const BODY: &str = r#"</head>
 <tr><td>target</td><td class="unset">not set by a client</td><td>1</td><td>1</td><td>NotImplemented</td></tr>
 <tr><td>limit</td><td class="unset">not stored</td><td>1</td><td>1</td><td>NotSet</td></tr>
 <tr><td>limit</td><td class="unwritten">not written</td><td>2</td><td>2</td><td>NoBlock</td></tr>
+<tr><td>tar&lt;get</td><td class="unwritten">not set to 101</td><td>2</td><td>2</td><td>it is outside the tag&#39;s range</td></tr>
 </tbody>
 </table>
 </body>

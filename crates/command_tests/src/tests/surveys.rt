@@ -1,8 +1,7 @@
 //! The site as it is asked.
-use crate::asked_text::{AskedFault, asked_site};
-use std::fmt::Debug;
+use crate::tests::assert_same;
 use std::process::Abort;
-use std::rt::HostRuntime;
+use survey_rows::{AskedFault, asked_site};
 
 /// An input and an output, and a name that a tag on a common model could have.
 const SITE: &str = r#"
@@ -53,10 +52,6 @@ name = "asked_1"
 point = "DA"
 type = "UINT"
 "#;
-
-fn assert_same<T: PartialEq + Debug>(rt: &impl Abort, found: &T, wanted: &T) {
-    assert_eq!(rt; *found, *wanted);
-}
 
 /// What is asked of a text.
 fn asked(rt: &(impl Abort + AllocGlobal), site: &str, identities: bool) -> String {
