@@ -1,10 +1,10 @@
 -- Worked values of a tick, of writes, of replies that are wrong and of plant files.
 -- SunSpec inverter models 101 to 103 and 123, meter models 201 to 204; MODBUS Messaging on TCP/IP Implementation Guide, section 3.1.
-use Rattle.std.specs.Prelude.{◌≡◌, ◌-◌, true, false, [], ◌∷◌, take, pos, negsuc, None, Some, Ok, Err, refl, codes}
+use Rattle.std.specs.Prelude.{◌≡◌, ◌-◌, ◌*◌, true, false, [], ◌∷◌, take, pos, negsuc, None, Some, Ok, Err, refl, codes}
 use Rattle.toml.specs.Data.{no_items, item, no_members, member, integer, string, array, table}
 use Rattle.inverter_sim.specs.declared.fault.PlantFault.TheVariants as fault
 use Rattle.inverter_sim.specs.declared.misbehaviour.Misbehaviour.TheVariants as wrong
-use Rattle.inverter_sim.specs.Tick.{one, power_of, percent_of, scaled_watts, stepped, scaled_drawn, later}
+use Rattle.inverter_sim.specs.Tick.{one, power_of, percent_of, scaled_watts, stepped, scaled_drawn, scaled_current, later}
 use Rattle.inverter_sim.specs.Serve.{are_whole}
 use Rattle.inverter_sim.specs.Image.{split, padded, places_from}
 use Rattle.inverter_sim.specs.Link.{earlier, garbled, counted}
@@ -49,6 +49,26 @@ the_least_int16 = refl
 
 pub less_than_an_int16 : scaled_drawn (negsuc 32767) one ≡ 0x8000
 less_than_an_int16 = refl
+
+-- of 1,000 W drawn, and of as many fed into the grid, each of three phases shows
+pub a_third_drawn : scaled_drawn (pos 1000) (3 * one) ≡ 333
+a_third_drawn = refl
+
+pub a_third_fed : scaled_drawn (negsuc 999) (3 * one) ≡ 65536 - 334
+a_third_fed = refl
+
+-- 1,000 W at 230.0 V in hundredths of an ampere, and in each of three phases
+pub hundredths_of_amperes : scaled_current 1000 (2300 * power_of (negsuc 0)) (power_of (negsuc 1)) ≡ 434
+hundredths_of_amperes = refl
+
+pub a_third_of_them : scaled_current 1000 (3 * (2300 * power_of (negsuc 0))) (power_of (negsuc 1)) ≡ 144
+a_third_of_them = refl
+
+pub the_most_amperes : scaled_current 75366 (2300 * power_of (negsuc 0)) (power_of (negsuc 1)) ≡ 32767
+the_most_amperes = refl
+
+pub more_amperes_than_an_int16 : scaled_current 75367 (2300 * power_of (negsuc 0)) (power_of (negsuc 1)) ≡ 0x8000
+more_amperes_than_an_int16 = refl
 
 pub the_last_watts_stay : later (4000 ∷ []) ≡ 4000 ∷ []
 the_last_watts_stay = refl

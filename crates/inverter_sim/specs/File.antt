@@ -84,6 +84,7 @@ pub record DeviceKeys : Type 0 where
   pub models : List ℤ
   pub works : WorksKeys
   pub base : ℤ
+  pub slow : ℤ
 
 -- nothing where a key is missing or of another kind
 abbrev pub works_keys : DeviceKind → Data → Option WorksKeys
@@ -105,7 +106,9 @@ keys_of kind tree =
     option_and_then (λ unit.
     option_and_then (λ models.
     option_and_then (λ works.
-    option_map (λ base. record { unit = unit; models = models; works = works; base = base })
+    option_and_then (λ base.
+    option_map (λ slow. record { unit = unit; models = models; works = works; base = base; slow = slow })
+    (number_or (codes "slow") (pos 0) tree))
     (number_or (codes "base") (pos 40000) tree))
     (works_keys kind tree))
     (integers_at (codes "models") tree))
@@ -155,7 +158,7 @@ is_in_works_range seen models (meter load behind) = are_watts load && (list_all 
 
 abbrev pub is_in_range : List DeviceState → DeviceKeys → List ModelDef → Bool
 is_in_range seen keys models =
-    is_in (pos 0) (pos 255) keys.unit && (begins_with_one keys.models && (has_room keys.base models && is_in_works_range seen keys.models keys.works))
+    is_in (pos 0) (pos 255) keys.unit && (begins_with_one keys.models && (has_room keys.base models && (is_in (pos 0) (pos 60000) keys.slow && is_in_works_range seen keys.models keys.works)))
 
 abbrev pub has_repeat : List ℤ → Bool
 has_repeat [] = false
@@ -184,6 +187,7 @@ blank_device keys models = record {
   works = first_works models keys.works;
   registers = image_of models;
   places = places_of models;
+  slow = unsigned_abs keys.slow;
 }
 
 -- ---- the values of its points

@@ -1,6 +1,6 @@
 -- The registers that a device has before anything is written: the mark, its models, the end model.
 -- SunSpec Device Information Model Specification, device modbus maps and the table of types.
-use Rattle.std.specs.Prelude.{ℕ, zero, suc, ◌+◌, ◌/◌, ◌%◌, Bool, true, false, ◌&&◌, List, [], ◌∷◌, ◌++◌, length, slice_get, slice_set, ℤ, pos, int_le, Option, None, Some, option_map, option_and_then, if◌then◌else◌, codes}
+use Rattle.std.specs.Prelude.{ℕ, zero, suc, ◌+◌, ◌/◌, ◌%◌, ◌==◌, nat_le, Bool, true, false, ◌&&◌, List, [], ◌∷◌, ◌++◌, length, slice_get, slice_set, ℤ, pos, int_le, Option, None, Some, option_map, option_and_then, if◌then◌else◌, codes}
 use Rattle.std.specs.List.{flat_map, position}
 use Rattle.std.specs.Option.{option_map_or}
 use Rattle.std.specs.Str.{bytes_eq}
@@ -12,8 +12,11 @@ use Rattle.model_defs.specs.declared.point.Point.{Point}
 use Rattle.model_defs.specs.declared.point.Sf.{Sf}
 use Rattle.model_defs.specs.declared.point.Sf.TheVariants as factors
 use Rattle.inverter_sim.specs.declared.place.Place.{Place}
+use Rattle.inverter_sim.specs.declared.points.FlowPoints.{FlowPoints}
 use Rattle.inverter_sim.specs.declared.points.InverterPoints.{InverterPoints}
 use Rattle.inverter_sim.specs.declared.points.MeterPoints.{MeterPoints}
+use Rattle.inverter_sim.specs.declared.points.Phases.{Phases}
+use Rattle.inverter_sim.specs.declared.points.Phases.TheVariants as phases
 use Rattle.inverter_sim.specs.declared.points.Scale.{Scale}
 use Rattle.inverter_sim.specs.declared.points.Scale.TheVariants as scale
 
@@ -142,7 +145,8 @@ abbrev pub scale_of : List ℕ → Placed → Scale
 scale_of name m = option_map_or (λ p. scale_by m p.sf) (point_named name m.model) (scale.Fixed (pos 0))
 
 -- The points of the rule of ticks: of an inverter W, W_SF and St of the first of models 101 to 103, and Conn, WMaxLim_Ena
--- and WMaxLimPct of model 123; of a meter W and W_SF of the first of models 201 to 204.
+-- and WMaxLimPct of model 123; of a meter W, A and those of its phases, their factors, PhV and V_SF of the first of models
+-- 201 to 204.
 abbrev pub inverter_points_of : Option Placed → Option Placed → InverterPoints
 inverter_points_of inverter controls = record {
   inverter = option_map (λ m. m.at) inverter;
@@ -158,11 +162,38 @@ inverter_points_of inverter controls = record {
 abbrev pub inverter_points : List ModelDef → InverterPoints
 inverter_points models = inverter_points_of (placed (pos 101) (pos 103) models) (placed (pos 123) (pos 123) models)
 
+-- model 201 counts one phase, 202 two, 203 and 204 three
+abbrev pub phases_of : Placed → Phases
+phases_of m = if m.model.id == 201 then phases.One else (if m.model.id == 202 then phases.Two else phases.Three)
+
+abbrev pub number_of : Phases → ℕ
+number_of phases.One = 1
+number_of phases.Two = 2
+number_of phases.Three = 3
+
+-- the meter model, where it counts so many phases
+abbrev pub counting : ℕ → Option Placed → Option Placed
+counting n meter = option_and_then (λ m. if nat_le n (number_of (phases_of m)) then Some m else None) meter
+
+-- the points of these names
+abbrev pub flow_points_of : List ℕ → List ℕ → Option Placed → FlowPoints
+flow_points_of watts current meter = record {
+  watts = option_and_then (register_of is_int16 watts) meter;
+  current = option_and_then (register_of is_int16 current) meter;
+}
+
 abbrev pub meter_points_of : Option Placed → MeterPoints
 meter_points_of meter = record {
   meter = option_map (λ m. m.at) meter;
-  watts = option_and_then (register_of is_int16 (codes "W")) meter;
+  phases = option_map_or phases_of meter phases.One;
+  whole = flow_points_of (codes "W") (codes "A") meter;
+  phase_a = flow_points_of (codes "WphA") (codes "AphA") meter;
+  phase_b = flow_points_of (codes "WphB") (codes "AphB") (counting 2 meter);
+  phase_c = flow_points_of (codes "WphC") (codes "AphC") (counting 3 meter);
   watts_scale = option_and_then (register_of is_sunssf (codes "W_SF")) meter;
+  current_scale = option_and_then (register_of is_sunssf (codes "A_SF")) meter;
+  voltage = option_and_then (register_of is_int16 (codes "PhV")) meter;
+  voltage_scale = option_and_then (register_of is_sunssf (codes "V_SF")) meter;
 }
 
 abbrev pub meter_points : List ModelDef → MeterPoints

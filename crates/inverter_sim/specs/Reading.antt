@@ -23,7 +23,7 @@ works_keys_view (keys.Inverter k) = told.inverter k.wmax k.available.items k.ram
 works_keys_view (keys.Meter k) = told.meter k.load.items k.behind.items
 
 abbrev pub device_keys_view : DeviceKeys → told.DeviceKeys
-device_keys_view k = record { unit = k.unit; models = k.models.items; works = works_keys_view k.works; base = k.base }
+device_keys_view k = record { unit = k.unit; models = k.models.items; works = works_keys_view k.works; base = k.base; slow = k.slow }
 
 abbrev pub placed_view : Placed → lies.Placed
 placed_view p = record { at = p.at; model = p.model.now }

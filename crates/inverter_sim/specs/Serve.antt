@@ -77,3 +77,11 @@ after_serving p unit pdu = record p { devices = after_among p.devices unit pdu }
 
 abbrev pub reply_of : PlantState → ℕ → List ℕ → List ℕ
 reply_of p unit pdu = reply_among p.devices unit pdu
+
+-- How many milliseconds late the device of a unit answers; 0 where there is none.
+abbrev pub delay_among : List DeviceState → ℕ → ℕ
+delay_among [] unit = 0
+delay_among (d ∷ ds) unit = if d.unit == unit then d.slow else delay_among ds unit
+
+abbrev pub delay_of : PlantState → ℕ → ℕ
+delay_of p unit = delay_among p.devices unit

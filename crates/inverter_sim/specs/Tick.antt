@@ -1,6 +1,6 @@
 -- What a tick does to a plant: the watts that its inverters produce and their states, and what its meters show of that.
 -- SunSpec inverter models 101 to 103 (W, W_SF, St), 123, immediate controls (Conn, WMaxLim_Ena, WMaxLimPct), and meter
--- models 201 to 204 (W, W_SF).
+-- models 201 to 204 (W, WphA to WphC, W_SF, A, AphA to AphC, A_SF, PhV, V_SF).
 use Rattle.std.specs.Prelude.{ℕ, ◌+◌, ◌-◌, ◌*◌, ◌/◌, ◌^◌, ◌==◌, nat_le, nat_lt, min, max, Bool, false, ◌&&◌, List, [], ◌∷◌, map, sum_by, slice_get, slice_set, ℤ, pos, neg_ℤ, ◌+ℤ◌, ◌-ℤ◌, ◌*ℤ◌, int_le, unsigned_abs, Option, None, Some, option_map, option_and_then, if◌then◌else◌}
 use Rattle.std.specs.Int.{int_div_euclid, int_rem_euclid}
 use Rattle.std.specs.List.{list_any}
@@ -8,6 +8,9 @@ use Rattle.std.specs.Option.{option_map_or}
 use Rattle.point_types.specs.Point.{value_of}
 use Rattle.point_types.specs.Reading.{factor_of}
 use Rattle.point_types.specs.declared.kind.Kind.TheVariants as kinds
+use Rattle.inverter_sim.specs.Image.{number_of}
+use Rattle.inverter_sim.specs.declared.points.FlowPoints.{FlowPoints}
+use Rattle.inverter_sim.specs.declared.points.MeterPoints.{MeterPoints}
 use Rattle.inverter_sim.specs.declared.points.Scale.{Scale}
 use Rattle.inverter_sim.specs.declared.points.Scale.TheVariants as scale
 use Rattle.inverter_sim.specs.declared.works.Inverter.{Inverter}
@@ -163,15 +166,55 @@ int16_word n = if int_le (neg_ℤ (pos 32767)) n && int_le n (pos 32767) then un
 abbrev pub scaled_drawn : ℤ → ℕ → ℕ
 scaled_drawn watts power = int16_word (int_div_euclid (watts *ℤ pos one) (pos power))
 
--- what W shows: the unimplemented word where W_SF is absent or the number doesn't fit
-abbrev pub drawn_word : List ℕ → ℕ → Meter → ℕ
-drawn_word registers produced m = option_map_or (scaled_drawn (drawn produced m)) (power_at registers m.points.watts_scale) 0x8000
+-- what W shows, and the watts of a phase, which are one of so many parts: the unimplemented word where W_SF is absent or
+-- the number doesn't fit
+abbrev pub drawn_word : ℕ → List ℕ → ℕ → Meter → ℕ
+drawn_word parts registers produced m =
+    option_map_or (λ power. scaled_drawn (drawn produced m) (parts * power)) (power_at registers m.points.watts_scale) 0x8000
+
+-- the number of an int16, where it is above 0
+abbrev pub above_zero : ℕ → Option ℕ
+above_zero w = if nat_lt 0 w && nat_le w 32767 then Some w else None
+
+-- the voltage, of which 10^10 are a volt: none where PhV isn't above 0, or V_SF is absent
+abbrev pub voltage_at : List ℕ → MeterPoints → Option ℕ
+voltage_at registers points =
+    option_and_then (λ raw. option_map (λ power. raw * power) (power_at registers points.voltage_scale))
+    (option_and_then above_zero (word_at registers points.voltage))
+
+-- watts / voltage / 10^sf, rounded down, where an int16 holds it; none of more than 10^18 W, which no plant has
+abbrev pub scaled_current : ℕ → ℕ → ℕ → ℕ
+scaled_current watts voltage power = let n = watts * one * one / (voltage * power) in if nat_le watts (10 ^ 18) && nat_le n 32767 then n else 0x8000
+
+-- what A shows, and the current of a phase, which is one of so many parts; the watts are taken without their sign. It is the
+-- unimplemented word where there is no voltage, A_SF is absent, or the number doesn't fit
+abbrev pub current_word : ℕ → List ℕ → ℕ → Meter → ℕ
+current_word parts registers produced m =
+    option_map_or
+    (λ voltage. option_map_or (scaled_current (unsigned_abs (drawn produced m)) (parts * voltage)) (power_at registers m.points.current_scale) 0x8000)
+    (voltage_at registers m.points) 0x8000
+
+-- these words stand at the points
+abbrev pub flow_shown : ℕ → ℕ → FlowPoints → List ℕ → List ℕ
+flow_shown watts current points registers = set_at points.current current (set_at points.watts watts registers)
+
+-- the same at the points of each phase
+abbrev pub phases_shown : ℕ → ℕ → MeterPoints → List ℕ → List ℕ
+phases_shown watts current points registers =
+    flow_shown watts current points.phase_c (flow_shown watts current points.phase_b (flow_shown watts current points.phase_a registers))
+
+-- the registers of a meter when it shows what flows through it: the whole, and an equal part of it in each phase
+abbrev pub meter_shown : List ℕ → ℕ → Meter → List ℕ
+meter_shown registers produced m =
+    let parts = number_of m.points.phases in
+    phases_shown (drawn_word parts registers produced m) (current_word parts registers produced m) m.points
+    (flow_shown (drawn_word 1 registers produced m) (current_word 1 registers produced m) m.points.whole registers)
 
 abbrev pub metered_as : Works → ℕ → DeviceState → DeviceState
 metered_as (works.Inverter i) produced d = d
 metered_as (works.Meter m) produced d = record d {
   works = works.Meter (record m { load = later m.load });
-  registers = set_at m.points.watts (drawn_word d.registers produced m) d.registers;
+  registers = meter_shown d.registers produced m;
 }
 
 -- A device when the meters have ticked too, among these devices; an inverter is as it was.

@@ -13,7 +13,7 @@ use std::marker::Model;
 
 /// An inverter or a meter behind its registers.
 ///
-/// A contract sees its registers from the base on, the place of each, and what it works as.
+/// A contract sees its registers from the base on, the place of each, what it works as, and how late it answers.
 #[derive(Debug, Drop)]
 pub(crate) struct Device {
     pub(crate) unit: u8,
@@ -21,6 +21,8 @@ pub(crate) struct Device {
     pub(crate) works: Works,
     pub(crate) registers: Vec<u16>,
     pub(crate) places: Vec<Place>,
+    /// How many milliseconds late it answers.
+    pub(crate) slow: u32,
 }
 
 impl Model for Device {
@@ -35,6 +37,7 @@ impl Model for Device {
       works = d.works;
       registers = d.registers.items;
       places = d.places.items;
+      slow = d.slow;
     } };
 
     ghost invariant = { λ d. length d.places.items ≡ length d.registers.items };

@@ -2,6 +2,7 @@
 //! misbehave.
 #![tactic(auto)]
 
+mod current;
 mod device;
 mod device_kind;
 mod fault;
@@ -28,4 +29,4 @@ pub use plant::Plant;
 pub use serving::serve_link;
 // where a device's points lie, and which of them its ticks set
 pub use place::Place;
-pub use points::{InverterPoints, MeterPoints, Scale};
+pub use points::{FlowPoints, InverterPoints, MeterPoints, Phases, Scale};

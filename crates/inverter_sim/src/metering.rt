@@ -1,10 +1,11 @@
-//! A tick of a meter: the watts that are drawn from the grid.
+//! A tick of a meter: the watts that are drawn from the grid, and its phases.
 ghost use Rattle.std.specs.Prelude.{◌≡◌, ◌≤◌, ◌<◌, ◌==◌, ◌^◌, ◌≤ℤ◌, neg_ℤ, pos, map, length, slice_get, Some};
 ghost use Rattle.std.specs.List.{list_any};
 ghost use Rattle.inverter_sim.specs.State.{DeviceState};
-ghost use Rattle.inverter_sim.specs.Tick.{produced_as, produced_for, produced_by, produced_behind, drawn, drawn_word, int16_word, scaled_drawn, metered_as, metered};
+ghost use Rattle.inverter_sim.specs.Tick.{produced_as, produced_for, produced_by, produced_behind, drawn, drawn_word, int16_word, scaled_drawn, flow_shown, meter_shown, metered_as, metered};
 
 use crate::device::Device;
+use crate::points::FlowPoints;
 use crate::tick::{ONE, UNIMPLEMENTED, power_at, set_at};
 use crate::works::{Meter, Works};
 
@@ -84,8 +85,8 @@ impl Device {
         }
     }
 
-    // A meter shows the load less what its inverters produce; the next tick has the next load. An inverter stays as it
-    // is.
+    // A meter shows the load less what its inverters produce, and its phases show equal parts of that; the next tick has
+    // the next load. An inverter stays as it is.
     fn meter(&mut self, produced: u128)
         requires { produced ≤ 2 ^ 84 }
         ensures { self.new ≡ metered_as self.old.works produced self.old }
@@ -93,8 +94,7 @@ impl Device {
         match &mut self.works {
             Works::Inverter(_) => {}
             Works::Meter(meter) => {
-                let word = meter.drawn_word(&self.registers, produced);
-                set_at(&mut self.registers, meter.points.watts, word);
+                meter.show(&mut self.registers, produced);
                 meter.load.go_on();
             }
         }
@@ -102,18 +102,39 @@ impl Device {
 }
 
 impl Meter {
-    fn drawn_word(&self, registers: &[u16], produced: u128) -> u16
+    // Shows the whole, and an equal part of it in each phase.
+    fn show(&self, registers: &mut Vec<u16>, produced: u128)
         requires { produced ≤ 2 ^ 84 }
-        ensures { result ≡ drawn_word registers.now produced self.now }
+        ensures shown { registers.new.items ≡ meter_shown registers.old.items produced self.now }
+        ensures len { length registers.new.items ≡ length registers.old.items }
+    {
+        let parts = self.points.phases.number();
+        let watts = self.drawn_word(registers, produced, 1);
+        let current = self.current_word(registers, produced, 1);
+        let phase_watts = self.drawn_word(registers, produced, parts);
+        let phase_current = self.current_word(registers, produced, parts);
+        let points = &self.points;
+        points.whole.show(registers, watts, current);
+        points.phase_a.show(registers, phase_watts, phase_current);
+        points.phase_b.show(registers, phase_watts, phase_current);
+        points.phase_c.show(registers, phase_watts, phase_current);
+    }
+
+    // What W shows, or the watts of a phase, which are one of so many parts.
+    fn drawn_word(&self, registers: &[u16], produced: u128, parts: u32) -> u16
+        requires produced { produced ≤ 2 ^ 84 }
+        requires some { 0 < parts }
+        requires few { parts ≤ 3 }
+        ensures { result ≡ drawn_word parts registers.now produced self.now }
     {
         match power_at(registers, self.points.watts_scale) {
-            Some(power) => scaled_drawn(self.drawn(produced), power),
+            Some(power) => scaled_drawn(self.drawn(produced), parts as u128 * power),
             None => UNIMPLEMENTED,
         }
     }
 
     // The watts that are drawn from the grid; less than 0 where watts are fed into it.
-    fn drawn(&self, produced: u128) -> i128
+    pub(crate) fn drawn(&self, produced: u128) -> i128
         requires { produced ≤ 2 ^ 84 }
         ensures watts { result ≡ drawn produced self.now }
         ensures low { neg_ℤ (pos (2 ^ 84)) ≤ℤ result }
@@ -123,12 +144,23 @@ impl Meter {
     }
 }
 
-// watts / 10^sf, rounded down.
+impl FlowPoints {
+    // Sets the registers.
+    fn show(&self, registers: &mut Vec<u16>, watts: u16, current: u16)
+        ensures shown { registers.new.items ≡ flow_shown watts current self.now registers.old.items }
+        ensures len { length registers.new.items ≡ length registers.old.items }
+    {
+        set_at(registers, self.watts, watts);
+        set_at(registers, self.current, current);
+    }
+}
+
+// watts / 10^sf, rounded down; the power stands for 10^sf, or for so many parts times that.
 fn scaled_drawn(watts: i128, power: u128) -> u16
     requires low { neg_ℤ (pos (2 ^ 84)) ≤ℤ watts }
     requires high { watts ≤ℤ pos (2 ^ 84) }
     requires positive { 0 < power }
-    requires bound { power ≤ 10 ^ 20 }
+    requires bound { power ≤ 10 ^ 21 }
     ensures { result ≡ scaled_drawn watts power }
 {
     int16_word((watts * ONE as i128).div_euclid(power as i128))

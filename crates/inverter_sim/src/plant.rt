@@ -8,7 +8,7 @@ ghost use Rattle.inverter_sim.specs.declared.part.PlantPart.TheVariants as parts
 ghost use Rattle.inverter_sim.specs.declared.fault.PlantFault.{PlantFault as FaultOfPlant};
 ghost use Rattle.inverter_sim.specs.declared.fault.PlantFault.TheVariants as fault;
 ghost use Rattle.inverter_sim.specs.Tick.{ticked, devices_ticked, all_ticked};
-ghost use Rattle.inverter_sim.specs.Serve.{after_among, reply_among, after_serving, reply_of};
+ghost use Rattle.inverter_sim.specs.Serve.{after_among, reply_among, after_serving, reply_of, delay_among, delay_of};
 
 use crate::device::Device;
 use crate::fault::PlantFault;
@@ -47,17 +47,19 @@ impl Model for Plant {
 
 impl Plant {
     /// Reads a plant file: `[[device]]` with `unit`, `models` (1 first), `wmax`, `available` (watts, one number for each
-    /// tick), optional `ramp` (watts) and `base` (40000 where it is missing), or with `kind = "meter"`, `unit`, `models`
-    /// (one of 201 to 204 among them), `load` (watts likewise), `behind` (units of inverters before it) and `base`;
-    /// `[[device.value]]` with `model`, `point` and `raw`, the number in a point's registers; `[[fault]]` with `request` and `kind`: `exception`
-    /// with `code`, `stale` with `count`, `garbage` with `word`, `length`, `cut` with `bytes`. Other keys aren't looked at.
-    /// Registers without a value are unimplemented. Of two definitions with one id the last one counts.
+    /// tick), optional `ramp` (watts), `base` (40000 where it is missing) and `slow` (milliseconds, 0 where it is missing),
+    /// or with `kind = "meter"`, `unit`, `models` (one of 201 to 204 among them), `load` (watts likewise), `behind` (units of
+    /// inverters before it), `base` and `slow`; `[[device.value]]` with `model`, `point` and `raw`, the number in a point's
+    /// registers; `[[fault]]` with `request` and `kind`: `exception` with `code`, `stale` with `count`, `garbage` with `word`,
+    /// `length`, `cut` with `bytes`. Other keys aren't looked at. Registers without a value are unimplemented. Of two
+    /// definitions with one id the last one counts.
     ///
     /// The first rule that the file breaks is the fault: the numbers of devices, models, watts and units anywhere in the
     /// file; then each device by its kind, keys, models, ranges and duplicates, and its values one by one in the same way;
     /// then the number of faults, and the faults one by one. A unit is in 0..255, a base in 0..65534, `wmax`,
-    /// `available`, `ramp` and `load` are in 0..1,000,000, `request` in 1..1,000,000, `code` in 1..255, `count` in 1..100, `word` in 0..65535
-    /// and `bytes` in 0..259. There are at most 64 devices, 16 models, 1,024 watts and 64 units of each, and 256 faults.
+    /// `available`, `ramp` and `load` are in 0..1,000,000, `slow` is in 0..60,000, `request` in 1..1,000,000, `code` in
+    /// 1..255, `count` in 1..100, `word` in 0..65535 and `bytes` in 0..259. There are at most 64 devices, 16 models, 1,024
+    /// watts and 64 units of each, and 256 faults.
     pub fn read(alloc: Global, toml: &str, defs: &[ModelDef]) -> Result<Plant, PlantFault>
         ensures ok { IfOk result (StandsFor defs.now toml.now) }
         ensures unbroken { OnOk result ((e : FaultOfPlant) → ¬ Breaks defs.now toml.now e) }
@@ -104,6 +106,14 @@ impl Plant {
         ensures reply { result ≡ reply_of self.old unit pdu.now }
     {
         serve_among(&mut self.devices, unit, pdu)
+    }
+
+    /// How many milliseconds late the device of a unit answers where time goes by: its `slow`, and 0 where no device has
+    /// the unit. Nothing here waits; whoever serves the plant on a port does.
+    pub fn delay_of(&self, unit: u8) -> u32
+        ensures { result ≡ delay_of self.now unit }
+    {
+        delay_among(&self.devices, unit)
     }
 }
 
@@ -199,6 +209,18 @@ fn tick_all(devices: &mut [Device])
     for device in devices.iter_mut() {
         device.tick();
     }
+}
+
+// How late the device of the unit answers.
+fn delay_among(devices: &[Device], unit: u8) -> u32
+    ensures { result ≡ delay_among devices.now unit }
+{
+    for device in devices {
+        if device.unit() == unit {
+            return device.slow;
+        }
+    }
+    0
 }
 
 // The device of the unit is asked.

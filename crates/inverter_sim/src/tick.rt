@@ -151,7 +151,7 @@ fn stepped(before: u32, wanted: u32, ramp: u32) -> u32
     }
 }
 
-fn word_at(registers: &[u16], at: Option<usize>) -> Option<u16>
+pub(crate) fn word_at(registers: &[u16], at: Option<usize>) -> Option<u16>
     ensures { result ≡ word_at registers.now at }
 {
     registers.get(at?).copied()

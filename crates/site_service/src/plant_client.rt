@@ -4,6 +4,7 @@ ghost use Rattle.std.specs.Prelude.{◌≤◌};
 use inverter_sim::Plant;
 use mio::net::TcpStream;
 use mio::{Interest, Registry, Token};
+use modbus_frame::{Frame, FrameReply, Responder};
 use polled_stream::{Connection, Giver};
 use service::Session;
 
@@ -13,6 +14,27 @@ const MOST_PIECES: u32 = 2;
 /// Room for the answers of one turn.
 const ROOM: usize = 2080;
 
+/// A simulated plant whose devices may answer late.
+#[derive(Drop)]
+pub(crate) struct LatePlant {
+    plant: Plant,
+    /// Whether some device answers late.
+    is_slow: bool,
+    /// How many milliseconds late the last frame is answered.
+    late: u32,
+}
+
+/// When the answer that a session has may go out.
+#[derive(Clone, Copy)]
+enum Hold {
+    /// At once.
+    Free,
+    /// So many milliseconds from now on.
+    For(u32),
+    /// At this time.
+    Until(u64),
+}
+
 /// A connection to a simulated plant.
 #[derive(Drop)]
 pub(crate) struct PlantClient {
@@ -20,15 +42,73 @@ pub(crate) struct PlantClient {
     answers: Answers,
 }
 
-/// The answers of a plant to what came over one connection.
+/// The answers of a plant to what came over one connection. One that is held stays in the session, and while it does no
+/// further frame is taken.
 #[derive(Drop)]
 struct Answers {
     session: Session,
+    hold: Hold,
     out: [u8; 2080],
     start: usize,
     end: usize,
     ghost begins: { start ≤ end },
     ghost room: { end ≤ 2080 },
+}
+
+impl LatePlant {
+    /// A plant that waits as its devices are to.
+    pub(crate) fn new(plant: Plant) -> LatePlant {
+        let is_slow = has_slow(&plant);
+        LatePlant {
+            plant,
+            is_slow,
+            late: 0,
+        }
+    }
+}
+
+fn has_slow(plant: &Plant) -> bool {
+    for unit in 0..=u8::MAX {
+        if plant.delay_of(unit) > 0 {
+            return true;
+        }
+    }
+    false
+}
+
+impl Responder for LatePlant {
+    ghost use Rattle.std.specs.Prelude.{⊤};
+
+    ghost answers = { λ _ _ _ _ _. ⊤ };
+
+    fn answer(&mut self, frame: &Frame) -> FrameReply {
+        self.late = self.plant.delay_of(frame.unit);
+        self.plant.answer(frame)
+    }
+}
+
+impl Hold {
+    /// For so many milliseconds.
+    fn by(late: u32) -> Hold {
+        if late > 0 {
+            Hold::For(late)
+        } else {
+            Hold::Free
+        }
+    }
+
+    fn is_free(self) -> bool {
+        matches!(self, Hold::Free)
+    }
+
+    /// What is left of it at a time. A millisecond that has begun doesn't count.
+    fn at(self, now: u64) -> Hold {
+        match self {
+            Hold::For(late) => Hold::Until(now.saturating_add(u64::from(late)).saturating_add(1)),
+            Hold::Until(due) if now < due => self,
+            _ => Hold::Free,
+        }
+    }
 }
 
 impl PlantClient {
@@ -54,8 +134,16 @@ impl PlantClient {
         self.connection.is_busy(self.answers.unsent().len())
     }
 
+    /// When an answer that is held may go out; none where none is.
+    pub(crate) fn due(&self) -> Option<u64> {
+        match self.answers.hold {
+            Hold::Until(due) => Some(due),
+            _ => None,
+        }
+    }
+
     /// Answers what came.
-    pub(crate) fn receive(&mut self, plant: &mut Plant) {
+    pub(crate) fn receive(&mut self, plant: &mut LatePlant) {
         for _ in 0..MOST_PIECES {
             self.connection.fill();
             if self.connection.rest().is_empty() {
@@ -69,8 +157,9 @@ impl PlantClient {
         }
     }
 
-    /// Sends what waits.
-    pub(crate) fn send(&mut self) {
+    /// Sends what waits, as far as it may go out at a time.
+    pub(crate) fn send(&mut self, now: u64) {
+        self.answers.release(now);
         self.connection.send(&mut self.answers);
     }
 
@@ -78,7 +167,7 @@ impl PlantClient {
     pub(crate) fn is_over(&self) -> bool {
         self.connection.is_broken()
             || self.answers.are_over()
-            || self.connection.is_over() && self.answers.unsent().is_empty()
+            || self.connection.is_over() && self.answers.are_sent()
     }
 }
 
@@ -86,6 +175,7 @@ impl Answers {
     fn new() -> Answers {
         Answers {
             session: Session::new(),
+            hold: Hold::Free,
             out: [0; ROOM],
             start: 0,
             end: 0,
@@ -97,10 +187,18 @@ impl Answers {
         &self.out[self.start..self.end]
     }
 
+    /// Whether all that there are so far are sent.
+    fn are_sent(&self) -> bool {
+        self.start == self.end && self.hold.is_free()
+    }
+
     /// Answers some frames of these bytes, where no answer waits; how many bytes these are.
-    fn take(&mut self, plant: &mut Plant, bytes: &[u8]) -> usize {
-        if self.start < self.end {
+    fn take(&mut self, plant: &mut LatePlant, bytes: &[u8]) -> usize {
+        if !self.are_sent() {
             return 0;
+        }
+        if plant.is_slow {
+            return self.take_one(plant, bytes);
         }
         let turned = self.session.turn(plant, bytes, &mut self.out);
         self.start = 0;
@@ -108,19 +206,48 @@ impl Answers {
         turned.used
     }
 
-    /// So many bytes are gone; what still waits takes their place once all are.
-    fn sent(&mut self, n: usize) {
-        self.start += n.min(self.end - self.start);
-        if self.start == self.end {
+    /// Answers a frame of these bytes at most, and holds the answer of a slow device.
+    fn take_one(&mut self, plant: &mut LatePlant, bytes: &[u8]) -> usize {
+        if !self.session.is_free() {
+            return 0;
+        }
+        let taken = self.session.take(plant, bytes);
+        if taken.frames > 0 {
+            self.hold = Hold::by(plant.late);
+            self.put();
+        }
+        taken.used
+    }
+
+    /// Lets the answer that is held go out, where its time has come.
+    fn release(&mut self, now: u64) {
+        if self.hold.is_free() {
+            return;
+        }
+        self.hold = self.hold.at(now);
+        self.put();
+    }
+
+    /// Puts what the session has in the place of what is gone, unless it is held.
+    fn put(&mut self) {
+        if self.hold.is_free() {
             let end = self.session.put(&mut self.out);
             self.start = 0;
             self.end = end;
         }
     }
 
+    /// So many bytes are gone; what still waits takes their place once all are.
+    fn sent(&mut self, n: usize) {
+        self.start += n.min(self.end - self.start);
+        if self.start == self.end {
+            self.put();
+        }
+    }
+
     /// Whether nothing more will be sent.
     fn are_over(&self) -> bool {
-        self.start == self.end && self.session.is_over()
+        self.are_sent() && self.session.is_over()
     }
 }
 

@@ -1,6 +1,7 @@
 //! A simulated plant behind a port.
+use crate::desk::milliseconds;
 use crate::door::Door;
-use crate::plant_client::PlantClient;
+use crate::plant_client::{LatePlant, PlantClient};
 use crate::tokens::{DOOR, Owner, Tokens};
 use inverter_sim::Plant;
 use mio::net::TcpStream;
@@ -8,7 +9,7 @@ use mio::{Events, Poll, Token};
 use std::alloc::Global;
 use std::io;
 use std::net::{Net, SocketAddr};
-use std::time::Duration;
+use std::time::{Clock, Duration, Instant};
 
 /// The most connections at once; more wait at the door.
 const MOST_AT_ONCE: usize = 64;
@@ -57,17 +58,21 @@ impl PlantDoor {
         self.door.address()
     }
 
-    /// Serves a plant until all connections that may come are over. What a peer does ends its own connection alone; the
-    /// call fails where the wait for sockets does.
-    pub fn serve(&mut self, plant: &mut Plant) -> io::Result<()> {
+    /// Serves a plant until all connections that may come are over. A slow device answers late; the requests after its own
+    /// on the same connection wait for that, and those on others don't. What a peer does ends its own connection alone; the
+    /// call fails where the clock or the wait for sockets does.
+    pub fn serve<R: Clock>(&mut self, rt: &R, plant: Plant) -> io::Result<()> {
+        let start = Instant::now(rt)?;
+        let mut plant = LatePlant::new(plant);
         for _ in 0..u64::MAX {
             self.take_in();
-            self.answer(plant);
+            self.receive(&mut plant);
+            self.send(milliseconds(start.elapsed(rt)?));
             self.close();
             if self.is_done() {
                 return Ok(());
             }
-            self.wait()?;
+            self.wait(milliseconds(start.elapsed(rt)?))?;
         }
         Ok(())
     }
@@ -110,11 +115,19 @@ impl PlantDoor {
     }
 
     // Answers what came.
-    fn answer(&mut self, plant: &mut Plant) {
+    fn receive(&mut self, plant: &mut LatePlant) {
         for client in self.clients.iter_mut() {
             if let Some(client) = client {
                 client.receive(plant);
-                client.send();
+            }
+        }
+    }
+
+    // Sends what may go out at a time.
+    fn send(&mut self, now: u64) {
+        for client in self.clients.iter_mut() {
+            if let Some(client) = client {
+                client.send(now);
             }
         }
     }
@@ -133,22 +146,37 @@ impl PlantDoor {
         self.left == Some(0) && self.clients.iter().all(|client| client.is_none())
     }
 
-    fn wait(&mut self) -> io::Result<()> {
-        let most = self.longest_wait();
+    fn wait(&mut self, now: u64) -> io::Result<()> {
+        let most = self.longest_wait(now);
         self.poll.poll(&mut self.events, most)?;
         self.wake();
         Ok(())
     }
 
     // The longest wait; none where nothing but a socket ends it.
-    fn longest_wait(&self) -> Option<Duration> {
+    fn longest_wait(&self, now: u64) -> Option<Duration> {
         if self.is_busy() {
             return Some(Duration::from_millis(0));
         }
-        if self.door.is_stuck() {
-            return Some(Duration::from_millis(TRY_AGAIN));
+        let again = self
+            .door
+            .is_stuck()
+            .then_some(now.saturating_add(TRY_AGAIN));
+        match earlier(again, self.first_due()) {
+            Some(end) => Some(Duration::from_millis(end.saturating_sub(now))),
+            None => None,
         }
-        None
+    }
+
+    // When the first answer that is held may go out.
+    fn first_due(&self) -> Option<u64> {
+        let mut first = None;
+        for client in &self.clients {
+            if let Some(client) = client {
+                first = earlier(first, client.due());
+            }
+        }
+        first
     }
 
     fn is_busy(&self) -> bool {
@@ -178,6 +206,14 @@ impl PlantDoor {
                 }
             }
         }
+    }
+}
+
+fn earlier(one: Option<u64>, other: Option<u64>) -> Option<u64> {
+    match (one, other) {
+        (Some(one), Some(other)) => Some(one.min(other)),
+        (one, None) => one,
+        (None, other) => other,
     }
 }
 

@@ -26,18 +26,27 @@ static KIND: [KeyRule; 1] = [("kind", Kind::Text)];
 
 const KINDS: &[&str] = &["inverter", "meter"];
 
-static INVERTER_OPTIONAL: [KeyRule; 2] = [("ramp", Kind::Number), ("base", Kind::Number)];
+static INVERTER_OPTIONAL: [KeyRule; 3] = [
+    ("ramp", Kind::Number),
+    ("base", Kind::Number),
+    ("slow", Kind::Number),
+];
 
-static METER_OPTIONAL: [KeyRule; 1] = [("base", Kind::Number)];
+static METER_OPTIONAL: [KeyRule; 2] = [("base", Kind::Number), ("slow", Kind::Number)];
 
-static INVERTER_LIMITS: [(&str, i64, i64); 4] = [
+static INVERTER_LIMITS: [(&str, i64, i64); 5] = [
     ("unit", 0, 255),
     ("wmax", 0, 1_000_000),
     ("ramp", 0, 1_000_000),
     ("base", 0, 65534),
+    ("slow", 0, 60_000),
 ];
 
-static METER_LIMITS: [(&str, i64, i64); 2] = [("unit", 0, 255), ("base", 0, 65534)];
+static METER_LIMITS: [(&str, i64, i64); 3] = [
+    ("unit", 0, 255),
+    ("base", 0, 65534),
+    ("slow", 0, 60_000),
+];
 
 /// The keys of a meter.
 const METER_NEEDS: &str = "add it: a meter needs unit, models, load and behind";

@@ -99,6 +99,7 @@ fn begins_with_one(numbers: &[i64]) -> bool
 struct Ranges {
     unit: u8,
     base: u16,
+    slow: u32,
     works: Works,
 }
 
@@ -187,6 +188,7 @@ fn device_of(
         works: ranges.works,
         registers,
         places,
+        slow: ranges.slow,
     })
 }
 
@@ -198,7 +200,7 @@ fn ranges_of(
 ) -> Result<Ranges, PlantFault>
     ensures ranges { MatchResult result
         (λ r. (is_in_range seen.now (device_keys_view keys.now) (models_view models.now) ≡ true)
-        × (unsigned_abs keys.now.unit ≡ r.unit) × (unsigned_abs keys.now.base ≡ r.base)
+        × (unsigned_abs keys.now.unit ≡ r.unit) × (unsigned_abs keys.now.base ≡ r.base) × (unsigned_abs keys.now.slow ≡ r.slow)
         × (first_works (models_view models.now) (works_keys_view keys.now.works) ≡ r.works))
         (λ e. e ≢ fault.OutOfMemory → (e ≡ fault.BadRange) × (is_in_range seen.now (device_keys_view keys.now) (models_view models.now) ≡ false)) }
     ensures room { IfOk result (λ _. map_length (models_view models.now) ≤ 65536) }
@@ -212,10 +214,14 @@ fn ranges_of(
     if !begins_with_one(&keys.models) || !has_room(keys.base, models) {
         return Err(PlantFault::BadRange);
     }
+    let Some(slow) = within(keys.slow, 0, 60_000) else {
+        return Err(PlantFault::BadRange);
+    };
     let works = works_of(alloc, seen, &keys.models, &keys.works, models)?;
     Ok(Ranges {
         unit: unit as u8,
         base: base as u16,
+        slow,
         works,
     })
 }

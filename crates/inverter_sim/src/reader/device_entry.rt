@@ -15,6 +15,9 @@ use toml::Value;
 /// The base of a device whose entry has none.
 const USUAL_BASE: i64 = 40000;
 
+/// How late a device answers whose entry doesn't say so, in milliseconds.
+const USUAL_SLOW: i64 = 0;
+
 /// The keys of an entry.
 #[derive(Drop)]
 pub(super) struct DeviceKeys {
@@ -22,6 +25,7 @@ pub(super) struct DeviceKeys {
     pub(super) models: Vec<i64>,
     pub(super) works: WorksKeys,
     pub(super) base: i64,
+    pub(super) slow: i64,
 }
 
 /// The keys that a device of one kind has.
@@ -78,11 +82,15 @@ fn keys_of(alloc: Global, entry: &Value, kind: DeviceKind) -> Result<DeviceKeys,
     let Some(base) = number_or(entry, "base", USUAL_BASE) else {
         return Err(PlantFault::MissingKey);
     };
+    let Some(slow) = number_or(entry, "slow", USUAL_SLOW) else {
+        return Err(PlantFault::MissingKey);
+    };
     Ok(DeviceKeys {
         unit,
         models,
         works,
         base,
+        slow,
     })
 }
 

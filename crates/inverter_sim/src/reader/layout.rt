@@ -2,10 +2,10 @@
 ghost use Rattle.std.specs.Prelude.{◌≡◌, ◌+◌, ◌≤◌, ℕ, Some, None, option_map, option_and_then, IfSome};
 ghost use Rattle.std.specs.Option.{option_map_or};
 ghost use Rattle.inverter_sim.specs.File.{map_length, has_room};
-ghost use Rattle.inverter_sim.specs.Image.{placed, point_named, point_of_kind, register_of, is_int16, is_uint16, is_enum16, is_sunssf, scale_by, scale_of, inverter_points_of, inverter_points, meter_points_of, meter_points};
+ghost use Rattle.inverter_sim.specs.Image.{placed, point_named, point_of_kind, register_of, is_int16, is_uint16, is_enum16, is_sunssf, scale_by, scale_of, inverter_points_of, inverter_points, phases_of, counting, flow_points_of, meter_points_of, meter_points};
 ghost use Rattle.inverter_sim.specs.Reading.{placed_view, models_view};
 
-use crate::points::{InverterPoints, MeterPoints, Scale};
+use crate::points::{FlowPoints, InverterPoints, MeterPoints, Phases, Scale};
 use model_defs::{ModelDef, Point, Sf};
 use point_types::Kind;
 
@@ -142,8 +142,58 @@ fn meter_points_of(meter: Option<Placed<'_>>) -> MeterPoints
 {
     MeterPoints {
         meter: meter.map(|m| m.at as usize),
-        watts: meter.and_then(|m| int16_at(m, "W")),
+        phases: match meter {
+            Some(m) => phases_of(m),
+            None => Phases::One,
+        },
+        whole: flow_points_of("W", "A", meter),
+        phase_a: flow_points_of("WphA", "AphA", meter),
+        phase_b: flow_points_of("WphB", "AphB", counting(2, meter)),
+        phase_c: flow_points_of("WphC", "AphC", counting(3, meter)),
         watts_scale: meter.and_then(|m| sunssf_at(m, "W_SF")),
+        current_scale: meter.and_then(|m| sunssf_at(m, "A_SF")),
+        voltage: meter.and_then(|m| int16_at(m, "PhV")),
+        voltage_scale: meter.and_then(|m| sunssf_at(m, "V_SF")),
+    }
+}
+
+fn phases_of(placed: Placed<'_>) -> Phases
+    ensures { result ≡ phases_of (placed_view placed.entry) }
+{
+    if placed.model.id == 201 {
+        Phases::One
+    } else if placed.model.id == 202 {
+        Phases::Two
+    } else {
+        Phases::Three
+    }
+}
+
+// The meter model, where it counts so many phases.
+fn counting<'a>(phases: u32, meter: Option<Placed<'a>>) -> Option<Placed<'a>>
+    ensures { option_map placed_view result ≡ counting phases (option_map placed_view meter.entry) }
+{
+    let placed = meter?;
+    if phases <= phases_of(placed).number() {
+        Some(placed)
+    } else {
+        None
+    }
+}
+
+// The points of these names.
+fn flow_points_of(watts: &str, current: &str, meter: Option<Placed<'_>>) -> FlowPoints
+    ensures { result ≡ flow_points_of watts.now current.now (option_map placed_view meter.entry) }
+{
+    match meter {
+        Some(placed) => FlowPoints {
+            watts: int16_at(placed, watts),
+            current: int16_at(placed, current),
+        },
+        None => FlowPoints {
+            watts: None,
+            current: None,
+        },
     }
 }
 
