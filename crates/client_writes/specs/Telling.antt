@@ -12,6 +12,10 @@ number_or other None = other
 abbrev pub set_line : (name : List ℕ) (number before : Option ℤ) (by : List ℕ) → List ℕ
 set_line name number before by = codes "set " ++ name ++ codes " " ++ number_or (codes "unset") number ++ codes " was " ++ number_or (codes "unset") before ++ codes " by " ++ by
 
+-- set NAME lapsed
+abbrev pub lapsed_line : (name : List ℕ) → List ℕ
+lapsed_line name = codes "set " ++ name ++ codes " lapsed"
+
 abbrev pub address_text : Option ℕ → List ℕ
 address_text (Some address) = decimal address
 address_text None = codes "-"

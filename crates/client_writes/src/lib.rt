@@ -17,4 +17,4 @@ pub use settings::{Change, KnownSettings};
 // what a number that is refused would have been
 pub use hit::{RefusedNumber, refused_number};
 // the lines
-pub use told::{number_text, refused_more_line, refused_text, set_line};
+pub use told::{lapsed_line, number_text, refused_more_line, refused_text, set_line};

@@ -34,6 +34,14 @@ fn line_of_set(
     Ok(text)
 }
 
+/// `set NAME lapsed`.
+pub fn lapsed_line(alloc: Global, name: &str) -> Result<String, AllocError>
+    ensures { IfOk result (λ text. string_bytes text ≡ told.lapsed_line name.now) }
+{
+    let text = format!(in alloc; "set {name} lapsed")?;
+    Ok(text)
+}
+
 fn number_or(alloc: Global, number: Option<i64>, other: &str) -> Result<String, AllocError>
     ensures { IfOk result (λ text. string_bytes text ≡ told.number_or other.now number) }
 {

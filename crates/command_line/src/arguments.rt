@@ -150,7 +150,7 @@ fn pace_option<'a>(alloc: Global) -> Arg<'a> {
         alloc,
         "every",
         "MS",
-        "the time from a scan to the next one, as time tags read it; 1000 where nothing is said",
+        "the time from a scan to the next one, as time tags read it and as what clients set grows older; 1000 where nothing is said",
     )
     .value_parser(ValueParser::unsigned(1, 3_600_000))
 }
@@ -160,7 +160,7 @@ fn sets_option<'a>(alloc: Global) -> Arg<'a> {
         alloc,
         "sets",
         "FILE",
-        "what clients set and when: lines SCAN NAME=NUMBER, each set before that scan",
+        "what clients set and when: lines SCAN NAME=NUMBER, each set before that scan, or SCAN NAME=absent",
     )
 }
 

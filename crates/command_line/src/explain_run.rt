@@ -9,6 +9,7 @@ use std::alloc::{AllocError, Global};
 use std::io::Write;
 use std::net::Net;
 use std::process::Processes;
+use std::time::Clock;
 
 /// A trace, as it was read.
 #[derive(Clone, Copy)]
@@ -19,7 +20,7 @@ pub(crate) struct TraceText<'p, 't> {
 
 /// Explains a program, and tells then which numbers its variables had in a trace. A text that is no trace is refused before.
 /// Gives the status.
-pub(crate) fn explain_with<R: Net + Processes + Eprint + AllocGlobal, W: Write>(
+pub(crate) fn explain_with<R: Net + Clock + Processes + Eprint + AllocGlobal, W: Write>(
     rt: &R,
     alloc: Global,
     command: FileCommand<'_>,

@@ -12,6 +12,7 @@ use std::alloc::Global;
 use std::io::Write;
 use std::net::Net;
 use std::process::Processes;
+use std::time::Clock;
 
 /// What a command line asks for on the texts of its files, but for a service.
 #[derive(Clone, Copy)]
@@ -36,7 +37,7 @@ pub enum FileCommand<'a> {
 
 /// Does what a command asks for, on just the texts of its files; `itself` is this program's path.
 pub fn obey_on<W: Write>(
-    rt: &(impl Eprint + AllocGlobal + Net + Processes),
+    rt: &(impl Eprint + AllocGlobal + Net + Clock + Processes),
     alloc: Global,
     itself: &str,
     command: FileCommand<'_>,

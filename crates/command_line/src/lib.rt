@@ -30,6 +30,7 @@ mod service_places;
 mod service_run;
 mod set_lines;
 mod set_player;
+mod short_lapses;
 mod shown;
 mod socket;
 mod source;

@@ -15,6 +15,7 @@ use site_service::PlantDoor;
 use std::alloc::Global;
 use std::io::{Read, Write};
 use std::net::{Net, OpenListener, OpenStream, TcpListener};
+use std::time::Clock;
 
 /// Where a plant is served, and for whom.
 #[derive(Clone, Copy)]
@@ -27,8 +28,8 @@ pub struct PlantPort {
 
 /// Serves the plant of a plant file on a loopback port, to the end of its connections: prints `listening PORT` first. The
 /// notes have the file and the definitions. Gives the status: 0, 1 for a refusal or a failed write, 3 where the link
-/// failed. What several connections carry no contract says.
-pub fn simulate<R: Net + Eprint + AllocGlobal, W: Write>(
+/// failed. What several connections carry no contract says; there slow devices answer late, which over one they don't.
+pub fn simulate<R: Net + Clock + Eprint + AllocGlobal, W: Write>(
     rt: &R,
     alloc: Global,
     notes: &Notes<'_>,
@@ -39,9 +40,7 @@ pub fn simulate<R: Net + Eprint + AllocGlobal, W: Write>(
 {
     match plant_told(alloc, notes.plant, notes.defs, out) {
         Ok(mut plant) => match at.connections {
-            Some(connections) => {
-                serve_many(rt, alloc, notes, &mut plant, at.port, connections, out)
-            }
+            Some(connections) => { serve_many(rt, alloc, notes, plant, at.port, connections, out) }
             None => serve_first(rt, alloc, notes, &mut plant, at.port, out),
         },
         Err(refused) => {
@@ -52,11 +51,11 @@ pub fn simulate<R: Net + Eprint + AllocGlobal, W: Write>(
 }
 
 /// Serves the plant to so many connections, once its port is printed.
-fn serve_many<R: Net + Eprint + AllocGlobal, W: Write>(
+fn serve_many<R: Net + Clock + Eprint + AllocGlobal, W: Write>(
     rt: &R,
     alloc: Global,
     notes: &Notes<'_>,
-    plant: &mut Plant,
+    plant: Plant,
     port: u16,
     connections: u64,
     out: &mut W,
@@ -64,16 +63,17 @@ fn serve_many<R: Net + Eprint + AllocGlobal, W: Write>(
     ensures { ServesMany (W.contents out.old) (W.contents out.new) result ⊎ Fails (W.contents out.old) (W.contents out.new) result }
 {
     match PlantDoor::open(rt, alloc, loopback(port), connections) {
-        Ok(mut door) => serve_at_door(alloc, &mut door, plant, out),
+        Ok(mut door) => serve_at_door(rt, alloc, &mut door, plant, out),
         Err(fault) => tell_unserved(rt, alloc, notes, loopback(port), fault.kind(), out),
     }
 }
 
 /// Prints the port of a door, and serves those who come.
-fn serve_at_door<W: Write>(
+fn serve_at_door<R: Clock, W: Write>(
+    rt: &R,
     alloc: Global,
     door: &mut PlantDoor,
-    plant: &mut Plant,
+    plant: Plant,
     out: &mut W,
 ) -> u8
     ensures { ServesMany (W.contents out.old) (W.contents out.new) result ⊎ Fails (W.contents out.old) (W.contents out.new) result }
@@ -82,7 +82,7 @@ fn serve_at_door<W: Write>(
         return tell_unlinked(alloc, LinkFault::Read, out);
     };
     match tell_port(alloc, address.port(), out) {
-        0 => match door.serve(plant) {
+        0 => match door.serve(rt, plant) {
             Ok(()) => 0,
             Err(_) => tell_unlinked(alloc, LinkFault::Read, out),
         },

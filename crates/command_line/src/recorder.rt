@@ -4,7 +4,7 @@ ghost use Rattle.std.specs.Prelude.{◌<◌, length};
 use crate::plant_run::PlantRun;
 use crate::run_watch::RunLook;
 use crate::set_lines::Setting;
-use crate::set_player::LATE;
+use crate::set_player::{LATE, said_text};
 use crate::trace_rows::variables;
 use crate::write_fault::WriteFault;
 use commands::{DEPTH, ScanWatch};
@@ -110,7 +110,7 @@ fn push_unset(
     unset.push(Unset {
         scan: setting.scan,
         name: escaped(alloc, setting.name)?,
-        number: setting.number,
+        said: said_text(alloc, setting.said)?,
         why,
     })?;
     Ok(())

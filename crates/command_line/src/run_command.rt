@@ -89,6 +89,6 @@ fn note(alloc: Global, path: &str, line: usize) -> Result<String, AllocError> {
     let path = escaped(alloc, path)?;
     let path = path.as_str();
     format!(in alloc;
-        "{path}:{line}: isn't SCAN NAME=NUMBER\n  help: write the number of a scan, from 1 on, a blank, and what a client sets before it, as 3 target=40\n"
+        "{path}:{line}: isn't SCAN NAME=NUMBER or SCAN NAME=absent\n  help: write the number of a scan, from 1 on, a blank, and what a client sets before it, as 3 target=40, or that it falls silent, as 9 target=absent\n"
     )
 }

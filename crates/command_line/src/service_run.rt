@@ -4,6 +4,7 @@ use crate::plant_lines::told_port;
 use crate::retained::{Retained, tell_unretained, variables_of, warn_of_names};
 use crate::second_process::{start_plant, tell_no_port};
 use crate::service_places::tell_unreachable;
+use crate::short_lapses::warn_of_short_lapses;
 use crate::shown::warn_on_site;
 use commands::{Accepted, Outcome, accept, no_core, tell_no_memory, write_lines};
 use gateway::CoreFault;
@@ -151,6 +152,7 @@ fn prepared<R: Print + Eprint + AllocGlobal, W: Write>(
                     variables_of(given),
                 );
                 warn_on_site(rt, &run.notes, &given.site);
+                warn_of_short_lapses(rt, &run.notes, &given.site, run.limits.period);
                 Ok(addresses)
             }
             status => Err(status),

@@ -3,7 +3,7 @@ ghost use Rattle.std.specs.Prelude.{IfSome};
 ghost use Rattle.modbus_frame.specs.Message.{IsRequest};
 
 use crate::run_watch::RunLook;
-use crate::set_lines::Setting;
+use crate::set_lines::{Said, Setting};
 use commands::{ClientTurn, DEPTH, ScanClients};
 use gateway::Core;
 use modbus_frame::{Request, request_pdu};
@@ -38,20 +38,25 @@ impl<'r, R: Eprint> SetPlayer<'r, R> {
 
     /// Tells what no client can set in the turn of this number before a scan, and why.
     pub fn tell_refused<V: RunLook>(&self, core: &Core<DEPTH>, scan: u32, i: u32, beside: &mut V) {
-        let Some(setting) = setting_at(self.settings, scan, i) else {
+        let Some(setting) = setting_at(core, self.settings, scan, i) else {
             return;
         };
-        let why = why_unset(core, setting);
-        if !self.quiet {
-            tell_unset(self.rt, self.alloc, setting, why);
+        // what is set anew at each scan was told at its first one
+        if setting.scan != scan {
+            return;
         }
-        beside.unset(setting, why);
+        if let Some(why) = why_unset(core, setting) {
+            if !self.quiet {
+                tell_unset(self.rt, self.alloc, setting, why);
+            }
+            beside.unset(setting, why);
+        }
     }
 }
 
 impl<R: Eprint> ScanClients for SetPlayer<'_, R> {
     fn turn(&mut self, core: &Core<DEPTH>, scan: u32, i: u32) -> ClientTurn {
-        let Some(setting) = setting_at(self.settings, scan, i) else {
+        let Some(setting) = setting_at(core, self.settings, scan, i) else {
             return ClientTurn::Rests;
         };
         match request_for(core, setting) {
@@ -79,11 +84,16 @@ fn tell_unset<R: Eprint>(rt: &R, alloc: Global, setting: Setting<'_>, why: &str)
     }
 }
 
-/// The i-th of the settings before a scan.
-fn setting_at<'a>(settings: &[Setting<'a>], scan: u32, i: u32) -> Option<Setting<'a>> {
+/// The i-th of the settings before a scan: those that are said for it, and those that are set anew since they would lapse.
+fn setting_at<'a>(
+    core: &Core<DEPTH>,
+    settings: &[Setting<'a>],
+    scan: u32,
+    i: u32,
+) -> Option<Setting<'a>> {
     let mut left = i;
     for setting in settings {
-        if setting.scan == scan {
+        if setting.scan == scan || is_renewed(core, *setting, scan) {
             match left.checked_sub(1) {
                 Some(fewer) => left = fewer,
                 None => return Some(*setting),
@@ -93,29 +103,65 @@ fn setting_at<'a>(settings: &[Setting<'a>], scan: u32, i: u32) -> Option<Setting
     None
 }
 
+/// Whether a client goes on before this scan with what it began before: its tag lapses, and nothing else is said of that since.
+fn is_renewed(core: &Core<DEPTH>, setting: Setting<'_>, scan: u32) -> bool {
+    setting.scan < scan
+        && scan < setting.until
+        && setting.said != Said::Absent
+        && lapses(core, setting.name)
+}
+
+fn lapses(core: &Core<DEPTH>, name: &str) -> bool {
+    match tag_named(core, name) {
+        Some(tag) => tag.lapse.is_some(),
+        None => false,
+    }
+}
+
 /// The request by which a client sets it; None where no client can.
 fn request_for(core: &Core<DEPTH>, setting: Setting<'_>) -> Option<Request>
     ensures { IfSome result IsRequest }
 {
     let tag = core.site().tag(setting.name)?;
-    core.request_to_set(tag, setting.number)
+    match setting.said {
+        Said::Number(number) => core.request_to_set(tag, number),
+        Said::Absent => None,
+    }
 }
 
-/// `scan K: NAME=NUMBER isn't set: WHY`.
+/// `scan K: NAME=NUMBER isn't set: WHY`, or `NAME=absent`.
 fn unset_note(alloc: Global, setting: Setting<'_>, why: &str) -> Result<String, AllocError> {
     let name = escaped(alloc, setting.name)?;
-    let (scan, name, number) = (setting.scan, name.as_str(), setting.number);
-    format!(in alloc; "scan {scan}: {name}={number} isn't set: {why}\n")
+    let said = said_text(alloc, setting.said)?;
+    let (scan, name, said) = (setting.scan, name.as_str(), said.as_str());
+    format!(in alloc; "scan {scan}: {name}={said} isn't set: {why}\n")
 }
 
-fn why_unset(core: &Core<DEPTH>, setting: Setting<'_>) -> &'static str {
+/// What is said of a tag, as it stands in the file.
+pub(crate) fn said_text(alloc: Global, said: Said) -> Result<String, AllocError> {
+    match said {
+        Said::Number(number) => number.to_string(alloc),
+        Said::Absent => String::from_str(alloc, "absent"),
+    }
+}
+
+/// Why no client can do what is said; none where there is nothing to do for it.
+fn why_unset(core: &Core<DEPTH>, setting: Setting<'_>) -> Option<&'static str> {
     match tag_named(core, setting.name) {
-        None => "the site has no tag of this name",
-        Some(tag) if tag.access != Access::Setting => "the tag isn't one that clients set",
-        Some(tag) if setting.number < tag.low || tag.high < setting.number => {
-            "it is outside the tag's range"
+        None => Some("the site has no tag of this name"),
+        Some(tag) if tag.access != Access::Setting => Some("the tag isn't one that clients set"),
+        Some(tag) => why_unsaid(tag, setting.said),
+    }
+}
+
+fn why_unsaid(tag: &SiteTag, said: Said) -> Option<&'static str> {
+    match said {
+        Said::Number(number) if number < tag.low || tag.high < number => {
+            Some("it is outside the tag's range")
         }
-        Some(_) => "its point can't say it by the factor that is served",
+        Said::Number(_) => Some("its point can't say it by the factor that is served"),
+        Said::Absent if tag.lapse.is_none() => Some("what clients set it to never lapses"),
+        Said::Absent => None,
     }
 }
 

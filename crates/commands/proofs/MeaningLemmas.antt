@@ -1,5 +1,5 @@
 -- Each scan of an accepted program does what the program means.
-use Rattle.std.proofs.Common.{◌≡◌, ℕ, zero, suc, ◌∙◌, true, List, [], ◌∷◌, length, map, slice_get, ℤ, pos, ◌≤ℤ◌, int_le, Option, Some, None, Result, Ok, Err, refl, sym, ap, subst, arith}
+use Rattle.std.proofs.Common.{◌≡◌, ℕ, zero, suc, ◌∙◌, Bool, true, false, if◌then◌else◌, List, [], ◌∷◌, length, map, slice_get, ℤ, pos, ◌≤ℤ◌, int_le, Option, Some, None, Result, Ok, Err, refl, sym, ap, subst, arith}
 use Rattle.std.proofs.lemmas.Int.{ints}
 use Rattle.point_types.specs.declared.reading.Reading.{Reading}
 use Rattle.point_types.specs.declared.reading.Reading.TheVariants as reading
@@ -42,7 +42,7 @@ use Rattle.verifier.specs.Verified.{Acceptance, HasAlike, HasLinks, IsAlike}
 use Rattle.gateway.proofs.Scanning.{inputs_fit, none_in, stored_in}
 use Rattle.gateway.proofs.Settled.{reads_in_range, still_settings}
 use Rattle.gateway.specs.event_core.Core.{number_of, numbers_of}
-use Rattle.gateway.specs.event_core.SiteRun.{Does, IsScan, Replies, Runs, Sets, Standing, Steps, Writes, none_of, opened, reading_at}
+use Rattle.gateway.specs.event_core.SiteRun.{Does, IsScan, Replies, Runs, Sets, Standing, Steps, Writes, all_held, all_older, has_lapsed, none_of, opened, reading_at}
 use Rattle.gateway.specs.declared.event_core.event.Answer.{Answer}
 use Rattle.gateway.specs.declared.event_core.event.Event.{Event}
 use Rattle.gateway.specs.declared.event_core.event.Event.TheVariants as event
@@ -50,6 +50,20 @@ use Rattle.gateway.specs.declared.served.point.OwnPoint.{OwnPoint}
 use Rattle.commands.specs.Accepted.{most_deferred}
 use Rattle.commands.specs.OneScan.{stored_of}
 use Rattle.commands.specs.Meant.{IsMeantScan, RunsAsMeant, StepsAsMeant}
+
+-- ---- what lapses
+
+-- what still holds was set
+held_was : (tags : List SiteTag) (ages : List (Option ℕ)) (sets : List (Option ℤ)) (i : ℕ) (n : ℤ) → slice_get (all_held tags ages sets) i ≡ Some (Some n) → slice_get sets i ≡ Some (Some n)
+held_was [] ages sets i n e = cc
+held_was (t ∷ ts) [] sets i n e = cc
+held_was (t ∷ ts) (age ∷ ages) [] i n e = cc
+held_was (t ∷ ts) (age ∷ ages) (set ∷ sets) zero n e = by_lapse (has_lapsed t.lapse age) e
+  where
+    by_lapse : (b : Bool) → Some (if b then None else set) ≡ Some (Some n) → Some set ≡ Some (Some n)
+    by_lapse true f = cc
+    by_lapse false f = f
+held_was (t ∷ ts) (age ∷ ages) (set ∷ sets) (suc i) n e = held_was ts ages sets i n e
 
 -- ---- numbers in their ranges
 
@@ -225,7 +239,13 @@ module _ (site : Site) (p : Program) (a : Acceptance) (right : DoesWhatItMeans p
   pub step_meant : (s : Standing) (e : Event) (r : Answer) (t : Standing) → IsKept s → Steps site a.image (numbers_of a) a.budget s e r t → StepsAsMeant p site a s e r t × IsKept t
   step_meant s (event.Block want words) r t kept h = (h, still s t (ap (λ (x : Standing). x.sets) h.1) (ap (λ (x : Standing). x.variables) h.1) kept)
   step_meant s (event.Lost want) r t kept h = (h, still s t (ap (λ (x : Standing). x.sets) h.1) (ap (λ (x : Standing). x.variables) h.1) kept)
-  step_meant s (event.Time ms) r t kept h = (h, still s t (ap (λ (x : Standing). x.sets) h.1) (ap (λ (x : Standing). x.variables) h.1) kept)
+  step_meant s (event.Time ms) r t kept h = (
+    h,
+    record {
+      sets = subst (AreSettings site.tags) (sym (ap (λ (x : Standing). x.sets) h.1)) (λ i u n p q. kept.sets i u n p (held_was site.tags (all_older ms s.ages) s.sets i n q));
+      variables = subst (AreVariables a.image.vars) (sym (ap (λ (x : Standing). x.variables) h.1)) kept.variables;
+    },
+  )
   step_meant s event.Scan r t kept h = ((h.0, scan_meant s t kept h.1), scan_kept s t kept h.1)
   step_meant s (event.Client pdu) r t kept (reply, is, replies) = ((reply, is, replies), replies_kept s pdu (request_of pdu) reply t replies kept)
 

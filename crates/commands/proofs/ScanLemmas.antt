@@ -9,7 +9,8 @@ use Rattle.gateway.specs.event_core.Core.{Gateway, IsSame, RunsFrom}
 use Rattle.gateway.specs.event_core.Driving.{TakesEvent}
 use Rattle.gateway.specs.poller.Cycle.{RunsTo, Scans, StopsScan}
 use Rattle.gateway.specs.poller.Polling.{Polling}
-use Rattle.gateway.specs.event_core.SiteRun.{Standing}
+use Rattle.site_model.specs.declared.site.Site.{Site}
+use Rattle.gateway.specs.event_core.SiteRun.{Standing, after_time}
 use Rattle.gateway.specs.declared.poller.cycle.Report.{Report}
 use Rattle.gateway.specs.declared.event_core.event.Answer.{Answer}
 use Rattle.gateway.specs.declared.event_core.event.Answer.TheVariants as answer
@@ -237,7 +238,7 @@ same_waited pace g s same = record { site = same.site; maps = same.maps; accepte
 follows_waited : (pace : Pace) (g s : Gateway) → IsSame g s → (es : List Event) (t : Gateway) → Follows g (after_wait pace.every s) es t → Follows g s (event.Time pace.every ∷ es) t
 follows_waited pace g s same es t h = record {
   answers = answer.None ∷ h.answers;
-  runs = (answer.None, h.answers, (after_wait pace.every s).standing, (refl, refl), refl, h.runs);
+  runs = (answer.None, h.answers, (after_wait pace.every s).standing, (refl, ap (λ (x : Site). after_time x pace.every s.standing) same.site), refl, h.runs);
   same = h.same;
 }
 

@@ -51,8 +51,8 @@ IsHeld g = g.machine.variables ≡ g.standing.variables
 pub waits_so : (depth : ℕ) (s : Gateway) (ms : ℕ) → TakesEvent depth s (event.Time ms) answer.None (after_wait ms s)
 waits_so depth s ms = (((refl, refl), record { site = refl; maps = refl; accepted = refl }), refl)
 
-pub waited_so : (s t : Gateway) (ms : ℕ) (r : Answer) → IsSame s t → t.machine ≡ s.machine → (r ≡ answer.None) × (t.standing ≡ after_time ms s.standing) → t ≡ after_wait ms s
-waited_so s t ms r same m h = by_parts s t s.machine (after_time ms s.standing) same m h.1
+pub waited_so : (s t : Gateway) (ms : ℕ) (r : Answer) → IsSame s t → t.machine ≡ s.machine → (r ≡ answer.None) × (t.standing ≡ after_time s.site ms s.standing) → t ≡ after_wait ms s
+waited_so s t ms r same m h = by_parts s t s.machine (after_time s.site ms s.standing) same m h.1
 
 -- ---- blocks
 

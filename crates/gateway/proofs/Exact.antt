@@ -1,7 +1,6 @@
 -- A point has one list of words at most, and so has the whole map.
-use Rattle.std.proofs.Common.{◌≡◌, inl, inr, ℕ, List, [], ◌∷◌, ◌++◌, Option, Some, None, Result, Ok, sym, ap, ◌∙◌}
+use Rattle.std.proofs.Common.{◌≡◌, inl, inr, ℕ, List, [], ◌∷◌, ◌++◌, Option, Some, None, Ok, sym, ap, ◌∙◌}
 use Rattle.std.specs.Prelude.{ℤ}
-use Rattle.point_types.specs.declared.encoding.Unencodable.{Unencodable}
 use Rattle.point_types.specs.declared.kind.Kind.{Kind}
 use Rattle.point_types.specs.declared.reading.Reading.{Reading}
 use Rattle.point_types.proofs.RoundTrips.{at_most_one_encoding}

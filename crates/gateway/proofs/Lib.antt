@@ -9,6 +9,7 @@ pub mod Settled
 pub mod Sized
 mod Spelled
 mod Totals
+mod Waiting
 pub mod Dropping
 pub mod Requesting
 pub mod Searched

@@ -39,6 +39,7 @@ opened_known site k h =
       blocks = ap length h.blocks ∙ length-map site.wants _;
       scanned = ap length scanned ∙ length-map site.wants _;
       sets = ap length h.sets ∙ length-map site.tags _;
+      ages = ap length h.ages ∙ length-map site.tags _;
       outputs = ap length outputs ∙ length-map site.tags _;
       readings = ap length readings ∙ length-map site.tags _;
       ranged = subst (λ (ns : List (Option ℤ)). AreSettings site.tags ns) (sym h.sets) (none_in site.tags site.tags);
@@ -64,6 +65,7 @@ pub ready_standing : (site : Site) (m : Running) (k : Memory) → IsOpening site
 ready_standing site m k h =
     let blocks = h.blocks in
     let sets = h.sets in
+    let ages = h.ages in
     let elapsed = h.elapsed in
     let last = h.last in cc
 

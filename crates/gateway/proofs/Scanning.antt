@@ -58,7 +58,7 @@ stored_more links outputs cur i d o h e =
 pub stored_whole : (links : List TagLink) (outputs cur : List (Option ℤ)) (i : ℕ) → length links ≤ i → stored_at (map number_of (drop i links)) (drop i outputs) cur ≡ cur
 stored_whole links outputs cur i h = rw (drop_all i links h) refl
 
-kept_none : (tags : List SiteTag) (cur : List (Option ℤ)) (n : ℕ) → AreSettings tags cur → AreSettings tags (slice_set cur n None)
+pub kept_none : (tags : List SiteTag) (cur : List (Option ℤ)) (n : ℕ) → AreSettings tags cur → AreSettings tags (slice_set cur n None)
 kept_none tags cur n ranged k u m p q = go (set-cases cur n None k (Some m) q)
   where
     go : ((k ≡ n) × (Some m ≡ None)) ⊎ (slice_get cur k ≡ Some (Some m)) → (u.low ≤ℤ m) × (m ≤ℤ u.high)
@@ -87,13 +87,13 @@ none_in tags xs i t n p q = go xs i q
 
 -- ---- what a scan leaves
 
-abbrev made : ℕ → (blocks : List (Option (List ℕ))) (sets : List (Option ℤ)) → List ℤ → (outputs : List (Option ℤ)) → List Reading → (scanned : List (Option (List ℕ))) → Standing
-made steps blocks sets variables outputs readings known = record { blocks = blocks; sets = sets; elapsed = Some 0; variables = variables; last = record { steps = steps; outputs = outputs; readings = readings; blocks = known } }
+abbrev made : ℕ → (blocks : List (Option (List ℕ))) (sets : List (Option ℤ)) (ages : List (Option ℕ)) → List ℤ → (outputs : List (Option ℤ)) → List Reading → (scanned : List (Option (List ℕ))) → Standing
+made steps blocks sets ages variables outputs readings known = record { blocks = blocks; sets = sets; ages = ages; elapsed = Some 0; variables = variables; last = record { steps = steps; outputs = outputs; readings = readings; blocks = known } }
 
-pub same_made : (steps : ℕ) (blocks : List (Option (List ℕ))) (sets : List (Option ℤ)) (readings readings' : List Reading) (variables variables' : List ℤ) (outputs outputs' : List (Option ℤ)) (known : List (Option (List ℕ))) →
-    variables ≡ variables' → outputs ≡ outputs' → readings ≡ readings' → known ≡ blocks → made steps blocks sets variables outputs readings known ≡ made steps blocks sets variables' outputs' readings' blocks
-same_made steps blocks sets readings readings' variables variables' outputs outputs' known v o r k =
-    ap (λ x. made steps blocks sets x outputs readings known) v ∙ ap (λ x. made steps blocks sets variables' x readings known) o ∙ ap (λ x. made steps blocks sets variables' outputs' x known) r ∙ ap (λ x. made steps blocks sets variables' outputs' readings' x) k
+pub same_made : (steps : ℕ) (blocks : List (Option (List ℕ))) (sets : List (Option ℤ)) (ages : List (Option ℕ)) (readings readings' : List Reading) (variables variables' : List ℤ) (outputs outputs' : List (Option ℤ)) (known : List (Option (List ℕ))) →
+    variables ≡ variables' → outputs ≡ outputs' → readings ≡ readings' → known ≡ blocks → made steps blocks sets ages variables outputs readings known ≡ made steps blocks sets ages variables' outputs' readings' blocks
+same_made steps blocks sets ages readings readings' variables variables' outputs outputs' known v o r k =
+    ap (λ x. made steps blocks sets ages x outputs readings known) v ∙ ap (λ x. made steps blocks sets ages variables' x readings known) o ∙ ap (λ x. made steps blocks sets ages variables' outputs' x known) r ∙ ap (λ x. made steps blocks sets ages variables' outputs' readings' x) k
 
 pub stored_same : (a b : Acceptance) (outputs outputs' : List (Option ℤ)) (old : List (Option ℤ)) (tags : List SiteTag) → a ≡ b → outputs ≡ outputs' → length old ≡ length tags →
     stored_at (numbers_of a) outputs (none_of old) ≡ stored_at (numbers_of b) outputs' (none_of tags)

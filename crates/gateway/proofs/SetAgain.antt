@@ -1,15 +1,16 @@
 -- The request by which a client sets a tag alone.
-use Rattle.std.proofs.Common.{◌≡◌, ◌≢◌, ◌⊎◌, inl, inr, ℕ, zero, suc, ◌+◌, ◌-◌, ◌<◌, ◌≤◌, Bool, true, false, List, [], ◌∷◌, ◌++◌, length, take, drop, get_or, Option, Some, None, Result, Ok, Err, refl, sym, ap, subst, ◌∙◌, arith}
+use Rattle.std.proofs.Common.{◌≡◌, ◌⊎◌, inl, inr, ℕ, zero, suc, ◌+◌, ◌-◌, ◌<◌, ◌≤◌, Bool, true, false, List, [], ◌∷◌, ◌++◌, length, take, drop, get_or, Option, Some, None, Result, Ok, Err, refl, sym, ap, subst, ◌∙◌, arith}
 use Rattle.std.specs.Prelude.{ℤ, ◌≤ℤ◌, slice_get, slice_set, is_some, nat_le, ◌&&◌, if◌then◌else◌, option_and_then, IfSome, MatchOption}
 use Rattle.std.specs.List.{flat_map}
+use Rattle.std.specs.Option.{option_map_or}
 use Rattle.std.proofs.lemmas.Bool.{le-leb, leb-true}
 use Rattle.std.proofs.lemmas.Bool.Decides.{leb_tells}
 use Rattle.std.proofs.lemmas.List.{drop_more, take_all, drop_all}
 use Rattle.point_types.specs.declared.kind.Kind.{Kind}
 use Rattle.point_types.specs.declared.kind.Kind.TheVariants as kinds
 use Rattle.point_types.specs.declared.reading.Reading.TheVariants as reading
-use Rattle.point_types.specs.Point.{StandsFor, size_of}
-use Rattle.point_types.specs.Reading.{IsScaled, ReadsBy, IsReading, factor_of}
+use Rattle.point_types.specs.Point.{StandsFor}
+use Rattle.point_types.specs.Reading.{IsScaled, ReadsBy}
 use Rattle.point_types.specs.Encoding.{EncodesBy}
 use Rattle.model_defs.specs.declared.model.ModelDef.{ModelDef}
 use Rattle.model_defs.specs.declared.point.Point.{Point}
@@ -24,7 +25,7 @@ use Rattle.site_model.specs.declared.tag.SiteTag.{SiteTag}
 use Rattle.gateway.specs.declared.served.point.OwnPoint.{OwnPoint}
 use Rattle.gateway.specs.declared.served.point.OwnPoint.TheVariants as own
 use Rattle.gateway.specs.served.Points.{own_points, own_point, points_from, model_points, mark, end_model, registers_of, value_point}
-use Rattle.gateway.specs.event_core.SiteRun.{Standing, Does, ReadsBack, Sets, SetsOne, Writes, are_settings, points_behind, setting_of, written_points}
+use Rattle.gateway.specs.event_core.SiteRun.{ReadsBack, Sets, SetsOne, Writes, ages_after, are_settings, points_behind, renewed, renewed_one, setting_of, written_points}
 use Rattle.gateway.specs.event_core.Restoring.{AreRead, AreWordsFor, NothingSets, SetsAlone, SetsAt}
 use Rattle.gateway.proofs.Settled.{reads_in_range, sets_on, sets_back}
 use Rattle.gateway.proofs.Sized.{size_within}
@@ -149,6 +150,13 @@ module _ (p : OwnPoint) (ps : List OwnPoint) (one : 1 ≤ registers_of p) where
       let r : suc k - registers_of p ≡ 0 = omega (arith, e) in
       ap (λ o. is_some o && (nat_le (registers_of p) (suc k) && are_settings tags ps (suc k - registers_of p))) own
       ∙ ap (λ b. b && are_settings tags ps (suc k - registers_of p)) (le-leb (registers_of p) (suc k) h) ∙ ap (λ j. are_settings tags ps j) r
+
+  -- the tag of one point is set
+  renewed_alone : (tags : List SiteTag) (tag m : ℕ) (ages : List (Option ℕ)) → setting_of tags p ≡ Some tag → m ≡ registers_of p → renewed tags (p ∷ ps) m ages ≡ slice_set ages tag (Some 0)
+  renewed_alone tags tag zero ages own e = absurd (omega (arith, one, e))
+  renewed_alone tags tag (suc k) ages own e =
+      let r : suc k - registers_of p ≡ 0 = omega (arith, e) in
+      ap (λ o. renewed tags ps (suc k - registers_of p) (renewed_one o ages)) own ∙ ap (λ j. renewed tags ps j (slice_set ages tag (Some 0))) r
 
 none_behind : (d : ℕ) (p : OwnPoint) (ps : List OwnPoint) → points_behind [] d ≡ Some (p ∷ ps) → ⊥
 none_behind zero p ps e = cc
@@ -301,7 +309,7 @@ module _ (site : Site) (tag : ℕ) (number : ℤ) where
   alone_if (Some r) addr words h s = subst (λ q. SetsAlone site tag number q) (sym h) s
 
   pub alone : (addr : ℕ) (words : List ℕ) → 1 ≤ length words → SetsAt site tag number addr words → SetsAlone site tag number (WriteMany addr words)
-  alone addr words some sets s t r does = go r (subst (λ o. Writes site.tags o words s.sets r t.sets) sets.covers does.0)
+  alone addr words some sets s t r does = go r (subst (λ o. Writes site.tags o words s.sets r t.sets) sets.covers does.0) does.1
     where
       are : AreWordsFor site.tags tag number sets.point words
       are = sets.are
@@ -327,10 +335,16 @@ module _ (site : Site) (tag : ℕ) (number : ℤ) where
       only : (new : List (Option ℤ)) → Sets site.tags (sets.point ∷ sets.behind) words s.sets new → new ≡ mid
       only new h = subst (λ ws. Sets site.tags sets.behind ws mid new) left (sets_back site.tags sets.point sets.behind words s.sets mid new some one h)
 
-      go : (q : Result Response Exception) → Writes site.tags (Some (sets.point ∷ sets.behind)) words s.sets q t.sets → (q ≡ Ok response.Wrote) × (t ≡ record s { sets = mid })
-      go (Ok (response.Words read)) h = absurd h
-      go (Ok response.Wrote) h = (refl, does.1 ∙ ap (λ (x : List (Option ℤ)). record s { sets = x }) (only t.sets h))
-      go (Err e) h = absurd (h.1 mid all)
+      young : ages_after site addr (length words) (Ok response.Wrote) s.ages ≡ slice_set s.ages tag (Some 0)
+      young =
+          ap (λ o. option_map_or (λ points. renewed site.tags points (length words) s.ages) o s.ages) sets.covers
+          ∙ renewed_alone sets.point sets.behind (omega (arith, some, size)) site.tags tag (length words) s.ages are.own size
+
+      go : (q : Result Response Exception) → Writes site.tags (Some (sets.point ∷ sets.behind)) words s.sets q t.sets → t ≡ record s { sets = t.sets; ages = ages_after site addr (length words) q s.ages } → (q ≡ Ok response.Wrote) × (t ≡ record s { sets = mid; ages = slice_set s.ages tag (Some 0) })
+      go (Ok (response.Words read)) h after = absurd h
+      go (Ok response.Wrote) h after =
+          (refl, after ∙ ap (λ (x : List (Option ℤ)). record s { sets = x; ages = ages_after site addr (length words) (Ok response.Wrote) s.ages }) (only t.sets h) ∙ ap (λ (x : List (Option ℕ)). record s { sets = mid; ages = x }) young)
+      go (Err e) h after = absurd (h.1 mid all)
 
 pub few_words : (p : OwnPoint) (t : SiteTag) (n : ℤ) (words : List ℕ) → AreRead p t n words → (1 ≤ length words) × (length words ≤ 123)
 few_words (own.Word w) t n words h = absurd h

@@ -1,6 +1,6 @@
 -- What is proved of the served image and of scans over a link.
 -- SunSpec Device Information Model Specification, device modbus maps; IEC 61131-3 edition 2, 3.2 (one scan after another).
-use Rattle.std.specs.Prelude.{◌≡◌, ◌<◌, ℕ, ℤ, List, [], ◌∷◌, ◌++◌, length, Option, Ok}
+use Rattle.std.specs.Prelude.{◌≡◌, ◌<◌, ℕ, ℤ, List, [], ◌∷◌, ◌++◌, length, slice_get, Option, None, Some, Ok}
 use Rattle.register_map.specs.Layout.{Layout}
 use Rattle.point_writer.specs.declared.write.Write.{Write}
 use Rattle.gateway.specs.declared.poller.cycle.Report.{Report}
@@ -13,6 +13,8 @@ use Rattle.gateway.specs.poller.Cycle.{Scans}
 use Rattle.gateway.specs.poller.Polling.{Polling}
 use Rattle.point_types.specs.declared.reading.Reading.{Reading}
 use Rattle.site_model.specs.declared.site.Site.{Site}
+use Rattle.site_model.specs.declared.tag.SiteTag.{SiteTag}
+use Rattle.gateway.specs.event_core.SiteRun.{Standing, after_time}
 use Rattle.gateway.specs.served.ServedImage.{IsServedImage}
 
 -- a site, the last scan and the settings have one served image at most
@@ -24,6 +26,11 @@ AtMostOneServedImage = (site : Site) (outputs : List (Option ℤ)) (readings : L
 abbrev pub ScansFollowTheSiteRun : Type 0
 ScansFollowTheSiteRun = (depth : ℕ) (site : Site) (maps : List (Option Layout)) (p : Polling) (s : Gateway) (q : Polling) (t : Gateway) (report : Report) (scans : Scans (TakesEvent depth) IsPlanned steps_of site maps p s q t report) →
     (answers : List Answer) × RunsOn s ((scans.taken).events ++ event.Scan ∷ []) answers t
+
+-- time alone takes nothing away that clients set, where no tag of the site lapses
+abbrev pub SitesWithoutLapsesKeepWhatIsSet : Type 0
+SitesWithoutLapsesKeepWhatIsSet = (site : Site) (ms : ℕ) (s : Standing) → ((i : ℕ) (t : SiteTag) → slice_get site.tags i ≡ Some t → t.lapse ≡ None) →
+    length s.ages ≡ length site.tags → length s.sets ≡ length site.tags → (after_time site ms s).sets ≡ s.sets
 
 abbrev pub WritesAreSetPoints : Type 0
 WritesAreSetPoints = (g : Gateway) (i : ℕ) (w : Write) → i < length g.site.outs → IsPlanned g i (Ok w) → SetsItsTag g i w

@@ -1,6 +1,6 @@
 //! The core of a gateway: one state, one step for each event.
 ghost use Rattle.std.specs.Prelude.{◌≡◌, length};
-ghost use Rattle.gateway.specs.event_core.SiteRun.{later, told, with_block};
+ghost use Rattle.gateway.specs.event_core.SiteRun.{told, with_block};
 
 mod answering;
 mod event;
@@ -11,6 +11,7 @@ mod request;
 mod restoring;
 mod scan;
 mod setting;
+mod waiting;
 
 use crate::served::{OwnPoint, serve};
 pub use answering::serve_client;
@@ -18,7 +19,7 @@ pub use event::{Answer, Event};
 pub use fault::CoreFault;
 pub(crate) use memory::Memory;
 use modbus_frame::{Exception, Pdu, Request, Response, exception_pdu, parse_request, response_pdu};
-use opening::opening_for;
+use opening::{inputs_for, opening_for};
 use point_types::{Items, Reading};
 use point_writer::plan::plan;
 use point_writer::{NoWrite, Write, factor};
@@ -32,6 +33,8 @@ use site_model::wants::place_of_want;
 use site_model::{Site, Want, Words};
 use std::alloc::Global;
 use std::marker::Model;
+pub use waiting::has_lapsed;
+use waiting::{elapsed_after, grow_older, lapse};
 
 /// The most values that a program may defer where it runs as a command or a service.
 pub const DEPTH: usize = 32;
@@ -88,7 +91,7 @@ impl<const DEPTH: usize> Core<DEPTH> {
     ghost use Rattle.modbus_frame.specs.Message.{request_of, IsAnswerTo, IsRequest};
     ghost use Rattle.point_writer.specs.SetPoint.{IsFactorFor, IsPlanFor, WritesASetPoint};
     ghost use Rattle.site_model.specs.Readings.{AreSettings};
-    ghost use Rattle.gateway.specs.event_core.Core.{IsSame, RunsOn, StepsOn, gateway_of, numbers_of};
+    ghost use Rattle.gateway.specs.event_core.Core.{IsSame, RunsOn, StepsOn, adopting, gateway_of, numbers_of};
     ghost use Rattle.gateway.specs.event_core.Driving.{Drives, ScansOnce};
     ghost use Rattle.gateway.specs.event_core.Restoring.{NothingSets, SetsAlone};
     ghost use Rattle.gateway.specs.event_core.SiteRun.{Does, IsScan, Replies, SaysWrote, WritesAt, after_block, after_time};
@@ -123,8 +126,8 @@ impl<const DEPTH: usize> Core<DEPTH> {
         }
     }
 
-    /// What happens on one event: the words of a wanted block are kept, or forgotten; time goes by; the program runs once; a
-    /// client's request is answered. A block that isn't wanted is ignored, and one without words, or whose first word isn't the
+    /// What happens on one event: the words of a wanted block are kept, or forgotten; time goes by, and what clients set
+    /// lapses; the program runs once; a client's request is answered. A block that isn't wanted is ignored, and one without words, or whose first word isn't the
     /// model's ID, is as a lost one.
     pub fn step(&mut self, event: Event) -> Answer
         ensures run { StepsOn self.old event result self.new }
@@ -249,6 +252,33 @@ impl<const DEPTH: usize> Core<DEPTH> {
         self.known.sets.as_slice()
     }
 
+    /// The milliseconds since a client set each of the site's tags last, a day at most; None where none did.
+    pub fn ages(&self) -> &[Option<u32>]
+        ensures { result.now ≡ self.now.standing.ages }
+    {
+        self.known.ages.as_slice()
+    }
+
+    /// From the next scan on this machine's program runs, with its variables as they stand. What is known and set stays, as
+    /// does what the last scan read and stored. Foreign: the program was accepted for tags that the site doesn't have so; that
+    /// comes before memory is asked for. Where it fails nothing changes.
+    pub fn adopt(&mut self, alloc: Global, machine: Machine<DEPTH>) -> Result<(), CoreFault>
+        ensures adopted { OnOk result (self.new ≡ adopting machine.entry self.old) }
+        ensures kept { IfErr result (λ e. self.new ≡ self.old) }
+        ensures matched { OnOk result (HasLinks self.old.site.tags machine.entry.accepted.links) }
+        ensures foreign { IfErr result (λ e. e ≡ Foreign → HasLinks self.old.site.tags machine.entry.accepted.links → ⊥) }
+        ensures memory { IfErr result (λ e. e ≡ OutOfMemory → HasLinks self.old.site.tags machine.entry.accepted.links) }
+    {
+        match inputs_for(alloc, &self.site, machine.verified()) {
+            Ok(inputs) => {
+                self.inputs = inputs;
+                self.machine = machine;
+                Ok(())
+            }
+            Err(fault) => Err(fault),
+        }
+    }
+
     /// The request by which a client sets a tag alone to this number, as one that was set before a restart. None where no
     /// client can: the site has no such `set` tag, or no words of its point read as the number, exactly and in its range.
     pub fn request_to_set(&self, tag: usize, number: i64) -> Option<Request>
@@ -285,14 +315,19 @@ impl<const DEPTH: usize> Core<DEPTH> {
 
     /// So many milliseconds went by.
     fn wait(&mut self, elapsed: u32)
-        ensures after { self.new.standing ≡ after_time elapsed self.old.standing }
+        ensures after { self.new.standing ≡ after_time self.old.site elapsed self.old.standing }
         ensures machine { self.new.machine ≡ self.old.machine }
         ensures same { IsSame self.old self.new }
     {
-        self.known.elapsed = match self.known.elapsed {
-            Some(before) => Some(later(before, elapsed)),
-            None => None,
-        };
+        self.known.elapsed = elapsed_after(self.known.elapsed, elapsed);
+        grow_older(&mut self.known.ages, elapsed);
+        lapse(self.site.tags(), &self.known.ages, &mut self.known.sets);
+        serve(
+            self.points.as_slice(),
+            &self.site,
+            &self.known,
+            &mut self.image,
+        );
     }
 
     /// The program runs once.
@@ -357,6 +392,7 @@ impl<const DEPTH: usize> Core<DEPTH> {
             addr,
             words,
             &mut self.known.sets,
+            &mut self.known.ages,
             &mut self.room,
         );
         serve(
@@ -376,16 +412,6 @@ fn told(model: u16, words: &Words) -> Option<Words>
     match words.as_slice() {
         [first, ..] if *first == model => Words::from_slice(words.as_slice()),
         _ => None,
-    }
-}
-
-/// So many milliseconds later; an hour at most.
-fn later(before: u32, elapsed: u32) -> u32
-    ensures { result ≡ later before elapsed }
-{
-    match before.checked_add(elapsed) {
-        Some(after) if after < MOST_ELAPSED => after,
-        _ => MOST_ELAPSED,
     }
 }
 

@@ -1,6 +1,6 @@
 //! What is proved of the definitions that the contracts cite; the functions do nothing.
 
-ghost use Rattle.gateway.specs.Laws.{AtMostOneServedImage, ScansFollowTheSiteRun, WritesAreSetPoints};
+ghost use Rattle.gateway.specs.Laws.{AtMostOneServedImage, ScansFollowTheSiteRun, SitesWithoutLapsesKeepWhatIsSet, WritesAreSetPoints};
 
 /// A site, the last scan and what clients set have one served image at most.
 pub fn served_images_are_exact()
@@ -10,6 +10,11 @@ pub fn served_images_are_exact()
 /// After a scan over a link the core stands at the site run of what came of the wanted blocks, and then of the scan.
 pub fn scans_follow_the_site_run()
     ensures { ScansFollowTheSiteRun }
+{}
+
+/// Where no tag of a site lapses, time takes nothing away that clients set.
+pub fn sites_without_lapses_keep_what_is_set()
+    ensures { SitesWithoutLapsesKeepWhatIsSet }
 {}
 
 /// What a scan over a link writes for an output is a set point of the site's tag of that output, for the number that the

@@ -7,7 +7,7 @@ mod poller;
 mod served;
 
 // the core: what happens to a site, one event after another
-pub use event_core::{Answer, Core, CoreFault, DEPTH, Event, MOST_ELAPSED};
+pub use event_core::{Answer, Core, CoreFault, DEPTH, Event, MOST_ELAPSED, has_lapsed};
 // the devices: what is asked of them over a link, and whole scans
 pub use poller::{
     Call, MOST_DROPPED, Outcome, Poller, Report, event_by, is_reply, read_of, request_frame,

@@ -7,20 +7,36 @@ use toml::Value;
 
 const SITE: &[&str] = &["gateway", "device", "tag", "served"];
 
-const GATEWAY: &[&str] = &["unit", "base", "models"];
+const GATEWAY: &[&str] = &["unit", "base", "models", "retain"];
 
-const DEVICE: &[&str] = &["name", "unit", "base", "write", "address", "remote_unit"];
+const DEVICE: &[&str] = &[
+    "name",
+    "unit",
+    "base",
+    "write",
+    "rewrite",
+    "address",
+    "remote_unit",
+];
 
 const TAG: &[&str] = &[
     "name", "access", "device", "model", "point", "type", "exponent", "low", "high", "default",
-    "bit", "round",
+    "bit", "round", "lapse",
 ];
 
 const SERVED: &[&str] = &["model", "point", "value", "text", "sum"];
 
 const PLANT: &[&str] = &["device", "fault"];
 
-const INVERTER: &[&str] = &["unit", "models", "wmax", "available", "base", "value"];
+const INVERTER: &[&str] = &[
+    "unit",
+    "models",
+    "wmax",
+    "available",
+    "base",
+    "slow",
+    "value",
+];
 
 /// The keys of an inverter that says what it is, or how fast its power changes.
 const KINDED: &[&str] = &[
@@ -31,10 +47,13 @@ const KINDED: &[&str] = &[
     "available",
     "ramp",
     "base",
+    "slow",
     "value",
 ];
 
-const METER: &[&str] = &["kind", "unit", "models", "load", "behind", "base", "value"];
+const METER: &[&str] = &[
+    "kind", "unit", "models", "load", "behind", "base", "slow", "value",
+];
 
 const VALUE: &[&str] = &["model", "point", "raw"];
 

@@ -20,15 +20,15 @@ pub struct Report {
     pub unset: Vec<Unset>,
 }
 
-/// A number that no client could set.
+/// What no client could set.
 #[derive(Drop)]
 pub struct Unset {
     /// The number of the scan before which it was to be set, counted from 1.
     pub scan: u32,
     /// The name of the tag.
     pub name: String,
-    /// The number, in the unit of the tag's exponent.
-    pub number: i64,
+    /// The number, in the unit of the tag's exponent, or `absent`.
+    pub said: String,
     /// Why it wasn't set.
     pub why: &'static str,
 }

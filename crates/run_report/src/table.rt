@@ -44,13 +44,12 @@ fn push_unset_rows(rows: &mut String, unset: &[Unset]) -> Result<(), AllocError>
 }
 
 fn push_unset_row(rows: &mut String, unset: &Unset) -> Result<(), AllocError> {
-    let (scan, number, why) = (unset.scan, unset.number, unset.why);
+    let (scan, why) = (unset.scan, unset.why);
     rows.push_str("<tr><td>")?;
     push_html(rows, unset.name.as_str())?;
-    write!(
-        rows,
-        "</td><td class=\"unwritten\">not set to {number}</td><td>{scan}</td><td>{scan}</td><td>"
-    )?;
+    rows.push_str("</td><td class=\"unwritten\">not set to ")?;
+    push_html(rows, unset.said.as_str())?;
+    write!(rows, "</td><td>{scan}</td><td>{scan}</td><td>")?;
     push_html(rows, why)?;
     rows.push_str("</td></tr>\n")
 }

@@ -59,6 +59,7 @@ module _ (site : Site) (p : Program) (a : Acceptance) (right : DoesWhatItMeans p
   round_keeps s t (stages.scans now is) keeps = event_keeps (Some event.Scan) is.waited t.core is.runs (event_keeps (Some (event.Time (since s.round.at now))) s.core is.waited is.waits keeps)
   round_keeps s t (stages.learns device found is) keeps = subst (λ (x : Stage). Keeps x.core) (sym is.same) (record { site_is = keeps.site_is; program_is = keeps.program_is; kept = keeps.kept })
   round_keeps s t (stages.forgets want is) keeps = event_keeps (Some (event.Lost want)) s.core t.core is.told keeps
+  round_keeps s t (stages.waits ms is) keeps = event_keeps (Some (event.Time ms)) s.core t.core is.told keeps
 
   any_keeps : (s t : Stage) → AnyStep s t → Keeps s.core → Keeps t.core
   any_keeps s t (inl (inl step)) keeps = round_keeps s t step keeps
@@ -75,7 +76,7 @@ module _ (site : Site) (p : Program) (a : Acceptance) (right : DoesWhatItMeans p
       subst Keeps (sym start.core) (record { site_is = refl; program_is = refl; kept = begun_kept site p a right linked proper verdict matched (first_numbers a.image.vars kept) within })
 
   -- what is told of time changes the core in that alone
-  waited_so : (g h : Gateway) (ms : ℕ) → TakesEvent (Some (event.Time ms)) g h → h.standing ≡ after_time ms g.standing
+  waited_so : (g h : Gateway) (ms : ℕ) → TakesEvent (Some (event.Time ms)) g h → h.standing ≡ after_time g.site ms g.standing
   waited_so g h ms (r, one) = (((one.1).0).0).1
 
   scan_of : (kept : List (Option ℤ)) (first s t : Stage) (now : ℕ) → IsStart site a kept first → CourseBy AnyStep first s → Scans now s t → IsScanOf site p a now s t

@@ -21,9 +21,10 @@ pub record IsStart (site : Site) (a : Acceptance) (kept : List (Option ℤ)) (s 
   pub core : s.core ≡ gateway_of site (none_of site.devices) (resumed a kept)
   pub first : IsFirst s
 
--- how a core stands at a scan at this time of the service: the time since the scan before went by
+-- how a core stands at a scan at this time of the service: the time since the scan before went by, and what clients set
+-- lapsed by it
 abbrev pub at_scan : ℕ → Stage → Standing
-at_scan now s = after_time (since s.round.at now) s.core.standing
+at_scan now s = after_time s.core.site (since s.round.at now) s.core.standing
 
 -- A scan from the one stage to the other, at this time of the service, of what was told in its own round, or is known no more.
 -- As in `run` it is safe, and computes what the program means; and for each output just what is due is to be written.

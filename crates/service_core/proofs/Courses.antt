@@ -33,7 +33,7 @@ use Rattle.service_core.specs.declared.round.Turn as Turns
 use Rattle.service_core.specs.declared.scan_cycle.ScanCycle.{ScanCycle}
 use Rattle.service_core.specs.Cycle.{Answers, AnswersIf, DevicesLeadOn, EndsOwn, Settles, is_answer, stage_of}
 use Rattle.service_core.specs.Rounds.{IsRoundFor, Progress, begun, event_told, since}
-use Rattle.service_core.specs.Stages.{AnyStep, Asks, Begins, ClientStep, CourseBy, Ends, Forgets, IsFirst, IsReached, LeadsOnBy, OpensNext, OwnStep, RoundStep, Scans, Stage, TakesEvent, begins, opens, gives_up, scans, learns, forgets, stays, goes}
+use Rattle.service_core.specs.Stages.{AnyStep, Asks, Begins, ClientStep, CourseBy, Ends, Forgets, IsFirst, IsReached, LeadsOnBy, OpensNext, OwnStep, RoundStep, Scans, Stage, TakesEvent, Waits, begins, opens, gives_up, scans, learns, forgets, waits, stays, goes}
 use Rattle.service_core.proofs.Told.{closed_of_rounds, turn_of_rounds}
 
 -- ---- one step
@@ -72,6 +72,7 @@ module _ (Kinds : Event → Type 0) (all : (e : Event) → IsOfRounds e → Kind
       moved Kinds f is.waited t.core (Some event.Scan) (one_kind Kinds event.Scan (all event.Scan tt)) is.runs waited
   round_core f s t (learns device found is) before = subst (λ (x : Stage). GoesBy Kinds f x.core) (sym is.same) (core.learns before device found is.own)
   round_core f s t (forgets want is) before = moved Kinds f s.core t.core (Some (event.Lost want)) (one_kind Kinds (event.Lost want) (all (event.Lost want) tt)) is.told before
+  round_core f s t (waits ms is) before = moved Kinds f s.core t.core (Some (event.Time ms)) (one_kind Kinds (event.Time ms) (all (event.Time ms) tt)) is.told before
 
   own_core : (f : Gateway) (s t : Stage) → OwnStep s t → GoesBy Kinds f s.core → GoesBy Kinds f t.core
   own_core f s t (inl step) before = round_core f s t step before
@@ -261,6 +262,9 @@ goes_scans s t now is = one_step RoundStep s t (scans now is)
 
 pub goes_forgets : (s t : Stage) (want : Want) → Forgets want s t → LeadsOnBy RoundStep s t
 goes_forgets s t want is = one_step RoundStep s t (forgets want is)
+
+pub goes_waits : (s t : Stage) (ms : ℕ) → Waits ms s t → LeadsOnBy RoundStep s t
+goes_waits s t ms is = one_step RoundStep s t (waits ms is)
 
 pub goes_asks : (s t : Stage) (pdu : List ℕ) → Asks pdu s t → LeadsOnBy ClientStep s t
 goes_asks s t pdu is = one_step ClientStep s t (pdu, is)

@@ -1,5 +1,5 @@
 -- A device that is known no more.
-use Rattle.std.proofs.Common.{◌≡◌, ◌⊎◌, inl, inr, ℕ, zero, suc, ◌+◌, ◌≤◌, ◌==◌, Bool, true, false, List, [], ◌∷◌, length, set, slice_get, slice_set, position, Option, None, Some, refl, sym, ap, ◌∙◌, subst, arith, if◌then◌else◌}
+use Rattle.std.proofs.Common.{◌≡◌, ℕ, zero, suc, ◌+◌, ◌==◌, Bool, true, false, List, [], ◌∷◌, length, set, slice_get, slice_set, position, Option, None, Some, refl, sym, ap, ◌∙◌, arith, if◌then◌else◌}
 use Rattle.register_map.specs.Layout.{Layout}
 use Rattle.site_model.specs.declared.site.Site.{Site}
 use Rattle.site_model.specs.declared.want.Want.{Want}
@@ -7,7 +7,7 @@ use Rattle.scan_vm.specs.Machine.{Running}
 use Rattle.site_model.specs.Wants.{same_want}
 use Rattle.gateway.specs.declared.event_core.event.Event.TheVariants as event
 use Rattle.gateway.specs.event_core.Core.{Gateway}
-use Rattle.gateway.specs.event_core.SiteRun.{Standing, after_block, with_block}
+use Rattle.gateway.specs.event_core.SiteRun.{Standing, with_block}
 use Rattle.service_core.specs.Forgetting.{blocks_but, entry_but, first_but, forgotten, with_blocks}
 use Rattle.service_core.specs.Maps.{has_map, is_there}
 use Rattle.service_core.specs.Stages.{TakesEvent}

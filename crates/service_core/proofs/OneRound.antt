@@ -44,6 +44,7 @@ site_stays began events s (one.opened {told = before} {s = t} run device turn u 
 site_stays began events s (one.ended {told = before} {s = t} run device f u unscanned is) = taken_site is.happens t.core s.core is.told ∙ site_stays began before t run
 site_stays began events s (one.learned {told = before} {s = t} run device found u is) = learned_site device found t s is ∙ site_stays began before t run
 site_stays began events s (one.forgot {told = before} {s = t} run want u is) = taken_site (Some (event.Lost want)) t.core s.core is.told ∙ site_stays began before t run
+site_stays began events s (one.waited {told = before} {s = t} run ms u is) = taken_site (Some (event.Time ms)) t.core s.core is.told ∙ site_stays began before t run
 site_stays began events s (one.asked {told = before} {s = t} run pdu u is) = taken_site (Some (event.Client pdu)) t.core s.core is.told ∙ site_stays began before t run
 
 -- ---- each want is told once
@@ -71,6 +72,7 @@ asking began events s (one.ended {told = before} {s = t} run device f u unscanne
     rounds.closed (asking began before t run) device f is.happens s.round (subst P (site_stays began before t run) reads)
 asking began events s (one.learned {told = before} {s = t} run device found u is) = same_round began.core.site began.round before t.round s.round (ap (λ (x : Stage). x.round) is.same) (asking began before t run)
 asking began events s (one.forgot {told = before} {s = t} run want u is) = same_round began.core.site began.round before t.round s.round is.round (asking began before t run)
+asking began events s (one.waited {told = before} {s = t} run ms u is) = same_round began.core.site began.round before t.round s.round is.round (asking began before t run)
 asking began events s (one.asked {told = before} {s = t} run pdu u is) = same_round began.core.site began.round before t.round s.round is.round (asking began before t run)
 
 -- ---- what is known of a block is what was told of it
@@ -106,6 +108,10 @@ asked_blocks : (g h : Gateway) (pdu : List ℕ) → TakesEvent (Some (event.Clie
 asked_blocks g h pdu (a, happens) =
     let (reply, is, replies) = ((happens.1).0).0 in
     replied_blocks g.site g.standing h.standing pdu (request_of pdu) reply replies
+
+-- nor does the time
+waited_blocks : (g h : Gateway) (ms : ℕ) → TakesEvent (Some (event.Time ms)) g h → h.standing.blocks ≡ g.standing.blocks
+waited_blocks g h ms (a, happens) = ap (λ (x : Standing). x.blocks) (((happens.1).0).0).1
 
 lost_blocks : (g h : Gateway) (want : Want) → TakesEvent (Some (event.Lost want)) g h → h.standing.blocks ≡ with_block g.site.wants want None g.standing.blocks
 lost_blocks g h want (a, happens) = ap (λ (x : Standing). x.blocks) (((happens.1).0).0).1
@@ -206,6 +212,7 @@ known_in began events s (one.ended {told = before} {s = t} run device f u unscan
     ended_known before t s (position (is_asked device) t.round.reads) f is.happens (closes_reads t.round.scanned t.core.site device f t.round s.round is.happens unscanned is.closes) is.told (known_in began before t run)
 known_in began events s (one.learned {s = t} run device found u is) = fewer_known events t s (same_blocks t s (ap (λ (x : Stage). x.core.standing.blocks) is.same)) (known_in began events t run)
 known_in began events s (one.forgot {s = t} run want u is) = fewer_known events t s (forgot_fewer t s want is) (known_in began events t run)
+known_in began events s (one.waited {s = t} run ms u is) = fewer_known events t s (same_blocks t s (waited_blocks t.core s.core ms is.told)) (known_in began events t run)
 known_in began events s (one.asked {s = t} run pdu u is) = fewer_known events t s (same_blocks t s (asked_blocks t.core s.core pdu is.told)) (known_in began events t run)
 
 -- an event that was told once is there
@@ -296,6 +303,8 @@ round_stands s t reached (stages.learns device found is) stands =
     stands_again s t (ap (λ (x : Stage). x.round.scanned) is.same) stands (λ began events run still. (events, one.learned run device found t is))
 round_stands s t reached (stages.forgets want is) stands =
     stands_again s t (ap (λ (p : Progress). p.scanned) is.round) stands (λ began events run still. (events, one.forgot run want t is))
+round_stands s t reached (stages.waits ms is) stands =
+    stands_again s t (ap (λ (p : Progress). p.scanned) is.round) stands (λ began events run still. (events, one.waited run ms t is))
 
 any_stands : (s t : Stage) → IsReached s → AnyStep s t → InItsRound s → InItsRound t
 any_stands s t reached (inl (inl step)) stands = round_stands s t reached step stands

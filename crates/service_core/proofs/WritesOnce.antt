@@ -1,5 +1,5 @@
 -- A service writes each output once at most after a scan.
-use Rattle.std.proofs.Common.{◌≡◌, ℕ, ◌≤◌, Bool, true, false, List, Option, refl, sym, ap, subst, ◌∙◌}
+use Rattle.std.proofs.Common.{◌≡◌, ℕ, Bool, true, false, List, Option, sym, ap, subst, ◌∙◌}
 use Rattle.site_model.specs.declared.site.Site.{Site}
 use Rattle.gateway.specs.declared.event_core.event.Event.{Event}
 use Rattle.service.specs.declared.fate.Fate.{Fate}
@@ -8,7 +8,7 @@ use Rattle.std.specs.List.{position}
 use Rattle.service_core.specs.declared.round.Turn.{Turn}
 use Rattle.service_core.specs.Rounds.{ClosesBy, ClosesWrite, OpensBy, OpensWrite, Progress, Writing}
 use Rattle.service_core.specs.Rounds as rounds
-use Rattle.service_core.specs.Stages.{Scans, Stage}
+use Rattle.service_core.specs.Stages.{Stage}
 use Rattle.service_core.specs.WrittenOnce as after
 use Rattle.service_core.specs.WrittenOnce.{AfterScan, EachScanWritesOnce}
 use Rattle.service_core.proofs.OneRound.{closes_scanned, opens_scanned}
@@ -32,6 +32,7 @@ module _ (scanned : Stage) (over : scanned.round.scanned ≡ true) where
   still asked s (after.ended {s = t} run device f u is) = closes_scanned t.round.scanned t.core.site device f t.round s.round is.happens is.closes ∙ still asked t run
   still asked s (after.learned {s = t} run device found u is) = ap (λ (x : Stage). x.round.scanned) is.same ∙ still asked t run
   still asked s (after.forgot {s = t} run want u is) = ap (λ (p : Progress). p.scanned) is.round ∙ still asked t run
+  still asked s (after.waited {s = t} run ms u is) = ap (λ (p : Progress). p.scanned) is.round ∙ still asked t run
   still asked s (after.heard {s = t} run pdu u is) = ap (λ (p : Progress). p.scanned) is.round ∙ still asked t run
 
   writing : (asked : List ℕ) (s : Stage) → AfterScan scanned asked s → Writing scanned.round asked s.round
@@ -42,6 +43,7 @@ module _ (scanned : Stage) (over : scanned.round.scanned ≡ true) where
       rounds.ends (writing asked t run) device is.happens s.round (closes_writes t.round.scanned t.core.site device f t.round s.round is.happens (still asked t run) is.closes)
   writing asked s (after.learned {s = t} run device found u is) = same_round scanned.round asked t.round s.round (ap (λ (x : Stage). x.round) is.same) (writing asked t run)
   writing asked s (after.forgot {s = t} run want u is) = same_round scanned.round asked t.round s.round is.round (writing asked t run)
+  writing asked s (after.waited {s = t} run ms u is) = same_round scanned.round asked t.round s.round is.round (writing asked t run)
   writing asked s (after.heard {s = t} run pdu u is) = same_round scanned.round asked t.round s.round is.round (writing asked t run)
 
 pub each_scan_writes_once : EachScanWritesOnce

@@ -8,6 +8,7 @@ pub mod Maps
 pub mod Noting
 pub mod OneRound
 pub mod Phases
+pub mod Rewriting
 pub mod Rounds
 pub mod Running
 pub mod Stages

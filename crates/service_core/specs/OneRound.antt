@@ -12,16 +12,17 @@ use Rattle.service.specs.declared.fate.Fate.{Fate}
 use Rattle.service.specs.Tasks.{is_asked, next_place}
 use Rattle.service_core.specs.declared.round.Turn.{Turn}
 use Rattle.service_core.specs.Rounds.{event_told, times, told_of}
-use Rattle.service_core.specs.Stages.{Asks, Begins, Ends, Forgets, IsReached, Learns, OpensNext, Scans, Stage}
+use Rattle.service_core.specs.Stages.{Asks, Begins, Ends, Forgets, IsReached, Learns, OpensNext, Scans, Stage, Waits}
 
 -- In a round, before its scan: the events that were told of its wants, each with the number of its want, the last one first.
--- Beside them clients ask, maps are found and forgotten, and so are blocks.
+-- Beside them clients ask, time goes by, maps are found and forgotten, and so are blocks.
 pub data InRound (began : Stage) : List (ℕ × Event) → Stage → Type 0 where
   begun : InRound began [] began
   opened : {told : List (ℕ × Event)} {s : Stage} → InRound began told s → (device : ℕ) (turn : Turn) (t : Stage) → s.round.scanned ≡ false → OpensNext device turn s t → InRound began (told_of (next_place device s.round.reads) (event_told turn) ++ told) t
   ended : {told : List (ℕ × Event)} {s : Stage} → InRound began told s → (device : ℕ) (f : Fate) (t : Stage) → s.round.scanned ≡ false → (is : Ends device f s t) → InRound began (told_of (position (is_asked device) s.round.reads) is.happens ++ told) t
   learned : {told : List (ℕ × Event)} {s : Stage} → InRound began told s → (device : ℕ) (found : Option Layout) (t : Stage) → Learns device found s t → InRound began told t
   forgot : {told : List (ℕ × Event)} {s : Stage} → InRound began told s → (want : Want) (t : Stage) → Forgets want s t → InRound began told t
+  waited : {told : List (ℕ × Event)} {s : Stage} → InRound began told s → (ms : ℕ) (t : Stage) → Waits ms s t → InRound began told t
   asked : {told : List (ℕ × Event)} {s : Stage} → InRound began told s → (pdu : List ℕ) (t : Stage) → Asks pdu s t → InRound began told t
 
 -- the event that was told last of a want

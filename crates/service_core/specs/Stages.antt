@@ -73,6 +73,11 @@ pub record Forgets (want : Want) (old new : Stage) : Type 0 where
   pub told : TakesEvent (Some (event.Lost want)) old.core new.core
   pub round : new.round ≡ old.round
 
+-- So many milliseconds go by before the next scan, beside those that a scan tells.
+pub record Waits (ms : ℕ) (old new : Stage) : Type 0 where
+  pub told : TakesEvent (Some (event.Time ms)) old.core new.core
+  pub round : new.round ≡ old.round
+
 -- A client asks.
 pub record Asks (pdu : List ℕ) (old new : Stage) : Type 0 where
   pub told : TakesEvent (Some (event.Client pdu)) old.core new.core
@@ -88,6 +93,7 @@ pub data RoundStep (s t : Stage) : Type 0 where
   scans : (now : ℕ) → Scans now s t → RoundStep s t
   learns : (device : ℕ) (found : Option Layout) → Learns device found s t → RoundStep s t
   forgets : (want : Want) → Forgets want s t → RoundStep s t
+  waits : (ms : ℕ) → Waits ms s t → RoundStep s t
 
 -- By what a device answers.
 abbrev pub DeviceStep : Stage → Stage → Type 0

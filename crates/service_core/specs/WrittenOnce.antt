@@ -7,16 +7,17 @@ use Rattle.service.specs.declared.fate.Fate.{Fate}
 use Rattle.service.specs.Tasks.{next_place}
 use Rattle.service_core.specs.declared.round.Turn.{Turn}
 use Rattle.service_core.specs.Rounds.{asked_of, times_asked}
-use Rattle.service_core.specs.Stages.{Asks, Ends, Forgets, Learns, OpensNext, Scans, Stage}
+use Rattle.service_core.specs.Stages.{Asks, Ends, Forgets, Learns, OpensNext, Scans, Stage, Waits}
 
 -- In a round, after its scan: the numbers of the outputs whose requests went out, the last one first. Beside them clients ask,
--- maps are found and forgotten, and so are blocks.
+-- time goes by, maps are found and forgotten, and so are blocks.
 pub data AfterScan (scanned : Stage) : List ℕ → Stage → Type 0 where
   done : AfterScan scanned [] scanned
   opened : {asked : List ℕ} {s : Stage} → AfterScan scanned asked s → (device : ℕ) (turn : Turn) (t : Stage) → OpensNext device turn s t → AfterScan scanned (asked_of (next_place device s.round.writes) turn ++ asked) t
   ended : {asked : List ℕ} {s : Stage} → AfterScan scanned asked s → (device : ℕ) (f : Fate) (t : Stage) → Ends device f s t → AfterScan scanned asked t
   learned : {asked : List ℕ} {s : Stage} → AfterScan scanned asked s → (device : ℕ) (found : Option Layout) (t : Stage) → Learns device found s t → AfterScan scanned asked t
   forgot : {asked : List ℕ} {s : Stage} → AfterScan scanned asked s → (want : Want) (t : Stage) → Forgets want s t → AfterScan scanned asked t
+  waited : {asked : List ℕ} {s : Stage} → AfterScan scanned asked s → (ms : ℕ) (t : Stage) → Waits ms s t → AfterScan scanned asked t
   heard : {asked : List ℕ} {s : Stage} → AfterScan scanned asked s → (pdu : List ℕ) (t : Stage) → Asks pdu s t → AfterScan scanned asked t
 
 -- From a scan to the begin of the next round a service asks to write each output once at most.

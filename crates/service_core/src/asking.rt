@@ -4,6 +4,7 @@ ghost use Rattle.modbus_frame.specs.Message.{HasQuantity};
 ghost use Rattle.service.specs.declared.search.Step.TheVariants.{Found};
 ghost use Rattle.service_core.specs.Told.{Goes};
 ghost use Rattle.service_core.specs.Cycle.{LeadsOn};
+ghost use Rattle.service_core.specs.Rewriting.{sent_for};
 ghost use Rattle.service_parts.specs.Frames.{LinesGo};
 ghost use Rattle.service_parts.specs.Requests.{MayGoOver};
 ghost use Rattle.service_parts.specs.Seeking.{IsSought};
@@ -163,7 +164,8 @@ impl Service {
         if !self.lines.is_found(link, device) {
             return None;
         }
-        self.cycle.next(device)
+        let number = self.lines.number_of(link)?;
+        self.next_due(number, device)
     }
 
     #[tactic(auto, using(service_parts::proofs::Rightful::search_over))]
@@ -251,6 +253,8 @@ impl Service {
     fn begin(&mut self, link: usize, device: usize, wish: Wish)
         requires quantity { HasQuantity wish.request }
         requires asked { MayGoOver self.old.cycle.core.value self.old.lines.links.numbers.items self.old.lines.found_on.items link wish.aim device wish.request }
+        ensures sent { (number : ℕ) → slice_get self.old.lines.links.numbers.items link ≡ Some number → sent_for wish.aim device wish.request self.old.sent.writes.items self.old.sent.taken.items
+            ≡ (self.new.sent.writes.items, self.new.sent.taken.items) }
         ensures links { self.new.lines.links ≡ self.old.lines.links }
         ensures lines { LinesGo self.old.lines.lines.items self.new.lines.lines.items }
         ensures goes { LeadsOn self.old.cycle self.new.cycle }
@@ -268,6 +272,7 @@ impl Service {
             since: self.side.now,
             until: self.side.until(wish.aim),
         };
+        self.sent.go_out(wish.aim, device, &wish.request);
         self.start(link, asked, wish.request);
         self.side.count(device);
     }
@@ -277,6 +282,7 @@ impl Service {
         requires quantity { HasQuantity request }
         requires number { slice_get self.old.lines.links.numbers.items link ≡ Some asked.number }
         requires asked { MayGoOver self.old.cycle.core.value self.old.lines.links.numbers.items self.old.lines.found_on.items link asked.aim asked.device request }
+        ensures sent { self.new.sent ≡ self.old.sent }
         ensures links { self.new.lines.links ≡ self.old.lines.links }
         ensures lines { LinesGo self.old.lines.lines.items self.new.lines.lines.items }
         ensures goes { LeadsOn self.old.cycle self.new.cycle }

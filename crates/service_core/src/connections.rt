@@ -11,10 +11,12 @@ ghost use Rattle.service_core.specs.Losing.{AreForTime, AreLost, AreLostWith, Is
 ghost use Rattle.service_core.specs.Told.{Goes, LosesBy};
 ghost use Rattle.service_core.specs.Connections.{GoesAfterSent, GoesFromCut, Hears};
 ghost use Rattle.service_core.specs.Cycle.{Answers, AnswersIf, DevicesLeadOn, EndsOwn, LeadsOn, Settles, SettlesIf, is_answer, stage_of};
+ghost use Rattle.service_core.specs.Rewriting.{after_answer};
 ghost use Rattle.service_core.specs.Telling.{state_by, told_at};
 
 use crate::note::{Loss, Unwritten};
 use crate::output::OutputState;
+use crate::sent_writes::Taken;
 use crate::service_state::Service;
 use gateway::Outcome;
 use service::Fate;
@@ -188,6 +190,7 @@ impl Service {
         self.cycle.give_up(device);
         self.cycle.seek_anew(device, self.lines.number_for(device));
         self.side.seek(device);
+        self.sent.forget(device);
     }
 
     /// All devices of a connection are lost.
@@ -221,6 +224,7 @@ impl Service {
     {
         self.cycle.give_up(device);
         self.side.lose(device, loss);
+        self.sent.forget(device);
     }
 
     /// This became of the request that was under way on a connection; then the service goes on.
@@ -363,16 +367,18 @@ impl Service {
             }
             Aim::Block(want) => self.cycle.close_block(asked.device, want, outcome),
             Aim::Output(output) => {
-                self.take_write(asked.device, output, outcome);
+                self.take_write(asked, output, outcome);
                 false
             }
             Aim::Past => false,
         }
     }
 
-    fn take_write(&mut self, device: usize, output: usize, outcome: Outcome)
+    fn take_write(&mut self, asked: Asked, output: usize, outcome: Outcome)
+        ensures taken { self.new.sent.taken.items ≡ after_answer (state_by outcome) output asked.number self.old.side.now self.old.sent.taken.items }
+        ensures writes { self.new.sent.writes ≡ self.old.sent.writes }
         ensures told { output < length self.old.side.outputs.items → told_at self.new.side.outputs.items output ≡ Some (state_by outcome) }
-        ensures ends { EndsOwn (OutputAim output) device outcome (stage_of self.old.cycle) (stage_of self.new.cycle) }
+        ensures ends { EndsOwn (OutputAim output) asked.device outcome (stage_of self.old.cycle) (stage_of self.new.cycle) }
         ensures links { self.new.lines.links ≡ self.old.lines.links }
         ensures lines { LinesGo self.old.lines.lines.items self.new.lines.lines.items }
         ensures places { self.new.places.items ≡ self.old.places.items }
@@ -380,9 +386,22 @@ impl Service {
         ensures stands { Goes self.old.side self.new.side }
     {
         let state = state_by(&outcome);
+        self.note_answer(state, output, asked.number);
         self.side.wrote(state == OutputState::Written);
         self.side.settle_output(output, state);
-        self.cycle.close_write(device, output, outcome);
+        self.cycle.close_write(asked.device, output, outcome);
+    }
+
+    /// Whether the device has what went out for an output last, by its answer over the connection with this number.
+    fn note_answer(&mut self, state: OutputState, output: usize, number: u64)
+        ensures taken { self.new.sent.taken.items ≡ after_answer state output number self.old.side.now self.old.sent.taken.items }
+        ensures writes { self.new.sent.writes ≡ self.old.sent.writes }
+        ensures same { self.new ≡ record self.old { sent = self.new.sent } }
+    {
+        if state == OutputState::Written {
+            let at = self.side.now;
+            self.sent.take(output, Taken { number, at });
+        }
     }
 
     /// The time of each request that is over ends its wait.

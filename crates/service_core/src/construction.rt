@@ -16,6 +16,7 @@ use crate::notes::Notes;
 use crate::output::Output;
 use crate::round::Round;
 use crate::scan_cycle::ScanCycle;
+use crate::sent_writes::SentWrites;
 use crate::service_state::Service;
 use gateway::{Core, CoreFault, DEPTH};
 use register_map::Map;
@@ -54,6 +55,7 @@ impl Service {
         let cycle = ScanCycle::new(alloc, core, parts.round, parts.searches, parts.over)?;
         Ok(Service {
             cycle,
+            sent: parts.sent,
             lines: parts.peers.lines,
             side: parts.peers.side,
             places: parts.peers.places,
@@ -68,6 +70,7 @@ struct Parts {
     round: Round,
     searches: Vec<Search>,
     over: Vec<u64>,
+    sent: SentWrites,
     peers: Peers,
 }
 
@@ -94,12 +97,14 @@ fn parts_of(
     let round = Round::new(alloc, site)?;
     let searches = searches_for(alloc, site.devices())?;
     let over = vec![in alloc; 0; site.devices().len()]?;
+    let sent = SentWrites::new(alloc, site.outs().len())?;
     let peers = peers_of(alloc, site, links, stations, limits, now)?;
     Ok(Parts {
         maps,
         round,
         searches,
         over,
+        sent,
         peers,
     })
 }

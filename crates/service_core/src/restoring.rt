@@ -1,8 +1,9 @@
 //! What clients set is set again after a restart.
 ghost use Rattle.std.specs.Prelude.{◌≡◌, IsTrue, Some, false, slice_set};
+ghost use Rattle.gateway.specs.event_core.Control.{after_wait};
 ghost use Rattle.gateway.specs.event_core.Restoring.{NothingSets};
 ghost use Rattle.service_core.specs.Told.{Goes};
-ghost use Rattle.service_core.specs.Cycle.{ClientsLeadOn};
+ghost use Rattle.service_core.specs.Cycle.{ClientsLeadOn, LeadsOn};
 
 use crate::service_state::Service;
 
@@ -15,12 +16,28 @@ impl Service {
         ensures lines { self.new.lines ≡ self.old.lines }
         ensures goes { ClientsLeadOn self.old.cycle self.new.cycle }
         ensures sets { IsTrue result → self.new.cycle.core.value.standing
-            ≡ record self.old.cycle.core.value.standing { sets = slice_set self.old.cycle.core.value.standing.sets tag (Some number) } }
+            ≡ record self.old.cycle.core.value.standing {
+              sets = slice_set self.old.cycle.core.value.standing.sets tag (Some number);
+              ages = slice_set self.old.cycle.core.value.standing.ages tag (Some 0);
+            } }
         ensures refused { result ≡ false → (self.new.cycle.core.value ≡ self.old.cycle.core.value) × NothingSets self.old.cycle.core.value.site tag number }
         ensures places { self.new.places.items ≡ self.old.places.items }
         ensures time { self.new.side.now ≡ self.old.side.now }
         ensures stands { Goes self.old.side self.new.side }
     {
         self.cycle.restore(tag, number)
+    }
+
+    /// So many milliseconds went by since what was set so far: it is older by them, and lapses where that is its time.
+    pub fn pass(&mut self, elapsed: u32)
+        ensures links { self.new.lines.links ≡ self.old.lines.links }
+        ensures lines { self.new.lines ≡ self.old.lines }
+        ensures goes { LeadsOn self.old.cycle self.new.cycle }
+        ensures passed { self.new.cycle.core.value ≡ after_wait elapsed self.old.cycle.core.value }
+        ensures places { self.new.places.items ≡ self.old.places.items }
+        ensures time { self.new.side.now ≡ self.old.side.now }
+        ensures stands { Goes self.old.side self.new.side }
+    {
+        self.cycle.pass(elapsed);
     }
 }

@@ -69,6 +69,11 @@ impl ScanCycle {
         self.lost
     }
 
+    /// How many requests the round has at its stage.
+    pub fn requests(&self) -> usize {
+        self.round.requests()
+    }
+
     /// How many devices there are.
     pub fn devices(&self) -> usize
         ensures { result ≡ length self.now.core.value.site.devices }

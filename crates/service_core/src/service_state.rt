@@ -8,6 +8,7 @@ ghost use Rattle.service_parts.specs.Requests.{AreRightfulBy};
 use crate::device_side::DeviceSide;
 use crate::note::Note;
 use crate::scan_cycle::ScanCycle;
+use crate::sent_writes::SentWrites;
 use gateway::{Core, DEPTH};
 use service_parts::{ClientPlace, Lines};
 
@@ -18,6 +19,7 @@ pub struct Service {
     pub(crate) cycle: ScanCycle,
     pub(crate) lines: Lines,
     pub(crate) side: DeviceSide,
+    pub(crate) sent: SentWrites,
     pub(crate) places: Vec<ClientPlace>,
     ghost rightful: { AreRightfulBy cycle.core.value lines },
 }

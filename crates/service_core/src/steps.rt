@@ -3,6 +3,7 @@ ghost use Rattle.std.specs.Prelude.{◌≡◌, ◌<◌, ◌+◌, ◌==◌, ◌�
 ghost use Rattle.site_model.specs.declared.device.SiteDevice.{SiteDevice as DeviceValue};
 ghost use Rattle.modbus_frame.specs.Message.{HasQuantity, IsRequest};
 ghost use Rattle.gateway.specs.declared.poller.cycle.Call.{Call as CallValue};
+ghost use Rattle.gateway.specs.event_core.Control.{after_wait};
 ghost use Rattle.gateway.specs.event_core.Restoring.{NothingSets, SetsAlone};
 ghost use Rattle.gateway.specs.event_core.SiteRun.{with_block};
 ghost use Rattle.service.specs.declared.fate.Fate.TheVariants.{Lost};
@@ -225,7 +226,7 @@ impl ScanCycle {
     }
 
     /// The device's request that is under way is given up.
-    fn drop_request(&mut self, device: usize)
+    pub fn drop_request(&mut self, device: usize)
         ensures ends { Ends device Lost (stage_of self.old) (stage_of self.new) }
         ensures goes { LeadsOn self.old self.new }
     {
@@ -289,7 +290,7 @@ impl ScanCycle {
     /// so. Where none does nothing changes.
     pub fn restore(&mut self, tag: usize, number: i64) -> bool
         ensures goes { ClientsLeadOn self.old self.new }
-        ensures sets { IsTrue result → self.new.core.value.standing ≡ record self.old.core.value.standing { sets = slice_set self.old.core.value.standing.sets tag (Some number) } }
+        ensures sets { IsTrue result → self.new.core.value.standing ≡ record self.old.core.value.standing { sets = slice_set self.old.core.value.standing.sets tag (Some number); ages = slice_set self.old.core.value.standing.ages tag (Some 0) } }
         ensures refused { result ≡ false → (self.new.core.value ≡ self.old.core.value) × NothingSets self.old.core.value.site tag number }
     {
         match self.request_to_set(tag, number) {
@@ -299,6 +300,14 @@ impl ScanCycle {
             }
             None => false,
         }
+    }
+
+    /// So many milliseconds went by, beside those that scans tell: what clients set is older by them.
+    pub fn pass(&mut self, elapsed: u32)
+        ensures passed { self.new.core.value ≡ after_wait elapsed self.old.core.value }
+        ensures goes { LeadsOn self.old self.new }
+    {
+        tell(&mut self.core, Some(Event::Time(elapsed)));
     }
 
     /// The request by which a client sets a tag to this number, and nothing else.
@@ -316,7 +325,7 @@ impl ScanCycle {
         requires request { IsRequest request.now }
         requires alone { SetsAlone self.old.core.value.site tag number request.now }
         ensures goes { ClientsLeadOn self.old self.new }
-        ensures sets { self.new.core.value.standing ≡ record self.old.core.value.standing { sets = slice_set self.old.core.value.standing.sets tag (Some number) } }
+        ensures sets { self.new.core.value.standing ≡ record self.old.core.value.standing { sets = slice_set self.old.core.value.standing.sets tag (Some number); ages = slice_set self.old.core.value.standing.ages tag (Some 0) } }
     {
         self.core.step(Event::Client(request_pdu(request)));
     }

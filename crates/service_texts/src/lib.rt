@@ -4,6 +4,7 @@
 
 mod addresses;
 mod device_places;
+mod lapsing_lines;
 mod lines;
 mod reaching;
 mod retain_pace;
@@ -22,6 +23,7 @@ pub use writers::{Writer, WriterFault, may_write, writers_of};
 // how long is waited
 pub use waiting::limits;
 // what is kept over a restart
+pub use lapsing_lines::{AgedSetting, aged_settings, aged_text, lasting_settings, time_in};
 pub use retain_pace::RetainPace;
 pub use retaining::{
     KeptNumber, RetainFault, is_among, kept_by, kept_numbers, retained_names, variables_text,

@@ -9,6 +9,8 @@ use Rattle.site_model.specs.declared.access.Access.{Access}
 use Rattle.site_model.specs.declared.access.Access.TheVariants as access
 use Rattle.site_model.specs.declared.tag.SiteTag.{SiteTag}
 use Rattle.site_model.specs.declared.want.Want.{Want}
+use Rattle.site_model.specs.Readings.{known_at}
+use Rattle.gateway.specs.event_core.SiteRun.{has_lapsed}
 use Rattle.gateway.specs.event_core.Core.{Gateway}
 use Rattle.service_core.specs.declared.output.OutputState.{OutputState}
 use Rattle.service_core.specs.declared.output.OutputState.TheVariants as state
@@ -89,15 +91,24 @@ of_output i None = []
 abbrev pub outputs_unwritten : List (Option OutputState) → List Alarm
 outputs_unwritten outputs = of_each of_output 0 outputs
 
+-- ---- set values: one that has lapsed, since no client wrote it again in its time
+
+abbrev pub of_setting : List (Option ℕ) → ℕ → SiteTag → List Alarm
+of_setting ages i t = one_if (has_lapsed t.lapse (known_at ages i)) (alarm.SetLapsed i)
+
+abbrev pub sets_lapsed : (ages : List (Option ℕ)) → List SiteTag → List Alarm
+sets_lapsed ages tags = of_each (of_setting ages) 0 tags
+
 -- ---- all of them, each kind in the site's order
 
--- of the devices, their models, the inputs and the outputs
+-- of the devices, their models, the inputs, the outputs and what clients set
 abbrev pub wrong_beside : Gateway → List DeviceStatus → List (Option OutputState) → List Alarm
 wrong_beside core devices outputs =
     devices_amiss devices
     ++ models_missing core.maps core.site.wants
     ++ inputs_missing core.standing.last.readings core.site.tags
     ++ outputs_unwritten outputs
+    ++ sets_lapsed core.standing.ages core.site.tags
 
 -- of the service itself
 abbrev pub wrong_itself : (is_late is_unkept : Bool) → List Alarm

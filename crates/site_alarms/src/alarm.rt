@@ -34,6 +34,8 @@ pub enum Alarm {
     InputMissing(usize, Cause),
     /// An output, by its number among the `out` tags, isn't written, and why.
     OutputUnwritten(usize, Unwritten),
+    /// What clients set a tag to has lapsed: none wrote it again in its time.
+    SetLapsed(usize),
     /// A point that shows a sum, by the number of its entry in the site file, doesn't show it, and why.
     SumHidden(usize, Hidden),
     /// The point of a `site` tag doesn't show what the program stores, and why.
@@ -55,6 +57,8 @@ pub enum Subject {
     Input(usize),
     /// The output of this number.
     Output(usize),
+    /// The tag of this number, as one that clients set.
+    Set(usize),
     /// The point of the entry of this number.
     Sum(usize),
     /// The point of the `site` tag of this number.
@@ -75,6 +79,7 @@ impl Alarm {
             Alarm::ModelMissing(want) => Subject::Model(want),
             Alarm::InputMissing(tag, _) => Subject::Input(tag),
             Alarm::OutputUnwritten(output, _) => Subject::Output(output),
+            Alarm::SetLapsed(tag) => Subject::Set(tag),
             Alarm::SumHidden(entry, _) => Subject::Sum(entry),
             Alarm::StoredHidden(tag, _) => Subject::Stored(tag),
             Alarm::RoundLate => Subject::Rounds,

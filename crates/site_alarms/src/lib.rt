@@ -6,6 +6,7 @@ mod alarm;
 mod changes;
 mod devices;
 mod inputs;
+mod lapses;
 mod lines;
 mod mending;
 mod met;

@@ -26,6 +26,7 @@ pub fn sentence(alloc: Global, core: &Core<DEPTH>, alarm: Alarm) -> Result<Strin
         Alarm::OutputUnwritten(output, cause) => {
             output_text(alloc, output_name(site, output), cause)
         }
+        Alarm::SetLapsed(tag) => lapsed_text(alloc, site, tag),
         Alarm::SumHidden(_, why) | Alarm::StoredHidden(_, why) => {
             hidden_sentence(alloc, core.site(), alarm, why)
         }
@@ -90,6 +91,18 @@ fn output_text(alloc: Global, name: &str, cause: Unwritten) -> Result<String, Al
         Unwritten::Unanswered => "its device didn't answer",
     };
     let text = format!(in alloc; "{name} isn't written ({word}): {what}")?;
+    Ok(text)
+}
+
+// `no client wrote NAME for N s: ..`.
+fn lapsed_text(alloc: Global, site: &Site, tag: usize) -> Result<String, AllocError> {
+    let Some(tag) = site.tags().get(tag) else {
+        return Ok(String::new(alloc));
+    };
+    let (name, seconds) = (tag.name.as_str(), tag.lapse.unwrap_or(0));
+    let text = format!(in alloc;
+        "no client wrote {name} for {seconds} s: the program works with its default"
+    )?;
     Ok(text)
 }
 

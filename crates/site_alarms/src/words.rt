@@ -16,6 +16,7 @@ pub fn kind_word(alarm: Alarm) -> &'static str {
         Alarm::ModelMissing(_) => "model_missing",
         Alarm::InputMissing(..) => "input_missing",
         Alarm::OutputUnwritten(..) => "output_unwritten",
+        Alarm::SetLapsed(_) => "lapsed",
         Alarm::SumHidden(..) | Alarm::StoredHidden(..) => "served_missing",
         Alarm::RoundLate => "round_late",
         Alarm::StateUnwritten => "file_unwritten",
@@ -27,7 +28,7 @@ pub fn name_text(alloc: Global, site: &Site, alarm: Alarm) -> Result<String, All
     let name = match alarm {
         Alarm::DeviceLost(device, _) | Alarm::DeviceUnmapped(device) => device_name(site, device),
         Alarm::ModelMissing(want) => device_name(site, want.device),
-        Alarm::InputMissing(tag, _) => tag_name(site, tag),
+        Alarm::InputMissing(tag, _) | Alarm::SetLapsed(tag) => tag_name(site, tag),
         Alarm::OutputUnwritten(output, _) => output_name(site, output),
         Alarm::SumHidden(..) | Alarm::StoredHidden(..) => return point_text(alloc, site, alarm),
         Alarm::RoundLate => "rounds",
@@ -55,6 +56,7 @@ pub fn cause_text(alloc: Global, site: &Site, alarm: Alarm) -> Result<String, Al
         Alarm::ModelMissing(want) => return model_text(alloc, want.model),
         Alarm::InputMissing(_, cause) => missing_word(cause),
         Alarm::OutputUnwritten(_, cause) => unwritten_word(cause),
+        Alarm::SetLapsed(_) => "Lapsed",
         Alarm::SumHidden(_, why) | Alarm::StoredHidden(_, why) => {
             return hidden_text(alloc, site, why);
         }

@@ -6,6 +6,7 @@ ghost use Rattle.site_alarms.specs.declared.alarm.Alarm.{Alarm as AlarmValue};
 use crate::alarm::Alarm;
 use crate::devices::{push_devices, push_models};
 use crate::inputs::push_inputs;
+use crate::lapses::push_lapses;
 use crate::outputs::push_outputs;
 use crate::served::{push_stored, push_sums};
 use gateway::{Core, DEPTH};
@@ -27,7 +28,7 @@ pub struct Seen<'a> {
 }
 
 /// From now on `alarms` is all that is wrong now: of the devices, the models that are wanted of them, the inputs, the outputs,
-/// the sums and the `site` tags that clients are shown, each in the site's order, of the rounds and of the file of set values.
+/// the set values, the sums and the `site` tags that clients are shown, each in the site's order, of the rounds and of the file of set values.
 pub fn wrong_now(
     alarms: &mut Items<Alarm>,
     core: &Core<DEPTH>,
@@ -50,7 +51,7 @@ pub fn missing_now(alarms: &mut Items<Alarm>, core: &Core<DEPTH>) -> Result<(), 
     push_served(alarms, core)
 }
 
-/// Appends what is wrong with devices, models, inputs and outputs.
+/// Appends what is wrong with devices, models, inputs, outputs and set values.
 fn push_beside(
     alarms: &mut Items<Alarm>,
     core: &Core<DEPTH>,
@@ -62,7 +63,8 @@ fn push_beside(
     push_devices(alarms, devices)?;
     push_models(alarms, core.maps(), core.site().wants())?;
     push_inputs(alarms, core.readings(), core.site().tags())?;
-    push_outputs(alarms, outputs)
+    push_outputs(alarms, outputs)?;
+    push_lapses(alarms, core.ages(), core.site().tags())
 }
 
 /// Appends what clients aren't shown of sums and `site` tags.

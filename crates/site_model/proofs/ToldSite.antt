@@ -17,8 +17,7 @@ use Rattle.site_model.specs.File.{Layout, has_too_many, layout_of, layout_over, 
 use Rattle.site_model.specs.Gateway.{Gateway, definition_of, gateway_of}
 use Rattle.site_model.specs.Lengths.{lengths_of}
 use Rattle.site_model.specs.Serving.{served_behind}
-use Rattle.site_model.specs.Tagging.{Tag, TagKeys, access_of, clashes, device_for, goes_together, is_bit_place, is_on_heading, is_place, is_rounding, may_be_written, model_for, numbers_of, place_of, point_for, point_tag_of, tag_keys, tag_name, tag_of, tag_over, tag_placed, tag_typed, tags_behind, type_of, unit_of, TimeKeys, has_point_words, has_range, has_time_range, is_time, time_keys, time_over, time_placed, time_tag_of, time_typed}
-use Rattle.site_model.specs.Tagging as tagging
+use Rattle.site_model.specs.Tagging.{Tag, TagKeys, access_of, clashes, device_for, goes_together, is_bit_place, is_on_heading, is_place, is_lapsing, is_rounding, may_be_written, measures_of, Measures, model_for, numbers_of, place_of, point_for, point_tag_of, tag_keys, tag_name, tag_of, tag_over, tag_placed, tag_typed, tags_behind, type_of, TimeKeys, has_point_words, has_range, has_time_range, is_time, time_keys, time_over, time_placed, time_tag_of, time_typed}
 use Rattle.site_model.specs.Told.{AreIn, AreTold, IsDefined, IsDevice, IsPlaced, IsPoint, IsPointTag, IsTag, IsTimeTag, IsTold, SitesAreTold}
 use Rattle.site_model.specs.Views.{site_view, tag_view}
 use Rattle.site_model.specs.Wants.{length_of}
@@ -31,7 +30,7 @@ use Rattle.site_model.specs.declared.tag.SiteTag.{SiteTag}
 use Rattle.site_model.proofs.ToldKeys.{by_both, chosen, given, ok_is, some_is, spared, text_there, unsaid}
 use Rattle.site_model.proofs.ToldModels.{IsSaid, defined_by_its_id, gateway_said, model_length, own_defined}
 use Rattle.site_model.proofs.Owns.{at_most}
-use Rattle.site_model.proofs.ToldTags.{bit_told, devices_told, keys_told, model_told, name_told, numbers_told, place_told, placed, point_told, round_told, unit_told}
+use Rattle.site_model.proofs.ToldTags.{bit_told, devices_told, keys_told, lapse_told, measures_told, model_told, name_told, numbers_told, place_told, placed, point_told, round_told}
 use Rattle.point_types.proofs.Truths.{both}
 
 -- ---- what a tag was made of
@@ -45,9 +44,9 @@ record IsMade (devices : List SiteDevice) (own defs : List ModelDef) (tree : Dat
   pub of_model : model_for own defs (access_of keys.access) keys.place.model ≡ Some model
   pub point : Point
   pub of_point : point_for keys.place.point model ≡ Some point
-  pub unit : tagging.Unit
-  pub in_unit : unit_of (type_of keys.kind) point.kind keys.numbers keys.bit ≡ Some unit
-  pub typed : tag_typed keys unit device model point ≡ Some t
+  pub measures : Measures
+  pub measured : measures_of (type_of keys.kind) point.kind keys.numbers keys.bit keys.lapse ≡ Some measures
+  pub typed : tag_typed keys measures device model point ≡ Some t
 
 made_by : (devices : List SiteDevice) (own defs : List ModelDef) (seen : List Tag) (tree : Data) (t : Tag) → point_tag_of devices own defs seen tree ≡ Ok t → IsMade devices own defs tree t
 made_by devices own defs seen tree t e =
@@ -59,13 +58,13 @@ made_by devices own defs seen tree t e =
     by_place : (keys : TagKeys) (device : Option ℕ) → tag_keys tree ≡ Some keys → device_for devices (access_of keys.access) keys.place.device ≡ Ok device → tag_placed own defs keys device ≡ Ok t → IsMade devices own defs tree t
     by_place keys device read at f =
         by_both (ok_or (model_for own defs (access_of keys.access) keys.place.model) fault.UnknownModel)
-        (λ model. ok_or (point_for keys.place.point model) fault.UnknownPoint >>= λ p. (if may_be_written (access_of keys.access) p.writable then (ok_or (unit_of (type_of keys.kind) p.kind keys.numbers keys.bit) fault.BadRange >>= λ unit. ok_or (tag_typed keys unit device model p) fault.BadType) else Err fault.NotWritable))
+        (λ model. ok_or (point_for keys.place.point model) fault.UnknownPoint >>= λ p. (if may_be_written (access_of keys.access) p.writable then (ok_or (measures_of (type_of keys.kind) p.kind keys.numbers keys.bit keys.lapse) fault.BadRange >>= λ measures. ok_or (tag_typed keys measures device model p) fault.BadType) else Err fault.NotWritable))
         t f (λ model m g.
         by_both (ok_or (point_for keys.place.point model) fault.UnknownPoint)
-        (λ p. if may_be_written (access_of keys.access) p.writable then (ok_or (unit_of (type_of keys.kind) p.kind keys.numbers keys.bit) fault.BadRange >>= λ unit. ok_or (tag_typed keys unit device model p) fault.BadType) else Err fault.NotWritable)
+        (λ p. if may_be_written (access_of keys.access) p.writable then (ok_or (measures_of (type_of keys.kind) p.kind keys.numbers keys.bit keys.lapse) fault.BadRange >>= λ measures. ok_or (tag_typed keys measures device model p) fault.BadType) else Err fault.NotWritable)
         t g (λ point k h.
-        by_both (ok_or (unit_of (type_of keys.kind) point.kind keys.numbers keys.bit) fault.BadRange) (λ unit. ok_or (tag_typed keys unit device model point) fault.BadType)
-        t (chosen (may_be_written (access_of keys.access) point.writable) (ok_or (unit_of (type_of keys.kind) point.kind keys.numbers keys.bit) fault.BadRange >>= λ unit. ok_or (tag_typed keys unit device model point) fault.BadType) fault.NotWritable t h).1 (λ unit u i.
+        by_both (ok_or (measures_of (type_of keys.kind) point.kind keys.numbers keys.bit keys.lapse) fault.BadRange) (λ measures. ok_or (tag_typed keys measures device model point) fault.BadType)
+        t (chosen (may_be_written (access_of keys.access) point.writable) (ok_or (measures_of (type_of keys.kind) point.kind keys.numbers keys.bit keys.lapse) fault.BadRange >>= λ measures. ok_or (tag_typed keys measures device model point) fault.BadType) fault.NotWritable t h).1 (λ measures u i.
         record {
           keys = keys;
           read = read;
@@ -75,9 +74,9 @@ made_by devices own defs seen tree t e =
           of_model = given (model_for own defs (access_of keys.access) keys.place.model) fault.UnknownModel model m;
           point = point;
           of_point = given (point_for keys.place.point model) fault.UnknownPoint point k;
-          unit = unit;
-          in_unit = given (unit_of (type_of keys.kind) point.kind keys.numbers keys.bit) fault.BadRange unit u;
-          typed = given (tag_typed keys unit device model point) fault.BadType t i;
+          measures = measures;
+          measured = given (measures_of (type_of keys.kind) point.kind keys.numbers keys.bit keys.lapse) fault.BadRange measures u;
+          typed = given (tag_typed keys measures device model point) fault.BadType t i;
         })))
 
 -- what the time since the scan before was made of
@@ -126,7 +125,7 @@ made_all devices own defs seen (item tree trees) all e = by_both (tag_of devices
 
 -- ---- what its words are
 
-record AreWords (keys : TagKeys) (unit : tagging.Unit) (device : Option ℕ) (model : ModelDef) (p : Point) (t : Tag) : Type 0 where
+record AreWords (keys : TagKeys) (measures : Measures) (device : Option ℕ) (model : ModelDef) (p : Point) (t : Tag) : Type 0 where
   pub name : List ℕ
   pub named : tag_name keys.name ≡ Some name
   pub access : Access
@@ -134,19 +133,19 @@ record AreWords (keys : TagKeys) (unit : tagging.Unit) (device : Option ℕ) (mo
   pub kind : IlType
   pub kinded : type_of keys.kind ≡ Some kind
   pub together : goes_together access kind p.kind keys ≡ true
-  pub is : tag_over keys unit device model p name access kind ≡ t
+  pub is : tag_over keys measures device model p name access kind ≡ t
 
-words_told : (keys : TagKeys) (unit : tagging.Unit) (device : Option ℕ) (model : ModelDef) (p : Point) (t : Tag) → tag_typed keys unit device model p ≡ Some t → AreWords keys unit device model p t
-words_told keys unit device model p t e = by_words (tag_name keys.name) refl (access_of keys.access) refl (type_of keys.kind) refl e
+words_told : (keys : TagKeys) (measures : Measures) (device : Option ℕ) (model : ModelDef) (p : Point) (t : Tag) → tag_typed keys measures device model p ≡ Some t → AreWords keys measures device model p t
+words_told keys measures device model p t e = by_words (tag_name keys.name) refl (access_of keys.access) refl (type_of keys.kind) refl e
   where
     by_words : (n : Option (List ℕ)) → tag_name keys.name ≡ n → (a : Option Access) → access_of keys.access ≡ a → (k : Option IlType) → type_of keys.kind ≡ k
-        → option_and_then (λ n. option_and_then (λ a. option_and_then (λ k. if goes_together a k p.kind keys then Some (tag_over keys unit device model p n a k) else None) k) a) n ≡ Some t
-        → AreWords keys unit device model p t
+        → option_and_then (λ n. option_and_then (λ a. option_and_then (λ k. if goes_together a k p.kind keys then Some (tag_over keys measures device model p n a k) else None) k) a) n ≡ Some t
+        → AreWords keys measures device model p t
     by_words None x a y k z f = absurd (cc)
     by_words (Some n) x None y k z f = absurd (cc)
     by_words (Some n) x (Some a) y None z f = absurd (cc)
     by_words (Some n) x (Some a) y (Some k) z f =
-        let c = cond_some (goes_together a k p.kind keys) (tag_over keys unit device model p n a k) t f in
+        let c = cond_some (goes_together a k p.kind keys) (tag_over keys measures device model p n a k) t f in
         record { name = n; named = x; access = a; accessed = y; kind = k; kinded = z; together = c.0; is = c.1 }
 
 -- ---- the time since the scan before
@@ -210,7 +209,7 @@ time_said tree t timed =
 
 module _ (defs : List ModelDef) (site : Site) (ids : Items) (own : List ModelDef) (models : AreTold (λ id m. IsDefined defs (as_integer id) m) ids own) (lengths : site.lengths ≡ lengths_of own defs (map tag_view site.tags)) where
   point_said : (tree : Data) (i : ℕ) (t : SiteTag) → slice_get site.tags i ≡ Some t → (made : IsMade site.devices own defs tree (tag_view t))
-      → (words : AreWords made.keys made.unit made.device made.model made.point (tag_view t))
+      → (words : AreWords made.keys made.measures made.device made.model made.point (tag_view t))
       → number_at (codes "model") tree ≡ Some (made.keys).place.model → text_at (codes "point") tree ≡ Some (made.keys).place.point → IsPoint defs site.lengths tree t
   point_said tree i t at made words model_key point_key =
       let found = ap (λ o. model_for own defs o (made.keys).place.model) (sym words.accessed) ∙ made.of_model in
@@ -235,13 +234,15 @@ module _ (defs : List ModelDef) (site : Site) (ids : Items) (own : List ModelDef
   tag_said : (tree : Data) (i : ℕ) (t : SiteTag) → slice_get site.tags i ≡ Some t → IsMade site.devices own defs tree (tag_view t) → IsPointTag defs site tree t
   tag_said tree i t at made =
       let keys = made.keys in
-      let words = words_told keys made.unit made.device made.model made.point (tag_view t) made.typed in
-      let k = keys_told (text_at (codes "name") tree) (text_at (codes "access") tree) (text_at (codes "type") tree) (place_of tree) (numbers_of tree) (optional_number_at (codes "bit") tree) (optional_text_at (codes "round") tree) keys made.read in
+      let words = words_told keys made.measures made.device made.model made.point (tag_view t) made.typed in
+      let k = keys_told (text_at (codes "name") tree) (text_at (codes "access") tree) (text_at (codes "type") tree) (place_of tree) (numbers_of tree) (optional_number_at (codes "bit") tree) (optional_text_at (codes "round") tree) (optional_number_at (codes "lapse") tree) keys made.read in
       let n = numbers_told (number_at (codes "exponent") tree) (number_at (codes "low") tree) (number_at (codes "high") tree) (optional_number_at (codes "default") tree) keys.numbers k.numbers_is in
       let p = place_told (optional_text_at (codes "device") tree) (number_at (codes "model") tree) (text_at (codes "point") tree) keys.place k.place_is in
-      let u = unit_told (type_of keys.kind) (made.point).kind keys.numbers keys.bit made.unit made.in_unit in
-      let rules = both (is_bit_place words.access words.kind (made.point).kind keys.bit) (is_rounding words.access keys.bit keys.round) (both (is_place words.access keys.place.device (made.point).kind) (is_bit_place words.access words.kind (made.point).kind keys.bit && is_rounding words.access keys.bit keys.round) words.together).1 in
-      let down = round_told words.access keys.bit keys.round (get (codes "round") tree) k.round_is rules.1 in
+      let u = measures_told (type_of keys.kind) (made.point).kind keys.numbers keys.bit keys.lapse made.measures made.measured in
+      let last = is_rounding words.access keys.bit keys.round && is_lapsing words.access (keys.numbers).default keys.lapse in
+      let rules = both (is_bit_place words.access words.kind (made.point).kind keys.bit) last (both (is_place words.access keys.place.device (made.point).kind) (is_bit_place words.access words.kind (made.point).kind keys.bit && last) words.together).1 in
+      let rounds = (both (is_rounding words.access keys.bit keys.round) (is_lapsing words.access (keys.numbers).default keys.lapse) rules.1).0 in
+      let down = round_told words.access keys.bit keys.round (get (codes "round") tree) k.round_is rounds in
       let device = placed site.devices words.access (text_at (codes "device") tree) keys.place.device made.device
       (λ s e. text_there (get (codes "device") tree) s (p.0 ∙ ap Some e)) (ap (λ o. device_for site.devices o keys.place.device) (sym words.accessed) ∙ made.at) in
       record {
@@ -252,8 +253,9 @@ module _ (defs : List ModelDef) (site : Site) (ids : Items) (own : List ModelDef
         high = n.2 ∙ ap (λ (x : Tag). Some x.high) words.is;
         default = n.3 ∙ ap (λ (x : Tag). Some x.default) words.is;
         exponent = n.0 ∙ ap Some u.0 ∙ ap (λ (x : Tag). Some x.exponent) words.is;
-        bit = k.bit_is ∙ ap Some (bit_told words.access words.kind (made.point).kind keys.bit (made.unit).bit u.1 rules.0) ∙ ap (λ (x : Tag). Some (option_map pos x.bit)) words.is;
+        bit = k.bit_is ∙ ap Some (bit_told words.access words.kind (made.point).kind keys.bit (made.measures).bit u.1 rules.0) ∙ ap (λ (x : Tag). Some (option_map pos x.bit)) words.is;
         round = down ∙ ap (λ (x : Tag). if x.down then Some (codes "down") else None) words.is;
+        lapse = k.lapse_is ∙ ap Some (lapse_told keys.lapse (made.measures).lapse u.2) ∙ ap (λ (x : Tag). Some (option_map pos x.lapse)) words.is;
         device = subst (λ (x : Tag). IsPlaced site.devices (text_at (codes "device") tree) x.access x.device) words.is device;
         point = point_said tree i t at made words p.1 p.2;
       }

@@ -7,16 +7,15 @@ use Rattle.std.specs.Option.{ok_or, option_map_or}
 use Rattle.std.specs.Str.{bytes_eq}
 use Rattle.toml.specs.Data.{Data, Items, as_str, item, no_items}
 use Rattle.point_types.specs.Name.{name_of}
-use Rattle.point_types.specs.Value.{◌>>=◌, is_bool, is_within}
+use Rattle.point_types.specs.Value.{◌>>=◌, int_eq, is_bool, is_within}
 use Rattle.point_types.specs.declared.il_type.IlType.{IlType}
 use Rattle.point_types.specs.declared.kind.Kind.{Kind}
 use Rattle.model_defs.specs.declared.point.Point.{Point}
 use Rattle.model_defs.specs.declared.model.ModelDef.{ModelDef}
-use Rattle.file_keys.specs.Keys.{natural_within, number_at, optional_number_at, text_at}
+use Rattle.file_keys.specs.Keys.{natural_within, number_at, number_or, optional_number_at, text_at}
 use Rattle.site_model.specs.Devices.{DeviceKeys, device_keys, device_of, device_within, devices_behind, has_name_or_unit, optional_base, write_of}
 use Rattle.site_model.specs.Gateway.{definition_of, has_id}
-use Rattle.site_model.specs.Tagging.{Numbers, Place, TagKeys, bit_of, device_for, device_named, device_number, ends_in_ok, exponent_of, has_range, is_bit_place, is_device_named, is_input, is_rounding, last_bit, model_for, point_for, point_number, tag_name, unit_of, unit_within}
-use Rattle.site_model.specs.Tagging as tagging
+use Rattle.site_model.specs.Tagging.{Measures, Numbers, Place, TagKeys, bit_of, device_for, device_named, device_number, ends_in_ok, exponent_of, has_range, is_bit_place, is_device_named, is_input, is_rounding, lapse_of, last_bit, measures_of, measures_within, model_for, point_for, point_number, tag_name}
 use Rattle.site_model.specs.Tag.{start_of}
 use Rattle.site_model.specs.Told.{AreTold, IsDevice, IsPlaced}
 use Rattle.site_model.specs.Wants.{is_of_device}
@@ -31,28 +30,30 @@ use Rattle.point_types.proofs.Truths.{both}
 
 -- ---- devices
 
-device_keys_told : (name : Option (List ℕ)) (unit : Option ℤ) (base write : Option (Option ℤ)) (keys : DeviceKeys)
-    → option_and_then (λ n. option_and_then (λ u. option_and_then (λ b. option_map (λ w. record { name = n; unit = u; base = b; write = w }) write) base) unit) name ≡ Some keys
-    → (name ≡ Some keys.name) × (unit ≡ Some keys.unit) × (base ≡ Some keys.base) × (write ≡ Some keys.write)
-device_keys_told None unit base write keys e = absurd (cc)
-device_keys_told (Some n) None base write keys e = absurd (cc)
-device_keys_told (Some n) (Some u) None write keys e = absurd (cc)
-device_keys_told (Some n) (Some u) (Some b) None keys e = absurd (cc)
-device_keys_told (Some n) (Some u) (Some b) (Some w) keys e =
-    let own : DeviceKeys = record { name = n; unit = u; base = b; write = w } in
+device_keys_told : (name : Option (List ℕ)) (unit : Option ℤ) (base write : Option (Option ℤ)) (rewrite : Option ℤ) (keys : DeviceKeys)
+    → option_and_then (λ n. option_and_then (λ u. option_and_then (λ b. option_and_then (λ w. option_map (λ r. record { name = n; unit = u; base = b; write = w; rewrite = r }) rewrite) write) base) unit) name ≡ Some keys
+    → (name ≡ Some keys.name) × (unit ≡ Some keys.unit) × (base ≡ Some keys.base) × (write ≡ Some keys.write) × (rewrite ≡ Some keys.rewrite)
+device_keys_told None unit base write rewrite keys e = absurd (cc)
+device_keys_told (Some n) None base write rewrite keys e = absurd (cc)
+device_keys_told (Some n) (Some u) None write rewrite keys e = absurd (cc)
+device_keys_told (Some n) (Some u) (Some b) None rewrite keys e = absurd (cc)
+device_keys_told (Some n) (Some u) (Some b) (Some w) None keys e = absurd (cc)
+device_keys_told (Some n) (Some u) (Some b) (Some w) (Some r) keys e =
+    let own : DeviceKeys = record { name = n; unit = u; base = b; write = w; rewrite = r } in
     let same : own ≡ keys = some_is own keys e in
-    (ap (λ (k : DeviceKeys). Some k.name) same, ap (λ (k : DeviceKeys). Some k.unit) same, ap (λ (k : DeviceKeys). Some k.base) same, ap (λ (k : DeviceKeys). Some k.write) same)
+    (ap (λ (k : DeviceKeys). Some k.name) same, ap (λ (k : DeviceKeys). Some k.unit) same, ap (λ (k : DeviceKeys). Some k.base) same, ap (λ (k : DeviceKeys). Some k.write) same, ap (λ (k : DeviceKeys). Some k.rewrite) same)
 
-device_within_told : (name : List ℕ) (unit : Option ℕ) (base : Option (Option ℕ)) (write : Option WriteFunction) (d : SiteDevice)
-    → option_and_then (λ u. option_and_then (λ b. option_map (λ w. record { name = name; unit = u; base = b; write = w }) write) base) unit ≡ Some d
-    → (name ≡ d.name) × (unit ≡ Some d.unit) × (base ≡ Some d.base) × (write ≡ Some d.write)
-device_within_told name None base write d e = absurd (cc)
-device_within_told name (Some u) None write d e = absurd (cc)
-device_within_told name (Some u) (Some b) None d e = absurd (cc)
-device_within_told name (Some u) (Some b) (Some w) d e =
-    let own : SiteDevice = record { name = name; unit = u; base = b; write = w } in
+device_within_told : (name : List ℕ) (unit : Option ℕ) (base : Option (Option ℕ)) (write : Option WriteFunction) (rewrite : Option ℕ) (d : SiteDevice)
+    → option_and_then (λ u. option_and_then (λ b. option_and_then (λ w. option_map (λ r. record { name = name; unit = u; base = b; write = w; rewrite = r }) rewrite) write) base) unit ≡ Some d
+    → (name ≡ d.name) × (unit ≡ Some d.unit) × (base ≡ Some d.base) × (write ≡ Some d.write) × (rewrite ≡ Some d.rewrite)
+device_within_told name None base write rewrite d e = absurd (cc)
+device_within_told name (Some u) None write rewrite d e = absurd (cc)
+device_within_told name (Some u) (Some b) None rewrite d e = absurd (cc)
+device_within_told name (Some u) (Some b) (Some w) None d e = absurd (cc)
+device_within_told name (Some u) (Some b) (Some w) (Some r) d e =
+    let own : SiteDevice = record { name = name; unit = u; base = b; write = w; rewrite = r } in
     let same : own ≡ d = some_is own d e in
-    (ap (λ (k : SiteDevice). k.name) same, ap (λ (k : SiteDevice). Some k.unit) same, ap (λ (k : SiteDevice). Some k.base) same, ap (λ (k : SiteDevice). Some k.write) same)
+    (ap (λ (k : SiteDevice). k.name) same, ap (λ (k : SiteDevice). Some k.unit) same, ap (λ (k : SiteDevice). Some k.base) same, ap (λ (k : SiteDevice). Some k.write) same, ap (λ (k : SiteDevice). Some k.rewrite) same)
 
 base_is : (o : Option ℤ) (b : Option ℕ) → optional_base o ≡ Some b → o ≡ option_map pos b
 base_is None b e = ap (option_map pos) (some_is None b e)
@@ -63,13 +64,14 @@ device_told seen tree d e =
     by_both (ok_or (device_keys tree) fault.MissingKey) (λ keys. ok_or (device_within keys) fault.BadRange >>= λ x. (if list_any (has_name_or_unit x.name x.unit) seen then Err fault.Duplicate else Ok x)) d e (λ keys p f.
     by_both (ok_or (device_within keys) fault.BadRange) (λ x. if list_any (has_name_or_unit x.name x.unit) seen then Err fault.Duplicate else Ok x) d f (λ x q g.
     let same : x ≡ d = ok_is x d (spared (list_any (has_name_or_unit x.name x.unit) seen) (Ok x) fault.Duplicate d g) in
-    let k = device_keys_told (text_at (codes "name") tree) (number_at (codes "unit") tree) (optional_number_at (codes "base") tree) (optional_number_at (codes "write") tree) keys (given (device_keys tree) fault.MissingKey keys p) in
-    let w = device_within_told keys.name (natural_within 255 keys.unit) (optional_base keys.base) (write_of keys.write) d (given (device_within keys) fault.BadRange x q ∙ ap Some same) in
+    let k = device_keys_told (text_at (codes "name") tree) (number_at (codes "unit") tree) (optional_number_at (codes "base") tree) (optional_number_at (codes "write") tree) (number_or (codes "rewrite") (pos 0) tree) keys (given (device_keys tree) fault.MissingKey keys p) in
+    let w = device_within_told keys.name (natural_within 255 keys.unit) (optional_base keys.base) (write_of keys.write) (natural_within 3600 keys.rewrite) d (given (device_within keys) fault.BadRange x q ∙ ap Some same) in
     record {
       name = k.0 ∙ ap Some w.0;
       unit = k.1 ∙ ap Some (natural_is 255 keys.unit d.unit w.1);
       base = k.2 ∙ ap Some (base_is keys.base d.base w.2);
       write = ap (option_and_then write_of) k.3 ∙ w.3;
+      rewrite = k.4 ∙ ap Some (natural_is 3600 keys.rewrite d.rewrite w.4);
     }))
 
 pub devices_told : (seen : List SiteDevice) (trees : Items) (all : List SiteDevice) → devices_behind seen trees ≡ Ok all → (rest : List SiteDevice) × (all ≡ seen ++ rest) × AreTold IsDevice trees rest
@@ -103,8 +105,8 @@ place_told (Some d) (Some m) (Some q) p e =
     let same : own ≡ p = some_is own p e in
     (ap (λ (k : Place). Some k.device) same, ap (λ (k : Place). Some k.model) same, ap (λ (k : Place). Some k.point) same)
 
--- what the seven parts of a tag's keys are
-pub record AreKeys (name access kind : Option (List ℕ)) (place : Option Place) (numbers : Option Numbers) (bit : Option (Option ℤ)) (round : Option (Option (List ℕ))) (keys : TagKeys) : Type 0 where
+-- what the eight parts of a tag's keys are
+pub record AreKeys (name access kind : Option (List ℕ)) (place : Option Place) (numbers : Option Numbers) (bit : Option (Option ℤ)) (round : Option (Option (List ℕ))) (lapse : Option (Option ℤ)) (keys : TagKeys) : Type 0 where
   pub name_is : name ≡ Some keys.name
   pub access_is : access ≡ Some keys.access
   pub kind_is : kind ≡ Some keys.kind
@@ -112,20 +114,22 @@ pub record AreKeys (name access kind : Option (List ℕ)) (place : Option Place)
   pub numbers_is : numbers ≡ Some keys.numbers
   pub bit_is : bit ≡ Some keys.bit
   pub round_is : round ≡ Some keys.round
+  pub lapse_is : lapse ≡ Some keys.lapse
 
-pub keys_told : (name access kind : Option (List ℕ)) (place : Option Place) (numbers : Option Numbers) (bit : Option (Option ℤ)) (round : Option (Option (List ℕ))) (keys : TagKeys)
+pub keys_told : (name access kind : Option (List ℕ)) (place : Option Place) (numbers : Option Numbers) (bit : Option (Option ℤ)) (round : Option (Option (List ℕ))) (lapse : Option (Option ℤ)) (keys : TagKeys)
     → option_and_then (λ n. option_and_then (λ a. option_and_then (λ k. option_and_then (λ p. option_and_then (λ m. option_and_then (λ b.
-    option_map (λ r. record { name = n; access = a; kind = k; place = p; numbers = m; bit = b; round = r }) round) bit) numbers) place) kind) access) name ≡ Some keys
-    → AreKeys name access kind place numbers bit round keys
-keys_told None access kind place numbers bit round keys e = absurd (cc)
-keys_told (Some n) None kind place numbers bit round keys e = absurd (cc)
-keys_told (Some n) (Some a) None place numbers bit round keys e = absurd (cc)
-keys_told (Some n) (Some a) (Some k) None numbers bit round keys e = absurd (cc)
-keys_told (Some n) (Some a) (Some k) (Some p) None bit round keys e = absurd (cc)
-keys_told (Some n) (Some a) (Some k) (Some p) (Some m) None round keys e = absurd (cc)
-keys_told (Some n) (Some a) (Some k) (Some p) (Some m) (Some b) None keys e = absurd (cc)
-keys_told (Some n) (Some a) (Some k) (Some p) (Some m) (Some b) (Some r) keys e =
-    let own : TagKeys = record { name = n; access = a; kind = k; place = p; numbers = m; bit = b; round = r } in
+    option_and_then (λ r. option_map (λ l. record { name = n; access = a; kind = k; place = p; numbers = m; bit = b; round = r; lapse = l }) lapse) round) bit) numbers) place) kind) access) name ≡ Some keys
+    → AreKeys name access kind place numbers bit round lapse keys
+keys_told None access kind place numbers bit round lapse keys e = absurd (cc)
+keys_told (Some n) None kind place numbers bit round lapse keys e = absurd (cc)
+keys_told (Some n) (Some a) None place numbers bit round lapse keys e = absurd (cc)
+keys_told (Some n) (Some a) (Some k) None numbers bit round lapse keys e = absurd (cc)
+keys_told (Some n) (Some a) (Some k) (Some p) None bit round lapse keys e = absurd (cc)
+keys_told (Some n) (Some a) (Some k) (Some p) (Some m) None round lapse keys e = absurd (cc)
+keys_told (Some n) (Some a) (Some k) (Some p) (Some m) (Some b) None lapse keys e = absurd (cc)
+keys_told (Some n) (Some a) (Some k) (Some p) (Some m) (Some b) (Some r) None keys e = absurd (cc)
+keys_told (Some n) (Some a) (Some k) (Some p) (Some m) (Some b) (Some r) (Some l) keys e =
+    let own : TagKeys = record { name = n; access = a; kind = k; place = p; numbers = m; bit = b; round = r; lapse = l } in
     let same : own ≡ keys = some_is own keys e in
     record {
       name_is = ap (λ (k : TagKeys). Some k.name) same;
@@ -135,6 +139,7 @@ keys_told (Some n) (Some a) (Some k) (Some p) (Some m) (Some b) (Some r) keys e 
       numbers_is = ap (λ (k : TagKeys). Some k.numbers) same;
       bit_is = ap (λ (k : TagKeys). Some k.bit) same;
       round_is = ap (λ (k : TagKeys). Some k.round) same;
+      lapse_is = ap (λ (k : TagKeys). Some k.lapse) same;
     }
 
 -- ---- the parts of a tag
@@ -192,24 +197,34 @@ point_told name model p e = by_number (point_number name model) refl e
         let same : h.0 ≡ p = some_is h.0 p (sym h.1 ∙ f) in
         (i, f, sym (same_bytes (h.0).name name h.2) ∙ ap (λ (x : Point). x.name) same)
 
-unit_parts : (exponent : Option ℤ) (bit : Option (Option ℕ)) (u : tagging.Unit) → option_and_then (λ e. option_map (λ b. record { exponent = e; bit = b }) bit) exponent ≡ Some u
-    → (exponent ≡ Some u.exponent) × (bit ≡ Some u.bit)
-unit_parts None bit u e = absurd (cc)
-unit_parts (Some x) None u e = absurd (cc)
-unit_parts (Some x) (Some b) u e =
-    let own : tagging.Unit = record { exponent = x; bit = b } in
-    let same : own ≡ u = some_is own u e in
-    (ap (λ (k : tagging.Unit). Some k.exponent) same, ap (λ (k : tagging.Unit). Some k.bit) same)
+measures_parts : (exponent : Option ℤ) (bit lapse : Option (Option ℕ)) (m : Measures) → option_and_then (λ e. option_and_then (λ b. option_map (λ l. record { exponent = e; bit = b; lapse = l }) lapse) bit) exponent ≡ Some m
+    → (exponent ≡ Some m.exponent) × (bit ≡ Some m.bit) × (lapse ≡ Some m.lapse)
+measures_parts None bit lapse m e = absurd (cc)
+measures_parts (Some x) None lapse m e = absurd (cc)
+measures_parts (Some x) (Some b) None m e = absurd (cc)
+measures_parts (Some x) (Some b) (Some l) m e =
+    let own : Measures = record { exponent = x; bit = b; lapse = l } in
+    let same : own ≡ m = some_is own m e in
+    (ap (λ (k : Measures). Some k.exponent) same, ap (λ (k : Measures). Some k.bit) same, ap (λ (k : Measures). Some k.lapse) same)
 
 some_chosen : {A : Type 0} (b : Bool) (o : Option A) (x : A) → (if b then o else None) ≡ Some x → o ≡ Some x
 some_chosen true o x e = e
 some_chosen false o x e = absurd (cc)
 
-pub unit_told : (kind : Option IlType) (point : Kind) (n : Numbers) (bit : Option ℤ) (u : tagging.Unit) → unit_of kind point n bit ≡ Some u → (n.exponent ≡ u.exponent) × (bit_of point bit ≡ Some u.bit)
-unit_told kind point n bit u e =
-    let within = some_chosen (has_range kind n.low n.high (start_of n.low n.default)) (unit_within point n.exponent bit) u e in
-    let k = unit_parts (exponent_of n.exponent) (bit_of point bit) u within in
-    ((cond_some (is_within (neg_ℤ (pos 10)) (pos 10) n.exponent) n.exponent u.exponent k.0).1, k.1)
+some_other : {A : Type 0} (b : Bool) (o : Option A) (x : A) → (if b then None else o) ≡ Some x → o ≡ Some x
+some_other true o x e = absurd (cc)
+some_other false o x e = e
+
+pub measures_told : (kind : Option IlType) (point : Kind) (n : Numbers) (bit lapse : Option ℤ) (m : Measures) → measures_of kind point n bit lapse ≡ Some m
+    → (n.exponent ≡ m.exponent) × (bit_of point bit ≡ Some m.bit) × (lapse_of lapse ≡ Some m.lapse)
+measures_told kind point n bit lapse m e =
+    let within = some_chosen (has_range kind n.low n.high (start_of n.low n.default)) (measures_within point n.exponent bit lapse) m e in
+    let k = measures_parts (exponent_of n.exponent) (bit_of point bit) (lapse_of lapse) m within in
+    ((cond_some (is_within (neg_ℤ (pos 10)) (pos 10) n.exponent) n.exponent m.exponent k.0).1, k.1, k.2)
+
+pub lapse_told : (seconds : Option ℤ) (l : Option ℕ) → lapse_of seconds ≡ Some l → seconds ≡ option_map pos l
+lapse_told None l e = ap (option_map pos) (some_is None l e)
+lapse_told (Some n) l e = optional_is 86400 n l (some_other (int_eq n (pos 0)) (option_map Some (natural_within 86400 n)) l e)
 
 pub bit_told : (a : Access) (kind : IlType) (point : Kind) (bit : Option ℤ) (b : Option ℕ) → bit_of point bit ≡ Some b → is_bit_place a kind point bit ≡ true → bit ≡ option_map pos b
 bit_told a kind point None b e h = ap (option_map pos) (some_is None b e)

@@ -6,7 +6,7 @@ use Rattle.std.specs.Option.{ok_or}
 use Rattle.std.specs.Str.{bytes_eq}
 use Rattle.toml.specs.Data.{Data, Items, no_items, item}
 use Rattle.point_types.specs.Value.{◌>>=◌, int_eq}
-use Rattle.file_keys.specs.Keys.{text_at, number_at, optional_number_at, natural_within}
+use Rattle.file_keys.specs.Keys.{text_at, number_at, number_or, optional_number_at, natural_within}
 use Rattle.site_model.specs.declared.device.SiteDevice.{SiteDevice}
 use Rattle.site_model.specs.declared.device.WriteFunction.{WriteFunction}
 use Rattle.site_model.specs.declared.device.WriteFunction.TheVariants as write
@@ -18,6 +18,7 @@ pub record DeviceKeys : Type 0 where
   pub unit : ℤ
   pub base : Option ℤ
   pub write : Option ℤ
+  pub rewrite : ℤ
 
 -- nothing where a key is missing or of another kind
 abbrev pub device_keys : Data → Option DeviceKeys
@@ -25,7 +26,9 @@ device_keys tree =
     option_and_then (λ name.
     option_and_then (λ unit.
     option_and_then (λ base.
-    option_map (λ write. record { name = name; unit = unit; base = base; write = write })
+    option_and_then (λ write.
+    option_map (λ rewrite. record { name = name; unit = unit; base = base; write = write; rewrite = rewrite })
+    (number_or (codes "rewrite") (pos 0) tree))
     (optional_number_at (codes "write") tree))
     (optional_number_at (codes "base") tree))
     (number_at (codes "unit") tree))
@@ -44,7 +47,9 @@ abbrev pub device_within : DeviceKeys → Option SiteDevice
 device_within keys =
     option_and_then (λ unit.
     option_and_then (λ base.
-    option_map (λ write. record { name = keys.name; unit = unit; base = base; write = write })
+    option_and_then (λ write.
+    option_map (λ rewrite. record { name = keys.name; unit = unit; base = base; write = write; rewrite = rewrite })
+    (natural_within 3600 keys.rewrite))
     (write_of keys.write))
     (optional_base keys.base))
     (natural_within 255 keys.unit)

@@ -8,7 +8,8 @@ use Rattle.site_model.specs.Devices.{device_of}
 use Rattle.file_keys.specs.Keys.{is_over}
 use Rattle.site_model.specs.File.{site_of}
 use Rattle.site_model.specs.Serving.{can_be_encoded}
-use Rattle.site_model.specs.Tagging.{bit_of, has_range}
+use Rattle.site_model.specs.Tagging.{bit_of, has_range, is_lapsing, lapse_of}
+use Rattle.site_model.specs.declared.access.Access.TheVariants as access
 use Rattle.site_model.specs.declared.device.WriteFunction.TheVariants as write
 use Rattle.site_model.specs.declared.fault.SiteFault.TheVariants as fault
 
@@ -33,14 +34,32 @@ one_too_many = refl
 abbrev pub device : List ℕ → ℤ → Members → Data
 device name unit more = table (member (codes "name") (string name) (member (codes "unit") (integer unit) more))
 
-pub usual_device : device_of [] (device (codes "inv1") (pos 7) no_members) ≡ Ok (record { name = codes "inv1"; unit = 7; base = None; write = write.Multiple })
+pub usual_device : device_of [] (device (codes "inv1") (pos 7) no_members) ≡ Ok (record { name = codes "inv1"; unit = 7; base = None; write = write.Multiple; rewrite = 0 })
 usual_device = refl
 
 pub no_function : device_of [] (device (codes "inv1") (pos 7) (member (codes "write") (integer (pos 5)) no_members)) ≡ Err fault.BadRange
 no_function = refl
 
-pub same_unit : device_of (record { name = codes "inv1"; unit = 7; base = None; write = write.Single } ∷ []) (device (codes "inv2") (pos 7) no_members) ≡ Err fault.Duplicate
+pub same_unit : device_of (record { name = codes "inv1"; unit = 7; base = None; write = write.Single; rewrite = 0 } ∷ []) (device (codes "inv2") (pos 7) no_members) ≡ Err fault.Duplicate
 same_unit = refl
+
+pub hour_between_writes : device_of [] (device (codes "inv1") (pos 7) (member (codes "rewrite") (integer (pos 3600)) no_members)) ≡ Ok (record { name = codes "inv1"; unit = 7; base = None; write = write.Multiple; rewrite = 3600 })
+hour_between_writes = refl
+
+pub longer_between_writes : device_of [] (device (codes "inv1") (pos 7) (member (codes "rewrite") (integer (pos 3601)) no_members)) ≡ Err fault.BadRange
+longer_between_writes = refl
+
+pub lapses_in_a_day : lapse_of (Some (pos 86400)) ≡ Some (Some 86400)
+lapses_in_a_day = refl
+
+pub lapses_at_once : lapse_of (Some (pos 0)) ≡ None
+lapses_at_once = refl
+
+pub lapses_to_nothing : is_lapsing access.Setting None (Some (pos 60)) ≡ false
+lapses_to_nothing = refl
+
+pub never_lapses : is_lapsing access.Setting None None ≡ true
+never_lapses = refl
 
 pub hidden_low_end : has_range (Some il.Int) (neg_ℤ (pos 32769)) (pos 100) (pos 50) ≡ false
 hidden_low_end = refl

@@ -6,7 +6,7 @@ use Rattle.std.specs.Option.{ok_or, option_map_or}
 use Rattle.std.specs.Str.{bytes_eq}
 use Rattle.toml.specs.Data.{Data, Items, no_items, item, get}
 use Rattle.point_types.specs.Name.{name_of}
-use Rattle.point_types.specs.Value.{◌>>=◌, is_within, is_ranged, is_bool}
+use Rattle.point_types.specs.Value.{◌>>=◌, int_eq, is_within, is_ranged, is_bool}
 use Rattle.point_types.specs.declared.il_type.IlType.{IlType}
 use Rattle.point_types.specs.declared.il_type.IlType.TheVariants as il
 use Rattle.point_types.specs.declared.kind.Kind.{Kind}
@@ -48,6 +48,7 @@ pub record TagKeys : Type 0 where
   pub numbers : Numbers
   pub bit : Option ℤ
   pub round : Option (List ℕ)
+  pub lapse : Option ℤ
 
 abbrev pub numbers_of : Data → Option Numbers
 numbers_of tree =
@@ -78,7 +79,9 @@ tag_keys tree =
     option_and_then (λ place.
     option_and_then (λ numbers.
     option_and_then (λ bit.
-    option_map (λ round. record { name = name; access = access; kind = kind; place = place; numbers = numbers; bit = bit; round = round })
+    option_and_then (λ round.
+    option_map (λ lapse. record { name = name; access = access; kind = kind; place = place; numbers = numbers; bit = bit; round = round; lapse = lapse })
+    (optional_number_at (codes "lapse") tree))
     (optional_text_at (codes "round") tree))
     (optional_number_at (codes "bit") tree))
     (numbers_of tree))
@@ -128,6 +131,11 @@ is_own other = false
 abbrev pub is_input : Access → Bool
 is_input access.Input = true
 is_input other = false
+
+-- clients write it
+abbrev pub is_setting : Access → Bool
+is_setting access.Setting = true
+is_setting other = false
 
 -- ---- where the point is
 
@@ -182,16 +190,28 @@ abbrev pub bit_of : Kind → Option ℤ → Option (Option ℕ)
 bit_of point None = Some None
 bit_of point (Some n) = option_map_or (λ last. option_map Some (natural_within last n)) (last_bit point) (Some None)
 
--- what the value is counted in
-pub record Unit : Type 0 where
+-- the seconds after which what a client set lapses, a day at most
+abbrev pub lapse_of : Option ℤ → Option (Option ℕ)
+lapse_of None = Some None
+lapse_of (Some n) = if int_eq n (pos 0) then None else option_map Some (natural_within 86400 n)
+
+-- the numbers of a tag that have limits of their own
+pub record Measures : Type 0 where
   pub exponent : ℤ
   pub bit : Option ℕ
+  pub lapse : Option ℕ
 
-abbrev pub unit_within : Kind → ℤ → Option ℤ → Option Unit
-unit_within point exponent bit = option_and_then (λ e. option_map (λ b. record { exponent = e; bit = b }) (bit_of point bit)) (exponent_of exponent)
+abbrev pub measures_within : Kind → ℤ → (bit lapse : Option ℤ) → Option Measures
+measures_within point exponent bit lapse =
+    option_and_then (λ e.
+    option_and_then (λ b.
+    option_map (λ l. record { exponent = e; bit = b; lapse = l })
+    (lapse_of lapse))
+    (bit_of point bit))
+    (exponent_of exponent)
 
-abbrev pub unit_of : Option IlType → Kind → Numbers → Option ℤ → Option Unit
-unit_of kind point n bit = if has_range kind n.low n.high (start_of n.low n.default) then unit_within point n.exponent bit else None
+abbrev pub measures_of : Option IlType → Kind → Numbers → (bit lapse : Option ℤ) → Option Measures
+measures_of kind point n bit lapse = if has_range kind n.low n.high (start_of n.low n.default) then measures_within point n.exponent bit lapse else None
 
 -- ---- what goes together
 
@@ -218,8 +238,14 @@ abbrev pub is_rounding : Access → Option ℤ → Option (List ℕ) → Bool
 is_rounding a bit None = true
 is_rounding a bit (Some word) = is_input a && (not (is_some bit) && bytes_eq word (codes "down"))
 
+-- where what clients set lapses, a default takes its place
+abbrev pub is_lapsing : Access → (default lapse : Option ℤ) → Bool
+is_lapsing a default None = true
+is_lapsing a default (Some n) = is_setting a && is_some default
+
 abbrev pub goes_together : Access → IlType → Kind → TagKeys → Bool
-goes_together a kind point keys = is_place a keys.place.device point && (is_bit_place a kind point keys.bit && is_rounding a keys.bit keys.round)
+goes_together a kind point keys =
+    is_place a keys.place.device point && (is_bit_place a kind point keys.bit && (is_rounding a keys.bit keys.round && is_lapsing a keys.numbers.default keys.lapse))
 
 -- ---- the tag
 
@@ -234,6 +260,7 @@ pub record Tag : Type 0 where
   pub exponent : ℤ
   pub bit : Option ℕ
   pub down : Bool
+  pub lapse : Option ℕ
   pub device : Option ℕ
   pub model : ℕ
   pub point : Kind
@@ -252,17 +279,18 @@ factor_in model (scales.Fixed n) = factors.Fixed n
 factor_in model (scales.At j) = factors.At (offset_at model j)
 
 -- the tag of these words over a point
-abbrev pub tag_over : TagKeys → Unit → Option ℕ → ModelDef → Point → List ℕ → Access → IlType → Tag
-tag_over keys unit device model p name a kind = record {
+abbrev pub tag_over : TagKeys → Measures → Option ℕ → ModelDef → Point → List ℕ → Access → IlType → Tag
+tag_over keys measures device model p name a kind = record {
   name = name;
   access = a;
   kind = kind;
   low = keys.numbers.low;
   high = keys.numbers.high;
   default = keys.numbers.default;
-  exponent = unit.exponent;
-  bit = unit.bit;
+  exponent = measures.exponent;
+  bit = measures.bit;
   down = is_some keys.round;
+  lapse = measures.lapse;
   device = device;
   model = model.id;
   point = p.kind;
@@ -272,12 +300,12 @@ tag_over keys unit device model p name a kind = record {
 }
 
 -- nothing where a word isn't allowed
-abbrev pub tag_typed : TagKeys → Unit → Option ℕ → ModelDef → Point → Option Tag
-tag_typed keys unit device model p =
+abbrev pub tag_typed : TagKeys → Measures → Option ℕ → ModelDef → Point → Option Tag
+tag_typed keys measures device model p =
     option_and_then (λ name.
     option_and_then (λ a.
     option_and_then (λ kind.
-    if goes_together a kind p.kind keys then Some (tag_over keys unit device model p name a kind) else None)
+    if goes_together a kind p.kind keys then Some (tag_over keys measures device model p name a kind) else None)
     (type_of keys.kind))
     (access_of keys.access))
     (tag_name keys.name)
@@ -313,8 +341,8 @@ tag_placed own defs keys device =
     ok_or (model_for own defs (access_of keys.access) keys.place.model) fault.UnknownModel >>= λ model.
     ok_or (point_for keys.place.point model) fault.UnknownPoint >>= λ p.
     (if may_be_written (access_of keys.access) p.writable then
-    (ok_or (unit_of (type_of keys.kind) p.kind keys.numbers keys.bit) fault.BadRange >>= λ unit.
-    ok_or (tag_typed keys unit device model p) fault.BadType) else Err fault.NotWritable)
+    (ok_or (measures_of (type_of keys.kind) p.kind keys.numbers keys.bit keys.lapse) fault.BadRange >>= λ measures.
+    ok_or (tag_typed keys measures device model p) fault.BadType) else Err fault.NotWritable)
 
 -- a tag over a point, after those before it, or the first rule that is broken
 abbrev pub point_tag_of : List SiteDevice → List ModelDef → List ModelDef → List Tag → Data → Result Tag SiteFault
@@ -352,7 +380,7 @@ has_key tree key = is_some (get key tree)
 
 -- the keys that speak of a point, and of what it is worth while it has no value
 abbrev pub point_words : List (List ℕ)
-point_words = codes "device" ∷ codes "model" ∷ codes "point" ∷ codes "exponent" ∷ codes "default" ∷ codes "bit" ∷ codes "round" ∷ []
+point_words = codes "device" ∷ codes "model" ∷ codes "point" ∷ codes "exponent" ∷ codes "default" ∷ codes "bit" ∷ codes "round" ∷ codes "lapse" ∷ []
 
 abbrev pub has_point_words : Data → Bool
 has_point_words tree = list_any (has_key tree) point_words
@@ -373,6 +401,7 @@ time_over keys name kind = record {
   exponent = pos 0;
   bit = None;
   down = false;
+  lapse = None;
   device = None;
   model = 0;
   point = kinds.Uint32;

@@ -51,6 +51,7 @@ pub record IsDevice (entry : Data) (d : SiteDevice) : Type 0 where
   pub unit : number_at (codes "unit") entry ≡ Some (pos d.unit)
   pub base : optional_number_at (codes "base") entry ≡ Some (option_map pos d.base)
   pub write : option_and_then write_of (optional_number_at (codes "write") entry) ≡ Some d.write
+  pub rewrite : number_or (codes "rewrite") (pos 0) entry ≡ Some (pos d.rewrite)
 
 -- ---- a tag
 
@@ -85,6 +86,7 @@ pub record IsPointTag (defs : List ModelDef) (site : Site) (entry : Data) (t : S
   pub exponent : number_at (codes "exponent") entry ≡ Some t.exponent
   pub bit : optional_number_at (codes "bit") entry ≡ Some (option_map pos t.bit)
   pub round : text_at (codes "round") entry ≡ (if t.down then Some (codes "down") else None)
+  pub lapse : optional_number_at (codes "lapse") entry ≡ Some (option_map pos t.lapse)
   pub device : IsPlaced site.devices (text_at (codes "device") entry) t.access t.device
   pub point : IsPoint defs site.lengths entry t
 

@@ -14,7 +14,7 @@ use Rattle.site_model.specs.declared.tag_keys.Numbers.{Numbers}
 use Rattle.site_model.specs.declared.tag_keys.Place.{Place}
 use Rattle.site_model.specs.declared.tag_keys.TagKeys.{TagKeys}
 use Rattle.site_model.specs.declared.time_tag.TimeKeys.{TimeKeys}
-use Rattle.site_model.specs.declared.unit.Unit.{Unit}
+use Rattle.site_model.specs.declared.measures.Measures.{Measures}
 use Rattle.site_model.specs.declared.tag.SiteTag.{SiteTag}
 use Rattle.site_model.specs.declared.gateway.GatewayKeys.{GatewayKeys}
 use Rattle.site_model.specs.declared.gateway.Gateway.{Gateway}
@@ -27,7 +27,7 @@ abbrev pub gateway_view : Gateway → told.Gateway
 gateway_view g = record { unit = g.unit; base = g.base; models = g.models }
 
 abbrev pub device_keys_view : DeviceKeys → devices.DeviceKeys
-device_keys_view keys = record { name = keys.name.now; unit = keys.unit; base = keys.base; write = keys.write }
+device_keys_view keys = record { name = keys.name.now; unit = keys.unit; base = keys.base; write = keys.write; rewrite = keys.rewrite }
 
 abbrev pub numbers_view : Numbers → tagging.Numbers
 numbers_view n = record { exponent = n.exponent; low = n.low; high = n.high; default = n.default }
@@ -44,13 +44,14 @@ tag_keys_view keys = record {
   numbers = numbers_view keys.numbers;
   bit = keys.bit;
   round = option_map (λ s. s.now) keys.round;
+  lapse = keys.lapse;
 }
 
 abbrev pub time_keys_view : TimeKeys → tagging.TimeKeys
 time_keys_view keys = record { name = keys.name.now; kind = keys.kind.now; low = keys.low; high = keys.high }
 
-abbrev pub unit_view : Unit → tagging.Unit
-unit_view u = record { exponent = u.exponent; bit = u.bit }
+abbrev pub measures_view : Measures → tagging.Measures
+measures_view m = record { exponent = m.exponent; bit = m.bit; lapse = m.lapse }
 
 -- a tag without what it proves of itself
 abbrev pub tag_view : SiteTag → tagging.Tag
@@ -64,6 +65,7 @@ tag_view t = record {
   exponent = t.exponent;
   bit = t.bit;
   down = t.down;
+  lapse = t.lapse;
   device = t.device;
   model = t.model;
   point = t.point;

@@ -20,4 +20,7 @@ pub struct SiteDevice {
     /// The address of its map's mark, in 0..65534; None where it is to be searched for.
     pub base: Option<u16>,
     pub write: WriteFunction,
+    /// Seconds, in 0..3,600, in which a set point that the device acknowledged isn't written again; 0: it is written at
+    /// each scan.
+    pub rewrite: u16,
 }

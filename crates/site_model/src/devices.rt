@@ -2,6 +2,7 @@
 ghost use Rattle.std.specs.Prelude.{◌≡◌, ◌≢◌, [], ◌++◌, ◌∷◌, option_map, Ok, Err, IfOk, IfErr};
 ghost use Rattle.std.specs.List.{list_any};
 ghost use Rattle.toml.specs.View.{view, items_view};
+ghost use Rattle.file_keys.specs.Keys.{natural_within};
 ghost use Rattle.site_model.specs.Devices.{device_keys, device_of, device_within, devices_behind, has_name_or_unit, optional_base, write_of};
 ghost use Rattle.site_model.specs.Parts.{IsDeviceRefused};
 ghost use Rattle.site_model.specs.Views.{device_keys_view};
@@ -12,7 +13,7 @@ use crate::device::{SiteDevice, WriteFunction};
 use crate::fault::SiteFault;
 use crate::part::SitePart;
 use crate::text::Text;
-use file_keys::{base_of, byte_of, number_at, optional_number_at, text_at};
+use file_keys::{base_of, byte_of, number_at, number_or, optional_number_at, text_at};
 use point_types::Items;
 use std::alloc::Global;
 use toml::Value;
@@ -24,6 +25,7 @@ struct DeviceKeys<'a> {
     unit: i64,
     base: Option<i64>,
     write: Option<i64>,
+    rewrite: i64,
 }
 
 /// Reads the devices in order, and notes the one that it has come to.
@@ -70,6 +72,7 @@ fn keys_of(entry: &Value) -> Option<DeviceKeys<'_>>
         unit: number_at(entry, "unit")?,
         base: optional_number_at(entry, "base")?,
         write: optional_number_at(entry, "write")?,
+        rewrite: number_or(entry, "rewrite", 0)?,
     })
 }
 
@@ -87,12 +90,16 @@ fn device_within(alloc: Global, keys: DeviceKeys<'_>) -> Result<Option<SiteDevic
     let Some(write) = write_of(keys.write) else {
         return Ok(None);
     };
+    let Some(rewrite) = rewrite_of(keys.rewrite) else {
+        return Ok(None);
+    };
     let name = Text::new(alloc, keys.name)?;
     Ok(Some(SiteDevice {
         name,
         unit,
         base,
         write,
+        rewrite,
     }))
 }
 
@@ -114,6 +121,17 @@ fn write_of(number: Option<i64>) -> Option<WriteFunction>
         Some(number) if number == 16 => Some(WriteFunction::Multiple),
         Some(number) if number == 6 => Some(WriteFunction::Single),
         Some(_) => None,
+    }
+}
+
+/// An hour at most.
+fn rewrite_of(seconds: i64) -> Option<u16>
+    ensures { result ≡ natural_within 3600 seconds }
+{
+    if 0 <= seconds && seconds <= 3600 {
+        Some(seconds as u16)
+    } else {
+        None
     }
 }
 

@@ -11,6 +11,7 @@ mod gateway;
 pub mod laws;
 mod lengths;
 mod lookups;
+mod measures;
 mod part;
 pub mod readings;
 pub mod registers;
@@ -25,7 +26,6 @@ mod tag_rules;
 mod tags;
 mod text;
 mod time_tag;
-mod unit;
 mod want;
 pub mod wants;
 

@@ -38,6 +38,8 @@ pub struct SiteTag {
     pub bit: Option<u8>,
     /// Whether a value between two whole numbers is rounded down.
     pub down: bool,
+    /// Seconds, in 1..86,400, after which what a client set lapses where it isn't written again; None: never.
+    pub lapse: Option<u32>,
     /// The number of its device; None for the gateway's own points.
     pub device: Option<usize>,
     /// The ID of its model.

@@ -20,6 +20,7 @@ pub(crate) struct TagKeys<'a> {
     pub(crate) numbers: Numbers,
     pub(crate) bit: Option<i64>,
     pub(crate) round: Option<&'a str>,
+    pub(crate) lapse: Option<i64>,
 }
 
 /// The keys that say where the tag's point is.
@@ -50,6 +51,7 @@ pub(crate) fn keys_of(entry: &Value) -> Option<TagKeys<'_>>
         numbers: numbers_of(entry)?,
         bit: optional_number_at(entry, "bit")?,
         round: optional_text_at(entry, "round")?,
+        lapse: optional_number_at(entry, "lapse")?,
     })
 }
 

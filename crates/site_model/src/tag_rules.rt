@@ -4,13 +4,13 @@ ghost use Rattle.point_types.specs.Reading.{IsExponent};
 ghost use Rattle.point_types.specs.Value.{is_ranged, is_within};
 ghost use Rattle.site_model.specs.Tag.{is_written, start_of};
 ghost use Rattle.file_keys.specs.Keys.{natural_within};
-ghost use Rattle.site_model.specs.Tagging.{access_of, bit_of, exponent_of, factor_in, goes_together, has_range, is_bit_place, is_input, is_numeric, is_own, is_place, is_polled, is_rounding, is_sunssf, last_bit, may_be_written, offset_at, tag_over, tag_typed, type_of, unit_of, unit_within};
-ghost use Rattle.site_model.specs.Views.{numbers_view, tag_keys_view, tag_view, unit_view};
+ghost use Rattle.site_model.specs.Tagging.{access_of, bit_of, exponent_of, factor_in, goes_together, has_range, is_bit_place, is_input, is_lapsing, is_numeric, is_own, is_place, is_polled, is_rounding, is_setting, is_sunssf, lapse_of, last_bit, may_be_written, measures_of, measures_within, offset_at, tag_over, tag_typed, type_of};
+ghost use Rattle.site_model.specs.Views.{measures_view, numbers_view, tag_keys_view, tag_view};
 
 use crate::access::Access;
+use crate::measures::Measures;
 use crate::tag::{Sf, SiteTag};
 use crate::tag_keys::{Numbers, TagKeys, access_of, tag_name, type_of};
-use crate::unit::Unit;
 use model_defs::{ModelDef, Point};
 use point_types::{IlType, Kind};
 
@@ -51,14 +51,15 @@ pub(crate) fn may_be_written(access: Option<Access>, writable: bool) -> bool
     }
 }
 
-/// The power of ten and the bit, where all of the tag's numbers lie in their ranges.
-pub(crate) fn unit_of(
+/// The power of ten, the bit and the lapse, where all of the tag's numbers lie in their ranges.
+pub(crate) fn measures_of(
     kind: Option<IlType>,
     point: Kind,
     numbers: Numbers,
     bit: Option<i64>,
-) -> Option<Unit>
-    ensures unit { option_map unit_view result ≡ unit_of kind point (numbers_view numbers) bit }
+    lapse: Option<i64>,
+) -> Option<Measures>
+    ensures measures { option_map measures_view result ≡ measures_of kind point (numbers_view numbers) bit lapse }
     ensures ranged { IfSome result
         (λ _. has_range kind numbers.low numbers.high (start_of numbers.low numbers.default) ≡ true) }
 {
@@ -70,15 +71,25 @@ pub(crate) fn unit_of(
     ) {
         return None;
     }
-    unit_within(point, numbers.exponent, bit)
+    measures_within(point, numbers.exponent, bit, lapse)
 }
 
-fn unit_within(point: Kind, exponent: i64, bit: Option<i64>) -> Option<Unit>
-    ensures { option_map unit_view result ≡ unit_within point exponent bit }
+fn measures_within(
+    point: Kind,
+    exponent: i64,
+    bit: Option<i64>,
+    lapse: Option<i64>,
+) -> Option<Measures>
+    ensures { option_map measures_view result ≡ measures_within point exponent bit lapse }
 {
     let exponent = exponent_of(exponent)?;
     let bit = bit_of(point, bit)?;
-    Some(Unit { exponent, bit })
+    let lapse = lapse_of(lapse)?;
+    Some(Measures {
+        exponent,
+        bit,
+        lapse,
+    })
 }
 
 /// Whether low, the start and high ascend, within the type where it is known.
@@ -132,6 +143,27 @@ fn bit_of(point: Kind, bit: Option<i64>) -> Option<Option<u8>>
     }
 }
 
+/// The seconds after which what a client set lapses, where it does.
+fn lapse_of(seconds: Option<i64>) -> Option<Option<u32>>
+    ensures { result ≡ lapse_of seconds }
+{
+    match seconds {
+        None => Some(None),
+        Some(seconds) if seconds == 0 => None,
+        Some(seconds) => Some(Some(within_a_day(seconds)?)),
+    }
+}
+
+fn within_a_day(seconds: i64) -> Option<u32>
+    ensures { result ≡ natural_within 86400 seconds }
+{
+    if 0 <= seconds && seconds <= 86_400 {
+        Some(seconds as u32)
+    } else {
+        None
+    }
+}
+
 /// The last bit of a bitfield that may be a tag.
 pub fn last_bit(point: Kind) -> Option<u8>
     ensures { result ≡ last_bit point }
@@ -180,25 +212,41 @@ fn is_rounding(access: Access, bit: Option<i64>, round: Option<&str>) -> bool
     }
 }
 
+fn is_lapsing(access: Access, default: Option<i64>, lapse: Option<i64>) -> bool
+    ensures { result ≡ is_lapsing access default lapse }
+{
+    match lapse {
+        None => true,
+        Some(_) => is_setting(access) && default.is_some(),
+    }
+}
+
+fn is_setting(access: Access) -> bool
+    ensures { result ≡ is_setting access }
+{
+    matches!(access, Access::Setting)
+}
+
 fn goes_together(access: Access, kind: IlType, point: Kind, keys: TagKeys<'_>) -> bool
     ensures { result ≡ goes_together access kind point (tag_keys_view keys.entry) }
 {
     is_place(access, keys.place.device, point)
         && is_bit_place(access, kind, point, keys.bit)
         && is_rounding(access, keys.bit, keys.round)
+        && is_lapsing(access, keys.numbers.default, keys.lapse)
 }
 
 /// The tag, where its words are allowed.
 pub(crate) fn tag_typed(
     keys: TagKeys<'_>,
-    unit: Unit,
+    measures: Measures,
     device: Option<usize>,
     model: &ModelDef,
     point: &Point,
 ) -> Option<SiteTag>
     requires range { has_range (type_of keys.kind.now) keys.numbers.low keys.numbers.high (start_of keys.numbers.low keys.numbers.default) ≡ true }
     requires writable { may_be_written (access_of keys.access.now) point.now.writable ≡ true }
-    ensures { option_map tag_view result ≡ tag_typed (tag_keys_view keys.entry) (unit_view unit) device model.now point.now }
+    ensures { option_map tag_view result ≡ tag_typed (tag_keys_view keys.entry) (measures_view measures) device model.now point.now }
 {
     let name = tag_name(keys.name)?;
     let access = access_of(keys.access)?;
@@ -213,9 +261,10 @@ pub(crate) fn tag_typed(
         low: keys.numbers.low,
         high: keys.numbers.high,
         default: keys.numbers.default,
-        exponent: unit.exponent,
-        bit: unit.bit,
+        exponent: measures.exponent,
+        bit: measures.bit,
         down: keys.round.is_some(),
+        lapse: measures.lapse,
         device,
         model: model.id,
         point: point.kind,

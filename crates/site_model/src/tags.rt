@@ -17,7 +17,7 @@ use crate::gateway::{definition_of, model_of};
 use crate::part::SitePart;
 use crate::tag::SiteTag;
 use crate::tag_keys::{TagKeys, access_of, keys_of, type_of};
-use crate::tag_rules::{is_own, is_polled, may_be_written, tag_typed, unit_of};
+use crate::tag_rules::{is_own, is_polled, may_be_written, measures_of, tag_typed};
 use crate::time_tag::{is_time, read_time_tag};
 use model_defs::{ModelDef, Point};
 use name_places::{Places, place_of};
@@ -135,10 +135,15 @@ fn tag_placed(
     if !may_be_written(access, point.writable) {
         return Err(SiteFault::NotWritable);
     }
-    let unit = unit_of(type_of(keys.kind), point.kind, keys.numbers, keys.bit).ok_or(
-        SiteFault::BadRange,
-    )?;
-    tag_typed(keys, unit, device, model, point).ok_or(SiteFault::BadType)
+    let measures = measures_of(
+        type_of(keys.kind),
+        point.kind,
+        keys.numbers,
+        keys.bit,
+        keys.lapse,
+    )
+    .ok_or(SiteFault::BadRange)?;
+    tag_typed(keys, measures, device, model, point).ok_or(SiteFault::BadType)
 }
 
 /// The tag's model: one of the gateway's own, or any that is defined.

@@ -70,6 +70,7 @@ fn has_point_words(entry: &Value) -> bool
         || has_key(entry, "default")
         || has_key(entry, "bit")
         || has_key(entry, "round")
+        || has_key(entry, "lapse")
 }
 
 fn has_key(entry: &Value, key: &str) -> bool
@@ -129,6 +130,7 @@ fn time_over(keys: TimeKeys<'_>, name: Name, kind: IlType) -> SiteTag
         exponent: 0,
         bit: None,
         down: false,
+        lapse: None,
         device: None,
         model: 0,
         point: Kind::Uint32,

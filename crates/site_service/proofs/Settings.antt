@@ -14,14 +14,14 @@ use Rattle.service_texts.specs.declared.state_lines.StateLine.TheVariants.{Sets}
 use Rattle.site_service.specs.Setting.{SetsBy}
 
 by_result : (tag : ℕ) (number : ℤ) (old : Gateway) (result : Bool) (new : Gateway)
-    → (IsTrue result → new.standing ≡ record old.standing { sets = slice_set old.standing.sets tag (Some number) })
+    → (IsTrue result → new.standing ≡ record old.standing { sets = slice_set old.standing.sets tag (Some number); ages = slice_set old.standing.ages tag (Some 0) })
     → (result ≡ false → (new ≡ old) × NothingSets old.site tag number) → SetsBy (Sets tag number) old result new
 by_result tag number old true new sets refused = sets refl
 by_result tag number old false new sets refused = refused refl
 
 -- `handed` is the number as it is handed on
 pub set_by : (line : StateLine) (tag : ℕ) (number handed : ℤ) (old : Gateway) (result : Bool) (new : Gateway) → line ≡ Sets tag number → handed ≡ number
-    → (IsTrue result → new.standing ≡ record old.standing { sets = slice_set old.standing.sets tag (Some handed) })
+    → (IsTrue result → new.standing ≡ record old.standing { sets = slice_set old.standing.sets tag (Some handed); ages = slice_set old.standing.ages tag (Some 0) })
     → (result ≡ false → (new ≡ old) × NothingSets old.site tag handed) → SetsBy line old result new
 set_by line tag number handed old result new is same sets refused =
     subst (λ l. SetsBy l old result new) (sym is) (subst (λ n. SetsBy (Sets tag n) old result new) same (by_result tag handed old result new sets refused))

@@ -1,8 +1,8 @@
 //! What is told of clients.
 use crate::journal::Journal;
 use client_writes::{
-    Change, KnownSettings, RefusedNumber, RefusedWrite, WriteOutcome, number_text, outcome_of,
-    refused_more_line, refused_number, refused_text, set_line,
+    Change, KnownSettings, RefusedNumber, RefusedWrite, WriteOutcome, lapsed_line, number_text,
+    outcome_of, refused_more_line, refused_number, refused_text, set_line,
 };
 use gateway::{Core, DEPTH};
 use line_rations::{Over, Ration, address_of, key_of};
@@ -107,7 +107,26 @@ impl ClientWatch {
             let Some(change) = self.known.next_change(core.settings()) else {
                 return;
             };
-            journal.tell(change_line(self.alloc, core.site(), change, address));
+            let line = match change.after {
+                Some(_) => change_line(self.alloc, core.site(), change, address),
+                None => lapsed_line(self.alloc, tag_name(core.site(), change.tag)),
+            };
+            journal.tell(line);
+        }
+    }
+
+    /// Tells which set values lapsed. What else changed was told of the client that wrote it.
+    pub(crate) fn tell_lapsed<W: Write>(
+        &mut self,
+        core: &Core<DEPTH>,
+        journal: &mut Journal<'_, W>,
+    ) {
+        for _ in 0..core.settings().len() {
+            let Some(change) = self.known.next_change(core.settings()) else {
+                return;
+            };
+            let name = tag_name(core.site(), change.tag);
+            journal.tell(lapsed_line(self.alloc, name));
         }
     }
 

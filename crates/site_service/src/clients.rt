@@ -7,6 +7,7 @@ use crate::client_watch::ClientWatch;
 use crate::door::Door;
 use crate::journal::Journal;
 use crate::tokens::Tokens;
+use gateway::{Core, DEPTH};
 use mio::net::TcpStream;
 use mio::{Registry, Token};
 use service_core::Service;
@@ -48,6 +49,15 @@ impl Clients {
     /// This is set at the start, and needn't be told.
     pub(crate) fn begin(&mut self, settings: &[Option<i64>]) -> Result<(), AllocError> {
         self.watch.begin(settings)
+    }
+
+    /// Tells which set values lapsed.
+    pub(crate) fn tell_lapsed<W: Write>(
+        &mut self,
+        core: &Core<DEPTH>,
+        journal: &mut Journal<'_, W>,
+    ) {
+        self.watch.tell_lapsed(core, journal);
     }
 
     /// The system says of the client at a place that there is something to do.

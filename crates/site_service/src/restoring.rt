@@ -4,9 +4,11 @@ ghost use Rattle.site_service.specs.Setting.{SetsBy};
 use crate::journal::Journal;
 use crate::keeping::KeptState;
 use crate::state_file::variables;
+use client_writes::lapsed_line;
+use gateway::{Core, DEPTH, has_lapsed};
 use point_types::Name;
 use service_core::Service;
-use service_texts::{StateLine, kept_by, left_out_setting_line, state_line};
+use service_texts::{StateLine, kept_by, left_out_setting_line, state_line, time_in};
 use std::alloc::{AllocError, Global};
 use std::io::Write;
 
@@ -25,10 +27,25 @@ pub(crate) fn restore<W: Write>(
             journal.tell(left_out(alloc, line));
         }
     }
+    tell_lapsed(alloc, service.core(), journal);
 }
 
-/// Takes what a line says; whether it is something: the number with which a variable began, or what a client could set.
+/// Tells what of the file was set too long ago to hold still.
+fn tell_lapsed<W: Write>(alloc: Global, core: &Core<DEPTH>, journal: &mut Journal<'_, W>) {
+    for (tag, age) in core.site().tags().iter().zip(core.ages()) {
+        if has_lapsed(tag.lapse, *age) {
+            journal.tell(lapsed_line(alloc, tag.name.as_str()));
+        }
+    }
+}
+
+/// Takes what a line says; whether it is something: the number with which a variable began, time that went by, or what a
+/// client could set.
 fn is_taken(service: &mut Service, retained: &[Name], line: &str) -> bool {
+    if let Some(ms) = time_in(line) {
+        service.pass(ms);
+        return true;
+    }
     kept_by(variables(service.core()), retained, line).is_some() || is_restored(service, line)
 }
 

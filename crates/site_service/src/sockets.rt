@@ -100,6 +100,8 @@ impl Sockets {
         let registry = self.poll.registry();
         self.clients.take_in(registry, &mut self.door, serving.writers, service, journal);
         self.links.receive(service, now);
+        // a scan may have begun with these bytes, and a client may write again what lapsed before it
+        self.clients.tell_lapsed(service.core(), journal);
         self.clients.receive(service, journal);
         self.links.hang_up(service, now);
         self.links.dial(rt, registry, service, now);

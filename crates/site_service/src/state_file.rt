@@ -3,12 +3,18 @@ ghost use Rattle.std.specs.Prelude.{◌≡◌, length, IfOk, IsTrue};
 
 use crate::keeping::KeptState;
 use crate::replacing::replace_for_good;
-use gateway::{Core, DEPTH};
+use gateway::{Core, DEPTH, has_lapsed};
 use point_types::{Name, Var};
-use service_texts::{RetainPace, WriteRecord, is_among, state_text, variables_text};
+use service_texts::{
+    RetainPace, WriteRecord, aged_settings, aged_text, is_among, lasting_settings, state_text,
+    variables_text,
+};
 use std::alloc::{AllocError, Global};
 use std::io;
 use std::rt::Files;
+
+/// The shortest time in which the ages of set values alone have the file written anew, in milliseconds.
+const LEAST: u64 = 10_000;
 
 /// The file of set values and variables.
 #[derive(Drop)]
@@ -21,13 +27,16 @@ pub(crate) struct StateFile<'a> {
     /// The numbers that the variables had then; None of those that aren't kept.
     variables: Vec<Option<i64>>,
     pace: RetainPace,
+    /// When the file was written last, or was to be, in milliseconds since the start.
+    written_at: u64,
     writes: WriteRecord,
     /// Whether it is to be written once more, though nothing was set since.
     is_due: bool,
 }
 
 impl<'a> StateFile<'a> {
-    /// The file of a core, which needn't be written before something else is set or kept than now.
+    /// The file of a core, which needn't be written before something else is set or kept than now, or a set value has grown
+    /// older; it is written at once where it had one that lapsed since.
     pub(crate) fn new(
         alloc: Global,
         state: &KeptState<'a, '_>,
@@ -44,8 +53,9 @@ impl<'a> StateFile<'a> {
             tried,
             variables: numbers(alloc, core, state.retained)?,
             pace: RetainPace::new(),
+            written_at: 0,
             writes: WriteRecord::new(),
-            is_due: false,
+            is_due: has_any_lapsed(core),
         })
     }
 
@@ -59,8 +69,8 @@ impl<'a> StateFile<'a> {
         self.is_due = self.writes.has_failed();
     }
 
-    /// Writes the file, where something was set since, where a variable changed and that may be written now, or where it is to
-    /// be tried once more: from then on what is set is what was tried to be written. `now` is in milliseconds since the start.
+    /// Writes the file, where something was set since, where a variable changed and that may be written now, where it says for
+    /// too long how old a set value is, or where it is to be tried once more: from then on what is set is what was tried to be written. `now` is in milliseconds since the start.
     /// Gives the word by which it is told that it can't be written, or can again.
     pub(crate) fn keep<R: Files>(
         &mut self,
@@ -71,7 +81,7 @@ impl<'a> StateFile<'a> {
     ) -> Option<&'static str>
         ensures { length self.old.tried.items ≡ length core.now.standing.sets → self.new.tried.items ≡ core.now.standing.sets }
     {
-        if !self.is_due && self.is_as_tried(core.settings()) && !self.wants_variables(core, now) {
+        if !self.is_due && self.is_as_tried(core.settings()) && !self.has_aged(core, now) {
             return None;
         }
         self.is_due = false;
@@ -94,6 +104,22 @@ impl<'a> StateFile<'a> {
         }
     }
 
+    /// Whether a variable or the age of a set value is to be written anew, though nothing else was set.
+    fn has_aged(&self, core: &Core<DEPTH>, now: u64) -> bool {
+        self.wants_variables(core, now) || self.wants_ages(core, now)
+    }
+
+    /// Whether a set value that lapses has grown older by a tenth of its time since the file was written, and by ten seconds.
+    fn wants_ages(&self, core: &Core<DEPTH>, now: u64) -> bool {
+        match shortest_lapse(core) {
+            Some(seconds) => {
+                let tenth = u64::from(seconds) * 100;
+                now.saturating_sub(self.written_at) >= tenth.max(LEAST)
+            }
+            None => false,
+        }
+    }
+
     /// Whether a variable that is kept has another number than when the file was written last, and may be written now.
     fn wants_variables(&self, core: &Core<DEPTH>, now: u64) -> bool {
         self.pace.is_due(now) && has_changed(core, self.variables.as_slice())
@@ -109,11 +135,52 @@ impl<'a> StateFile<'a> {
         ensures { self.new.tried.items ≡ self.old.tried.items }
     {
         self.pace.written(now);
+        self.written_at = now;
         self.variables = numbers(alloc, core, self.retained)?;
-        let mut text = state_text(alloc, core.site().tags(), core.settings())?;
+        let mut text = settings_text(alloc, core)?;
         let kept = variables_text(alloc, variables(core), self.variables.as_slice())?;
         text.extend_from_slice(kept.as_slice())?;
         replace_for_good(rt, alloc, self.path, text.as_slice())
+    }
+}
+
+/// The lines of what is set: first what never lapses, then what does, with its ages.
+fn settings_text(alloc: Global, core: &Core<DEPTH>) -> Result<Vec<u8>, AllocError> {
+    let tags = core.site().tags();
+    let lasting = lasting_settings(alloc, tags, core.settings())?;
+    let mut text = state_text(alloc, tags, lasting.as_slice())?;
+    let aged = aged_settings(alloc, tags, core.settings(), core.ages())?;
+    let ages = aged_text(alloc, aged.as_slice())?;
+    text.extend_from_slice(ages.as_slice())?;
+    Ok(text)
+}
+
+/// Whether a set value has lapsed.
+fn has_any_lapsed(core: &Core<DEPTH>) -> bool {
+    for (tag, age) in core.site().tags().iter().zip(core.ages()) {
+        if has_lapsed(tag.lapse, *age) {
+            return true;
+        }
+    }
+    false
+}
+
+/// Of the set values that lapse the shortest time in which one does, in seconds.
+fn shortest_lapse(core: &Core<DEPTH>) -> Option<u32> {
+    let mut shortest = None;
+    for (tag, setting) in core.site().tags().iter().zip(core.settings()) {
+        if setting.is_some() {
+            shortest = shorter(shortest, tag.lapse);
+        }
+    }
+    shortest
+}
+
+fn shorter(one: Option<u32>, other: Option<u32>) -> Option<u32> {
+    match (one, other) {
+        (Some(one), Some(other)) => Some(one.min(other)),
+        (one, None) => one,
+        (None, other) => other,
     }
 }
 

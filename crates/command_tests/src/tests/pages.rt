@@ -78,7 +78,7 @@ fn page(alloc: Global) -> Result<String, AllocError> {
     let unset = Unset {
         scan: 2,
         name: String::from_str(alloc, "tar<get")?,
-        number: 101,
+        said: String::from_str(alloc, "101")?,
         why: "it is outside the tag's range",
     };
     let report = Report {

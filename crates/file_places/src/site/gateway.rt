@@ -1,7 +1,7 @@
 //! What breaks a rule in the gateway's section, and in a device's.
 use crate::finding::{Finding, KeyRule, Kind, Rule, Stands, stands_at};
 use crate::looking::{first_alike, first_broken, first_outside, first_repeated};
-use file_keys::list_at;
+use file_keys::{list_at, number_at};
 use model_defs::ModelDef;
 use site_model::SiteFault;
 use site_model::rules::definition_of;
@@ -13,11 +13,18 @@ static MODEL_KEYS: [KeyRule; 1] = [("models", Kind::Numbers)];
 
 static DEVICE_KEYS: [KeyRule; 2] = [("name", Kind::Text), ("unit", Kind::Number)];
 
-static NUMBER_KEYS: [KeyRule; 2] = [("base", Kind::Number), ("write", Kind::Number)];
+static NUMBER_KEYS: [KeyRule; 3] = [
+    ("base", Kind::Number),
+    ("write", Kind::Number),
+    ("rewrite", Kind::Number),
+];
 
 static BASE_KEYS: [KeyRule; 1] = [("base", Kind::Number)];
 
 static LIMITS: [(&str, i64, i64); 2] = [("unit", 0, 255), ("base", 0, 65534)];
+
+/// The most seconds in which a set point that a device has isn't written again.
+const MOST_REWRITE: i64 = 3600;
 
 pub(super) fn gateway_finding<'a>(
     gateway: &'a Value,
@@ -94,9 +101,15 @@ pub(super) fn device_finding<'a>(
 }
 
 fn unfit_device(entry: &Value) -> Finding<'_> {
-    match first_outside(entry, &LIMITS) {
-        Some(finding) => finding,
-        None => Finding::at(entry, "write", "is neither 6 nor 16").helped(
+    if let Some(finding) = first_outside(entry, &LIMITS) {
+        return finding;
+    }
+    match number_at(entry, "write") {
+        None | Some(6 | 16) => {
+            let rule = Rule::Within(0, MOST_REWRITE);
+            Finding::by("rewrite", stands_at(entry, "rewrite"), rule)
+        }
+        Some(_) => Finding::at(entry, "write", "is neither 6 nor 16").helped(
             "write 16, or 6 for a device that takes one register at a time",
         ),
     }

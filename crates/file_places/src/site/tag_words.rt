@@ -98,6 +98,22 @@ fn unlike_others(entry: &Value) -> Finding<'_> {
             "write \"down\", or take the key away",
         );
     }
+    if has(entry, "lapse") && !is_setting(entry) {
+        return Finding::advised(
+            entry,
+            "lapse",
+            "is for tags set",
+            "take the key away: only what clients set lapses",
+        );
+    }
+    if has(entry, "lapse") && !has(entry, "default") {
+        return Finding::advised(
+            entry,
+            "lapse",
+            "needs a default",
+            "add default: what the program works with once what a client set has lapsed",
+        );
+    }
     Finding::advised(
         entry,
         "point",
@@ -116,6 +132,10 @@ fn may_have_bit(entry: &Value) -> bool {
 
 fn is_input(entry: &Value) -> bool {
     matches!(access(entry), Some(Access::Input))
+}
+
+fn is_setting(entry: &Value) -> bool {
+    matches!(access(entry), Some(Access::Setting))
 }
 
 fn may_round(entry: &Value) -> bool {

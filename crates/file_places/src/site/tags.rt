@@ -22,14 +22,17 @@ static NEEDED: [KeyRule; 8] = [
     ("high", Kind::Number),
 ];
 
-static OPTIONAL: [KeyRule; 4] = [
+static OPTIONAL: [KeyRule; 5] = [
     ("device", Kind::Text),
     ("default", Kind::Number),
     ("bit", Kind::Number),
     ("round", Kind::Text),
+    ("lapse", Kind::Number),
 ];
 
 static EXPONENT: [(&str, i64, i64); 1] = [("exponent", -10, 10)];
+
+static LAPSE: [(&str, i64, i64); 1] = [("lapse", 1, 86_400)];
 
 /// What breaks the rule in a tag, where those before it are these.
 pub(super) fn tag_finding<'a>(
@@ -108,9 +111,15 @@ fn outside<'a>(entry: &'a Value, defs: &[ModelDef]) -> Finding<'a> {
     if let Some(finding) = out_of_type(entry) {
         return counted(entry, finding);
     }
-    match first_outside(entry, &EXPONENT) {
+    if let Some(finding) = first_outside(entry, &EXPONENT) {
+        return finding;
+    }
+    if let Some(finding) = no_bit(entry, defs) {
+        return finding;
+    }
+    match first_outside(entry, &LAPSE) {
         Some(finding) => finding,
-        None => no_bit(entry, defs),
+        None => Finding::at(entry, "bit", "is no bit of its point"),
     }
 }
 
@@ -125,18 +134,13 @@ fn counted<'a>(entry: &Value, finding: Finding<'a>) -> Finding<'a> {
 }
 
 /// A bit that the point doesn't have.
-fn no_bit<'a>(entry: &'a Value, defs: &[ModelDef]) -> Finding<'a> {
-    let last = point_at(entry, defs).and_then(|point| last_bit(point.kind));
-    match last {
-        Some(last) => {
-            Finding::by(
-                "bit",
-                stands_at(entry, "bit"),
-                Rule::Within(0, i64::from(last)),
-            )
-        }
-        None => Finding::at(entry, "bit", "is no bit of its point"),
+fn no_bit<'a>(entry: &'a Value, defs: &[ModelDef]) -> Option<Finding<'a>> {
+    let bit = number_at(entry, "bit")?;
+    let last = i64::from(last_bit(point_at(entry, defs)?.kind)?);
+    if 0 <= bit && bit <= last {
+        return None;
     }
+    Some(Finding::by("bit", Stands::Number(bit), Rule::Within(0, last)))
 }
 
 /// Of low, default and high two that don't ascend.

@@ -19,7 +19,7 @@ const MISSING: &str =
 
 /// The keys that speak of a point, and of what it is worth while it has no value.
 const POINT_WORDS: &[&str] = &[
-    "device", "model", "point", "exponent", "default", "bit", "round",
+    "device", "model", "point", "exponent", "default", "bit", "round", "lapse",
 ];
 
 /// What breaks the rule in such a tag, where those before it are these.

@@ -24,7 +24,7 @@ Advances old e a new = StepsOn old e a new × IsSame old new
 
 -- so many milliseconds went by, and nothing else changes
 abbrev pub after_wait : ℕ → Gateway → Gateway
-after_wait ms g = record g { standing = after_time ms g.standing }
+after_wait ms g = record g { standing = after_time g.site ms g.standing }
 
 -- A block that came or was lost: what is known of it is that from now on. Time that went by. Nothing else changes.
 abbrev pub Notes : Gateway → Event → Answer → Gateway → Type 0

@@ -35,6 +35,10 @@ numbers_of a = map number_of a.links
 abbrev pub gateway_of : Site → List (Option Layout) → Running → Gateway
 gateway_of site maps machine = record { site = site; maps = maps; machine = machine; standing = opened site machine.variables }
 
+-- another program runs from now on, and all that is known and set stays
+abbrev pub adopting : Running → Gateway → Gateway
+adopting machine g = record g { machine = machine; standing = record g.standing { variables = machine.variables } }
+
 -- nothing else changes
 pub record IsSame (old new : Gateway) : Type 0 where
   pub site : new.site ≡ old.site
@@ -57,13 +61,14 @@ abbrev pub last_of : Memory → Scanned
 last_of k = record { steps = k.steps; outputs = k.outputs.items; readings = k.readings.items; blocks = k.scanned.items }
 
 abbrev pub standing_of : Running → Memory → Standing
-standing_of m k = record { blocks = k.blocks.items; sets = k.sets.items; elapsed = k.elapsed; variables = m.variables; last = last_of k }
+standing_of m k = record { blocks = k.blocks.items; sets = k.sets.items; ages = k.ages.items; elapsed = k.elapsed; variables = m.variables; last = last_of k }
 
 -- an entry for each want and each tag of a site, each number in its tag's range
 pub record IsKnown (site : Site) (k : Memory) : Type 0 where
   pub blocks : length k.blocks.items ≡ length site.wants
   pub scanned : length k.scanned.items ≡ length site.wants
   pub sets : length k.sets.items ≡ length site.tags
+  pub ages : length k.ages.items ≡ length site.tags
   pub outputs : length k.outputs.items ≡ length site.tags
   pub readings : length k.readings.items ≡ length site.tags
   pub ranged : AreSettings site.tags k.sets.items
@@ -73,6 +78,7 @@ pub record IsKnown (site : Site) (k : Memory) : Type 0 where
 pub record IsOpening (site : Site) (k : Memory) : Type 0 where
   pub blocks : k.blocks.items ≡ none_of site.wants
   pub sets : k.sets.items ≡ none_of site.tags
+  pub ages : k.ages.items ≡ none_of site.tags
   pub elapsed : k.elapsed ≡ None
   pub last : last_of k ≡ unscanned site
 

@@ -17,7 +17,7 @@ use Rattle.gateway.specs.event_core.SiteRun.{Standing, Does, setting_of, written
 -- Whatever is known and set: it is acknowledged, from then on the tag has this number, and nothing else changes.
 abbrev pub SetsAlone : Site → ℕ → ℤ → Request → Type 0
 SetsAlone site tag number asked =
-    (s t : Standing) (r : Result Response Exception) → Does site s asked r t → (r ≡ Ok response.Wrote) × (t ≡ record s { sets = slice_set s.sets tag (Some number) })
+    (s t : Standing) (r : Result Response Exception) → Does site s asked r t → (r ≡ Ok response.Wrote) × (t ≡ record s { sets = slice_set s.sets tag (Some number); ages = slice_set s.ages tag (Some 0) })
 
 -- As the registers of the point these words are the number of the tag, exactly and in its range, by the served factor.
 abbrev pub AreRead : OwnPoint → SiteTag → ℤ → List ℕ → Type 0

@@ -1,6 +1,6 @@
 -- The site run: what a gateway knows, event by event, and what it answers.
 -- Modbus Application Protocol V1.1b3, sections 6.3, 6.6, 6.12 and 7; IEC 61131-3 edition 2, 3.2 (one scan after another).
-use Rattle.std.specs.Prelude.{◌≡◌, ℕ, zero, suc, ◌+◌, ◌-◌, ◌≤◌, nat_eq, nat_le, Bool, true, false, ◌&&◌, List, [], ◌∷◌, length, map, take, drop, is_some, slice_get, slice_set, ℤ, Option, Some, None, option_map, option_and_then, if◌then◌else◌, Result, Ok, Err}
+use Rattle.std.specs.Prelude.{◌≡◌, ℕ, zero, suc, ◌+◌, ◌-◌, ◌*◌, ◌≤◌, nat_eq, nat_le, Bool, true, false, ◌&&◌, List, [], ◌∷◌, length, map, take, drop, is_some, slice_get, slice_set, ℤ, Option, Some, None, option_map, option_and_then, if◌then◌else◌, Result, Ok, Err}
 use Rattle.std.specs.List.{position}
 use Rattle.std.specs.Option.{option_map_or}
 use Rattle.point_types.specs.declared.kind.Kind.{Kind}
@@ -17,11 +17,10 @@ use Rattle.modbus_frame.specs.declared.message.Exception.{Exception}
 use Rattle.modbus_frame.specs.Message.{illegal_address, illegal_value, request_of, answer_bytes, refusal_bytes}
 use Rattle.scan_code.specs.Image.{Image}
 use Rattle.scan_code.specs.Machine.{State, Ended, run, opening}
-use Rattle.site_model.specs.declared.access.Access.{Access}
-use Rattle.site_model.specs.declared.access.Access.TheVariants as access
 use Rattle.site_model.specs.declared.site.Site.{Site}
 use Rattle.site_model.specs.declared.tag.SiteTag.{SiteTag}
 use Rattle.site_model.specs.Readings.{AreReadings}
+use Rattle.site_model.specs.Tagging.{is_setting}
 use Rattle.site_model.specs.declared.want.Want.{Want}
 use Rattle.site_model.specs.Wants.{same_want}
 use Rattle.gateway.specs.declared.event_core.event.Event.{Event}
@@ -42,10 +41,11 @@ pub record Scanned : Type 0 where
   pub readings : List Reading
   pub blocks : List (Option (List ℕ))
 
--- what is known of the wanted blocks, what clients set, the milliseconds since the last scan, where there was one, the program's variables, and the last scan
+-- what is known of the wanted blocks, what clients set and how many milliseconds ago, the milliseconds since the last scan, where there was one, the program's variables, and the last scan
 pub record Standing : Type 0 where
   pub blocks : List (Option (List ℕ))
   pub sets : List (Option ℤ)
+  pub ages : List (Option ℕ)
   pub elapsed : Option ℕ
   pub variables : List ℤ
   pub last : Scanned
@@ -68,7 +68,7 @@ unscanned site = record {
 }
 
 abbrev pub opened : Site → List ℤ → Standing
-opened site variables = record { blocks = none_of site.wants; sets = none_of site.tags; elapsed = None; variables = variables; last = unscanned site }
+opened site variables = record { blocks = none_of site.wants; sets = none_of site.tags; ages = none_of site.tags; elapsed = None; variables = variables; last = unscanned site }
 
 -- ---- blocks
 
@@ -94,15 +94,42 @@ most_elapsed = 3600000
 abbrev pub later : ℕ → ℕ → ℕ
 later n ms = if nat_le most_elapsed (n + ms) then most_elapsed else n + ms
 
+-- a day; longer ages aren't told apart
+abbrev pub most_age : ℕ
+most_age = 86400000
+
+abbrev pub older : ℕ → ℕ → ℕ
+older ms age = if nat_le most_age (age + ms) then most_age else age + ms
+
+abbrev pub all_older : ℕ → List (Option ℕ) → List (Option ℕ)
+all_older ms ages = map (λ age. option_map (older ms) age) ages
+
+-- what was set so many milliseconds ago lapses after so many seconds
+abbrev pub has_lapsed : (lapse age : Option ℕ) → Bool
+has_lapsed None age = false
+has_lapsed (Some seconds) None = false
+has_lapsed (Some seconds) (Some age) = nat_le (seconds * 1000) age
+
+-- what holds of what was set so long ago: nothing, as where it was never set, once it has lapsed
+abbrev pub held : SiteTag → Option ℕ → Option ℤ → Option ℤ
+held t age set = if has_lapsed t.lapse age then None else set
+
+-- the same for each tag
+abbrev pub all_held : List SiteTag → (ages : List (Option ℕ)) → (sets : List (Option ℤ)) → List (Option ℤ)
+all_held [] ages sets = []
+all_held (t ∷ ts) [] sets = []
+all_held (t ∷ ts) (age ∷ ages) [] = []
+all_held (t ∷ ts) (age ∷ ages) (set ∷ sets) = held t age set ∷ all_held ts ages sets
+
 -- so many milliseconds went by
-abbrev pub after_time : ℕ → Standing → Standing
-after_time ms s = record s { elapsed = option_map (λ n. later n ms) s.elapsed }
+abbrev pub after_time : Site → ℕ → Standing → Standing
+after_time site ms s = record s {
+  sets = all_held site.tags (all_older ms s.ages) s.sets;
+  ages = all_older ms s.ages;
+  elapsed = option_map (λ n. later n ms) s.elapsed;
+}
 
 -- ---- what clients write
-
-abbrev pub is_setting : Access → Bool
-is_setting access.Setting = true
-is_setting other = false
 
 abbrev pub if_setting : ℕ → SiteTag → Option ℕ
 if_setting n t = if is_setting t.access then Some n else None
@@ -165,6 +192,22 @@ SaysWrote (Ok (response.Words read)) = ⊥
 SaysWrote (Ok response.Wrote) = Unit {0}
 SaysWrote (Err e) = Unit {0}
 
+-- a tag was set right now
+abbrev pub renewed_one : Option ℕ → List (Option ℕ) → List (Option ℕ)
+renewed_one None ages = ages
+renewed_one (Some i) ages = slice_set ages i (Some 0)
+
+-- the tags of the points of so many registers were
+abbrev pub renewed : List SiteTag → List OwnPoint → ℕ → List (Option ℕ) → List (Option ℕ)
+renewed tags points zero ages = ages
+renewed tags [] (suc n) ages = ages
+renewed tags (p ∷ ps) (suc n) ages = renewed tags ps (suc n - registers_of p) (renewed_one (setting_of tags p) ages)
+
+-- a write renews what it sets, be it to the same number, and one that is refused renews nothing
+abbrev pub ages_after : Site → (addr n : ℕ) → Result Response Exception → List (Option ℕ) → List (Option ℕ)
+ages_after site addr n (Ok r) ages = option_map_or (λ points. renewed site.tags points n ages) (written_points site addr n) ages
+ages_after site addr n (Err e) ages = ages
+
 -- ---- what clients ask for
 
 -- registers of an image that begins at an address
@@ -173,7 +216,7 @@ slice_of base image addr qty =
     if nat_le base addr && nat_le (addr + qty) (base + length image) then Ok (response.Words (take qty (drop (addr - base) image))) else Err illegal_address
 
 abbrev pub WritesAt : Site → Standing → ℕ → List ℕ → Result Response Exception → Standing → Type 0
-WritesAt site s addr words r t = Writes site.tags (written_points site addr (length words)) words s.sets r t.sets × (t ≡ record s { sets = t.sets })
+WritesAt site s addr words r t = Writes site.tags (written_points site addr (length words)) words s.sets r t.sets × (t ≡ record s { sets = t.sets; ages = ages_after site addr (length words) r s.ages })
 
 abbrev pub Does : Site → Standing → Request → Result Response Exception → Standing → Type 0
 Does site s (request.Read addr qty) r t = ((image : List ℕ) × IsServedImage site s.last.outputs s.last.readings s.sets image × (r ≡ slice_of site.base image addr qty)) × (t ≡ s)
@@ -221,7 +264,7 @@ pub record IsScan (site : Site) (image : Image) (links : List ℕ) (budget : ℕ
 abbrev pub Steps : Site → Image → (links : List ℕ) → (budget : ℕ) → Standing → Event → Answer → Standing → Type 0
 Steps site image links budget s (event.Block want words) a t = (a ≡ answer.None) × (t ≡ after_block site want (told want.model words) s)
 Steps site image links budget s (event.Lost want) a t = (a ≡ answer.None) × (t ≡ after_block site want None s)
-Steps site image links budget s (event.Time ms) a t = (a ≡ answer.None) × (t ≡ after_time ms s)
+Steps site image links budget s (event.Time ms) a t = (a ≡ answer.None) × (t ≡ after_time site ms s)
 Steps site image links budget s event.Scan a t = (a ≡ answer.Writes (length site.outs)) × IsScan site image links budget s t
 Steps site image links budget s (event.Client pdu) a t = (reply : List ℕ) × (a ≡ answer.Reply reply) × Replies site s pdu (request_of pdu) reply t
 

@@ -8,6 +8,8 @@ pub(crate) struct Memory {
     pub(crate) blocks: Vec<Option<Words>>,
     /// What clients set.
     pub(crate) sets: Vec<Option<i64>>,
+    /// The milliseconds since a client set each tag last, where one did; a day at most.
+    pub(crate) ages: Vec<Option<u32>>,
     /// The milliseconds since the last scan, where there was one; an hour at most.
     pub(crate) elapsed: Option<u32>,
     /// What the program stored in the last scan.
@@ -26,6 +28,7 @@ impl Drop for Memory {
         let Memory {
             blocks: _,
             sets: _,
+            ages: _,
             elapsed: _,
             outputs: _,
             readings: _,

@@ -66,12 +66,14 @@ fn nothing_known(alloc: Global, site: &Site) -> Result<Memory, AllocError>
 {
     let blocks = no_blocks(alloc, site.wants())?;
     let sets = no_numbers(alloc, site.tags())?;
+    let ages = no_ages(alloc, site.tags())?;
     let outputs = no_numbers(alloc, site.tags())?;
     let readings = no_readings(alloc, site.tags())?;
     let scanned = no_blocks(alloc, site.wants())?;
     Ok(Memory {
         blocks,
         sets,
+        ages,
         elapsed: None,
         outputs,
         readings,
@@ -93,12 +95,35 @@ fn no_numbers(alloc: Global, tags: &[SiteTag]) -> Result<Vec<Option<i64>>, Alloc
     tags.iter().map(|_| None).collect(alloc)
 }
 
+fn no_ages(alloc: Global, tags: &[SiteTag]) -> Result<Vec<Option<u32>>, AllocError>
+    ensures { IfOk result (λ ages. ages.items ≡ none_of tags.now) }
+{
+    tags.iter().map(|_| None).collect(alloc)
+}
+
 fn no_readings(alloc: Global, tags: &[SiteTag]) -> Result<Vec<Reading>, AllocError>
     ensures { IfOk result (λ readings. readings.items ≡ map unread tags.now) }
 {
     tags.iter()
         .map(|_| Reading::Absent(Cause::NoBlock))
         .collect(alloc)
+}
+
+/// A place for the reading of each tag of a program. Foreign: it was accepted for tags that the site doesn't have so.
+pub(crate) fn inputs_for<const DEPTH: usize>(
+    alloc: Global,
+    site: &Site,
+    verified: &Verified<DEPTH>,
+) -> Result<Vec<Reading>, CoreFault>
+    ensures sized { IfOk result (λ inputs. length inputs.items ≡ length verified.now.links) }
+    ensures matched { OnOk result (HasLinks site.now.tags verified.now.links) }
+    ensures foreign { IfErr result (λ e. e ≡ Foreign → HasLinks site.now.tags verified.now.links → ⊥) }
+    ensures memory { IfErr result (λ e. e ≡ OutOfMemory → HasLinks site.now.tags verified.now.links) }
+{
+    if !verified.matches(site) {
+        return Err(CoreFault::Foreign);
+    }
+    Ok(no_inputs(alloc, verified.links())?)
 }
 
 /// A place for the reading of each of a program's tags.

@@ -2,7 +2,7 @@
 ghost use Rattle.std.specs.Prelude.{◌≡◌, ◌<◌, ◌≤◌, ℕ, ℤ, List, length, Option, Some, option_copied, IfSome, MatchOption, true};
 ghost use Rattle.std.specs.Bool.{OnFalse, OnTrue};
 ghost use Rattle.gateway.specs.served.Points.{own_points, registers_of};
-ghost use Rattle.gateway.specs.event_core.SiteRun.{ReadsBack, SaysWrote, IsNumberIn, Sets, SetsOne, Writes, are_settings, if_setting, is_setting, points_behind, setting_from, setting_of, written_points};
+ghost use Rattle.gateway.specs.event_core.SiteRun.{ReadsBack, SaysWrote, IsNumberIn, Sets, SetsOne, Writes, ages_after, are_settings, if_setting, points_behind, renewed, renewed_one, setting_from, setting_of, written_points};
 ghost use Rattle.point_types.specs.Point.{size_of};
 ghost use Rattle.point_types.specs.Reading.{IsReading};
 ghost use Rattle.site_model.specs.Readings.{AreSettings};
@@ -21,6 +21,7 @@ pub(crate) fn write(
     addr: u16,
     words: &[u16],
     sets: &mut [Option<i64>],
+    ages: &mut [Option<u32>],
     room: &mut [Option<i64>],
 ) -> Result<Response, Exception>
     requires points { points.now ≡ own_points site.now }
@@ -29,8 +30,10 @@ pub(crate) fn write(
     requires ranged { AreSettings site.now.tags sets.old }
     ensures written { Writes site.now.tags (written_points site.now addr (length words.now)) words.now sets.old result sets.new }
     ensures wrote { SaysWrote result }
+    ensures renewed { ages.new ≡ ages_after site.now addr (length words.now) result ages.old }
     ensures ranged { AreSettings site.now.tags sets.new }
     ensures len { length sets.new ≡ length site.now.tags }
+    ensures ages_len { length ages.new ≡ length ages.old }
     ensures room_len { length room.new ≡ length site.now.tags }
 {
     let Some(points) = written_points(site, points, addr, words.len()) else {
@@ -41,7 +44,35 @@ pub(crate) fn write(
         return Err(Exception::ILLEGAL_DATA_VALUE);
     }
     sets.copy_from_slice(room);
+    renew(site.tags(), points, words.len(), ages);
     Ok(Response::Wrote)
+}
+
+/// The tags of the points of so many registers were set right now.
+fn renew(tags: &[SiteTag], points: &[OwnPoint], registers: usize, ages: &mut [Option<u32>])
+    ensures renewed { ages.new ≡ renewed tags.now points.now registers ages.old }
+    ensures len { length ages.new ≡ length ages.old }
+{
+    let mut left = registers;
+    let mut rest = points;
+    while left > 0 {
+        let [point, behind @ ..] = rest else {
+            return;
+        };
+        renew_one(ages, setting_of(tags, *point));
+        left = left.saturating_sub(point.registers());
+        rest = behind;
+    }
+}
+
+fn renew_one(ages: &mut [Option<u32>], tag: Option<usize>)
+    ensures renewed { ages.new ≡ renewed_one tag ages.old }
+    ensures len { length ages.new ≡ length ages.old }
+{
+    match tag {
+        Some(i) if i < ages.len() => ages[i] = Some(0),
+        Some(_) | None => {}
+    }
 }
 
 /// The points that so many registers from an address on are, where a client may write these.

@@ -19,6 +19,7 @@ fn tag(rt: &impl Abort, name: &str, access: Access, device: Option<usize>, model
         exponent: 0,
         bit: None,
         down: false,
+        lapse: None,
         device,
         model,
         point: Kind::Uint16,

@@ -8,8 +8,8 @@ returns-in-Some g c =
     (g.W.Write.contents c.args.out.now) (g.W.Write.contents c.plant_told.new.out) (g.W.Write.contents c.serve_many.new.out) c.serve_many.result
     c.in-Ok.ensures.given c.in-Ok.ensures.unprinted (rw c.in-Some.is c.serve_many.ensures)
 
-pub returns-in-Ok : goal.returns-in-Ok
-returns-in-Ok g c =
+pub returns-in-None : goal.returns-in-None
+returns-in-None g c =
     simulates_by c.args.notes.now.plant.now (map string_bytes c.args.notes.now.defs.now) c.args.at.connections c.in-Ok.plant
     (g.W.Write.contents c.args.out.now) (g.W.Write.contents c.plant_told.new.out) (g.W.Write.contents c.serve_first.new.out) c.serve_first.result
     c.in-Ok.ensures.given c.in-Ok.ensures.unprinted (rw c.in-None.is c.serve_first.ensures)

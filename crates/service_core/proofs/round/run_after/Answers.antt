@@ -1,4 +1,4 @@
-use Rattle.std.proofs.Common.{◌≡◌, refl}
+use Rattle.std.proofs.Common.{refl}
 use Rattle.service_core.proofs.round.run_after.Goals as goal
 
 pub returns-clause-scanned : goal.returns-clause-scanned

@@ -1,8 +1,8 @@
-use Rattle.std.proofs.Common.{◌≡◌, ◌≤◌, ◌<◌, ◌+◌, ℕ, rules, FitsSigned, to_z, of_z, length, drop, subst, sym, ◌∙◌, arith}
+use Rattle.std.proofs.Common.{rules, FitsSigned, to_z, of_z, subst, sym, ◌∙◌}
 use Rattle.std.specs.Prelude.{IfSome}
 use Rattle.std.specs.Int.{w64}
 use Rattle.std.proofs.lemmas.Int.{to_z-of_z}
-use Rattle.gateway.specs.event_core.Restoring.{AreWordsFor, NothingSets, SetsAlone}
+use Rattle.gateway.specs.event_core.Restoring.{NothingSets, SetsAlone}
 use Rattle.gateway.proofs.SetAgain.{Before, alone, alone_if, begins, ends_on, few_words, for_tags, found_on, none_for_tags, next_on, none_on, not_below, too_far_on}
 use Rattle.gateway.proofs.event_core.restoring.request_to_set.Goals as goal
 

@@ -60,7 +60,7 @@ returns-clause-scan g c =
       end = k.last;
       ended = subst (λ (rs : List Reading). run m.accepted.image rs 0 m.accepted.budget (opening m.accepted.image m.variables) ≡ Ended c.run_once-known.result k.last) e3 k.ends;
       bounded = k.bounded;
-      after = same_made c.run_once-known.result known.blocks.items known.sets.items _ c.readings.new.into c.run_once-known.new.machine.variables k.last.variables _ _ _
+      after = same_made c.run_once-known.result known.blocks.items known.sets.items known.ages.items _ c.readings.new.into c.run_once-known.new.machine.variables k.last.variables _ _ _
           (ap (λ r. r.variables) k.after)
           (eo ∙ c.scatter.ensures.stored ∙ stored_same c.run_once-known.new.machine.accepted m.accepted c.run_once-known.new.machine.outputs k.last.outputs c.deref_mut-2.result.now tags (ap (λ r. r.accepted) k.after) (ap (λ r. r.outputs) k.after) outputs_len)
           er
@@ -93,6 +93,7 @@ returns-clause-known g c =
       blocks = c.requires.known.blocks;
       scanned = ap length (eb ∙ c.copy_blocks.ensures ∙ c.deref-4.ensures.value) ∙ c.requires.known.blocks;
       sets = c.requires.known.sets;
+      ages = c.requires.known.ages;
       outputs = ap length eo ∙ c.scatter.ensures.len ∙ ap length c.deref_mut-2.ensures.value ∙ c.requires.known.outputs;
       readings = ap length er ∙ sized;
       ranged = c.requires.known.ranged;

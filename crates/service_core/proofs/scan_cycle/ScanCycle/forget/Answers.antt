@@ -1,5 +1,4 @@
-use Rattle.std.proofs.Common.{rules, ◌≡◌, ap, ◌∙◌, length}
-use Rattle.gateway.specs.event_core.Core.{Gateway}
+use Rattle.std.proofs.Common.{rules, ◌≡◌, length}
 use Rattle.service_core.proofs.Forgetting.{all_gone}
 use Rattle.service_core.proofs.scan_cycle.ScanCycle.forget.Goals as goal
 

@@ -1,4 +1,4 @@
-use Rattle.std.proofs.Common.{rules, ◌≡◌, ◌∙◌, ℕ, false, length, Some, All}
+use Rattle.std.proofs.Common.{rules, ◌≡◌, ◌∙◌, false, length, Some, All}
 use Rattle.gateway.specs.declared.event_core.event.Event.TheVariants as event
 use Rattle.gateway.specs.declared.event_core.event.Answer.TheVariants as answer
 use Rattle.service.specs.Tasks.{IsDone}

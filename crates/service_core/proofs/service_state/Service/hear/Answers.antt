@@ -1,4 +1,4 @@
-use Rattle.std.proofs.Common.{◌≡◌, Some, ap, subst, ◌∙◌}
+use Rattle.std.proofs.Common.{Some, ap, subst, ◌∙◌}
 use Rattle.std.specs.Prelude.{option_and_then}
 use Rattle.service_parts.specs.declared.line.Line.{Line}
 use Rattle.service_parts.specs.declared.links.Links.{Links}

@@ -1,4 +1,4 @@
-use Rattle.std.proofs.Common.{◌≡◌, ◌∙◌, Option, false, sym, ap}
+use Rattle.std.proofs.Common.{◌∙◌, Option, false, sym, ap}
 use Rattle.std.specs.Option.{option_map_or}
 use Rattle.service_parts.specs.declared.limits.Station.{Station}
 use Rattle.service_parts.specs.Waking.{is_up_at}

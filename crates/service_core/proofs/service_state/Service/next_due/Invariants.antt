@@ -1,0 +1,13 @@
+use Rattle.std.proofs.Common.{◌≡◌}
+use Rattle.service_core.specs.Cycle.{LeadsOn}
+use Rattle.service_core.specs.Told.{Goes}
+use Rattle.service_core.proofs.service_state.Service.next_due.Given as goal
+
+abbrev pub invariant-loop : goal.invariant-loop
+invariant-loop l =
+    (l.self.lines ≡ l.initial.self.lines)
+    × (l.self.sent ≡ l.initial.self.sent)
+    × LeadsOn l.initial.self.cycle l.self.cycle
+    × (l.self.places.items ≡ l.initial.self.places.items)
+    × (l.self.side.now ≡ l.initial.self.side.now)
+    × Goes l.initial.self.side l.self.side
