@@ -143,13 +143,13 @@ class Service:
             self.lines.append(line.rstrip("\n"))
 
     def has(self, pattern, seconds=5.0, behind=0):
-        """Whether such a line comes."""
+        """Whether such a line is there, or comes."""
         until = time.monotonic() + seconds
-        while time.monotonic() < until:
-            if any(re.fullmatch(pattern, line) for line in self.lines[behind:]):
-                return True
+        while not any(re.fullmatch(pattern, line) for line in self.lines[behind:]):
+            if time.monotonic() >= until:
+                return False
             time.sleep(0.01)
-        return False
+        return True
 
     def port(self):
         self.has(r"listening .*")
