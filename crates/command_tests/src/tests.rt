@@ -6,6 +6,7 @@ mod names;
 mod notes;
 mod pages;
 mod probe;
+mod replacing;
 mod standard_error;
 mod surveys;
 mod words;

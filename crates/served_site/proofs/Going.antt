@@ -1,4 +1,4 @@
--- What goes out of a service is of its site and its program.
+-- What goes out of a service is of its site.
 use Rattle.std.proofs.Common.{◌≡◌, ◌⊎◌, inl, inr, ℕ, ℤ, Bool, true, false, List, [], Option, None, Some, Ok, slice_get, sym, ap, subst, ◌∙◌, if◌then◌else◌}
 use Rattle.std.specs.Prelude.{◌==◌}
 use Rattle.std.proofs.Math.Logic.{∥∥₁_elim, ∥∥₁_prop}
@@ -6,7 +6,6 @@ use Rattle.modbus_frame.specs.declared.message.Request.{Request}
 use Rattle.site_model.specs.declared.device.SiteDevice.{SiteDevice}
 use Rattle.site_model.specs.declared.site.Site.{Site}
 use Rattle.point_writer.specs.declared.write.Write.{Write}
-use Rattle.verifier.specs.Verified.{Acceptance}
 use Rattle.gateway.specs.declared.poller.cycle.Call.{Call}
 use Rattle.gateway.specs.event_core.Control.{SetsItsTag}
 use Rattle.gateway.specs.event_core.Core.{Gateway}
@@ -15,12 +14,11 @@ use Rattle.service_parts.specs.Calls.{IsCallFor, write_to}
 use Rattle.service_parts.specs.declared.limits.Station.{Station}
 use Rattle.service_parts.specs.declared.wire.Aim.{Aim}
 use Rattle.service_parts.specs.declared.wire.Aim.TheVariants as aim
+use Rattle.service_parts.specs.Course.{AreRuns}
 use Rattle.service_parts.specs.Requests.{IsRest, IsRightful, MayBeAsked}
-use Rattle.service_core.specs.Stages.{AnyStep, CourseBy, Stage}
-use Rattle.service_core.proofs.Courses.{any_goes}
-use Rattle.service_core.proofs.Runs.{courses_are_site_runs}
+use Rattle.service_core.proofs.Runs.{courses_are_site_runs, runs_site}
 use Rattle.site_survey.proofs.ReadsAlone.{IsRead, of_read}
-use Rattle.served_site.specs.Serving.{IsStart}
+use Rattle.served_site.proofs.Served.{serves_site}
 use Rattle.served_site.specs.Going.{IsOfTheSite, IsRestOfSetPoint, SetPointsAloneAreWritten}
 
 -- a call writes a set point of this state
@@ -57,20 +55,20 @@ of_asked g found_on number made_for device request (inl (round, found)) = go (of
     go (inl read) = inl read
     go (inr writes) = inr (round.unit, writes)
 
-module _ (site : Site) (a : Acceptance) where
-  of_rest : (now : Gateway) (stations : List Station) (found_on : List (Option ℕ)) (link number : ℕ) (bytes : List ℕ) → now.site ≡ site → now.machine.accepted ≡ a → IsRest now stations found_on link number bytes
-      → IsOfTheSite site a bytes
-  of_rest now stations found_on link number bytes same_site same_program rest =
-      let (events, answers, run, stays, accepted) = courses_are_site_runs rest.made.core now rest.made.since in
-      let here : rest.made.core.site ≡ site = sym stays ∙ same_site in
-      go here (sym accepted ∙ same_program) (of_asked rest.made.core found_on number rest.made_for rest.device rest.frame.request rest.made.asked)
+module _ (site : Site) where
+  of_rest : (now : Gateway) (stations : List Station) (found_on : List (Option ℕ)) (link number : ℕ) (bytes : List ℕ) → now.site ≡ site → IsRest now stations found_on link number bytes
+      → IsOfTheSite site now bytes
+  of_rest now stations found_on link number bytes same_site rest =
+      let led = courses_are_site_runs rest.made.core now rest.made.since in
+      let here : rest.made.core.site ≡ site = sym (runs_site rest.made.core now led) ∙ same_site in
+      go led here (of_asked rest.made.core found_on number rest.made_for rest.device rest.frame.request rest.made.asked)
     where
-      go : rest.made.core.site ≡ site → rest.made.core.machine.accepted ≡ a → IsAllowed rest.made.core rest.frame.request → IsOfTheSite site a bytes
-      go on_site on_program (inl read) = inr (inl (record { frame = rest.frame; address = read.0; count = read.1; reads = read.2; gone = rest.gone; whole = rest.whole }))
-      go on_site on_program (inr (unit, writes)) = inr (inr (record {
+      go : AreRuns rest.made.core now → rest.made.core.site ≡ site → IsAllowed rest.made.core rest.frame.request → IsOfTheSite site now bytes
+      go led on_site (inl read) = inr (inl (record { frame = rest.frame; address = read.0; count = read.1; reads = read.2; gone = rest.gone; whole = rest.whole }))
+      go led on_site (inr (unit, writes)) = inr (inr (record {
         state = rest.made.core;
         same_site = on_site;
-        same_program = on_program;
+        led = led;
         output = writes.output;
         write = writes.write;
         sets = writes.sets;
@@ -81,15 +79,12 @@ module _ (site : Site) (a : Acceptance) where
         whole = rest.whole;
       }))
 
-  of_rightful : (now : Gateway) (stations : List Station) (found_on : List (Option ℕ)) (link number : ℕ) (bytes : List ℕ) → now.site ≡ site → now.machine.accepted ≡ a → IsRightful now stations found_on link number bytes
-      → IsOfTheSite site a bytes
-  of_rightful now stations found_on link number bytes same_site same_program (inl empty) = inl empty
-  of_rightful now stations found_on link number bytes same_site same_program (inr rest) = of_rest now stations found_on link number bytes same_site same_program rest
+  of_rightful : (now : Gateway) (stations : List Station) (found_on : List (Option ℕ)) (link number : ℕ) (bytes : List ℕ) → now.site ≡ site → IsRightful now stations found_on link number bytes
+      → IsOfTheSite site now bytes
+  of_rightful now stations found_on link number bytes same_site (inl empty) = inl empty
+  of_rightful now stations found_on link number bytes same_site (inr rest) = of_rest now stations found_on link number bytes same_site rest
 
 pub set_points_alone_are_written : SetPointsAloneAreWritten
-set_points_alone_are_written site_text program_text texts site p a accepts matched kept first now start course lines link number bytes at rightful =
-    let (events, answers, run, same, accepted) = courses_are_site_runs first.core now.core (any_goes first now course) in
-    let on_site : now.core.site ≡ site = same ∙ ap (λ (g : Gateway). g.site) start.core in
-    let on_program : now.core.machine.accepted ≡ a = accepted ∙ ap (λ (g : Gateway). g.machine.accepted) start.core in
+set_points_alone_are_written site_text texts site p a now serves lines link number bytes at rightful =
     ∥∥₁_elim (rightful number at) ∥∥₁_prop
-    (λ is. ∣ of_rightful site a now.core lines.links.stations.items lines.found_on.items link number bytes on_site on_program is ∣₁)
+    (λ is. ∣ of_rightful site now.core lines.links.stations.items lines.found_on.items link number bytes (serves_site site_text texts site p a now serves) is ∣₁)

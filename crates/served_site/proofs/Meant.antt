@@ -1,7 +1,7 @@
 -- Each scan of a service computes what its program means.
 use Rattle.std.proofs.Common.{◌≡◌, ◌⊎◌, inl, inr, ℕ, ℤ, List, Option, None, Some, Ok, refl, sym, ap, subst, ◌∙◌}
 use Rattle.scan_code.specs.Image.{Image, IsProper}
-use Rattle.scan_vm.specs.Resuming.{first_numbers}
+use Rattle.scan_vm.specs.Resuming.{first_numbers, resumed}
 use Rattle.scan_vm.proofs.Accepted.{resumed_sized, resumed_within}
 use Rattle.site_model.specs.declared.site.Site.{Site}
 use Rattle.site_model.specs.Readings.{AreSettings}
@@ -20,12 +20,14 @@ use Rattle.service.specs.declared.fate.Fate.{Fate}
 use Rattle.service.specs.declared.fate.Fate.TheVariants as fate
 use Rattle.service_core.specs.Rounds.{event_told, since}
 use Rattle.service_core.specs.Stages as stages
-use Rattle.service_core.specs.Stages.{AnyStep, CourseBy, Ends, RoundStep, Scans, Stage, TakesEvent}
+use Rattle.service_core.specs.Stages.{Adopts, Ends, IsReached, RoundStep, RunStep, Scans, Stage, TakesEvent}
 use Rattle.service_core.proofs.OneRound.{scans_are_of_their_rounds}
 use Rattle.commands.specs.Accepted.{Accepts, most_deferred}
 use Rattle.commands.specs.Meant.{IsMeantScan}
 use Rattle.commands.proofs.MeaningLemmas.{IsKept, begun_kept, from_ranges, left_variables, step_meant, stored_ranged}
-use Rattle.served_site.specs.Serving.{IsScanOf, IsStart, ScansMeanTheProgram, at_scan}
+use Rattle.served_site.specs.Serving as serving
+use Rattle.served_site.specs.Serving.{IsScanOf, IsStart, ScansMeanTheProgram, Serves, at_scan}
+use Rattle.served_site.proofs.Served.{serves_reached}
 
 module _ (site : Site) (p : Program) (a : Acceptance) (right : DoesWhatItMeans p a.image) (linked : links_from site.tags 0 a.image.tags ≡ Ok a.links) (proper : IsProper a.image) (verdict : judged a.image site.tags most_deferred ≡ Ok a.budget) (matched : HasLinks site.tags a.links) where
   -- the core is of this site and program, and what is set and the variables lie in their ranges
@@ -61,27 +63,30 @@ module _ (site : Site) (p : Program) (a : Acceptance) (right : DoesWhatItMeans p
   round_keeps s t (stages.forgets want is) keeps = event_keeps (Some (event.Lost want)) s.core t.core is.told keeps
   round_keeps s t (stages.waits ms is) keeps = event_keeps (Some (event.Time ms)) s.core t.core is.told keeps
 
-  any_keeps : (s t : Stage) → AnyStep s t → Keeps s.core → Keeps t.core
-  any_keeps s t (inl (inl step)) keeps = round_keeps s t step keeps
-  any_keeps s t (inl (inr (device, o, is))) keeps = ends_keeps device (fate.Told o) s t is keeps
-  any_keeps s t (inr (pdu, is)) keeps = event_keeps (Some (event.Client pdu)) s.core t.core is.told keeps
+  run_keeps : (s t : Stage) → RunStep s t → Keeps s.core → Keeps t.core
+  run_keeps s t (inl (inl step)) keeps = round_keeps s t step keeps
+  run_keeps s t (inl (inr (device, o, is))) keeps = ends_keeps device (fate.Told o) s t is keeps
+  run_keeps s t (inr (pdu, is)) keeps = event_keeps (Some (event.Client pdu)) s.core t.core is.told keeps
 
-  course_keeps : (s t : Stage) → CourseBy AnyStep s t → Keeps s.core → Keeps t.core
-  course_keeps s t (stages.stays x) keeps = keeps
-  course_keeps s t (stages.goes {t = middle} course u step) keeps = any_keeps middle t step (course_keeps s middle course keeps)
+  -- the variables that begin with what is kept of them, or else with their start values
+  begun_within : (kept : List (Option ℤ)) → AreVariables a.image.vars (first_numbers a.image.vars kept)
+  begun_within kept = from_ranges a.image.vars (first_numbers a.image.vars kept) (resumed_sized a.image.vars kept) (resumed_within a.image.vars kept)
 
   start_keeps : (kept : List (Option ℤ)) (first : Stage) → IsStart site a kept first → Keeps first.core
   start_keeps kept first start =
-      let within : AreVariables a.image.vars (first_numbers a.image.vars kept) = from_ranges a.image.vars (first_numbers a.image.vars kept) (resumed_sized a.image.vars kept) (resumed_within a.image.vars kept) in
-      subst Keeps (sym start.core) (record { site_is = refl; program_is = refl; kept = begun_kept site p a right linked proper verdict matched (first_numbers a.image.vars kept) within })
+      subst Keeps (sym start.core) (record { site_is = refl; program_is = refl; kept = begun_kept site p a right linked proper verdict matched (first_numbers a.image.vars kept) (begun_within kept) })
+
+  -- put in for another program, after which what clients set lies in its ranges
+  put_in_keeps : (kept : List (Option ℤ)) (s t : Stage) → Adopts (resumed a kept) s t → s.core.site ≡ site → AreSettings site.tags s.core.standing.sets → Keeps t.core
+  put_in_keeps kept s t is same ranged =
+      subst (λ (x : Stage). Keeps x.core) (sym is.same) (record { site_is = same; program_is = refl; kept = record { sets = ranged; variables = begun_within kept } })
 
   -- what is told of time changes the core in that alone
   waited_so : (g h : Gateway) (ms : ℕ) → TakesEvent (Some (event.Time ms)) g h → h.standing ≡ after_time g.site ms g.standing
   waited_so g h ms (r, one) = (((one.1).0).0).1
 
-  scan_of : (kept : List (Option ℤ)) (first s t : Stage) (now : ℕ) → IsStart site a kept first → CourseBy AnyStep first s → Scans now s t → IsScanOf site p a now s t
-  scan_of kept first s t now start course scans =
-      let before = course_keeps first s course (start_keeps kept first start) in
+  scan_of : (s t : Stage) (now : ℕ) → Keeps s.core → IsReached s → Scans now s t → IsScanOf site p a now s t
+  scan_of s t now before reached scans =
       let w = scans.waited in
       let keeps = event_keeps (Some (event.Time (since s.round.at now))) s.core w scans.waits before in
       let same = waited_so s.core w (since s.round.at now) scans.waits in
@@ -94,7 +99,7 @@ module _ (site : Site) (p : Program) (a : Acceptance) (right : DoesWhatItMeans p
       record {
         same_site = before.site_is;
         same_program = before.program_is;
-        round = scans_are_of_their_rounds s t now (record { first = first; opening = start.first; course = course }) scans;
+        round = scans_are_of_their_rounds s t now reached scans;
         readings = scan.readings;
         steps = scan.steps;
         end = scan.end;
@@ -109,11 +114,55 @@ module _ (site : Site) (p : Program) (a : Acceptance) (right : DoesWhatItMeans p
         planned = scans.planned;
       }
 
+-- ---- whichever program runs
+
+-- what is known of a program that was accepted for the site, and of the core that runs it
+record Stands (site : Site) (p : Program) (a : Acceptance) (s : Stage) : Type 0 where
+  right : DoesWhatItMeans p a.image
+  linked : links_from site.tags 0 a.image.tags ≡ Ok a.links
+  proper : IsProper a.image
+  verdict : judged a.image site.tags most_deferred ≡ Ok a.budget
+  matched : HasLinks site.tags a.links
+  keeps : Keeps site p a right linked proper verdict matched s.core
+
+module _ (site_text : List ℕ) (texts : List (List ℕ)) (site : Site) where
+  module _ (text : List ℕ) (p : Program) (a : Acceptance) (accepts : Accepts site_text text texts site p a) where
+    right_of : DoesWhatItMeans p a.image
+    right_of = subst (DoesWhatItMeans p) (sym ((accepts.accepted).accepted).kept) (accepts.accepted).right
+
+    linked_of : links_from site.tags 0 a.image.tags ≡ Ok a.links
+    linked_of = subst (λ (i : Image). links_from site.tags 0 i.tags ≡ Ok a.links) (sym ((accepts.accepted).accepted).kept) ((accepts.accepted).accepted).linked
+
+    proper_of : IsProper a.image
+    proper_of = subst IsProper (sym ((accepts.accepted).accepted).kept) (images_are_proper accepts.tree p (accepts.accepted).resolved)
+
+    verdict_of : judged a.image site.tags most_deferred ≡ Ok a.budget
+    verdict_of = subst (λ (i : Image). judged i site.tags most_deferred ≡ Ok a.budget) (sym ((accepts.accepted).accepted).kept) ((accepts.accepted).accepted).judged
+
+    stands_at : (matched : HasLinks site.tags a.links) (s : Stage) → Keeps site p a right_of linked_of proper_of verdict_of matched s.core → Stands site p a s
+    stands_at matched s keeps = record { right = right_of; linked = linked_of; proper = proper_of; verdict = verdict_of; matched = matched; keeps = keeps }
+
+  serves_stands : (p : Program) (a : Acceptance) (s : Stage) → Serves site_text texts site p a s → Stands site p a s
+  serves_stands p a s (serving.starts text q b accepts matched kept first start) =
+      stands_at text p a accepts matched s
+      (start_keeps site p a (right_of text p a accepts) (linked_of text p a accepts) (proper_of text p a accepts) (verdict_of text p a accepts) matched kept s start)
+  serves_stands p a s (serving.goes {s = t} before u step) =
+      let x = serves_stands p a t before in
+      record {
+        right = x.right;
+        linked = x.linked;
+        proper = x.proper;
+        verdict = x.verdict;
+        matched = x.matched;
+        keeps = run_keeps site p a x.right x.linked x.proper x.verdict x.matched t s step x.keeps;
+      }
+  serves_stands p a s (serving.takes {p = q} {a = b} {s = t} before text r c accepts kept u is) =
+      let x = serves_stands q b t before in
+      let matched : HasLinks site.tags a.links = subst (λ (y : Site). HasLinks y.tags a.links) (x.keeps).site_is is.links in
+      stands_at text p a accepts matched s
+      (put_in_keeps site p a (right_of text p a accepts) (linked_of text p a accepts) (proper_of text p a accepts) (verdict_of text p a accepts) matched kept t s is (x.keeps).site_is ((x.keeps).kept).sets)
+
 pub scans_mean_the_program : ScansMeanTheProgram
-scans_mean_the_program site_text program_text texts site p a accepts matched kept first old new now start course scans =
-    let on = (accepts.accepted).accepted in
-    let right = subst (DoesWhatItMeans p) (sym on.kept) (accepts.accepted).right in
-    let proper = subst IsProper (sym on.kept) (images_are_proper accepts.tree p (accepts.accepted).resolved) in
-    let linked = subst (λ (i : Image). links_from site.tags 0 i.tags ≡ Ok a.links) (sym on.kept) on.linked in
-    let verdict = subst (λ (i : Image). judged i site.tags most_deferred ≡ Ok a.budget) (sym on.kept) on.judged in
-    scan_of site p a right linked proper verdict matched kept first old new now start course scans
+scans_mean_the_program site_text texts site p a old new now serves scans =
+    let x = serves_stands site_text texts site p a old serves in
+    scan_of site p a x.right x.linked x.proper x.verdict x.matched old new now x.keeps (serves_reached site_text texts site p a old serves) scans

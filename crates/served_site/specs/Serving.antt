@@ -11,7 +11,7 @@ use Rattle.gateway.specs.event_core.Core.{gateway_of, numbers_of}
 use Rattle.gateway.specs.event_core.SiteRun.{Standing, after_time, none_of, scanned}
 use Rattle.service_core.specs.OneRound.{IsOfItsRound}
 use Rattle.service_core.specs.Rounds.{ArePlanned, since}
-use Rattle.service_core.specs.Stages.{AnyStep, CourseBy, IsFirst, Scans, Stage}
+use Rattle.service_core.specs.Stages.{Adopts, IsFirst, RunStep, Scans, Stage}
 use Rattle.commands.specs.Accepted.{Accepts}
 use Rattle.commands.specs.OneScan.{IsMeant, IsSafe}
 
@@ -20,6 +20,15 @@ use Rattle.commands.specs.OneScan.{IsMeant, IsSafe}
 pub record IsStart (site : Site) (a : Acceptance) (kept : List (Option ℤ)) (s : Stage) : Type 0 where
   pub core : s.core ≡ gateway_of site (none_of site.devices) (resumed a kept)
   pub first : IsFirst s
+
+-- A service of the site of a text, whose programs were all accepted for it: begun with one, goes on by steps of its own and of its
+-- clients, and takes others, each for the one before and with whatever numbers its variables are to begin with. The program that
+-- it runs now is p, by the acceptance a.
+pub data Serves (site_text : List ℕ) (texts : List (List ℕ)) (site : Site) : Program → Acceptance → Stage → Type 0 where
+  starts : (text : List ℕ) (p : Program) (a : Acceptance) → Accepts site_text text texts site p a → HasLinks site.tags a.links → (kept : List (Option ℤ)) (first : Stage) → IsStart site a kept first → Serves site_text texts site p a first
+  goes : {p : Program} {a : Acceptance} {s : Stage} → Serves site_text texts site p a s → (t : Stage) → RunStep s t → Serves site_text texts site p a t
+  takes : {p : Program} {a : Acceptance} {s : Stage} → Serves site_text texts site p a s → (text : List ℕ) (q : Program) (b : Acceptance) → Accepts site_text text texts site q b
+      → (kept : List (Option ℤ)) (t : Stage) → Adopts (resumed b kept) s t → Serves site_text texts site q b t
 
 -- how a core stands at a scan at this time of the service: the time since the scan before went by, and what clients set
 -- lapsed by it
@@ -40,9 +49,7 @@ pub record IsScanOf (site : Site) (p : Program) (a : Acceptance) (now : ℕ) (ol
   pub leaves : new.core.standing ≡ scanned site (numbers_of a) (at_scan now old) readings steps end
   pub planned : ArePlanned new.core new.round.writes
 
--- The texts of a site and a program are accepted, and a service was begun for them, whatever was kept of the variables:
--- whatever steps it makes, each of its scans is so.
+-- Whatever a service of accepted programs does, each of its scans is so, of the program that it runs then.
 abbrev pub ScansMeanTheProgram : Type 0
-ScansMeanTheProgram = (site_text program_text : List ℕ) (texts : List (List ℕ)) (site : Site) (p : Program) (a : Acceptance)
-    → Accepts site_text program_text texts site p a → HasLinks site.tags a.links
-    → (kept : List (Option ℤ)) (first old new : Stage) (now : ℕ) → IsStart site a kept first → CourseBy AnyStep first old → Scans now old new → IsScanOf site p a now old new
+ScansMeanTheProgram = (site_text : List ℕ) (texts : List (List ℕ)) (site : Site) (p : Program) (a : Acceptance) (old new : Stage) (now : ℕ)
+    → Serves site_text texts site p a old → Scans now old new → IsScanOf site p a now old new

@@ -4,5 +4,7 @@
 
 pub mod laws;
 mod making;
+mod replacing;
 
 pub use making::service_of;
+pub use replacing::replace_program;

@@ -1,18 +1,21 @@
 -- Steps of a service lead its core and its round on.
-use Rattle.std.proofs.Common.{◌≡◌, ◌≢◌, ◌⊎◌, inl, inr, ℕ, Bool, true, false, eqb, not, ◌&&◌, List, [], ◌∷◌, Option, None, Some, set, refl, sym, ap, subst, ◌∙◌}
+use Rattle.std.proofs.Common.{◌≡◌, ◌≢◌, ◌⊎◌, inl, inr, ℕ, Bool, true, false, eqb, not, ◌&&◌, List, [], ◌∷◌, Option, None, Some, Result, Ok, Err, set, refl, sym, ap, subst, ◌∙◌}
+use Rattle.std.specs.Prelude.{IfErr, OnOk}
 use Rattle.std.proofs.lemmas.Bool.Decides.{eqb_tells}
 use Rattle.std.proofs.Math.Logic.{∥∥₁_elim, ∥∥₁_prop}
 use Rattle.register_map.specs.Layout.{Layout}
 use Rattle.site_model.specs.declared.site.Site.{Site}
 use Rattle.site_model.specs.declared.want.Want.{Want}
 use Rattle.modbus_frame.specs.declared.frame.Frame.{Frame}
+use Rattle.scan_vm.specs.Machine.{Running}
+use Rattle.verifier.specs.Verified.{HasLinks}
 use Rattle.gateway.specs.declared.event_core.event.Event.{Event}
 use Rattle.gateway.specs.declared.event_core.event.Event.TheVariants as event
 use Rattle.gateway.specs.declared.event_core.event.Answer.{Answer}
 use Rattle.gateway.specs.declared.event_core.event.Answer.TheVariants as answer
 use Rattle.gateway.specs.declared.poller.outcome.Outcome.{Outcome}
 use Rattle.gateway.specs.event_core.Control.{AnswersFrame}
-use Rattle.gateway.specs.event_core.Core.{Gateway, IsSame, StepsOn}
+use Rattle.gateway.specs.event_core.Core.{Gateway, IsSame, StepsOn, adopting}
 use Rattle.gateway.specs.event_core.Driving.{Drives, Happens}
 use Rattle.service.specs.declared.fate.Fate.{Fate}
 use Rattle.service.specs.declared.fate.Fate.TheVariants as fate
@@ -23,17 +26,17 @@ use Rattle.service_parts.specs.Clients.{Hears}
 use Rattle.service_parts.specs.declared.wire.Aim.{Aim}
 use Rattle.service_parts.specs.declared.wire.Asked.{Asked}
 use Rattle.service_parts.specs.Course as core
-use Rattle.service_parts.specs.Course.{Goes, GoesBy, IsAny, IsNew, IsOfClients, IsOfRounds, Reached}
+use Rattle.service_parts.specs.Course.{Goes, GoesBy, GoesOn, IsAny, IsNew, IsOfClients, IsOfRounds, Reached}
 use Rattle.service.specs.Searches.{Sought}
 use Rattle.service_parts.specs.Seeking.{AreOf, IsFound}
 use Rattle.service_parts.specs.declared.lines.Lines.{Lines}
 use Rattle.service_parts.specs.Requests.{AreRightfulBy}
-use Rattle.service_parts.proofs.Rightful.{right_behind_clients, right_on}
+use Rattle.service_parts.proofs.Rightful.{goes_further, right_adopting, right_behind_clients, right_on}
 use Rattle.service_core.specs.declared.round.Turn as Turns
 use Rattle.service_core.specs.declared.scan_cycle.ScanCycle.{ScanCycle}
 use Rattle.service_core.specs.Cycle.{Answers, AnswersIf, DevicesLeadOn, EndsOwn, Settles, is_answer, stage_of}
 use Rattle.service_core.specs.Rounds.{IsRoundFor, Progress, begun, event_told, since}
-use Rattle.service_core.specs.Stages.{AnyStep, Asks, Begins, ClientStep, CourseBy, Ends, Forgets, IsFirst, IsReached, LeadsOnBy, OpensNext, OwnStep, RoundStep, Scans, Stage, TakesEvent, Waits, begins, opens, gives_up, scans, learns, forgets, waits, stays, goes}
+use Rattle.service_core.specs.Stages.{Adopts, AnyStep, Asks, Begins, ClientStep, CourseBy, Ends, Forgets, IsFirst, IsReached, LeadsOnBy, OpensNext, OwnStep, RoundStep, RunStep, Scans, Stage, TakesEvent, Waits, begins, opens, gives_up, scans, learns, forgets, waits, stays, goes}
 use Rattle.service_core.proofs.Told.{closed_of_rounds, turn_of_rounds}
 
 -- ---- one step
@@ -81,9 +84,14 @@ module _ (Kinds : Event → Type 0) (all : (e : Event) → IsOfRounds e → Kind
 client_core : (Kinds : Event → Type 0) → ((pdu : List ℕ) → Kinds (event.Client pdu)) → (f : Gateway) (s t : Stage) → ClientStep s t → GoesBy Kinds f s.core → GoesBy Kinds f t.core
 client_core Kinds kind f s t (pdu, is) before = moved Kinds f s.core t.core (Some (event.Client pdu)) (one_kind Kinds (event.Client pdu) (kind pdu)) is.told before
 
-any_core : (f : Gateway) (s t : Stage) → AnyStep s t → Goes f s.core → Goes f t.core
-any_core f s t (inl step) before = own_core IsAny (λ e is. tt) f s t step before
-any_core f s t (inr step) before = client_core IsAny (λ pdu. tt) f s t step before
+run_core : (f : Gateway) (s t : Stage) → RunStep s t → Goes f s.core → Goes f t.core
+run_core f s t (inl step) before = own_core IsAny (λ e is. tt) f s t step before
+run_core f s t (inr step) before = client_core IsAny (λ pdu. tt) f s t step before
+
+any_core : (f : Gateway) (s t : Stage) → AnyStep s t → GoesOn f s.core → GoesOn f t.core
+any_core f s t (inl step) before = goes_further f s.core t.core before (run_core s.core s t step (core.stays s.core))
+any_core f s t (inr (machine, is)) before =
+    core.adopts before machine is.links t.core (subst (λ (x : Stage). Goes (adopting machine s.core) x.core) (sym is.same) (core.stays (adopting machine s.core)))
 
 -- steps of a kind, one after another
 module _ (Step : Stage → Stage → Type 0) (Kinds : Event → Type 0) (each : (f : Gateway) (s t : Stage) → Step s t → GoesBy Kinds f s.core → GoesBy Kinds f t.core) where
@@ -97,9 +105,10 @@ module _ (Step : Stage → Stage → Type 0) (Kinds : Event → Type 0) (each : 
 of_rounds : (e : Event) → IsOfRounds e → IsOfRounds e
 of_rounds e is = is
 
--- whatever a service's steps are, its core's course is one of events and learned maps
-pub any_goes : (s t : Stage) → CourseBy AnyStep s t → Goes s.core t.core
-any_goes s t course = course_core AnyStep IsAny any_core s.core s t course (core.stays s.core)
+-- whatever a service's steps are, its core's course is one of events, learned maps and programs that are put in
+pub any_goes : (s t : Stage) → CourseBy AnyStep s t → GoesOn s.core t.core
+any_goes s t (stays x) = core.goes (core.stays s.core)
+any_goes s t (goes {t = middle} course u step) = any_core s.core middle t step (any_goes s middle course)
 
 pub core_reached : (s : Stage) → ∥ IsReached s ∥₁ → ∥ Reached s.core ∥₁
 core_reached s reached = ∥∥₁_elim reached ∥∥₁_prop (λ r. ∣ record { first = (r.first).core; opening = (r.opening).core; goes = any_goes r.first s r.course } ∣₁)
@@ -132,13 +141,13 @@ module _ (Step : Stage → Stage → Type 0) (each : (s t : Stage) → Step s t 
   reached_by s t reached led = ∥∥₁_elim reached ∥∥₁_prop (λ r. ∥∥₁_elim (led s ∣ stays s ∣₁) ∥∥₁_prop (λ course. ∣ record { first = r.first; opening = r.opening; course = and_then r.first s t r.course course } ∣₁))
 
 pub reached_rounds : (s t : Stage) → ∥ IsReached s ∥₁ → LeadsOnBy RoundStep s t → ∥ IsReached t ∥₁
-reached_rounds s t reached led = reached_by RoundStep (λ x y step. inl (inl step)) s t reached led
+reached_rounds s t reached led = reached_by RoundStep (λ x y step. inl (inl (inl step))) s t reached led
 
 pub reached_own : (s t : Stage) → ∥ IsReached s ∥₁ → LeadsOnBy OwnStep s t → ∥ IsReached t ∥₁
-reached_own s t reached led = reached_by OwnStep (λ x y step. inl step) s t reached led
+reached_own s t reached led = reached_by OwnStep (λ x y step. inl (inl step)) s t reached led
 
 pub reached_clients : (s t : Stage) → ∥ IsReached s ∥₁ → LeadsOnBy ClientStep s t → ∥ IsReached t ∥₁
-reached_clients s t reached led = reached_by ClientStep (λ x y step. inr step) s t reached led
+reached_clients s t reached led = reached_by ClientStep (λ x y step. inl (inr step)) s t reached led
 
 -- an outcome, or none, ends a request
 pub reached_ends : (s t : Stage) (device : ℕ) (f : Fate) → ∥ IsReached s ∥₁ → Ends device f s t → ∥ IsReached t ∥₁
@@ -280,3 +289,54 @@ answered_site g m h frame bytes goes_on same answers = same_site m frame bytes g
 
 pub first_stage : (s : Stage) (g : Gateway) (p : Progress) → s.core ≡ g → s.round ≡ p → IsNew g → IsRoundFor g.site p → p.scanned ≡ true → IsFirst s
 first_stage s g p core round opening fits over = subst IsFirst (sym (same_stage (record { core = g; round = p }) s core round)) (record { core = opening; round = fits; over = over })
+
+-- ---- another program is put in, or nothing changes
+
+abbrev pub at_stage : Gateway → Progress → Stage
+at_stage g p = record { core = g; round = p }
+
+-- what came of a call that puts one in
+abbrev pub IsAdopted : {A E : Type 0} → Result A E → Running → Gateway → Gateway → Type 0
+IsAdopted (Ok done) machine g h = HasLinks g.site.tags machine.accepted.links × (h ≡ adopting machine g)
+IsAdopted (Err fault) machine g h = h ≡ g
+
+is_adopted : {A E : Type 0} (r : Result A E) (machine : Running) (g h : Gateway) → OnOk r (h ≡ adopting machine g) → IfErr r (λ e. h ≡ g) → OnOk r (HasLinks g.site.tags machine.accepted.links) → IsAdopted r machine g h
+is_adopted (Ok done) machine g h is kept links = (links, is)
+is_adopted (Err fault) machine g h is kept links = kept
+
+module _ {A E : Type 0} (r : Result A E) (machine : Running) (g h : Gateway) (is : OnOk r (h ≡ adopting machine g)) (kept : IfErr r (λ e. h ≡ g)) (links : OnOk r (HasLinks g.site.tags machine.accepted.links)) where
+  pub adopted_site : h.site ≡ g.site
+  adopted_site = go r (is_adopted r machine g h is kept links)
+    where
+      go : (r : Result A E) → IsAdopted r machine g h → h.site ≡ g.site
+      go (Ok done) (matched, same) = ap (λ (x : Gateway). x.site) same
+      go (Err fault) same = ap (λ (x : Gateway). x.site) same
+
+  pub adopted_stage : (p : Progress) → OnOk r (Adopts machine (record { core = g; round = p }) (record { core = h; round = p }))
+  adopted_stage p = go r (is_adopted r machine g h is kept links)
+    where
+      go : (r : Result A E) → IsAdopted r machine g h → OnOk r (Adopts machine (record { core = g; round = p }) (record { core = h; round = p }))
+      go (Ok done) (matched, same) = record { links = matched; same = same_stage (record { core = adopting machine g; round = p }) (record { core = h; round = p }) same refl }
+      go (Err fault) same = tt
+
+  pub adopted_reached : (p : Progress) → ∥ IsReached (record { core = g; round = p }) ∥₁ → ∥ IsReached (record { core = h; round = p }) ∥₁
+  adopted_reached p reached = go r (is_adopted r machine g h is kept links)
+    where
+      go : (r : Result A E) → IsAdopted r machine g h → ∥ IsReached (record { core = h; round = p }) ∥₁
+      go (Ok done) (matched, same) = ∥∥₁_elim reached ∥∥₁_prop (λ r. ∣ record {
+        first = r.first;
+        opening = r.opening;
+        course = goes r.course (record { core = h; round = p }) (inr (machine, record { links = matched; same = same_stage (record { core = adopting machine g; round = p }) (record { core = h; round = p }) same refl }));
+      } ∣₁)
+      go (Err fault) same = subst (λ (x : Gateway). ∥ IsReached (record { core = x; round = p }) ∥₁) (sym same) reached
+
+  pub adopted_kept : (p q : Progress) → q ≡ p → IfErr r (λ e. at_stage h q ≡ at_stage g p)
+  adopted_kept p q same_round = go r kept
+    where
+      go : (r : Result A E) → IfErr r (λ e. h ≡ g) → IfErr r (λ e. at_stage h q ≡ at_stage g p)
+      go (Ok done) is = tt
+      go (Err fault) same = same_stage (record { core = g; round = p }) (record { core = h; round = q }) same same_round
+
+pub right_adopted : {A E : Type 0} (r : Result A E) (machine : Running) (s t : Stage) (lines : Lines) → OnOk r (Adopts machine s t) → IfErr r (λ e. t ≡ s) → AreRightfulBy s.core lines → AreRightfulBy t.core lines
+right_adopted (Ok done) machine s t lines is kept before = right_adopting s.core t.core lines machine is.links (ap (λ (x : Stage). x.core) is.same) before
+right_adopted (Err fault) machine s t lines is kept before = right_same s t lines kept before

@@ -19,3 +19,4 @@ pub mod ByNotes
 pub mod Losing
 pub mod Forgetting
 pub mod GivingUp
+pub mod LeftOut

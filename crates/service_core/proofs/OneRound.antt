@@ -26,7 +26,7 @@ use Rattle.service_core.specs.Rounds.{Asking, Closes, ClosesBy, ClosesRead, Open
 use Rattle.service_parts.specs.Calls.{write_to}
 use Rattle.service_core.specs.Rounds as rounds
 use Rattle.service_core.specs.Stages as stages
-use Rattle.service_core.specs.Stages.{AnyStep, Asks, Begins, ClientStep, CourseBy, DeviceStep, Ends, Forgets, IsFirst, IsReached, Learns, OpensNext, OwnStep, RoundStep, Scans, Stage, TakesEvent}
+use Rattle.service_core.specs.Stages.{Adopts, AnyStep, Asks, Begins, ClientStep, CourseBy, DeviceStep, Ends, Forgets, IsFirst, IsReached, Learns, OpensNext, OwnStep, RoundStep, Scans, Stage, TakesEvent}
 use Rattle.service_core.specs.OneRound as one
 use Rattle.service_core.specs.OneRound.{InRound, IsOfItsRound, ScansAreOfTheirRounds, block_by, event_for}
 use Rattle.service_core.proofs.Courses.{taken_site}
@@ -46,6 +46,7 @@ site_stays began events s (one.learned {told = before} {s = t} run device found 
 site_stays began events s (one.forgot {told = before} {s = t} run want u is) = taken_site (Some (event.Lost want)) t.core s.core is.told ∙ site_stays began before t run
 site_stays began events s (one.waited {told = before} {s = t} run ms u is) = taken_site (Some (event.Time ms)) t.core s.core is.told ∙ site_stays began before t run
 site_stays began events s (one.asked {told = before} {s = t} run pdu u is) = taken_site (Some (event.Client pdu)) t.core s.core is.told ∙ site_stays began before t run
+site_stays began events s (one.adopted {told = before} {s = t} run machine u is) = ap (λ (x : Stage). x.core.site) is.same ∙ site_stays began before t run
 
 -- ---- each want is told once
 
@@ -74,6 +75,7 @@ asking began events s (one.learned {told = before} {s = t} run device found u is
 asking began events s (one.forgot {told = before} {s = t} run want u is) = same_round began.core.site began.round before t.round s.round is.round (asking began before t run)
 asking began events s (one.waited {told = before} {s = t} run ms u is) = same_round began.core.site began.round before t.round s.round is.round (asking began before t run)
 asking began events s (one.asked {told = before} {s = t} run pdu u is) = same_round began.core.site began.round before t.round s.round is.round (asking began before t run)
+asking began events s (one.adopted {told = before} {s = t} run machine u is) = same_round began.core.site began.round before t.round s.round (ap (λ (x : Stage). x.round) is.same) (asking began before t run)
 
 -- ---- what is known of a block is what was told of it
 
@@ -214,6 +216,7 @@ known_in began events s (one.learned {s = t} run device found u is) = fewer_know
 known_in began events s (one.forgot {s = t} run want u is) = fewer_known events t s (forgot_fewer t s want is) (known_in began events t run)
 known_in began events s (one.waited {s = t} run ms u is) = fewer_known events t s (same_blocks t s (waited_blocks t.core s.core ms is.told)) (known_in began events t run)
 known_in began events s (one.asked {s = t} run pdu u is) = fewer_known events t s (same_blocks t s (asked_blocks t.core s.core pdu is.told)) (known_in began events t run)
+known_in began events s (one.adopted {s = t} run machine u is) = fewer_known events t s (same_blocks t s (ap (λ (x : Stage). x.core.standing.blocks) is.same)) (known_in began events t run)
 
 -- an event that was told once is there
 once_past : (i : ℕ) (x : ℕ × Event) (events : List (ℕ × Event)) → x.0 ≢ i → times i (x ∷ events) ≡ times i events
@@ -307,9 +310,10 @@ round_stands s t reached (stages.waits ms is) stands =
     stands_again s t (ap (λ (p : Progress). p.scanned) is.round) stands (λ began events run still. (events, one.waited run ms t is))
 
 any_stands : (s t : Stage) → IsReached s → AnyStep s t → InItsRound s → InItsRound t
-any_stands s t reached (inl (inl step)) stands = round_stands s t reached step stands
-any_stands s t reached (inl (inr (device, o, is))) stands = ends_stands s t device (fate.Told o) is stands
-any_stands s t reached (inr (pdu, is)) stands = stands_again s t (ap (λ (p : Progress). p.scanned) is.round) stands (λ began events run still. (events, one.asked run pdu t is))
+any_stands s t reached (inl (inl (inl step))) stands = round_stands s t reached step stands
+any_stands s t reached (inl (inl (inr (device, o, is)))) stands = ends_stands s t device (fate.Told o) is stands
+any_stands s t reached (inr (machine, is)) stands = stands_again s t (ap (λ (x : Stage). x.round.scanned) is.same) stands (λ began events run still. (events, one.adopted run machine t is))
+any_stands s t reached (inl (inr (pdu, is))) stands = stands_again s t (ap (λ (p : Progress). p.scanned) is.round) stands (λ began events run still. (events, one.asked run pdu t is))
 
 course_stands : (first s : Stage) → IsFirst first → CourseBy AnyStep first s → InItsRound s
 course_stands first s opening (stages.stays x) = λ unscanned. absurd (true_differs (sym opening.over ∙ unscanned))

@@ -6,9 +6,7 @@ use Rattle.service_parts.proofs.Heard.{clients_are_answered}
 use Rattle.service_core.proofs.Runs.{courses_are_site_runs}
 
 rests_are_of_the_run : RestsAreOfTheRun
-rests_are_of_the_run now stations found_on link number bytes rest =
-    let (events, answers, run, site, accepted) = courses_are_site_runs rest.made.core now rest.made.since in
-    record { site = site; program = accepted; events = events; answers = answers; run = run }
+rests_are_of_the_run now stations found_on link number bytes rest = courses_are_site_runs rest.made.core now rest.made.since
 
 pub site_is_served : {S : Type 0} (Answers : S → Frame → List ℕ → Bool → S → Type 0) → SiteIsServed Answers
 site_is_served Answers = record {

@@ -34,6 +34,7 @@ module _ (scanned : Stage) (over : scanned.round.scanned ≡ true) where
   still asked s (after.forgot {s = t} run want u is) = ap (λ (p : Progress). p.scanned) is.round ∙ still asked t run
   still asked s (after.waited {s = t} run ms u is) = ap (λ (p : Progress). p.scanned) is.round ∙ still asked t run
   still asked s (after.heard {s = t} run pdu u is) = ap (λ (p : Progress). p.scanned) is.round ∙ still asked t run
+  still asked s (after.adopted {s = t} run machine u is) = ap (λ (x : Stage). x.round.scanned) is.same ∙ still asked t run
 
   writing : (asked : List ℕ) (s : Stage) → AfterScan scanned asked s → Writing scanned.round asked s.round
   writing asked s after.done = rounds.begin scanned.round
@@ -45,6 +46,7 @@ module _ (scanned : Stage) (over : scanned.round.scanned ≡ true) where
   writing asked s (after.forgot {s = t} run want u is) = same_round scanned.round asked t.round s.round is.round (writing asked t run)
   writing asked s (after.waited {s = t} run ms u is) = same_round scanned.round asked t.round s.round is.round (writing asked t run)
   writing asked s (after.heard {s = t} run pdu u is) = same_round scanned.round asked t.round s.round is.round (writing asked t run)
+  writing asked s (after.adopted {s = t} run machine u is) = same_round scanned.round asked t.round s.round (ap (λ (x : Stage). x.round) is.same) (writing asked t run)
 
 pub each_scan_writes_once : EachScanWritesOnce
 each_scan_writes_once now old scanned s asked scans run = each_output_once scanned.round asked s.round (writing scanned (ap (λ (p : Progress). p.scanned) scans.same) asked s run)

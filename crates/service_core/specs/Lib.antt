@@ -3,6 +3,7 @@ pub mod Counting
 pub mod Cycle
 pub mod Forgetting
 pub mod GivingUp
+pub mod LeftOut
 pub mod Losing
 pub mod Maps
 pub mod Noting

@@ -3,6 +3,7 @@
 use Rattle.std.specs.Prelude.{◌≡◌, ◌⊎◌, ℕ, ◌<◌, ◌==◌, false, List, [], ◌∷◌, ◌++◌, length, Option, None, Some, if◌then◌else◌}
 use Rattle.std.specs.List.{position}
 use Rattle.register_map.specs.Layout.{Layout}
+use Rattle.scan_vm.specs.Machine.{Running}
 use Rattle.site_model.specs.declared.want.Want.{Want}
 use Rattle.site_model.specs.Readings.{known_at}
 use Rattle.gateway.specs.declared.event_core.event.Event.{Event}
@@ -12,10 +13,10 @@ use Rattle.service.specs.declared.fate.Fate.{Fate}
 use Rattle.service.specs.Tasks.{is_asked, next_place}
 use Rattle.service_core.specs.declared.round.Turn.{Turn}
 use Rattle.service_core.specs.Rounds.{event_told, times, told_of}
-use Rattle.service_core.specs.Stages.{Asks, Begins, Ends, Forgets, IsReached, Learns, OpensNext, Scans, Stage, Waits}
+use Rattle.service_core.specs.Stages.{Adopts, Asks, Begins, Ends, Forgets, IsReached, Learns, OpensNext, Scans, Stage, Waits}
 
 -- In a round, before its scan: the events that were told of its wants, each with the number of its want, the last one first.
--- Beside them clients ask, time goes by, maps are found and forgotten, and so are blocks.
+-- Beside them clients ask, time goes by, maps are found and forgotten, and so are blocks, and other programs are put in.
 pub data InRound (began : Stage) : List (ℕ × Event) → Stage → Type 0 where
   begun : InRound began [] began
   opened : {told : List (ℕ × Event)} {s : Stage} → InRound began told s → (device : ℕ) (turn : Turn) (t : Stage) → s.round.scanned ≡ false → OpensNext device turn s t → InRound began (told_of (next_place device s.round.reads) (event_told turn) ++ told) t
@@ -24,6 +25,7 @@ pub data InRound (began : Stage) : List (ℕ × Event) → Stage → Type 0 wher
   forgot : {told : List (ℕ × Event)} {s : Stage} → InRound began told s → (want : Want) (t : Stage) → Forgets want s t → InRound began told t
   waited : {told : List (ℕ × Event)} {s : Stage} → InRound began told s → (ms : ℕ) (t : Stage) → Waits ms s t → InRound began told t
   asked : {told : List (ℕ × Event)} {s : Stage} → InRound began told s → (pdu : List ℕ) (t : Stage) → Asks pdu s t → InRound began told t
+  adopted : {told : List (ℕ × Event)} {s : Stage} → InRound began told s → (machine : Running) (t : Stage) → Adopts machine s t → InRound began told t
 
 -- the event that was told last of a want
 abbrev pub event_for : ℕ → List (ℕ × Event) → Option Event

@@ -1,14 +1,16 @@
 -- What a service does to its core and to the round that is under way, step by step: by the time and what the round still
--- wants, by what devices answer, and by what clients ask (IEC 61131-3 edition 2, 3.2; Modbus Application Protocol V1.1b3,
+-- wants, by what devices answer, by what clients ask, and by programs that are put in (IEC 61131-3 edition 2, 3.2; Modbus Application Protocol V1.1b3,
 -- sections 6.3, 6.6 and 6.12).
 use Rattle.std.specs.Prelude.{◌≡◌, ◌⊎◌, ℕ, Bool, true, false, List, All, Option, None, Some, set}
 use Rattle.register_map.specs.Layout.{Layout}
+use Rattle.scan_vm.specs.Machine.{Running}
 use Rattle.site_model.specs.declared.want.Want.{Want}
+use Rattle.verifier.specs.Verified.{HasLinks}
 use Rattle.gateway.specs.declared.event_core.event.Event.{Event}
 use Rattle.gateway.specs.declared.event_core.event.Event.TheVariants as event
 use Rattle.gateway.specs.declared.event_core.event.Answer.{Answer}
 use Rattle.gateway.specs.declared.poller.outcome.Outcome.{Outcome}
-use Rattle.gateway.specs.event_core.Core.{Gateway}
+use Rattle.gateway.specs.event_core.Core.{Gateway, adopting}
 use Rattle.gateway.specs.event_core.Driving.{Happens}
 use Rattle.service.specs.declared.fate.Fate.{Fate}
 use Rattle.service.specs.declared.fate.Fate.TheVariants as fate
@@ -83,6 +85,12 @@ pub record Asks (pdu : List ℕ) (old new : Stage) : Type 0 where
   pub told : TakesEvent (Some (event.Client pdu)) old.core new.core
   pub round : new.round ≡ old.round
 
+-- Another program, which was accepted for the site's tags, is put in with its variables at these numbers: it runs from the next
+-- scan on. What is known, set and planned stays, as does the round that is under way.
+pub record Adopts (machine : Running) (old new : Stage) : Type 0 where
+  pub links : HasLinks old.core.site.tags machine.accepted.links
+  pub same : new ≡ record old { core = adopting machine old.core }
+
 -- ---- kinds of steps
 
 -- By the time, and by what the round still wants. A request that is under way may be given up at any time.
@@ -108,8 +116,16 @@ ClientStep s t = (pdu : List ℕ) × Asks pdu s t
 abbrev pub OwnStep : Stage → Stage → Type 0
 OwnStep s t = RoundStep s t ⊎ DeviceStep s t
 
+-- By these and by what clients ask: the program stays the one that runs.
+abbrev pub RunStep : Stage → Stage → Type 0
+RunStep s t = OwnStep s t ⊎ ClientStep s t
+
+-- By another program.
+abbrev pub AdoptStep : Stage → Stage → Type 0
+AdoptStep s t = (machine : Running) × Adopts machine s t
+
 abbrev pub AnyStep : Stage → Stage → Type 0
-AnyStep s t = OwnStep s t ⊎ ClientStep s t
+AnyStep s t = RunStep s t ⊎ AdoptStep s t
 
 -- From the one stage to the other by such steps alone.
 pub data CourseBy (Step : Stage → Stage → Type 0) : Stage → Stage → Type 0 where

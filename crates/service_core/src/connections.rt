@@ -1,5 +1,6 @@
 //! Connections to devices, and what comes over them.
 ghost use Rattle.std.specs.Prelude.{◌≡◌, ◌+◌, ◌<◌, ◌^◌, ◌↔◌, ℕ, IsTrue, None, Some, max, set, slice_get, take, length, true, false};
+ghost use Rattle.site_model.specs.Readings.{known_at};
 ghost use Rattle.service_parts.specs.declared.line.Line.{Line as LineValue};
 ghost use Rattle.service_parts.specs.declared.wire.Aim.TheVariants.{Output as OutputAim};
 ghost use Rattle.service.specs.declared.fate.Fate.TheVariants.{Told};
@@ -11,7 +12,7 @@ ghost use Rattle.service_core.specs.Losing.{AreForTime, AreLost, AreLostWith, Is
 ghost use Rattle.service_core.specs.Told.{Goes, LosesBy};
 ghost use Rattle.service_core.specs.Connections.{GoesAfterSent, GoesFromCut, Hears};
 ghost use Rattle.service_core.specs.Cycle.{Answers, AnswersIf, DevicesLeadOn, EndsOwn, LeadsOn, Settles, SettlesIf, is_answer, stage_of};
-ghost use Rattle.service_core.specs.Rewriting.{after_answer};
+ghost use Rattle.service_core.specs.Rewriting.{after_answer, is_of};
 ghost use Rattle.service_core.specs.Telling.{state_by, told_at};
 
 use crate::note::{Loss, Unwritten};
@@ -184,6 +185,8 @@ impl Service {
         ensures goes { LeadsOn self.old.cycle self.new.cycle }
         ensures places { self.new.places.items ≡ self.old.places.items }
         ensures time { self.new.side.now ≡ self.old.side.now }
+        ensures forgotten { (i : ℕ) → is_of device (known_at self.old.sent.writes.items i) ≡ true → known_at self.new.sent.taken.items i ≡ None }
+        ensures writes { self.new.sent.writes ≡ self.old.sent.writes }
         ensures stands { Goes self.old.side self.new.side }
     {
         self.cycle.forget(device);
@@ -220,6 +223,8 @@ impl Service {
         ensures time { self.new.side.now ≡ self.old.side.now }
         ensures times { SameTimes self.old.side self.new.side }
         ensures same { self.new.lines ≡ self.old.lines }
+        ensures forgotten { (i : ℕ) → is_of device (known_at self.old.sent.writes.items i) ≡ true → known_at self.new.sent.taken.items i ≡ None }
+        ensures writes { self.new.sent.writes ≡ self.old.sent.writes }
         ensures stands { LosesBy (IsLost device loss) self.old.side self.new.side }
     {
         self.cycle.give_up(device);

@@ -2,7 +2,10 @@
 ghost use Rattle.std.specs.Prelude.{◌≡◌, ◌*◌, IfSome, None, Some};
 ghost use Rattle.modbus_frame.specs.Message.{HasQuantity};
 ghost use Rattle.service_core.specs.Told.{Goes};
-ghost use Rattle.service_core.specs.Cycle.{LeadsOn};
+ghost use Rattle.service.specs.declared.fate.Fate.TheVariants.{Lost};
+ghost use Rattle.service_core.specs.Cycle.{LeadsOn, stage_of};
+ghost use Rattle.service_core.specs.LeftOut.{GivesDue, held_by};
+ghost use Rattle.service_core.specs.Stages.{Ends};
 ghost use Rattle.service_core.specs.Rewriting.{held_output, kept_for};
 ghost use Rattle.service_parts.specs.Requests.{IsOfRound};
 
@@ -14,11 +17,13 @@ use service_parts::Aim;
 
 impl Service {
     /// The round's next request to a device over the connection with this number. What would write once more what the device
-    /// has is left out, and counts as written.
+    /// has is left out, and counts as written; nothing else is.
+    #[tactic(auto, using(crate::proofs::LeftOut::left_nothing, crate::proofs::LeftOut::none_due, crate::proofs::LeftOut::one_due, crate::proofs::LeftOut::left_one))]
     pub(crate) fn next_due(&mut self, number: u64, device: usize) -> Option<Wish>
         ensures quantity { IfSome result (λ wish. HasQuantity wish.request) }
         ensures asked { IfSome result (λ wish. IsOfRound self.new.cycle.core.value wish.aim device wish.request) }
         ensures due { IfSome result (λ wish. held_output self.new.sent.writes.items self.new.sent.taken.items device number (kept_for self.new.cycle.core.value.site.devices device) self.new.side.now wish.aim wish.request ≡ None) }
+        ensures left_out { GivesDue device (held_by self.old.sent device number self.old.side.now) result (stage_of self.old.cycle) (stage_of self.new.cycle) }
         ensures same_lines { self.new.lines ≡ self.old.lines }
         ensures sent { self.new.sent ≡ self.old.sent }
         ensures goes { LeadsOn self.old.cycle self.new.cycle }
@@ -27,7 +32,9 @@ impl Service {
         ensures stands { Goes self.old.side self.new.side }
     {
         for _ in 0..self.cycle.requests() {
-            let wish = self.cycle.next(device)?;
+            let Some(wish) = self.cycle.next(device) else {
+                return None;
+            };
             let Some(output) = self.held_output(number, device, &wish) else {
                 return Some(wish);
             };
@@ -68,6 +75,7 @@ impl Service {
 
     /// The device's request that is under way isn't sent: its output is written.
     fn hold_back(&mut self, device: usize, output: usize)
+        ensures ends { Ends device Lost (stage_of self.old.cycle) (stage_of self.new.cycle) }
         ensures same_lines { self.new.lines ≡ self.old.lines }
         ensures sent { self.new.sent ≡ self.old.sent }
         ensures goes { LeadsOn self.old.cycle self.new.cycle }

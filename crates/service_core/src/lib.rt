@@ -2,6 +2,7 @@
 //! notes are taken out. It knows of no socket and no clock.
 #![tactic(auto)]
 
+mod adopting;
 mod asking;
 mod client_side;
 mod connections;

@@ -19,6 +19,7 @@ ghost use Rattle.service_core.specs.declared.round.Turn.TheVariants.{Ask as AskT
 ghost use Rattle.service_core.specs.Cycle.{ClientsLeadOn, EndsOwn, LeadsOn, stage_of};
 ghost use Rattle.service_core.specs.Forgetting.{first_but, forgotten, with_blocks};
 ghost use Rattle.service_core.specs.GivingUp.{AreNotAsked, GivesUp, HasRequests, dropped, gone_through, skipped};
+ghost use Rattle.service_core.specs.LeftOut.{GivesNext};
 ghost use Rattle.service_core.specs.Maps.{has_map};
 ghost use Rattle.service_core.specs.Rounds.{IsSendable, event_told, requests_now};
 ghost use Rattle.service_core.specs.Stages.{Begins, Ends, OpensNext, ScansIf, TakesEvent};
@@ -159,11 +160,12 @@ impl ScanCycle {
     }
 
     /// The next request to the device, and what it is made for; wanted blocks that there is none for are lost.
-    #[tactic(auto, using(service_parts::proofs::Rightful::of_round))]
+    #[tactic(auto, using(service_parts::proofs::Rightful::of_round, crate::proofs::LeftOut::lacks_nothing, crate::proofs::LeftOut::lacks_one, crate::proofs::LeftOut::is_next))]
     pub fn next(&mut self, device: usize) -> Option<Wish>
         ensures goes { LeadsOn self.old self.new }
         ensures asked { IfSome result (λ wish. IsOfRound self.new.core.value wish.aim device wish.request) }
         ensures quantity { IfSome result (λ wish. HasQuantity wish.request) }
+        ensures next { GivesNext device result (stage_of self.old) (stage_of self.new) }
     {
         for _ in 0..self.round.requests() {
             match self.open(device) {

@@ -9,10 +9,12 @@ use Rattle.std.proofs.lemmas.Option.{slice_get_within, get_or_from_slice_get}
 use Rattle.std.proofs.Math.Seq.{drop-nil}
 use Rattle.modbus_frame.specs.declared.message.Request.{Request}
 use Rattle.modbus_frame.specs.Frame.{frame_bytes}
+use Rattle.scan_vm.specs.Machine.{Running}
 use Rattle.site_model.proofs.Entries.{set-cases}
+use Rattle.verifier.specs.Verified.{HasLinks}
 use Rattle.gateway.specs.declared.event_core.event.Event.{Event}
 use Rattle.gateway.specs.declared.poller.cycle.Call.{Call}
-use Rattle.gateway.specs.event_core.Core.{Gateway}
+use Rattle.gateway.specs.event_core.Core.{Gateway, adopting}
 use Rattle.gateway.specs.poller.LinkRun.{Asked as FrameRequest, frame_of, most_dropped}
 use Rattle.service.specs.declared.fate.Fate.{Fate}
 use Rattle.modbus_frame.specs.declared.fault.FrameFault.{FrameFault}
@@ -27,7 +29,8 @@ use Rattle.service_parts.specs.declared.wire.Aim.TheVariants as aim
 use Rattle.service_parts.specs.declared.wire.Asked.{Asked}
 use Rattle.service_parts.specs.declared.wire.Wire.{Wire}
 use Rattle.service_parts.specs.Calls.{IsCallFor}
-use Rattle.service_parts.specs.Course.{Goes, GoesBy, IsOfClients, IsOfRounds, LeadsOnBy, Reached, stays, steps, learns}
+use Rattle.service_parts.specs.Course.{Goes, GoesBy, GoesOn, IsOfClients, IsOfRounds, LeadsOnBy, Reached, stays, steps, learns}
+use Rattle.service_parts.specs.Course as course
 use Rattle.service_parts.specs.Frames.{Begins, GivesUp, Hears, IsCut, IsStill, Keeps, Sends, TakesWhere, left_under_way, outlived, past}
 use Rattle.service_parts.specs.Requests.{AreRightful, AreRightfulBy, IsFoundOn, IsMade, IsNoted, IsNotedIf, IsOfRound, IsRightful, IsRightfulLine, IsRightfulOn, MayBeAsked, MayGoOver}
 use Rattle.service_parts.specs.Seeking.{IsSought}
@@ -45,8 +48,12 @@ and_then f g h first (stays s) = first
 and_then f g h first (learns {h = middle} before device found is) = learns (and_then f g middle first before) device found is
 and_then f g h first (steps {h = middle} before e kind a i one) = steps (and_then f g middle first before) e kind a i one
 
-pub goes_behind : (Kinds : Event → Type 0) (f old new : Gateway) → Goes f old → LeadsOnBy Kinds old new → ∥ Goes f new ∥₁
-goes_behind Kinds f old new before goes = ∥∥₁_elim (goes old ∣ stays old ∣₁) ∥∥₁_prop (λ more. ∣ and_then f old new before (of_any Kinds old new more) ∣₁)
+pub goes_further : (f old new : Gateway) → GoesOn f old → Goes old new → GoesOn f new
+goes_further f old new (course.goes before) more = course.goes (and_then f old new before more)
+goes_further f old new (course.adopts {h = middle} before machine links i after) more = course.adopts before machine links new (and_then (adopting machine middle) old new after more)
+
+pub goes_behind : (Kinds : Event → Type 0) (f old new : Gateway) → GoesOn f old → LeadsOnBy Kinds old new → ∥ GoesOn f new ∥₁
+goes_behind Kinds f old new before goes = ∥∥₁_elim (goes old ∣ stays old ∣₁) ∥∥₁_prop (λ more. ∣ goes_further f old new before (of_any Kinds old new more) ∣₁)
 
 -- ---- what may be asked
 
@@ -201,7 +208,7 @@ module _ (now : Gateway) (stations : List Station) (found_on : List (Option ℕ)
         station = station;
         core = now;
         reached = reached;
-        since = stays now;
+        since = course.goes (stays now);
         asked = asked;
       } in
       record {
@@ -330,9 +337,13 @@ waits_on now lines link line bytes before at is number has = ∥∥₁_elim (bef
 
 -- ---- the state goes on
 
-module _ (Kinds : Event → Type 0) (old new : Gateway) (stations : List Station) (found_on : List (Option ℕ)) (link number : ℕ) (goes : LeadsOnBy Kinds old new) where
+-- whatever led to the one state leads to the other
+abbrev Further : Gateway → Gateway → Type 0
+Further old new = (from : Gateway) → GoesOn from old → ∥ GoesOn from new ∥₁
+
+module _ (old new : Gateway) (stations : List Station) (found_on : List (Option ℕ)) (link number : ℕ) (goes : Further old new) where
   made_since : (made_for : Aim) (device : ℕ) (frame : FrameRequest) → IsMade old stations found_on link number made_for device frame → ∥ IsMade new stations found_on link number made_for device frame ∥₁
-  made_since made_for device frame m = ∥∥₁_elim (goes_behind Kinds m.core old new m.since goes) ∥∥₁_prop (λ since. ∣ record { station = m.station; core = m.core; reached = m.reached; since = since; asked = m.asked } ∣₁)
+  made_since made_for device frame m = ∥∥₁_elim (goes m.core m.since) ∥∥₁_prop (λ since. ∣ record { station = m.station; core = m.core; reached = m.reached; since = since; asked = m.asked } ∣₁)
 
   pub right_since : (bytes : List ℕ) → IsRightful old stations found_on link number bytes → ∥ IsRightful new stations found_on link number bytes ∥₁
   right_since bytes (inl none) = ∣ inl none ∣₁
@@ -361,9 +372,17 @@ module _ (Kinds : Event → Type 0) (old new : Gateway) (stations : List Station
   line_since : (line : Line) → IsRightfulLine old stations found_on link number line → ∥ IsRightfulLine new stations found_on link number line ∥₁
   line_since line right = ∥∥₁_elim (right_since line.out.items right.waits) ∥∥₁_prop (λ waits. ∥∥₁_elim (noted_since line line.wire.asked right.noted) ∥∥₁_prop (λ noted. ∣ record { waits = waits; noted = noted } ∣₁))
 
+right_further : (old new : Gateway) (lines : Lines) → Further old new → AreRightfulBy old lines → AreRightfulBy new lines
+right_further old new lines goes before link number line has at = ∥∥₁_elim (before link number line has at) ∥∥₁_prop (λ right.
+    line_since old new lines.links.stations.items lines.found_on.items link number goes line right)
+
 pub right_by : (Kinds : Event → Type 0) (old new : Gateway) (lines : Lines) → LeadsOnBy Kinds old new → AreRightfulBy old lines → AreRightfulBy new lines
-right_by Kinds old new lines goes before link number line has at = ∥∥₁_elim (before link number line has at) ∥∥₁_prop (λ right.
-    line_since Kinds old new lines.links.stations.items lines.found_on.items link number goes line right)
+right_by Kinds old new lines goes before = right_further old new lines (λ from led. goes_behind Kinds from old new led goes) before
+
+-- another program is put in
+pub right_adopting : (old new : Gateway) (lines : Lines) (machine : Running) → HasLinks old.site.tags machine.accepted.links → new ≡ adopting machine old → AreRightfulBy old lines → AreRightfulBy new lines
+right_adopting old new lines machine links is before =
+    right_further old new lines (λ from led. ∣ course.adopts led machine links new (subst (Goes (adopting machine old)) (sym is) (stays (adopting machine old))) ∣₁) before
 
 pub right_on : (old new : Gateway) (lines : Lines) → LeadsOnBy IsOfRounds old new → AreRightfulBy old lines → AreRightfulBy new lines
 right_on old new lines goes before = right_by IsOfRounds old new lines goes before

@@ -14,7 +14,7 @@ use Rattle.service_parts.specs.declared.wire.Aim.{Aim}
 use Rattle.service_parts.specs.declared.wire.Aim.TheVariants as aim
 use Rattle.service_parts.specs.declared.wire.Asked.{Asked}
 use Rattle.service_parts.specs.Calls.{IsCallFor}
-use Rattle.service_parts.specs.Course.{Goes, Reached}
+use Rattle.service_parts.specs.Course.{GoesOn, Reached}
 use Rattle.service_parts.specs.Frames.{past}
 use Rattle.service_parts.specs.Seeking.{IsSought}
 
@@ -32,13 +32,13 @@ IsFoundOn found_on number device = slice_get found_on device ≡ Some (Some numb
 abbrev pub MayBeAsked : Gateway → List (Option ℕ) → ℕ → Aim → ℕ → Request → Type 0
 MayBeAsked core found_on number made_for device request = (IsOfRound core made_for device request × IsFoundOn found_on number device) ⊎ ((made_for ≡ aim.Map) × IsSought core.site device (step.Ask request))
 
--- A request that the device may be asked over the connection with this number, by a state of the core from which events and
--- learned maps led to the one of now. The device's station is on this link, and the request is for its unit there.
+-- A request that the device may be asked over the connection with this number, by a state of the core from which events,
+-- learned maps and programs that were put in led to the one of now. The device's station is on this link, and the request is for its unit there.
 pub record IsMade (now : Gateway) (stations : List Station) (found_on : List (Option ℕ)) (link number : ℕ) (made_for : Aim) (device : ℕ) (frame : FrameRequest) : Type 0 where
   pub station : slice_get stations device ≡ Some (record { link = link; unit = frame.unit })
   pub core : Gateway
   pub reached : Reached core
-  pub since : Goes core now
+  pub since : GoesOn core now
   pub asked : MayBeAsked core found_on number made_for device frame.request
 
 -- These bytes are the rest of the frame of such a request.

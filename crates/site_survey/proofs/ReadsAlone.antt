@@ -22,7 +22,7 @@ use Rattle.service_parts.specs.Calls.{IsCallFor}
 use Rattle.service_parts.specs.Requests.{IsRest, IsRightful, MayBeAsked}
 use Rattle.service_core.specs.Stages.{AnyStep, CourseBy, Stage}
 use Rattle.service_core.proofs.Courses.{any_goes}
-use Rattle.service_core.proofs.Runs.{courses_are_site_runs}
+use Rattle.service_core.proofs.Runs.{goes_site}
 use Rattle.site_survey.specs.Surveying.{IsOfReads, IsRestOfRead, IsSurveyStart, SurveysAskForReadsAlone}
 
 -- the request reads
@@ -77,8 +77,7 @@ of_asked g found_on number made_for device request none (inr (map, sought)) = (s
 
 of_rest : (now : Gateway) (stations : List Station) (found_on : List (Option ℕ)) (link number : ℕ) (bytes : List ℕ) → now.site.outs ≡ [] → IsRest now stations found_on link number bytes → IsRestOfRead bytes
 of_rest now stations found_on link number bytes none rest =
-    let (events, answers, run, site, accepted) = courses_are_site_runs rest.made.core now rest.made.since in
-    let before : rest.made.core.site.outs ≡ [] = ap (λ (x : Site). x.outs) (sym site) ∙ none in
+    let before : rest.made.core.site.outs ≡ [] = ap (λ (x : Site). x.outs) (sym (goes_site rest.made.core now rest.made.since)) ∙ none in
     let (address, count, reads) = of_asked rest.made.core found_on number rest.made_for rest.device rest.frame.request before rest.made.asked in
     record { frame = rest.frame; address = address; count = count; reads = reads; gone = rest.gone; whole = rest.whole }
 
@@ -88,8 +87,7 @@ of_rightful now stations found_on link number bytes none (inr rest) = inr (of_re
 
 outs_stay : (site : Site) (first now : Stage) → IsSurveyStart site first → CourseBy AnyStep first now → now.core.site.outs ≡ []
 outs_stay site first now start course =
-    let (events, answers, run, same, accepted) = courses_are_site_runs first.core now.core (any_goes first now course) in
-    ap (λ (x : Site). x.outs) (same ∙ start.own) ∙ start.none
+    ap (λ (x : Site). x.outs) (goes_site first.core now.core (any_goes first now course) ∙ start.own) ∙ start.none
 
 pub surveys_ask_for_reads_alone : SurveysAskForReadsAlone
 surveys_ask_for_reads_alone site first now start course lines link number bytes at rightful =

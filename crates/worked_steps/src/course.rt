@@ -3,6 +3,7 @@ use crate::bytes::needed;
 use crate::devices::frame_in;
 use gateway::{Answer, Core, DEPTH, Event};
 use modbus_frame::Pdu;
+use scan_vm::Machine;
 use std::alloc::Global;
 use std::io;
 
@@ -12,6 +13,10 @@ pub(crate) struct Course {
     alloc: Global,
     events: Vec<Event>,
     replies: Vec<Pdu>,
+    /// When the program ran last, in milliseconds.
+    scanned_at: u64,
+    /// The program that was put in, and after how many events.
+    put_in: Option<(usize, Machine<DEPTH>)>,
 }
 
 impl Course {
@@ -21,6 +26,8 @@ impl Course {
             alloc,
             events: Vec::new(alloc),
             replies: Vec::new(alloc),
+            scanned_at: 0,
+            put_in: None,
         }
     }
 
@@ -34,6 +41,19 @@ impl Course {
         Ok(self.events.push(event)?)
     }
 
+    /// The program ran at this time of the service, of which the core is told before.
+    pub(crate) fn add_scan(&mut self, now: u64) -> io::Result<()> {
+        let since = now.saturating_sub(self.scanned_at);
+        self.scanned_at = now;
+        self.add(Event::Time(u32::try_from(since).unwrap_or(u32::MAX)))?;
+        self.add(Event::Scan)
+    }
+
+    /// This program was put in.
+    pub(crate) fn add_program(&mut self, machine: Machine<DEPTH>) {
+        self.put_in = Some((self.events.len(), machine));
+    }
+
     /// A client's request got this reply.
     pub(crate) fn add_reply(&mut self, request: &[u8], reply: &[u8]) -> io::Result<()> {
         self.add(Event::Client(needed(frame_in(request))?.pdu))?;
@@ -41,17 +61,44 @@ impl Course {
         Ok(())
     }
 
-    /// Whether a core on which nothing happened yet gives the same replies by these events, and knows what this one does.
-    pub(crate) fn is_that_of(&self, core: &mut Core<DEPTH>, now: &Core<DEPTH>) -> io::Result<bool> {
+    /// Whether a core on which nothing happened yet gives the same replies by these events, with the program that was put in
+    /// between them, and knows what this one does.
+    pub(crate) fn is_that_of(
+        &mut self,
+        core: &mut Core<DEPTH>,
+        now: &Core<DEPTH>,
+    ) -> io::Result<bool> {
         let mut answers = Vec::new(self.alloc);
-        for _ in &self.events {
-            answers.push(Answer::None)?;
+        match self.put_in.take() {
+            Some((at, machine)) => {
+                let (before, after) = self.events.split_at(at.min(self.events.len()));
+                self.replay(core, before, &mut answers)?;
+                needed(core.adopt(self.alloc, machine).ok())?;
+                self.replay(core, after, &mut answers)?;
+            }
+            None => self.replay(core, &self.events, &mut answers)?,
         }
-        if answers.len() != self.events.len() {
-            return Ok(false);
-        }
-        core.replay(&self.events, &mut answers);
         Ok(self.are_replies(&answers) && are_alike(core, now))
+    }
+
+    /// What a core answers to these events, after what it answered before.
+    fn replay(
+        &self,
+        core: &mut Core<DEPTH>,
+        events: &[Event],
+        answers: &mut Vec<Answer>,
+    ) -> io::Result<()> {
+        let mut more = Vec::new(self.alloc);
+        for _ in events {
+            more.push(Answer::None)?;
+        }
+        if more.len() == events.len() {
+            core.replay(events, &mut more);
+        }
+        for answer in more {
+            answers.push(answer)?;
+        }
+        Ok(())
     }
 
     fn are_replies(&self, answers: &[Answer]) -> bool {

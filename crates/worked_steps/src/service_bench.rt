@@ -100,6 +100,8 @@ impl ServiceBench {
             ServiceStep::Took(place, n) => self.took(place, n),
             ServiceStep::Leaves(place) => self.leave(place),
             ServiceStep::Restores(tag, number) => self.restore(page, tag, number),
+            ServiceStep::Elapses(elapsed) => self.elapse(elapsed),
+            ServiceStep::Adopts(program) => self.adopt(texts.get(program)?),
             ServiceStep::Link(link) => self.tell_link(page, link),
             ServiceStep::Device(device) => self.tell_device(page, device),
             ServiceStep::Output(output) => self.tell_output(page, output),
@@ -239,7 +241,7 @@ impl ServiceBench {
                 self.course.add(block)?;
             }
             if self.service.scans() > scans {
-                self.course.add(Event::Scan)?;
+                self.course.add_scan(self.now)?;
             }
         }
         Ok(())
@@ -307,6 +309,19 @@ impl ServiceBench {
     fn restore(&mut self, page: &mut Page, tag: usize, number: i64) -> io::Result<()> {
         let is_set = self.service.restore(tag, number);
         page.tell(if is_set { "set" } else { "not set" })
+    }
+
+    fn elapse(&mut self, elapsed: u32) -> io::Result<()> {
+        self.service.pass(elapsed);
+        self.course.add(Event::Time(elapsed))
+    }
+
+    fn adopt(&mut self, program: &str) -> io::Result<()> {
+        let put_in = machine(self.alloc, self.service.core().site(), program)?;
+        needed(self.service.adopt(self.alloc, put_in).ok())?;
+        let kept = machine(self.alloc, self.service.core().site(), program)?;
+        self.course.add_program(kept);
+        Ok(())
     }
 }
 

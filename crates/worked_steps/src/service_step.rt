@@ -47,6 +47,10 @@ pub(crate) enum ServiceStep<'a> {
     Leaves(usize),
     /// A tag is set to a number as before a restart.
     Restores(usize, i64),
+    /// So many milliseconds went by since what was set so far.
+    Elapses(u32),
+    /// The program of a text is put in for the one that runs.
+    Adopts(&'a str),
     /// What is to be sent over a link, and whether it is to be dialled or hung up.
     Link(usize),
     /// How a device stands.
@@ -101,6 +105,8 @@ impl<'a> ServiceStep<'a> {
             ("leaves", [place]) => Some(Self::Leaves(number(place)?)),
             ("restores", [tag, value]) => Some(Self::Restores(number(tag)?, number(value)?)),
             ("link", [link]) => Some(Self::Link(number(link)?)),
+            ("elapses", [elapsed]) => Some(Self::Elapses(number(elapsed)?)),
+            ("adopts", [program]) => Some(Self::Adopts(*program)),
             ("device", [device]) => Some(Self::Device(number(device)?)),
             ("output", [output]) => Some(Self::Output(number(output)?)),
             ("client", [place]) => Some(Self::Client(number(place)?)),

@@ -106,6 +106,39 @@ fn a_core_opens(rt: HostRuntime) {
     }
 }
 
+/// The core takes a program with the same budget, or says that there was no memory for it.
+fn assert_adopts(rt: &impl Abort, alloc: Global, core: &mut Core<32>, machine: Machine<32>) {
+    match core.adopt(alloc, machine) {
+        Ok(()) => assert_same(rt, &core.machine().verified().budget(), &18),
+        Err(fault) => assert_same(rt, &fault, &CoreFault::OutOfMemory),
+    }
+}
+
+fn adopt_in(rt: &impl Abort, alloc: Global, core: &mut Core<32>) {
+    if let Some(machine) = machine(alloc, core.site()) {
+        assert_adopts(rt, alloc, core, machine);
+    }
+}
+
+fn adopt_on(rt: &impl Abort, alloc: Global, site: Site, machine: Machine<32>) {
+    if let Some(maps) = no_maps(alloc) {
+        assert!(rt; maps.len() == site.devices().len());
+        if let Ok(mut core) = Core::new(alloc, site, machine, maps) {
+            adopt_in(rt, alloc, &mut core);
+        }
+    }
+}
+
+#[test]
+fn a_core_takes_another_program(rt: HostRuntime) {
+    let alloc = rt.alloc();
+    if let Some(site) = site_of(alloc, SITE) {
+        if let Some(machine) = machine(alloc, &site) {
+            adopt_on(&rt, alloc, site, machine);
+        }
+    }
+}
+
 /// Appends the frames of a unit with these PDUs, one transaction after another, and gives the next one.
 fn append_frames(bytes: &mut Vec<u8>, first: u16, unit: u8, pdus: &[&[u8]]) -> Option<u16> {
     let mut transaction = first;

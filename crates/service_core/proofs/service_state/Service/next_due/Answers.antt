@@ -1,5 +1,23 @@
+use Rattle.std.proofs.Common.{rules, sym, ◌∙◌}
+use Rattle.service_core.specs.Cycle.{stage_of}
+use Rattle.service_core.specs.LeftOut.{held_by}
 use Rattle.service_core.proofs.Courses.{right_rounds}
+use Rattle.service_core.proofs.LeftOut.{left_one, none_left}
 use Rattle.service_core.proofs.service_state.Service.next_due.Goals as goal
 
 pub invariant_of-self : goal.invariant_of-self
 invariant_of-self c = record { rightful = right_rounds _ _ c.loop.self.lines c.next.ensures.goes c.loop.self.rightful }
+
+pub loop-preserved : goal.loop-preserved
+loop-preserved c = (
+  search rules,
+  search rules,
+  search rules,
+  search rules,
+  search rules,
+  search rules,
+  left_one c.args.device c.args.number c.args.self.now.sent c.loop.self.sent c.args.self.now.side.now c.loop.self.side.now (stage_of c.args.self.now.cycle) (stage_of c.loop.self.cycle) (stage_of c.next.new.self) (stage_of c.hold_back.new.self.cycle) c.in-Some.wish c.in-Some-held_output.output c.loop.invariant.6 (c.in-Some.ensures).next c.loop.invariant.1 c.loop.invariant.4 (sym c.held_output.ensures ∙ c.in-Some-held_output.is) c.hold_back.ensures.ends,
+)
+
+pub returns-clause-left_out : goal.returns-clause-left_out
+returns-clause-left_out c = none_left c.args.device (held_by c.args.self.now.sent c.args.device c.args.number c.args.self.now.side.now) (stage_of c.args.self.now.cycle) (stage_of c.loop.self.cycle) (stage_of c.loop.self.cycle) c.loop.invariant.6

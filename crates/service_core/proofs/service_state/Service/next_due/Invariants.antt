@@ -1,5 +1,6 @@
 use Rattle.std.proofs.Common.{◌≡◌}
-use Rattle.service_core.specs.Cycle.{LeadsOn}
+use Rattle.service_core.specs.Cycle.{LeadsOn, stage_of}
+use Rattle.service_core.specs.LeftOut.{LeavesOut, held_by}
 use Rattle.service_core.specs.Told.{Goes}
 use Rattle.service_core.proofs.service_state.Service.next_due.Given as goal
 
@@ -11,3 +12,4 @@ invariant-loop l =
     × (l.self.places.items ≡ l.initial.self.places.items)
     × (l.self.side.now ≡ l.initial.self.side.now)
     × Goes l.initial.self.side l.self.side
+    × LeavesOut l.fn.device (held_by l.initial.self.sent l.fn.device l.fn.number l.initial.self.side.now) (stage_of l.initial.self.cycle) (stage_of l.self.cycle)

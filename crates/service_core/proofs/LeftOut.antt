@@ -1,0 +1,92 @@
+-- What is left out of a round is what devices have.
+use Rattle.std.proofs.Common.{◌≡◌, inl, inr, ℕ, ◌-◌, ◌*◌, nat_eq, nat_lt, Bool, true, false, ◌&&◌, List, Option, None, Some, slice_get, refl, ap, subst, ◌∙◌, if◌then◌else◌, arith}
+use Rattle.std.specs.Option.{option_map_or}
+use Rattle.modbus_frame.specs.declared.message.Request.{Request}
+use Rattle.site_model.specs.declared.device.SiteDevice.{SiteDevice}
+use Rattle.site_model.specs.declared.want.Want.{Want}
+use Rattle.site_model.specs.Readings.{known_at}
+use Rattle.gateway.specs.declared.poller.cycle.Call.{Call}
+use Rattle.service.specs.declared.fate.Fate.TheVariants as fate
+use Rattle.service_parts.specs.declared.wire.Aim.{Aim}
+use Rattle.service_parts.specs.declared.wire.Aim.TheVariants as aim
+use Rattle.service_core.specs.declared.round.Turn.TheVariants as turn
+use Rattle.service_core.specs.declared.sent_writes.SentWrite.{SentWrite}
+use Rattle.service_core.specs.declared.sent_writes.SentWrites.{SentWrites}
+use Rattle.service_core.specs.declared.sent_writes.Taken.{Taken}
+use Rattle.service_core.specs.declared.wish.Wish.{Wish}
+use Rattle.service_core.specs.LeftOut as left
+use Rattle.service_core.specs.LeftOut as left
+use Rattle.service_core.specs.LeftOut.{GivesDue, GivesNext, HasNone, IsNext, Lacks, LeavesOut, NothingIsLeftOutWithoutRewrite, held_by}
+use Rattle.service_core.specs.Rewriting.{held_output, is_recent, is_same}
+use Rattle.service_core.specs.Stages.{Ends, OpensNext, Stage}
+
+-- ---- what comes next
+
+pub lacks_nothing : (device : ℕ) (s : Stage) → Lacks device s s
+lacks_nothing device s = left.lacks_none
+
+pub lacks_one : (device : ℕ) (old s t : Stage) (want : Want) → Lacks device old s → OpensNext device (turn.Lack want) s t → Lacks device old t
+lacks_one device old s t want before opens = left.lacks_more before want t opens
+
+pub is_next : (device : ℕ) (old s t : Stage) (made_for : Aim) (call : Call) → Lacks device old s → OpensNext device (turn.Ask made_for call) s t → IsNext device made_for call.request old t
+is_next device old s t made_for call before opens = record { before = s; lacks = before; call = call; opens = opens; own = refl }
+
+pub rests : (device : ℕ) (old s t : Stage) → Lacks device old s → OpensNext device turn.Rest s t → HasNone device old t
+rests device old s t before opens = record { before = s; lacks = before; rests = inl opens }
+
+pub none_so_far : (device : ℕ) (old s : Stage) → Lacks device old s → HasNone device old s
+none_so_far device old s before = record { before = s; lacks = before; rests = inr refl }
+
+-- ---- what is left out
+
+pub left_nothing : (device : ℕ) (held : Stage → Aim → Request → Option ℕ) (s : Stage) → LeavesOut device held s s
+left_nothing device held s = left.leaves_none
+
+module _ (device : ℕ) (held : Stage → Aim → Request → Option ℕ) (old s t : Stage) where
+  pub none_due : LeavesOut device held old s → GivesNext device None s t → GivesDue device held None old t
+  none_due leaves next = record { middle = s; leaves = leaves; next = next }
+
+  pub none_left : LeavesOut device held old s → GivesDue device held None old s
+  none_left leaves = record { middle = s; leaves = leaves; next = none_so_far device s s left.lacks_none }
+
+  pub one_due : (wish : Wish) → LeavesOut device held old s → GivesNext device (Some wish) s t → GivesDue device held (Some wish) old t
+  one_due wish leaves next = record { middle = s; leaves = leaves; next = next }
+
+pub left_one : (device number : ℕ) (first sent : SentWrites) (start now : ℕ) (old s t u : Stage) (wish : Wish) (output : ℕ) → LeavesOut device (held_by first device number start) old s → IsNext device wish.aim wish.request s t
+    → sent ≡ first → now ≡ start → held_by sent device number now t wish.aim wish.request ≡ Some output → Ends device fate.Lost t u → LeavesOut device (held_by first device number start) old u
+left_one device number first sent start now old s t u wish output before next same_sent same_time held ends =
+    let P : SentWrites → Type 0 = λ x. held_by x device number now t wish.aim wish.request ≡ Some output in
+    let Q : ℕ → Type 0 = λ x. held_by first device number x t wish.aim wish.request ≡ Some output in
+    left.leaves_more before wish.aim wish.request output t next (subst Q same_time (subst P same_sent held)) u ends
+
+-- ---- without `rewrite`
+
+and_false : (b : Bool) → (b && false) ≡ false
+and_false true = refl
+and_false false = refl
+
+nothing_below : (n : ℕ) → nat_lt n 0 ≡ false
+nothing_below n = grind arith
+
+never_recent : (t : Option Taken) (number now : ℕ) → is_recent t number 0 now ≡ false
+never_recent None number now = refl
+never_recent (Some taken) number now = ap (λ b. nat_eq taken.number number && b) (nothing_below (now - taken.at)) ∙ and_false (nat_eq taken.number number)
+
+never_held : (last : Option SentWrite) (taken : List (Option Taken)) (output device : ℕ) (asked : Request) (number now : ℕ)
+    → option_map_or (λ sent. is_same sent device asked && is_recent (known_at taken output) number 0 now) last false ≡ false
+never_held None taken output device asked number now = refl
+never_held (Some sent) taken output device asked number now = ap (λ b. is_same sent device asked && b) (never_recent (known_at taken output) number now) ∙ and_false (is_same sent device asked)
+
+none_held : (writes : List (Option SentWrite)) (taken : List (Option Taken)) (device number now : ℕ) (made_for : Aim) (asked : Request) → held_output writes taken device number 0 now made_for asked ≡ None
+none_held writes taken device number now (aim.Output output) asked = ap (λ b. if b then Some output else None) (never_held (known_at writes output) taken output device asked number now)
+none_held writes taken device number now (aim.Block want) asked = refl
+none_held writes taken device number now aim.Map asked = refl
+none_held writes taken device number now aim.Past asked = refl
+
+kept_never : (o : Option SiteDevice) (own : SiteDevice) → o ≡ Some own → own.rewrite ≡ 0 → option_map_or (λ (d : SiteDevice). d.rewrite * 1000) o 0 ≡ 0
+kept_never o own is none = ap (λ x. option_map_or (λ (d : SiteDevice). d.rewrite * 1000) x 0) is ∙ ap (λ n. n * 1000) none
+
+pub nothing_is_left_out_without_rewrite : NothingIsLeftOutWithoutRewrite
+nothing_is_left_out_without_rewrite sent device number now s own made_for request at none =
+    ap (λ within. held_output sent.writes.items sent.taken.items device number within now made_for request) (kept_never (slice_get s.core.site.devices device) own at none)
+    ∙ none_held sent.writes.items sent.taken.items device number now made_for request
