@@ -391,6 +391,8 @@ fn served_with<W: Write>(
                 limits: service_limits(matches),
                 serving: serving_of(matches, &words, &start),
                 keeping: keeping_of(matches, state),
+                reloads: matches.get_flag("reload"),
+                names: &[],
             };
             match devices {
                 Devices::Plant(_) => warn_of_site(rt, notes),

@@ -19,6 +19,7 @@ mod plant_lines;
 mod plant_run;
 mod plant_server;
 mod probe_link;
+mod program_file;
 mod recorder;
 mod retained;
 mod run_command;

@@ -48,7 +48,10 @@ fn with_times<'a>(alloc: Global, command: Command<'a>) -> Result<Command<'a>, Al
 }
 
 fn with_files<'a>(alloc: Global, command: Command<'a>) -> Result<Command<'a>, AllocError> {
-    let command = command.arg(state_option(alloc))?.arg(status_option(alloc))?;
+    let command = command
+        .arg(state_option(alloc))?
+        .arg(status_option(alloc))?
+        .arg(reload_flag(alloc))?;
     with_ways(alloc, command)
 }
 
@@ -116,6 +119,13 @@ fn status_option<'a>(alloc: Global) -> Arg<'a> {
         "PATH",
         "the file (JSON) that says how the service stands, replaced after each scan",
     )
+}
+
+fn reload_flag<'a>(alloc: Global) -> Arg<'a> {
+    Arg::new(alloc, "reload")
+        .long("reload")
+        .action(ArgAction::SetTrue)
+        .help("goes on with another program once PROGRAM has one that is accepted")
 }
 
 fn every_option<'a>(alloc: Global) -> Arg<'a> {

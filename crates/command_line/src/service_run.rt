@@ -1,6 +1,7 @@
 //! The command `serve`: a program on a site, scan by scan, by the clock.
 use crate::failing::{no_start, tell_lost, tell_unkept, tell_unserved};
 use crate::plant_lines::told_port;
+use crate::program_file::ProgramFile;
 use crate::retained::{Retained, tell_unretained, variables_of, warn_of_names};
 use crate::second_process::{start_plant, tell_no_port};
 use crate::service_places::tell_unreachable;
@@ -9,11 +10,12 @@ use crate::shown::warn_on_site;
 use commands::{Accepted, Outcome, accept, no_core, tell_no_memory, write_lines};
 use gateway::CoreFault;
 use modbus_frame::LinkFault;
+use point_types::Name;
 use refusal_notes::Notes;
 use served_site::service_of;
 use service_core::{Limits, Service};
 use service_texts::{Addresses, Devices, addresses_of, plant_addresses};
-use site_service::{End, Keeping, Serving, serve_site};
+use site_service::{End, Keeping, OneProgram, Serving, serve_site};
 use std::alloc::{AllocError, Global};
 use std::fs::File;
 use std::io::{Read, Write};
@@ -42,6 +44,10 @@ pub struct ServiceRun<'n, 'a, 's, 'k, 't> {
     pub serving: Serving<'s>,
     /// The files that it keeps.
     pub keeping: Keeping<'k, 't>,
+    /// Whether the program's file is looked at while it runs, for another program.
+    pub reloads: bool,
+    /// The names of the variables that are kept, once they are known.
+    pub names: &'k [Name],
 }
 
 /// Serves a site, and gives the status: 0 after the last scan that was asked for, 1 for a refusal or a failed write, 2
@@ -94,6 +100,7 @@ fn serve_accepted<
             Ok(mut service) => {
                 let run = ServiceRun {
                     keeping: retained.keeping(&run.keeping),
+                    names: retained.names.as_slice(),
                     ..*run
                 };
                 serve_begun(rt, alloc, &run, &addresses, &mut service, out)
@@ -203,15 +210,7 @@ fn serve_over<
     service: &mut Service,
     out: &mut W,
 ) -> u8 {
-    match serve_site(
-        rt,
-        alloc,
-        &run.serving,
-        &run.keeping,
-        addresses,
-        service,
-        out,
-    ) {
+    match serve_programs(rt, alloc, run, addresses, service, out) {
         Ok(()) => 0,
         Err(End::OutOfMemory) => tell_no_memory(out),
         Err(End::System) => tell_lost(rt, alloc, &run.notes, LinkFault::Read, out),
@@ -221,6 +220,38 @@ fn serve_over<
         Err(End::State(fault)) => {
             tell_unkept(rt, alloc, &run.notes, state_path(&run.keeping), fault, out)
         },
+    }
+}
+
+/// Serves a site by the program that it begins with, or by those that come after it in its file.
+fn serve_programs<
+    R: Net + Clock + Processes<Started = SystemProcess> + Eprint + AllocGlobal + Files<File = File>,
+    W: Write,
+>(
+    rt: &R,
+    alloc: Global,
+    run: &ServiceRun<'_, '_, '_, '_, '_>,
+    addresses: &Addresses,
+    service: &mut Service,
+    out: &mut W,
+) -> Result<(), End> {
+    let (serving, keeping) = (&run.serving, &run.keeping);
+    if run.reloads {
+        let mut file = ProgramFile::new(alloc, &run.notes, run.names);
+        serve_site(
+            rt, alloc, serving, keeping, addresses, &mut file, service, out,
+        )
+    } else {
+        serve_site(
+            rt,
+            alloc,
+            serving,
+            keeping,
+            addresses,
+            &mut OneProgram,
+            service,
+            out,
+        )
     }
 }
 

@@ -77,6 +77,31 @@ pub fn read_file(
     }
 }
 
+/// The text of the file at a path, looked at while a service runs: of a plain file alone, since others may keep it waiting.
+pub(crate) fn read_again(
+    rt: &(impl AllocGlobal + Files),
+    alloc: Global,
+    path: &str,
+) -> Result<String, SourceFault> {
+    match fs::metadata(rt, path) {
+        Ok(found) if found.is_file() => read_plain(rt, alloc, path),
+        Ok(found) if found.is_dir() => Err(SourceFault::Unusable(FileFault::Folder)),
+        Ok(_) => Err(SourceFault::Unusable(FileFault::Unreadable)),
+        Err(fault) => Err(SourceFault::of(fault.kind())),
+    }
+}
+
+fn read_plain(
+    rt: &(impl AllocGlobal + Files),
+    alloc: Global,
+    path: &str,
+) -> Result<String, SourceFault> {
+    match fs::open(rt, path) {
+        Ok(file) => read_text(alloc, file),
+        Err(fault) => Err(SourceFault::of(fault.kind())),
+    }
+}
+
 /// The text of the file at a path, that a service keeps: none where there is no such file yet.
 pub fn read_kept(
     rt: &(impl AllocGlobal + Files),

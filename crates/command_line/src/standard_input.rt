@@ -14,6 +14,9 @@ pub(crate) fn misuse(command: &str, matches: &ArgMatches<'_>) -> Option<&'static
     if inputs(&written) > 0 {
         return Some("'-' can't be a file that is written");
     }
+    if command == "serve" && matches.get_flag("reload") && inputs(&[file(matches, "PROGRAM")]) > 0 {
+        return Some("'-' can't be the program of '--reload': standard input is read once");
+    }
     let plant = file(matches, "plant");
     let defs = matches.get_strs("def").unwrap_or(&[]);
     let handed_on = inputs(&[plant]).saturating_add(inputs(defs));

@@ -38,6 +38,14 @@ left_out_line n = codes "left out " ++ decimal n
 abbrev pub left_out_setting_line : (line : List ℕ) → List ℕ
 left_out_setting_line line = codes "setting " ++ line ++ codes " left out"
 
+-- program refused CAUSE
+abbrev pub program_refused_line : (cause : List ℕ) → List ℕ
+program_refused_line cause = codes "program refused " ++ cause
+
+-- program taken budget N
+abbrev pub program_taken_line : (budget : ℕ) → List ℕ
+program_taken_line budget = codes "program taken budget " ++ decimal budget
+
 -- state WORD, status WORD
 abbrev pub file_line : (file word : List ℕ) → List ℕ
 file_line file word = file ++ codes " " ++ word

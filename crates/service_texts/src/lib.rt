@@ -33,5 +33,6 @@ pub use write_record::WriteRecord;
 // what is told of a service
 pub use lines::{
     client_line, device_line, file_line, late_line, left_out_line, left_out_setting_line,
-    listening_line, lost_line, stamped, unwritten_line, written_line,
+    listening_line, lost_line, program_refused_line, program_taken_line, stamped, unwritten_line,
+    written_line,
 };

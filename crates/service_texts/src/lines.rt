@@ -101,6 +101,22 @@ pub fn left_out_setting_line(alloc: Global, line: &str) -> Result<String, AllocE
     Ok(text)
 }
 
+/// `program refused CAUSE`.
+pub fn program_refused_line(alloc: Global, cause: &str) -> Result<String, AllocError>
+    ensures { IfOk result (λ text. string_bytes text ≡ told.program_refused_line cause.now) }
+{
+    let text = format!(in alloc; "program refused {cause}")?;
+    Ok(text)
+}
+
+/// `program taken budget N`.
+pub fn program_taken_line(alloc: Global, budget: u32) -> Result<String, AllocError>
+    ensures { IfOk result (λ text. string_bytes text ≡ told.program_taken_line budget) }
+{
+    let text = format!(in alloc; "program taken budget {budget}")?;
+    Ok(text)
+}
+
 /// `FILE WORD`, how a file's writes go.
 pub fn file_line(alloc: Global, file: &str, word: &str) -> Result<String, AllocError>
     ensures { IfOk result (λ text. string_bytes text ≡ told.file_line file.now word.now) }

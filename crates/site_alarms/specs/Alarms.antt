@@ -111,8 +111,8 @@ wrong_beside core devices outputs =
     ++ sets_lapsed core.standing.ages core.site.tags
 
 -- of the service itself
-abbrev pub wrong_itself : (is_late is_unkept : Bool) → List Alarm
-wrong_itself is_late is_unkept = one_if is_late alarm.RoundLate ++ one_if is_unkept alarm.StateUnwritten
+abbrev pub wrong_itself : (is_late is_unkept is_refused : Bool) → List Alarm
+wrong_itself is_late is_unkept is_refused = one_if is_late alarm.RoundLate ++ one_if is_unkept alarm.StateUnwritten ++ one_if is_refused alarm.ProgramRefused
 
 -- the sums and the `site` tags that clients aren't shown
 pub record AreServedMissing (core : Gateway) (alarms : List Alarm) : Type 0 where
@@ -123,10 +123,10 @@ pub record AreServedMissing (core : Gateway) (alarms : List Alarm) : Type 0 wher
   pub all : alarms ≡ sums ++ stored
 
 -- all that is wrong, and nothing else
-pub record IsAllWrong (core : Gateway) (devices : List DeviceStatus) (outputs : List (Option OutputState)) (is_late is_unkept : Bool) (alarms : List Alarm) : Type 0 where
+pub record IsAllWrong (core : Gateway) (devices : List DeviceStatus) (outputs : List (Option OutputState)) (is_late is_unkept is_refused : Bool) (alarms : List Alarm) : Type 0 where
   pub served : List Alarm
   pub are_served : AreServedMissing core served
-  pub all : alarms ≡ wrong_beside core devices outputs ++ served ++ wrong_itself is_late is_unkept
+  pub all : alarms ≡ wrong_beside core devices outputs ++ served ++ wrong_itself is_late is_unkept is_refused
 
 -- what of that the core alone says of numbers
 pub record IsAllMissing (core : Gateway) (alarms : List Alarm) : Type 0 where

@@ -19,6 +19,7 @@ subject_of (alarm.SumHidden i why) = subject.Sum i
 subject_of (alarm.StoredHidden i why) = subject.Stored i
 subject_of alarm.RoundLate = subject.Rounds
 subject_of alarm.StateUnwritten = subject.State
+subject_of alarm.ProgramRefused = subject.Program
 
 -- one of them stood, with this very cause
 abbrev pub Stood : List Standing → Alarm → Type 0

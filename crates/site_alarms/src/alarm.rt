@@ -44,6 +44,8 @@ pub enum Alarm {
     RoundLate,
     /// The file of set values can't be written.
     StateUnwritten,
+    /// The program's file has a program that isn't accepted; the one before it goes on.
+    ProgramRefused,
 }
 
 /// What an alarm is of. Two alarms of one subject tell of one thing, for causes that may differ.
@@ -67,6 +69,8 @@ pub enum Subject {
     Rounds,
     /// The file of set values.
     State,
+    /// The program's file.
+    Program,
 }
 
 impl Alarm {
@@ -84,6 +88,7 @@ impl Alarm {
             Alarm::StoredHidden(tag, _) => Subject::Stored(tag),
             Alarm::RoundLate => Subject::Rounds,
             Alarm::StateUnwritten => Subject::State,
+            Alarm::ProgramRefused => Subject::Program,
         }
     }
 }

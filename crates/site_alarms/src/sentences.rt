@@ -37,6 +37,12 @@ pub fn sentence(alloc: Global, core: &Core<DEPTH>, alarm: Alarm) -> Result<Strin
             )
         }
         Alarm::StateUnwritten => String::from_str(alloc, "the file of set values can't be written"),
+        Alarm::ProgramRefused => {
+            String::from_str(
+                alloc,
+                "the program in its file isn't accepted: the one before it goes on",
+            )
+        }
     }
 }
 

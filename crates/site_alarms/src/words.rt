@@ -20,6 +20,7 @@ pub fn kind_word(alarm: Alarm) -> &'static str {
         Alarm::SumHidden(..) | Alarm::StoredHidden(..) => "served_missing",
         Alarm::RoundLate => "round_late",
         Alarm::StateUnwritten => "file_unwritten",
+        Alarm::ProgramRefused => "program_refused",
     }
 }
 
@@ -33,6 +34,7 @@ pub fn name_text(alloc: Global, site: &Site, alarm: Alarm) -> Result<String, All
         Alarm::SumHidden(..) | Alarm::StoredHidden(..) => return point_text(alloc, site, alarm),
         Alarm::RoundLate => "rounds",
         Alarm::StateUnwritten => "state",
+        Alarm::ProgramRefused => "program",
     };
     escaped(alloc, name)
 }
@@ -47,7 +49,7 @@ pub fn subject_text(alloc: Global, site: &Site, alarm: Alarm) -> Result<String, 
     Ok(text)
 }
 
-/// The cause of an alarm, as it is told; for a model its ID.
+/// The cause of an alarm, as it is told; for a model its ID. Why a program isn't accepted is known to whoever judged it.
 pub fn cause_text(alloc: Global, site: &Site, alarm: Alarm) -> Result<String, AllocError> {
     let word = match alarm {
         Alarm::DeviceLost(_, Some(loss)) => loss_word(loss),
@@ -62,6 +64,7 @@ pub fn cause_text(alloc: Global, site: &Site, alarm: Alarm) -> Result<String, Al
         }
         Alarm::RoundLate => "Late",
         Alarm::StateUnwritten => "Unwritten",
+        Alarm::ProgramRefused => "Refused",
     };
     String::from_str(alloc, word)
 }

@@ -25,21 +25,24 @@ pub struct Seen<'a> {
     pub is_late: bool,
     /// Whether the file of set values can't be written.
     pub is_unkept: bool,
+    /// Whether the program's file has a program that isn't accepted.
+    pub is_refused: bool,
 }
 
 /// From now on `alarms` is all that is wrong now: of the devices, the models that are wanted of them, the inputs, the outputs,
-/// the set values, the sums and the `site` tags that clients are shown, each in the site's order, of the rounds and of the file of set values.
+/// the set values, the sums and the `site` tags that clients are shown, each in the site's order, of the rounds, of the file of
+/// set values and of the program's file.
 pub fn wrong_now(
     alarms: &mut Items<Alarm>,
     core: &Core<DEPTH>,
     seen: &Seen<'_>,
 ) -> Result<(), AllocError>
-    ensures { OnOk result (IsAllWrong core.now seen.now.devices.now seen.now.outputs.now seen.now.is_late seen.now.is_unkept alarms.new) }
+    ensures { OnOk result (IsAllWrong core.now seen.now.devices.now seen.now.outputs.now seen.now.is_late seen.now.is_unkept seen.now.is_refused alarms.new) }
 {
     alarms.clear();
     push_beside(alarms, core, seen.devices, seen.outputs)?;
     push_served(alarms, core)?;
-    push_itself(alarms, seen.is_late, seen.is_unkept)
+    push_itself(alarms, seen.is_late, seen.is_unkept, seen.is_refused)
 }
 
 /// What of that the core alone says of numbers: the inputs, the sums and the `site` tags.
@@ -76,11 +79,17 @@ fn push_served(alarms: &mut Items<Alarm>, core: &Core<DEPTH>) -> Result<(), Allo
 }
 
 /// Appends what is wrong with the service itself.
-fn push_itself(alarms: &mut Items<Alarm>, is_late: bool, is_unkept: bool) -> Result<(), AllocError>
-    ensures { OnOk result (alarms.new ≡ alarms.old ++ wrong_itself is_late is_unkept) }
+fn push_itself(
+    alarms: &mut Items<Alarm>,
+    is_late: bool,
+    is_unkept: bool,
+    is_refused: bool,
+) -> Result<(), AllocError>
+    ensures { OnOk result (alarms.new ≡ alarms.old ++ wrong_itself is_late is_unkept is_refused) }
 {
     push_if(alarms, is_late, Alarm::RoundLate)?;
-    push_if(alarms, is_unkept, Alarm::StateUnwritten)
+    push_if(alarms, is_unkept, Alarm::StateUnwritten)?;
+    push_if(alarms, is_refused, Alarm::ProgramRefused)
 }
 
 fn push_if(alarms: &mut Items<Alarm>, holds: bool, alarm: Alarm) -> Result<(), AllocError>

@@ -3,15 +3,17 @@ use crate::journal::Journal;
 use crate::keeping::Keeping;
 use crate::kept_files::KeptFiles;
 use crate::looking::Lookout;
-use crate::room::Room;
+use crate::program_watch::{Looked, ProgramWatch};
+use crate::room::{Room, STANDARD_ERROR, STANDARD_OUTPUT};
 use crate::serving::{End, Serving};
 use crate::sockets::Sockets;
 use crate::state_lock::StateLock;
 use crate::status::status_text;
-use crate::telling::{tell, tell_changes, tell_scan};
+use crate::telling::{tell, tell_changes, tell_scan, tell_taken};
 use crate::wall_clock::seconds_of_day;
 use service_core::{Note, Service};
-use service_texts::{Addresses, late_line, listening_line};
+use service_texts::{Addresses, late_line, listening_line, program_refused_line};
+use start_texts::Start;
 use std::alloc::{AllocError, Global};
 use std::io;
 use std::io::Write;
@@ -33,18 +35,22 @@ pub(crate) struct Desk<'a, W: Write> {
     late: u64,
     /// What is wrong.
     lookout: Lookout,
+    /// Whether standard error takes a note on another program; None where there are none.
+    notes: Option<Room>,
 }
 
 impl<'a, W: Write> Desk<'a, W> {
+    /// `is_noting` is so where notes on other programs may come.
     pub(crate) fn new<R: Net + Clock>(
         rt: &R,
         alloc: Global,
         serving: &Serving<'_>,
         addresses: &'a Addresses,
+        is_noting: bool,
         out: &'a mut W,
     ) -> Result<Desk<'a, W>, End> {
         let sockets = Sockets::new(rt, alloc, serving, addresses.links.as_slice())?;
-        match Desk::over(rt, alloc, serving, addresses, sockets, out) {
+        match Desk::over(rt, alloc, serving, addresses, is_noting, sockets, out) {
             Ok(desk) => Ok(desk),
             Err(fault) => Err(End::by(&fault)),
         }
@@ -55,10 +61,11 @@ impl<'a, W: Write> Desk<'a, W> {
         alloc: Global,
         serving: &Serving<'_>,
         addresses: &'a Addresses,
+        is_noting: bool,
         sockets: Sockets,
         out: &'a mut W,
     ) -> io::Result<Desk<'a, W>> {
-        let room = Room::new(rt, alloc)?;
+        let room = Room::new(rt, alloc, STANDARD_OUTPUT)?;
         let journal = Journal::new(alloc, out, room, serving.times, seconds_of_day(rt));
         Ok(Desk {
             alloc,
@@ -68,6 +75,7 @@ impl<'a, W: Write> Desk<'a, W> {
             start: Instant::now(rt)?,
             late: 0,
             lookout: Lookout::new(alloc),
+            notes: noting(rt, alloc, is_noting),
         })
     }
 
@@ -96,23 +104,67 @@ impl<'a, W: Write> Desk<'a, W> {
     }
 
     /// One turn; whether the last scan is done.
-    pub(crate) fn turn<R: Net + Clock + Files + Processes<Started = SystemProcess>>(
+    pub(crate) fn turn<
+        R: Net + Clock + Files + Processes<Started = SystemProcess> + Eprint + AllocGlobal,
+        P: ProgramWatch,
+    >(
         &mut self,
         rt: &R,
         serving: &Serving<'_>,
+        program: &mut P,
         service: &mut Service,
         files: &mut KeptFiles<'_>,
     ) -> Result<bool, End> {
         let now = self.now(rt)?;
         self.journal.turn_to(now, seconds_of_day(rt));
+        let looked = program.look(rt, now, service);
+        if self.tell_look(&*program, looked, files) && self.has_room() {
+            program.explain(rt, &*service);
+        }
         service.tick(now);
         let taken = self.sockets.take(rt, serving, service, &mut self.journal);
         // what was taken in may set values, and giving out says so
         let kept = files.keep_state(taken, rt, service.core(), &mut self.journal);
         self.sockets.give(kept, service, &mut self.journal);
         let is_done = self.tell(serving, service, files);
-        self.keep_status(rt, serving, service, files);
+        self.keep_status(rt, serving, &*program, service, files);
         Ok(is_done)
+    }
+
+    // Whether standard error takes a note without a wait.
+    fn has_room(&mut self) -> bool {
+        match &mut self.notes {
+            Some(room) => room.is_there(),
+            None => false,
+        }
+    }
+
+    // Tells what came of a look whether another program is to run; whether that is to be explained.
+    fn tell_look<P: ProgramWatch>(
+        &mut self,
+        program: &P,
+        looked: Looked,
+        files: &mut KeptFiles<'_>,
+    ) -> bool {
+        match looked {
+            Looked::Same => false,
+            Looked::Settled => {
+                self.lookout.settle();
+                false
+            }
+            Looked::Refused(refusal) => {
+                self.journal
+                    .tell(program_refused_line(self.alloc, refusal.words()));
+                self.lookout.refuse(refusal);
+                true
+            }
+            Looked::Taken(budget) => {
+                self.lookout.settle();
+                files.take_program();
+                tell_taken(self.alloc, program.taken(), budget, &mut self.journal);
+                true
+            }
+        }
     }
 
     // The milliseconds since the start.
@@ -178,32 +230,46 @@ impl<'a, W: Write> Desk<'a, W> {
     }
 
     // Says in a file how the service stands, where a scan is over.
-    fn keep_status<R: Files>(
+    fn keep_status<R: Files, P: ProgramWatch>(
         &mut self,
         rt: &R,
         serving: &Serving<'_>,
+        program: &P,
         service: &Service,
         files: &mut KeptFiles<'_>,
     ) {
         if files.wants_status() {
-            let text = status_text(
-                self.alloc,
-                serving.start,
-                self.journal.time_of_day(),
-                self.journal.now() / 1000,
-                self.late,
-                service,
-                self.addresses,
-                self.sockets.clients(),
-                &self.lookout,
-            );
+            let text = match program.taken() {
+                Some(start) => self.status(start, service),
+                None => self.status(serving.start, service),
+            };
             files.keep_status(rt, text, &mut self.journal);
         }
     }
 
-    /// Waits until there is something to do.
-    pub(crate) fn wait<R: Clock>(&mut self, rt: &R, service: &Service) -> Result<(), End> {
-        let most = service.wakes_at().saturating_sub(self.now(rt)?);
+    // How the service stands, with what is told of the program that runs.
+    fn status(&self, start: &Start, service: &Service) -> Result<String, AllocError> {
+        status_text(
+            self.alloc,
+            start,
+            self.journal.time_of_day(),
+            self.journal.now() / 1000,
+            self.late,
+            service,
+            self.addresses,
+            self.sockets.clients(),
+            &self.lookout,
+        )
+    }
+
+    /// Waits until there is something to do: at the latest when the next look is due, where there is one.
+    pub(crate) fn wait<R: Clock>(
+        &mut self,
+        rt: &R,
+        looks_at: Option<u64>,
+        service: &Service,
+    ) -> Result<(), End> {
+        let most = earlier(service.wakes_at(), looks_at).saturating_sub(self.now(rt)?);
         let most = self.sockets.longest_wait(service, most);
         match self.sockets.wait(most) {
             Ok(()) => Ok(()),
@@ -214,6 +280,24 @@ impl<'a, W: Write> Desk<'a, W> {
     /// Ends the connections to devices, and each process that looks up a name.
     pub(crate) fn end(&mut self) {
         self.sockets.end();
+    }
+}
+
+// Whether standard error takes notes, where there may be any.
+fn noting<R: Net>(rt: &R, alloc: Global, is_noting: bool) -> Option<Room> {
+    if !is_noting {
+        return None;
+    }
+    match Room::new(rt, alloc, STANDARD_ERROR) {
+        Ok(room) => Some(room),
+        Err(_) => None,
+    }
+}
+
+fn earlier(one: u64, other: Option<u64>) -> u64 {
+    match other {
+        Some(other) => one.min(other),
+        None => one,
     }
 }
 

@@ -67,6 +67,13 @@ impl<'a> KeptFiles<'a> {
         }
     }
 
+    /// Another program runs from now on: its variables are kept.
+    pub(crate) fn take_program(&mut self) {
+        if let Some(state) = &mut self.state {
+            state.take_program();
+        }
+    }
+
     /// Keeps what is set, once all that came is taken, and before whoever set it is told that it is done; and the variables
     /// that are kept.
     pub(crate) fn keep_state<R: Files, W: Write>(

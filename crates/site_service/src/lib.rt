@@ -19,6 +19,7 @@ mod looking;
 mod members;
 mod plant_client;
 mod plant_door;
+mod program_watch;
 mod replacing;
 mod restoring;
 mod room;
@@ -40,6 +41,8 @@ mod wall_clock;
 
 // what is kept over a restart
 pub use keeping::{Keeping, KeptState};
+// another program in place of the one that runs
+pub use program_watch::{Looked, OneProgram, ProgramWatch, Refusal};
 // the service itself
 pub use serving::{End, Serving};
 pub use state_fault::StateFault;

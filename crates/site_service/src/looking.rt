@@ -1,5 +1,6 @@
 //! What is looked at to see what is wrong.
 use crate::kept_files::KeptFiles;
+use crate::program_watch::Refusal;
 use point_types::Items;
 use service_core::{DeviceStatus, OutputState, Service};
 use site_alarms::{Alarm, Changes, Seen, Standing, Watch, wrong_now};
@@ -21,6 +22,8 @@ pub(crate) struct Lookout {
     is_of_now: bool,
     /// When a round began late last, in milliseconds since the start.
     late_at: Option<u64>,
+    /// Why the program in its file doesn't run; None where it does.
+    refusal: Option<Refusal>,
 }
 
 impl Lookout {
@@ -33,12 +36,31 @@ impl Lookout {
             alarms: Items::new(alloc),
             is_of_now: true,
             late_at: None,
+            refusal: None,
         }
     }
 
     /// A round began late.
     pub(crate) fn came_late(&mut self, now: u64) {
         self.late_at = Some(now);
+    }
+
+    /// The program in its file is refused.
+    pub(crate) fn refuse(&mut self, refusal: Refusal) {
+        self.refusal = Some(refusal);
+    }
+
+    /// The program in its file runs.
+    pub(crate) fn settle(&mut self) {
+        self.refusal = None;
+    }
+
+    /// Why the program in its file is refused; empty where it isn't.
+    pub(crate) fn refused_for(&self) -> &str {
+        match &self.refusal {
+            Some(refusal) => refusal.words(),
+            None => "",
+        }
     }
 
     /// Looks what is wrong after a scan, and gives what changed. Where memory is refused the next scan is told of in its place.
@@ -69,6 +91,7 @@ impl Lookout {
             outputs: self.outputs.as_slice(),
             is_late: is_late(self.late_at, now),
             is_unkept: files.is_unkept(),
+            is_refused: self.refusal.is_some(),
         };
         wrong_now(&mut self.alarms, service.core(), &seen)?;
         self.watch.see(self.alarms.as_slice(), now / 1000)

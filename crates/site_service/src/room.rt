@@ -1,4 +1,4 @@
-//! Whether standard output takes a line without a wait.
+//! Whether standard output, or standard error, takes a line without a wait.
 use mio::unix::SourceFd;
 use mio::{Events, Interest, Poll, Token};
 use std::alloc::Global;
@@ -7,32 +7,38 @@ use std::net::Net;
 use std::time::Duration;
 
 /// The descriptor of standard output.
-const STANDARD_OUTPUT: i32 = 1;
+pub(crate) const STANDARD_OUTPUT: i32 = 1;
+
+/// The descriptor of standard error.
+pub(crate) const STANDARD_ERROR: i32 = 2;
 
 /// Its token.
 const OUTPUT: Token = Token(0);
 
-/// Whether standard output takes a line without a wait: a pipe that nobody reads is full at some time, and a write to it
-/// would hold up the service.
+/// Whether standard output, or standard error, takes a line without a wait: a pipe that nobody reads is full at some time, and
+/// a write to it would hold up the service.
 #[derive(Drop)]
 pub(crate) struct Room {
     poll: Poll,
     events: Events,
+    /// Which one it is.
+    descriptor: i32,
     /// Whether the system tells it. It doesn't for a file, which takes each line.
     is_told: bool,
 }
 
 impl Room {
-    pub(crate) fn new<R: Net>(rt: &R, alloc: Global) -> io::Result<Room> {
+    pub(crate) fn new<R: Net>(rt: &R, alloc: Global, descriptor: i32) -> io::Result<Room> {
         let poll = Poll::new(rt)?;
         let events = Events::with_capacity(alloc, 1)?;
         let is_told = poll
             .registry()
-            .register(&mut SourceFd(&STANDARD_OUTPUT), OUTPUT, Interest::WRITABLE)
+            .register(&mut SourceFd(&descriptor), OUTPUT, Interest::WRITABLE)
             .is_ok();
         Ok(Room {
             poll,
             events,
+            descriptor,
             is_told,
         })
     }
@@ -46,7 +52,7 @@ impl Room {
     fn is_asked(&self) -> bool {
         self.poll
             .registry()
-            .reregister(&mut SourceFd(&STANDARD_OUTPUT), OUTPUT, Interest::WRITABLE)
+            .reregister(&mut SourceFd(&self.descriptor), OUTPUT, Interest::WRITABLE)
             .is_ok()
     }
 

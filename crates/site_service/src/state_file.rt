@@ -69,6 +69,13 @@ impl<'a> StateFile<'a> {
         self.is_due = self.writes.has_failed();
     }
 
+    /// Another program runs from now on: where variables are kept, the file is written at once with those that it has.
+    pub(crate) fn take_program(&mut self) {
+        if !self.retained.is_empty() {
+            self.is_due = true;
+        }
+    }
+
     /// Writes the file, where something was set since, where a variable changed and that may be written now, where it says for
     /// too long how old a set value is, or where it is to be tried once more: from then on what is set is what was tried to be written. `now` is in milliseconds since the start.
     /// Gives the word by which it is told that it can't be written, or can again.

@@ -29,7 +29,7 @@ pub(crate) fn status_text(
         &mut status,
         alloc,
         "alarms",
-        alarms_value(alloc, service.core(), standing)?,
+        alarms_value(alloc, service.core(), standing, lookout.refused_for())?,
     )?;
     put(&mut status, alloc, "started", started_value(alloc, start)?)?;
     put_text(&mut status, alloc, "time", time?.as_str())?;

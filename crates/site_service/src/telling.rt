@@ -4,12 +4,13 @@ use escaped_text::escaped;
 use gateway::{Core, DEPTH, Report};
 use register_map::Map;
 use service_core::Note;
-use service_texts::{device_line, lost_line, unwritten_line, written_line};
+use service_texts::{device_line, lost_line, program_taken_line, unwritten_line, written_line};
 use site_alarms::{
     Changes, begun_line, device_name, is_lacking, lacks_text, loss_word, output_name, over_line,
     push_models, unwritten_word,
 };
 use site_model::{Site, Want};
+use start_texts::Start;
 use std::alloc::{AllocError, Global};
 use std::io::Write;
 
@@ -119,6 +120,25 @@ fn found_models(alloc: Global, map: &Map) -> Result<String, AllocError> {
     let mut models = String::from_str(alloc, "found")?;
     push_models(alloc, &mut models, map)?;
     Ok(models)
+}
+
+/// Tells which program was taken, and the most instructions of a scan.
+pub(crate) fn tell_taken<W: Write>(
+    alloc: Global,
+    start: Option<&Start>,
+    budget: u32,
+    journal: &mut Journal<'_, W>,
+) {
+    if let Some(start) = start {
+        journal.tell(started_line(alloc, start));
+    }
+    journal.tell(program_taken_line(alloc, budget));
+}
+
+// `started TIME sunsite VERSION site HASH program HASH`.
+fn started_line(alloc: Global, start: &Start) -> Result<String, AllocError> {
+    let line = start.line(alloc)?;
+    String::from_str(alloc, line.trim_end())
 }
 
 /// The line of a scan, as `run` has it.

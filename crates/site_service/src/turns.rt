@@ -2,6 +2,7 @@
 use crate::desk::Desk;
 use crate::keeping::Keeping;
 use crate::kept_files::KeptFiles;
+use crate::program_watch::ProgramWatch;
 use crate::serving::{End, Serving};
 use crate::state_lock::StateLock;
 use service_core::Service;
@@ -15,11 +16,13 @@ use std::rt::Files;
 use std::time::Clock;
 
 /// Serves a site, of which nothing was asked yet, until the scans that were asked for are done. `addresses` are
-/// those of the service's connections, whose time begins at 0. Nothing that a peer does ends it, and no file once it began.
+/// those of the service's connections, whose time begins at 0. `program` looks whether another program is to run. Nothing that
+/// a peer does ends it, and no file once it began.
 /// State: the file of set values can't be kept; Listen: nothing can be served at the address for clients; System: the clock or
 /// the wait for sockets failed; OutOfMemory: memory was refused at the start.
 pub fn serve_site<
-    R: Net + Clock + Files<File = File> + Processes<Started = SystemProcess>,
+    R: Net + Clock + Files<File = File> + Processes<Started = SystemProcess> + Eprint + AllocGlobal,
+    P: ProgramWatch,
     W: Write,
 >(
     rt: &R,
@@ -27,31 +30,38 @@ pub fn serve_site<
     serving: &Serving<'_>,
     keeping: &Keeping<'_, '_>,
     addresses: &Addresses,
+    program: &mut P,
     service: &mut Service,
     out: &mut W,
 ) -> Result<(), End> {
     let lock = lock_of(rt, alloc, keeping)?;
-    let mut desk = Desk::new(rt, alloc, serving, addresses, out)?;
+    let is_noting = program.looks_at().is_some();
+    let mut desk = Desk::new(rt, alloc, serving, addresses, is_noting, out)?;
     desk.tell_address();
     let mut files = desk.restore(keeping, lock, service)?;
-    let ended = turns(rt, serving, service, &mut desk, &mut files);
+    let ended = turns(rt, serving, program, service, &mut desk, &mut files);
     desk.end();
     ended
 }
 
 // Turns and waits, until the last scan is done.
-fn turns<R: Net + Clock + Files + Processes<Started = SystemProcess>, W: Write>(
+fn turns<
+    R: Net + Clock + Files + Processes<Started = SystemProcess> + Eprint + AllocGlobal,
+    P: ProgramWatch,
+    W: Write,
+>(
     rt: &R,
     serving: &Serving<'_>,
+    program: &mut P,
     service: &mut Service,
     desk: &mut Desk<'_, W>,
     files: &mut KeptFiles<'_>,
 ) -> Result<(), End> {
     for _ in 0..u64::MAX {
-        if desk.turn(rt, serving, service, files)? {
+        if desk.turn(rt, serving, program, service, files)? {
             return Ok(());
         }
-        desk.wait(rt, service)?;
+        desk.wait(rt, program.looks_at(), service)?;
     }
     Ok(())
 }

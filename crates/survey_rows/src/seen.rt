@@ -20,6 +20,7 @@ impl Wrongs {
             outputs: &[],
             is_late: false,
             is_unkept: false,
+            is_refused: false,
         };
         wrong_now(&mut alarms, service.core(), &seen)?;
         Ok(Wrongs { alarms })
