@@ -129,8 +129,8 @@ class Client:
 class Service:
     """`sunsite serve`, and the lines that it printed so far."""
 
-    def __init__(self, program, words, reads=True):
-        self.process = subprocess.Popen(self.command(program, words), stdout=subprocess.PIPE, stderr=subprocess.PIPE, text=True)
+    def __init__(self, program, words, reads=True, errors=subprocess.PIPE):
+        self.process = subprocess.Popen(self.command(program, words), stdout=subprocess.PIPE, stderr=errors, text=True)
         self.lines = []
         if reads:
             threading.Thread(target=self.listen, daemon=True).start()
