@@ -17,6 +17,7 @@ use crate::trial_input::trial_of;
 use clap::error::ErrorKind;
 use clap::{ArgMatches, Error};
 use commands::tell_no_memory;
+use file_keys::TomlFile;
 use refusal_notes::{Notes, escaped, explain_unusable};
 use service_texts::Devices;
 use site_service::seconds_of_day;
@@ -256,19 +257,46 @@ fn obey_on_texts<W: Write>(
     def_paths: &[&str],
     out: &mut W,
 ) -> u8 {
+    let Ok(site) = TomlFile::parse(alloc, sources.site.as_str()) else {
+        return tell_no_memory(out);
+    };
+    let Ok(plant) = TomlFile::parse(alloc, sources.plant.as_str()) else {
+        return tell_no_memory(out);
+    };
     let notes = Notes {
         quiet: matches.get_flag("quiet"),
         site_path: matches.get_str("SITE").unwrap_or(""),
-        site: sources.site.as_str(),
+        site: &site,
         program_path: matches.get_str("PROGRAM").unwrap_or(""),
         program: sources.program.as_str(),
         plant_path: matches.get_str("PLANT").unwrap_or(""),
-        plant: sources.plant.as_str(),
+        plant: &plant,
         def_paths,
         defs: sources.definitions.texts.as_slice(),
     };
+    obey_on_notes(rt, alloc, itself, name, matches, sources, &notes, out)
+}
+
+/// Does what a command asks for, once the texts of its files are parsed.
+fn obey_on_notes<W: Write>(
+    rt: &(impl Input
+        + Print
+        + Eprint
+        + AllocGlobal
+        + Files<File = File>
+        + Clock
+        + Net
+        + Processes<Started = SystemProcess>),
+    alloc: Global,
+    itself: &str,
+    name: &str,
+    matches: &ArgMatches<'_>,
+    sources: &Sources,
+    notes: &Notes<'_>,
+    out: &mut W,
+) -> u8 {
     if name == "run" {
-        if let Some(why) = misuse_of_definitions(matches, def_paths) {
+        if let Some(why) = misuse_of_definitions(matches, notes.def_paths) {
             return tell_misuse(rt, alloc, why, out);
         }
         return run_on(
@@ -276,17 +304,17 @@ fn obey_on_texts<W: Write>(
             alloc,
             itself,
             matches,
-            &notes,
+            notes,
             sources.sets.as_str(),
             out,
         );
     }
     let trace = trace_of(matches, sources);
     match (file_command(name, matches), trace) {
-        (Some(command), Some(trace)) => explain_with(rt, alloc, command, &notes, trace, out),
-        (Some(command), None) => obey_on(rt, alloc, itself, command, &notes, out),
-        (None, _) if name == "serve" => served(rt, alloc, itself, matches, &notes, out),
-        (None, _) if name == "survey" => surveyed(rt, alloc, matches, &notes, out),
+        (Some(command), Some(trace)) => explain_with(rt, alloc, command, notes, trace, out),
+        (Some(command), None) => obey_on(rt, alloc, itself, command, notes, out),
+        (None, _) if name == "serve" => served(rt, alloc, itself, matches, notes, out),
+        (None, _) if name == "survey" => surveyed(rt, alloc, matches, notes, out),
         (None, _) => BAD_COMMAND_LINE,
     }
 }
@@ -377,7 +405,13 @@ fn served_with<W: Write>(
     out: &mut W,
 ) -> u8 {
     let seconds = seconds_of_day(rt);
-    let Ok(start) = Start::of(alloc, seconds, help::version(), notes.site, notes.program) else {
+    let Ok(start) = Start::of(
+        alloc,
+        seconds,
+        help::version(),
+        notes.site.text(),
+        notes.program,
+    ) else {
         return tell_no_memory(out);
     };
     match service_words(rt, alloc, matches) {

@@ -1,12 +1,13 @@
 //! What a command line asks for on the texts of its files, done by one call.
-ghost use Rattle.commands.specs.Obeyed.{Obeys};
+ghost use Rattle.std.specs.Prelude.{map, string_bytes};
+ghost use Rattle.commands.specs.Obeyed.{Checks, Obeys};
 ghost use Rattle.command_line.specs.Asked.{ObeysFiles};
 
 use crate::plant_run::{PlantRun, run_plant};
 use crate::plant_server::{PlantPort, simulate};
 use crate::probe_link::{ProbeRun, probe_over};
 use crate::shown::warn_beside;
-use commands::{Pace, TextCommand};
+use commands::{Pace, TextCommand, judge};
 use refusal_notes::Notes;
 use std::alloc::Global;
 use std::io::Write;
@@ -48,14 +49,7 @@ pub fn obey_on<W: Write>(
 {
     let (site, program, defs) = (notes.site, notes.program, notes.defs);
     match command {
-        FileCommand::Check => {
-            let check = TextCommand::Check {
-                site,
-                program,
-                defs,
-            };
-            checked(rt, check, notes, out)
-        }
+        FileCommand::Check => checked(rt, notes, out),
         FileCommand::Explain { listing } => {
             let explain = TextCommand::Explain {
                 site,
@@ -103,20 +97,20 @@ fn told<W: Write>(
     obeyed.status
 }
 
-/// The same, with a warning of what clients may not be shown where a program is accepted.
-fn checked<W: Write>(
-    rt: &(impl Eprint + AllocGlobal),
-    command: TextCommand<'_>,
-    notes: &Notes<'_>,
-    out: &mut W,
-) -> u8
-    ensures { Obeys command.entry (W.contents out.old) (W.contents out.new) result }
+/// Judges a program for a site, and warns as [`told`] does; where it is accepted also of what clients may not be shown, and
+/// of what `serve` would refuse or not keep.
+fn checked<W: Write>(rt: &(impl Eprint + AllocGlobal), notes: &Notes<'_>, out: &mut W) -> u8
+    ensures { Checks notes.now.site.now notes.now.program.now (map string_bytes notes.now.defs.now) (W.contents out.old) (W.contents out.new) result }
 {
-    let status = told(rt, command, notes, out);
-    if status == 0 {
-        warn_beside(rt, notes);
+    let judged = judge(rt.alloc(), notes.site, notes.program, notes.defs, out);
+    notes.warn(rt);
+    notes.explain(rt, &judged.cause);
+    if let Some(given) = &judged.accepted {
+        if judged.status == 0 {
+            warn_beside(rt, notes, given);
+        }
     }
-    status
+    judged.status
 }
 
 /// Warns of what nothing reads in the site file. The simulator that is started warns of the plant file and the definitions.

@@ -3,6 +3,7 @@ ghost use Rattle.std.specs.Prelude.{◌≡◌, Some, IfSome};
 
 use crate::watched_link::{Asked, Front, WatchedLink};
 use commands::definitions::definitions;
+use file_keys::TomlFile;
 use gateway::Poller;
 use modbus_frame::{Link, LinkFault, Request};
 use refusal_notes::Cause;
@@ -19,7 +20,7 @@ const WRITE_ONE: u8 = 6;
 /// for a part of it is refused, it goes without.
 pub fn cause_of_link<L: Link>(
     alloc: Global,
-    site: &str,
+    site: &TomlFile<'_>,
     defs: &[String],
     poller: &mut Poller<WatchedLink<L>>,
 ) -> Option<Cause>
@@ -43,7 +44,7 @@ fn fault_of<L: Link>(poller: &mut Poller<WatchedLink<L>>) -> Option<LinkFault>
 /// Which device was asked for what, and what came; empty where nothing was asked.
 fn asked_and_came<L: Link>(
     alloc: Global,
-    site: &str,
+    site: &TomlFile<'_>,
     defs: &[String],
     link: &WatchedLink<L>,
 ) -> Result<String, AllocError> {
@@ -67,12 +68,12 @@ fn asked_and_came<L: Link>(
 fn push_device(
     alloc: Global,
     text: &mut String,
-    site: &str,
+    site: &TomlFile<'_>,
     defs: &[String],
     unit: u8,
 ) -> Result<(), AllocError> {
     if let Ok(models) = definitions(alloc, defs) {
-        if let Ok(site) = Site::read(alloc, site, models.as_slice()) {
+        if let Ok(site) = Site::read_file(alloc, site, models.as_slice()) {
             push_name(text, &site, unit)?;
         }
     }

@@ -2,7 +2,7 @@
 use crate::help;
 use crate::retained::warn_of_names;
 use crate::source::{SourceFault, read_again};
-use commands::{Accepted, Outcome, accept};
+use commands::{DEPTH, Outcome, accept_program};
 use gateway::CoreFault;
 use point_types::Name;
 use refusal_notes::{Cause, FileFault, Notes, escaped, explain_unusable};
@@ -14,6 +14,7 @@ use std::alloc::{AllocError, Global};
 use std::rt::Files;
 use std::str;
 use std::time::Clock;
+use verifier::Verified;
 
 /// From one look to the next, in milliseconds.
 const BETWEEN: u64 = 1000;
@@ -209,16 +210,22 @@ impl<'n> ProgramFile<'n> {
     ) -> Looked {
         self.known = Known::Nothing;
         let seconds = seconds_of_day(rt);
-        match Start::of(self.alloc, seconds, help::version(), self.notes.site, text) {
+        match Start::of(
+            self.alloc,
+            seconds,
+            help::version(),
+            self.notes.site.text(),
+            text,
+        ) {
             Ok(start) => self.judge_from(text, start, service),
             Err(AllocError) => Looked::Refused(Refusal::Memory),
         }
     }
 
-    /// Judges a text of which this is told where it is taken.
+    /// Judges a text, for the site that is served, of which this is told where it is taken.
     fn judge_from(&mut self, text: &str, start: Start, service: &mut Service) -> Looked {
-        match accept(self.alloc, self.notes.site, text, self.notes.defs) {
-            Ok(Ok(given)) => self.take(given, start, service),
+        match accept_program(self.alloc, service.core().site(), text) {
+            Ok(Ok(verified)) => self.take(verified, start, service),
             Ok(Err(outcome)) => self.refuse(outcome),
             Err(AllocError) => Looked::Refused(Refusal::Memory),
         }
@@ -231,9 +238,9 @@ impl<'n> ProgramFile<'n> {
     }
 
     /// Puts an accepted program in.
-    fn take(&mut self, given: Accepted, start: Start, service: &mut Service) -> Looked {
-        let budget = given.verified.budget();
-        match put_in(self.alloc, given, service) {
+    fn take(&mut self, verified: Verified<DEPTH>, start: Start, service: &mut Service) -> Looked {
+        let budget = verified.budget();
+        match replace_program(self.alloc, service, verified) {
             Ok(()) => {
                 self.taken = Some(start);
                 self.known = Known::Taken;
@@ -265,14 +272,6 @@ impl<'n> ProgramFile<'n> {
         let vars = machine.verified().image().vars.as_slice();
         warn_of_names(rt, &self.notes, self.names, vars);
     }
-}
-
-fn put_in(alloc: Global, given: Accepted, service: &mut Service) -> Result<(), CoreFault> {
-    let Accepted {
-        site: _site,
-        verified,
-    } = given;
-    replace_program(alloc, service, verified)
 }
 
 fn sight_of<R: Files + AllocGlobal>(rt: &R, alloc: Global, path: &str) -> Sight {

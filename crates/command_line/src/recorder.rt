@@ -135,7 +135,7 @@ fn late_unset(
 fn report_of(alloc: Global, run: &PlantRun<'_, '_>) -> Result<Report, AllocError> {
     let notes = &run.notes;
     Ok(Report {
-        site: source(alloc, notes.site_path, notes.site)?,
+        site: source(alloc, notes.site_path, notes.site.text())?,
         program: source(alloc, notes.program_path, notes.program)?,
         plant: escaped(alloc, run.plant)?,
         scans: run.pace.scans,

@@ -1,6 +1,6 @@
 //! The variables that a service keeps over a restart.
 use crate::dispatch::tell_misuse;
-use commands::{Accepted, accept, tell_no_memory};
+use commands::{Accepted, tell_no_memory};
 use point_types::{Items, Name, Var};
 use refusal_notes::{Notes, escaped};
 use service_texts::{RetainFault, is_among, kept_numbers, retained_names};
@@ -83,15 +83,14 @@ fn why_unretained(alloc: Global, fault: RetainFault) -> Result<String, AllocErro
 /// Warns on standard error, beside an acceptance, of what a site file says in `retain` that `serve` would refuse, and of each
 /// name there that the program has no variable of. Where the warning can't be printed, or memory for it is refused, nothing
 /// comes of it.
-pub(crate) fn warn_of_retained(rt: &(impl Eprint + AllocGlobal), notes: &Notes<'_>) {
+pub(crate) fn warn_of_retained(
+    rt: &(impl Eprint + AllocGlobal),
+    notes: &Notes<'_>,
+    given: &Accepted,
+) {
     let alloc = rt.alloc();
     match retained_names(alloc, notes.site) {
-        Ok(names) if names.as_slice().is_empty() => {}
-        Ok(names) => {
-            if let Ok(Ok(given)) = accept(alloc, notes.site, notes.program, notes.defs) {
-                warn_of_names(rt, notes, names.as_slice(), variables_of(&given));
-            }
-        }
+        Ok(names) => warn_of_names(rt, notes, names.as_slice(), variables_of(given)),
         Err(fault) => {
             if let Ok(why) = why_unretained(alloc, fault) {
                 warn(rt, notes, why.as_str(), ": 'serve' refuses it");

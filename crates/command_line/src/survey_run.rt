@@ -5,6 +5,7 @@ use crate::service_run::tell_no_core;
 use crate::shown::warn_on_site;
 use commands::definitions::definitions;
 use commands::{Accepted, Outcome, accept, tell_no_memory, write_lines};
+use file_keys::TomlFile;
 use gateway::CoreFault;
 use modbus_frame::LinkFault;
 use refusal_notes::Notes;
@@ -119,8 +120,11 @@ fn asked_with(
     notes: &Notes<'_>,
     identities: bool,
 ) -> Result<Result<Accepted, Outcome>, AllocError> {
-    match asked_site(alloc, notes.site, identities) {
-        Ok(text) => accept(alloc, text.as_str(), NO_PROGRAM, notes.defs),
+    match asked_site(alloc, notes.site.text(), identities) {
+        Ok(text) => {
+            let site = TomlFile::parse(alloc, text.as_str())?;
+            accept(alloc, &site, NO_PROGRAM, notes.defs)
+        }
         Err(AskedFault::NoSite) => accept(alloc, notes.site, NO_PROGRAM, notes.defs),
         Err(AskedFault::OutOfMemory) => Err(AllocError),
     }

@@ -5,7 +5,7 @@ ghost use Rattle.command_line.specs.Tried.{TellsHindered, Tries};
 
 use crate::source::{STANDARD_INPUT, SourceFault, read_text};
 use commands::{TextCommand, tell_no_memory, write_lines};
-use refusal_notes::{Notes, explain_unusable};
+use refusal_notes::{explain_program, explain_unusable};
 use std::io::{Read, Write};
 
 /// A trial of the text that a reader gives; or it is told why that isn't had. Whether a read failed the reader tells no
@@ -28,9 +28,10 @@ pub fn trial_of<S: Read + Drop, W: Write>(
 fn trial_on<W: Write>(rt: &(impl Eprint + AllocGlobal), input: &str, quiet: bool, out: &mut W) -> u8
     ensures { IsTrial input.now (W.contents out.old) (W.contents out.new) result }
 {
-    let notes = Notes::on_program(quiet, STANDARD_INPUT, input);
     let obeyed = commands::obey(rt.alloc(), TextCommand::Trial { input }, out);
-    notes.explain(rt, &obeyed.cause);
+    if !quiet {
+        explain_program(rt, STANDARD_INPUT, input, &obeyed.cause);
+    }
     obeyed.status
 }
 

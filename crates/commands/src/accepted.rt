@@ -12,6 +12,7 @@ ghost use Rattle.commands.specs.Told.{refused_with};
 use crate::definitions::definitions;
 use crate::outcome::Outcome;
 use crate::report::{no_site, undefined, unverified};
+use file_keys::TomlFile;
 pub use gateway::DEPTH;
 use il_assemble::assemble;
 use il_assemble::laws::texts_keep_the_limits;
@@ -36,7 +37,7 @@ pub struct Accepted {
 /// site and the program in this order.
 pub fn accept(
     alloc: Global,
-    site: &str,
+    site: &TomlFile<'_>,
     program: &str,
     defs: &[String],
 ) -> Result<Result<Accepted, Outcome>, AllocError>
@@ -56,18 +57,18 @@ pub fn accept(
 /// The same over model definitions.
 fn accept_over(
     alloc: Global,
-    site: &str,
+    site: &TomlFile<'_>,
     program: &str,
     models: &[ModelDef],
 ) -> Result<Result<Accepted, Outcome>, AllocError>
     ensures { IfOk result (GivesSite models.now site.now program.now) }
 {
-    match Site::read(alloc, site, models) {
+    match Site::read_file(alloc, site, models) {
         Ok(site) => accept_on(alloc, site, program),
-        Err(SiteFault::OutOfMemory) => Err(AllocError),
-        Err(fault) => {
-            let line = no_site(alloc, fault.word())?;
-            let cause = cause_of_site(alloc, site, models, fault);
+        Err(placed) if placed.fault == SiteFault::OutOfMemory => Err(AllocError),
+        Err(placed) => {
+            let line = no_site(alloc, placed.fault.word())?;
+            let cause = cause_of_site(alloc, site, models, placed);
             Ok(Err(Outcome::caused(line, cause)))
         }
     }
@@ -77,15 +78,15 @@ fn accept_over(
 fn accept_on(alloc: Global, site: Site, text: &str) -> Result<Result<Accepted, Outcome>, AllocError>
     ensures { IfOk result (GivesProgram site (reading text.now)) }
 {
-    match verified_on(alloc, &site, text) {
+    match accept_program(alloc, &site, text) {
         Ok(Ok(verified)) => Ok(Ok(Accepted { site, verified })),
         Ok(Err(outcome)) => Ok(Err(outcome)),
         Err(AllocError) => Err(AllocError),
     }
 }
 
-/// The program of a text alone that is accepted for a site.
-fn verified_on(
+/// The program of a text that is accepted for a site that was read; or what is told of its refusal.
+pub fn accept_program(
     alloc: Global,
     site: &Site,
     text: &str,

@@ -9,6 +9,7 @@ use crate::accepted::DEPTH;
 use crate::definitions::definitions;
 use crate::outcome::{Outcome, tell_no_memory};
 use crate::report::{no_site, undefined, unverified};
+use file_keys::TomlFile;
 use il_assemble::assemble;
 use il_assemble::laws::texts_keep_the_limits;
 use il_reader::{Program, read};
@@ -27,7 +28,7 @@ use verifier::{RefusalKind, Refused, RefusedAt};
 /// definitions, the site or the program, comes its line. Gives the status, that of `check`, and the cause of a refusal.
 pub fn explain<W: Write>(
     alloc: Global,
-    site: &str,
+    site: &TomlFile<'_>,
     program: &str,
     defs: &[String],
     beside: Beside,
@@ -44,7 +45,7 @@ pub fn explain<W: Write>(
 /// What is told of a program, a site and definitions.
 fn outcome_of(
     alloc: Global,
-    site: &str,
+    site: &TomlFile<'_>,
     program: &str,
     defs: &[String],
     beside: Beside,
@@ -64,19 +65,19 @@ fn outcome_of(
 /// The same over model definitions.
 fn outcome_over(
     alloc: Global,
-    site: &str,
+    site: &TomlFile<'_>,
     program: &str,
     models: &[ModelDef],
     beside: Beside,
 ) -> Result<Outcome, AllocError>
     ensures { IfOk result (ExplainsSite models.now site.now program.now) }
 {
-    match Site::read(alloc, site, models) {
+    match Site::read_file(alloc, site, models) {
         Ok(site) => outcome_on(alloc, &site, program, beside),
-        Err(SiteFault::OutOfMemory) => Err(AllocError),
-        Err(fault) => {
-            let line = no_site(alloc, fault.word())?;
-            let cause = cause_of_site(alloc, site, models, fault);
+        Err(placed) if placed.fault == SiteFault::OutOfMemory => Err(AllocError),
+        Err(placed) => {
+            let line = no_site(alloc, placed.fault.word())?;
+            let cause = cause_of_site(alloc, site, models, placed);
             Ok(Outcome::caused(line, cause))
         }
     }

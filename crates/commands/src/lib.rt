@@ -32,10 +32,10 @@ mod writing;
 // a program by itself
 pub use trial_scan::{trial, try_input};
 // a program and a site
-pub use accepted::{Accepted, accept};
+pub use accepted::{Accepted, accept, accept_program};
 pub use explained::explain;
 pub use program_notes::Beside;
-pub use verdict::{check, judge};
+pub use verdict::{Judged, check, judge};
 // a plant of simulated inverters
 pub use plant::{plant_of, plant_told};
 // a program on a site

@@ -5,6 +5,7 @@ ghost use Rattle.commands.specs.Obeyed.{Checks, Obeys};
 use crate::explained::explain;
 use crate::trial_scan::try_input;
 use crate::verdict::judge;
+use file_keys::TomlFile;
 use program_notes::Beside;
 use refusal_notes::Cause;
 use std::alloc::Global;
@@ -19,13 +20,13 @@ pub enum TextCommand<'a> {
     },
     /// The verdict on a program for a site.
     Check {
-        site: &'a str,
+        site: &'a TomlFile<'a>,
         program: &'a str,
         defs: &'a [String],
     },
     /// The program with its instructions, and but for a listing what the verdict knows before each of them.
     Explain {
-        site: &'a str,
+        site: &'a TomlFile<'a>,
         program: &'a str,
         defs: &'a [String],
         listing: bool,
@@ -81,12 +82,13 @@ fn beside(listing: bool) -> Beside {
 /// Has a program judged for a site.
 fn checked<W: Write>(
     alloc: Global,
-    site: &str,
+    site: &TomlFile<'_>,
     program: &str,
     defs: &[String],
     out: &mut W,
 ) -> Obeyed
     ensures { Checks site.now program.now (map string_bytes defs.now) (W.contents out.old) (W.contents out.new) result.status }
 {
-    Obeyed::of(judge(alloc, site, program, defs, out))
+    let judged = judge(alloc, site, program, defs, out);
+    Obeyed::of((judged.status, judged.cause))
 }

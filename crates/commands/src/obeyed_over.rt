@@ -9,6 +9,7 @@ use crate::pace::Pace;
 use crate::scan_watch::ScanWatch;
 use crate::site_scans::scans_noting;
 use crate::unit_points::probe;
+use file_keys::TomlFile;
 use gateway::{Core, Poller};
 use modbus_frame::Link;
 use refusal_notes::Cause;
@@ -20,7 +21,7 @@ use std::io::Write;
 pub enum LinkCommand<'a> {
     /// So many scans of a program on a site, so far apart.
     Run {
-        site: &'a str,
+        site: &'a TomlFile<'a>,
         program: &'a str,
         defs: &'a [String],
         pace: Pace,
@@ -74,7 +75,7 @@ pub fn obey_over<L: Link, V: ScanWatch + ScanClients, W: Write>(
 fn run_by<L: Link, V: ScanWatch + ScanClients, W: Write>(
     alloc: Global,
     poller: &mut Poller<L>,
-    site: &str,
+    site: &TomlFile<'_>,
     program: &str,
     defs: &[String],
     pace: Pace,

@@ -6,6 +6,7 @@ use crate::definitions::definitions;
 use crate::obeyed::Obeyed;
 use crate::outcome::{Outcome, tell_no_memory};
 use crate::report::{no_plant, undefined};
+use file_keys::TomlFile;
 use inverter_sim::{Plant, PlantFault};
 use model_defs::{DefFault, ModelDef};
 use refusal_notes::{cause_of_definition, cause_of_plant};
@@ -15,7 +16,7 @@ use std::io::Write;
 /// The plant of a file over the shipped definitions and those of the texts, or what is told of its fault.
 pub fn plant_of(
     alloc: Global,
-    plant: &str,
+    plant: &TomlFile<'_>,
     defs: &[String],
 ) -> Result<Result<Plant, Outcome>, AllocError>
     ensures { IfOk result (TellsPlant plant.now (map string_bytes defs.now)) }
@@ -34,7 +35,7 @@ pub fn plant_of(
 /// The same, and what is told of a fault is printed: the plant, of which nothing is printed, or what came of that.
 pub fn plant_told<W: Write>(
     alloc: Global,
-    plant: &str,
+    plant: &TomlFile<'_>,
     defs: &[String],
     out: &mut W,
 ) -> Result<Plant, Obeyed>
@@ -52,17 +53,17 @@ pub fn plant_told<W: Write>(
 /// The plant of a file over model definitions, or what is told of its fault.
 fn plant_over(
     alloc: Global,
-    plant: &str,
+    plant: &TomlFile<'_>,
     models: &[ModelDef],
 ) -> Result<Result<Plant, Outcome>, AllocError>
     ensures { IfOk result (GivesPlant models.now plant.now) }
 {
-    match Plant::read(alloc, plant, models) {
+    match Plant::read_file(alloc, plant, models) {
         Ok(plant) => Ok(Ok(plant)),
-        Err(PlantFault::OutOfMemory) => Err(AllocError),
-        Err(fault) => {
-            let line = no_plant(alloc, fault.word())?;
-            let cause = cause_of_plant(alloc, plant, models, fault);
+        Err(placed) if placed.fault == PlantFault::OutOfMemory => Err(AllocError),
+        Err(placed) => {
+            let line = no_plant(alloc, placed.fault.word())?;
+            let cause = cause_of_plant(alloc, plant, models, placed);
             Ok(Err(Outcome::caused(line, cause)))
         }
     }

@@ -23,6 +23,7 @@ use crate::outcome::{Outcome, tell_no_memory, tell_unlinked, write_lines};
 use crate::pace::Pace;
 use crate::report::no_core;
 use crate::scan_watch::{ScanWatch, Unwatched};
+use file_keys::TomlFile;
 use gateway::{Core, CoreFault, Event, Poller, run_scan};
 use modbus_frame::{Link, LinkFault};
 use refusal_notes::Cause;
@@ -40,7 +41,7 @@ use std::io::Write;
 /// in: each scan of it does what the program means, on what the devices answered, without a trap and within the budget.
 pub fn scans<L: Link, W: Write>(
     alloc: Global,
-    site: &str,
+    site: &TomlFile<'_>,
     program: &str,
     defs: &[String],
     n: u32,
@@ -64,7 +65,7 @@ pub fn scans<L: Link, W: Write>(
 /// cause is noted where the definitions, the site or the program are refused.
 pub fn scans_noting<L: Link, V: ScanWatch + ScanClients, W: Write>(
     alloc: Global,
-    site: &str,
+    site: &TomlFile<'_>,
     program: &str,
     defs: &[String],
     pace: Pace,
@@ -149,7 +150,7 @@ fn wait(core: &mut Core<DEPTH>, elapsed: u32)
 /// The core of a program on a site, at the start; or what is told where there is none.
 fn core_of<L: Link>(
     alloc: Global,
-    site: &str,
+    site: &TomlFile<'_>,
     program: &str,
     defs: &[String],
     poller: &mut Poller<L>,

@@ -7,13 +7,14 @@ use crate::looking::{entry_in, first_long, first_unlisted, no_table_in};
 use crate::place::FilePlace;
 use device::{EACH_VALUE, device_finding, kind_of};
 use entries::{fault_finding, value_finding, value_name};
+use file_keys::TomlFile;
 use inverter_sim::rules::{
     DeviceKind, MOST_DEVICES, MOST_FAULTS, MOST_MODELS, MOST_UNITS, MOST_WATTS,
 };
 use inverter_sim::{PlantFault, PlantPart};
 use model_defs::ModelDef;
 use std::alloc::Global;
-use toml::{Value, table_from_str};
+use toml::Value;
 
 /// The most entries of a meter's lists.
 const METER_HOLDS: &str =
@@ -22,7 +23,7 @@ const METER_HOLDS: &str =
 /// Where a fault of that part of a plant file, read over these definitions, is found; None where memory was refused.
 pub fn place_in_plant(
     alloc: Global,
-    toml: &str,
+    file: &TomlFile<'_>,
     defs: &[ModelDef],
     part: PlantPart,
     fault: PlantFault,
@@ -30,9 +31,9 @@ pub fn place_in_plant(
     if fault == PlantFault::OutOfMemory {
         return None;
     }
-    match table_from_str(alloc, toml) {
-        Ok(table) => place_in(alloc, &Value::Table(table), defs, part, fault),
-        Err(error) => FilePlace::of_toml(toml, &error),
+    match file.tree() {
+        Ok(tree) => place_in(alloc, tree, defs, part, fault),
+        Err(error) => FilePlace::of_toml(file.text(), error),
     }
 }
 

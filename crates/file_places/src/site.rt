@@ -9,6 +9,7 @@ mod time_words;
 use crate::finding::{EntryName, Finding, named_entry};
 use crate::looking::{entry_in, first_long, first_unlisted, no_table, no_table_in};
 use crate::place::FilePlace;
+use file_keys::TomlFile;
 use gateway::{device_finding, gateway_finding};
 use model_defs::ModelDef;
 use served::served_finding;
@@ -21,7 +22,7 @@ use toml::Value;
 /// Where a fault of that part of a site file, read over these definitions, is found; None where memory was refused.
 pub fn place_in_site(
     alloc: Global,
-    toml: &str,
+    file: &TomlFile<'_>,
     defs: &[ModelDef],
     part: SitePart,
     fault: SiteFault,
@@ -29,9 +30,9 @@ pub fn place_in_site(
     if fault == SiteFault::OutOfMemory {
         return None;
     }
-    match toml::table_from_str(alloc, toml) {
-        Ok(table) => place_in(alloc, &Value::Table(table), defs, part, fault),
-        Err(error) => FilePlace::of_toml(toml, &error),
+    match file.tree() {
+        Ok(tree) => place_in(alloc, tree, defs, part, fault),
+        Err(error) => FilePlace::of_toml(file.text(), error),
     }
 }
 

@@ -16,12 +16,12 @@ use crate::metering::meter_all;
 use crate::misbehaviour::Fault;
 use crate::part::PlantPart;
 use crate::reader::{devices_of, faults_of, too_long};
-use file_keys::Placed;
+use file_keys::{Placed, TomlFile};
 use modbus_frame::{Exception, Pdu, exception_pdu};
 use model_defs::ModelDef;
 use std::alloc::Global;
 use std::marker::Model;
-use toml::{Value, table_from_str};
+use toml::Value;
 
 /// A simulated plant of inverters and meters.
 ///
@@ -65,23 +65,25 @@ impl Plant {
         ensures unbroken { OnOk result ((e : FaultOfPlant) → ¬ Breaks defs.now toml.now e) }
         ensures refused { IfErr result (λ e. e ≢ fault.OutOfMemory → Breaks defs.now toml.now e) }
     {
+        let file = TomlFile::parse(alloc, toml)?;
         let mut part = PlantPart::File;
-        read_to(alloc, toml, defs, &mut part)
+        read_to(alloc, &file, defs, &mut part)
     }
 
-    /// The same; the fault, which is that of [`Plant::read`], has the part of the file that breaks the rule.
-    pub fn read_placed(
+    /// The same of a file that is parsed; the fault, which is that of [`Plant::read`], has the part of the file that breaks
+    /// the rule.
+    pub fn read_file(
         alloc: Global,
-        toml: &str,
+        file: &TomlFile<'_>,
         defs: &[ModelDef],
     ) -> Result<Plant, Placed<PlantFault, PlantPart>>
-        ensures ok { IfOk result (StandsFor defs.now toml.now) }
-        ensures unbroken { OnOk result ((e : FaultOfPlant) → ¬ Breaks defs.now toml.now e) }
-        ensures refused { IfErr result (λ p. p.fault ≢ fault.OutOfMemory → Breaks defs.now toml.now p.fault) }
-        ensures placed { IfErr result (λ p. p.fault ≢ fault.OutOfMemory → IsAtFault defs.now toml.now p.part p.fault) }
+        ensures ok { IfOk result (StandsFor defs.now file.now) }
+        ensures unbroken { OnOk result ((e : FaultOfPlant) → ¬ Breaks defs.now file.now e) }
+        ensures refused { IfErr result (λ p. p.fault ≢ fault.OutOfMemory → Breaks defs.now file.now p.fault) }
+        ensures placed { IfErr result (λ p. p.fault ≢ fault.OutOfMemory → IsAtFault defs.now file.now p.part p.fault) }
     {
         let mut part = PlantPart::File;
-        match read_to(alloc, toml, defs, &mut part) {
+        match read_to(alloc, file, defs, &mut part) {
             Ok(plant) => Ok(plant),
             Err(fault) => Err(Placed { fault, part }),
         }
@@ -120,23 +122,19 @@ impl Plant {
 /// Reads a plant file, and notes the part that it has come to.
 fn read_to(
     alloc: Global,
-    toml: &str,
+    file: &TomlFile<'_>,
     defs: &[ModelDef],
     part: &mut PlantPart,
 ) -> Result<Plant, PlantFault>
     requires { part.old ≡ parts.File }
-    ensures ok { IfOk result (StandsFor defs.now toml.now) }
-    ensures unbroken { OnOk result ((e : FaultOfPlant) → ¬ Breaks defs.now toml.now e) }
-    ensures refused { IfErr result (λ e. e ≢ fault.OutOfMemory → Breaks defs.now toml.now e) }
-    ensures placed { IfErr result (λ e. e ≢ fault.OutOfMemory → IsAtFault defs.now toml.now part.new e) }
+    ensures ok { IfOk result (StandsFor defs.now file.now) }
+    ensures unbroken { OnOk result ((e : FaultOfPlant) → ¬ Breaks defs.now file.now e) }
+    ensures refused { IfErr result (λ e. e ≢ fault.OutOfMemory → Breaks defs.now file.now e) }
+    ensures placed { IfErr result (λ e. e ≢ fault.OutOfMemory → IsAtFault defs.now file.now part.new e) }
 {
-    match table_from_str(alloc, toml) {
-        Ok(table) => read_tree(alloc, &Value::Table(table), defs, part),
-        Err(e) => if e.is_memory() {
-            Err(PlantFault::OutOfMemory)
-        } else {
-            Err(PlantFault::NotToml)
-        },
+    match file.tree() {
+        Ok(tree) => read_tree(alloc, tree, defs, part),
+        Err(_) => Err(PlantFault::NotToml),
     }
 }
 

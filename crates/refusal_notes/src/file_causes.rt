@@ -1,33 +1,40 @@
 //! What is noted of a file that is refused.
 use crate::cause::Cause;
+use file_keys::{Placed, TomlFile};
 use file_places::{Advice, FilePlace, place_in_definition, place_in_plant, place_in_site};
-use inverter_sim::{Plant, PlantFault};
+use inverter_sim::{PlantFault, PlantPart};
 use model_defs::{DefFault, ModelDef, read_placed};
-use site_model::{Site, SiteFault};
+use site_model::{SiteFault, SitePart};
 use source_notes::Mark;
 use std::alloc::Global;
 
 /// The cause of the fault of a site file, which was read over these definitions. Where memory for its place is refused,
 /// it goes without.
-pub fn cause_of_site(alloc: Global, text: &str, models: &[ModelDef], fault: SiteFault) -> Cause {
-    let mut cause = Cause::no_site(alloc, fault);
-    if let Err(placed) = Site::read_placed(alloc, text, models) {
-        let place = place_in_site(alloc, text, models, placed.part, placed.fault);
-        put_place(alloc, &mut cause, text, place, SITE_NEEDS);
-    }
-    put_brackets(text, &mut cause);
+pub fn cause_of_site(
+    alloc: Global,
+    file: &TomlFile<'_>,
+    models: &[ModelDef],
+    placed: Placed<SiteFault, SitePart>,
+) -> Cause {
+    let mut cause = Cause::no_site(alloc, placed.fault);
+    let place = place_in_site(alloc, file, models, placed.part, placed.fault);
+    put_place(alloc, &mut cause, file.text(), place, SITE_NEEDS);
+    put_brackets(file.text(), &mut cause);
     cause
 }
 
 /// The cause of the fault of a plant file, which was read over these definitions. Where memory for its place is refused,
 /// it goes without.
-pub fn cause_of_plant(alloc: Global, text: &str, models: &[ModelDef], fault: PlantFault) -> Cause {
-    let mut cause = Cause::no_plant(alloc, fault);
-    if let Err(placed) = Plant::read_placed(alloc, text, models) {
-        let place = place_in_plant(alloc, text, models, placed.part, placed.fault);
-        put_place(alloc, &mut cause, text, place, PLANT_NEEDS);
-    }
-    put_brackets(text, &mut cause);
+pub fn cause_of_plant(
+    alloc: Global,
+    file: &TomlFile<'_>,
+    models: &[ModelDef],
+    placed: Placed<PlantFault, PlantPart>,
+) -> Cause {
+    let mut cause = Cause::no_plant(alloc, placed.fault);
+    let place = place_in_plant(alloc, file, models, placed.part, placed.fault);
+    put_place(alloc, &mut cause, file.text(), place, PLANT_NEEDS);
+    put_brackets(file.text(), &mut cause);
     cause
 }
 

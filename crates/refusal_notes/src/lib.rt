@@ -35,6 +35,6 @@ pub use file_causes::{cause_of_definition, cause_of_plant, cause_of_site};
 pub use file_fault::FileFault;
 pub use kind_texts::unwritten_help;
 pub use listen_fault::ListenFault;
-pub use notes::{Notes, explain_unserved, explain_unusable};
+pub use notes::{Notes, explain_program, explain_unserved, explain_unusable};
 pub use source_notes::escaped;
 pub use verdict_cause::cause_of_refusal;

@@ -2,7 +2,8 @@
 use crate::cause::{Cause, NotedFile};
 use crate::file_fault::FileFault;
 use crate::listen_fault::ListenFault;
-use crate::unread_keys::{KeyedFile, unread_warnings};
+use crate::unread_keys::{warnings_of_definition, warnings_of_plant, warnings_of_site};
+use file_keys::TomlFile;
 use source_notes::{Mark, Note};
 use std::alloc::{AllocError, Global};
 
@@ -12,31 +13,16 @@ pub struct Notes<'a> {
     /// Whether nothing is printed.
     pub quiet: bool,
     pub site_path: &'a str,
-    pub site: &'a str,
+    pub site: &'a TomlFile<'a>,
     pub program_path: &'a str,
     pub program: &'a str,
     pub plant_path: &'a str,
-    pub plant: &'a str,
+    pub plant: &'a TomlFile<'a>,
     pub def_paths: &'a [&'a str],
     pub defs: &'a [String],
 }
 
 impl<'a> Notes<'a> {
-    /// Notes on a program alone.
-    pub fn on_program(quiet: bool, path: &'a str, text: &'a str) -> Notes<'a> {
-        Notes {
-            quiet,
-            site_path: "",
-            site: "",
-            program_path: path,
-            program: text,
-            plant_path: "",
-            plant: "",
-            def_paths: &[],
-            defs: &[],
-        }
-    }
-
     /// Prints why a command refuses. Where that fails, or memory for it is refused, nothing more comes of it.
     pub fn explain(&self, rt: &(impl Eprint + AllocGlobal), cause: &Option<Cause>) {
         if self.quiet {
@@ -62,12 +48,12 @@ impl<'a> Notes<'a> {
 
     /// Warnings of what nothing reads in the files; empty where each key is known.
     pub fn warnings(&self, alloc: Global) -> Result<String, AllocError> {
-        let mut lines = unread_warnings(alloc, self.site_path, self.site, KeyedFile::Site)?;
-        let plant = unread_warnings(alloc, self.plant_path, self.plant, KeyedFile::Plant)?;
+        let mut lines = warnings_of_site(alloc, self.site_path, self.site)?;
+        let plant = warnings_of_plant(alloc, self.plant_path, self.plant)?;
         lines.push_str(plant.as_str())?;
         for (number, text) in self.defs.iter().enumerate() {
             let path = path_at(self.def_paths, number);
-            let of_definition = unread_warnings(alloc, path, text.as_str(), KeyedFile::Definition)?;
+            let of_definition = warnings_of_definition(alloc, path, text.as_str())?;
             lines.push_str(of_definition.as_str())?;
         }
         Ok(lines)
@@ -86,11 +72,24 @@ impl<'a> Notes<'a> {
     fn text(&self, file: NotedFile) -> &str {
         match file {
             NotedFile::Program => self.program,
-            NotedFile::Site => self.site,
-            NotedFile::Plant => self.plant,
+            NotedFile::Site => self.site.text(),
+            NotedFile::Plant => self.plant.text(),
             NotedFile::Definition(number) => text_at(self.defs, number),
             NotedFile::Link => "",
         }
+    }
+}
+
+/// Prints why a program is refused that no other file stands beside. Where that fails, or memory for it is refused, nothing
+/// more comes of it.
+pub fn explain_program(
+    rt: &(impl Eprint + AllocGlobal),
+    path: &str,
+    text: &str,
+    cause: &Option<Cause>,
+) {
+    if let Some(cause) = cause {
+        print(rt, &cause.note(path, text));
     }
 }
 

@@ -1,20 +1,13 @@
 //! Warnings of the keys of a file that nothing reads.
 use crate::definition_keys::push_unread_of_definition;
 use crate::table_keys::{push_unread_of_plant, push_unread_of_site};
+use file_keys::TomlFile;
 use file_places::{EntryName, entry_shown};
 use source_notes::{escaped, nearest_of};
 use std::alloc::{AllocError, Global};
 
 /// The most keys of a file that are told.
 const MOST_TOLD: usize = 10;
-
-/// A file, by what is read of it.
-#[derive(Clone, Copy)]
-pub(crate) enum KeyedFile {
-    Site,
-    Plant,
-    Definition,
-}
 
 /// A key that nothing reads, in its entry, and the keys that are known there.
 #[derive(Clone, Copy)]
@@ -24,39 +17,39 @@ pub(crate) struct Unread<'a> {
     pub known: &'static [&'static str],
 }
 
-/// Warnings of the keys of a file that nothing reads, with the nearest key that is known, or else all of them; empty where
-/// each is known, or the text is no TOML or JSON.
-pub(crate) fn unread_warnings(
+/// Warnings of the keys of a site file that nothing reads, with the nearest key that is known, or else all of them; empty
+/// where each is known, or the text is no TOML.
+pub(crate) fn warnings_of_site(
     alloc: Global,
     path: &str,
-    text: &str,
-    file: KeyedFile,
+    file: &TomlFile<'_>,
 ) -> Result<String, AllocError> {
-    match file {
-        KeyedFile::Site | KeyedFile::Plant => warnings_of_tables(alloc, path, text, file),
-        KeyedFile::Definition => warnings_of_definition(alloc, path, text),
-    }
-}
-
-fn warnings_of_tables(
-    alloc: Global,
-    path: &str,
-    text: &str,
-    file: KeyedFile,
-) -> Result<String, AllocError> {
-    let Ok(table) = toml::table_from_str(alloc, text) else {
-        return Ok(String::new(alloc));
-    };
-    let tree = toml::Value::Table(table);
     let mut found = Vec::new(alloc);
-    match file {
-        KeyedFile::Plant => push_unread_of_plant(&mut found, &tree)?,
-        _ => push_unread_of_site(&mut found, &tree)?,
+    if let Ok(tree) = file.tree() {
+        push_unread_of_site(&mut found, tree)?;
     }
     warnings(alloc, path, found.as_slice())
 }
 
-fn warnings_of_definition(alloc: Global, path: &str, text: &str) -> Result<String, AllocError> {
+/// The same of a plant file.
+pub(crate) fn warnings_of_plant(
+    alloc: Global,
+    path: &str,
+    file: &TomlFile<'_>,
+) -> Result<String, AllocError> {
+    let mut found = Vec::new(alloc);
+    if let Ok(tree) = file.tree() {
+        push_unread_of_plant(&mut found, tree)?;
+    }
+    warnings(alloc, path, found.as_slice())
+}
+
+/// The same of a model definition; empty where the text is no JSON.
+pub(crate) fn warnings_of_definition(
+    alloc: Global,
+    path: &str,
+    text: &str,
+) -> Result<String, AllocError> {
     let Ok(tree) = serde_json::Value::from_str(alloc, text) else {
         return Ok(String::new(alloc));
     };

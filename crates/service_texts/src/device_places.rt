@@ -4,7 +4,7 @@ ghost use Rattle.toml.specs.View.{view, items_view};
 ghost use Rattle.service_texts.specs.Places.{place_of, places_behind, places_in, places_of, remote_unit};
 ghost use Rattle.service_texts.specs.declared.device_places.AddressFault.TheVariants as fault;
 
-use file_keys::{byte_of, number_at, number_or, section_at, text_at};
+use file_keys::{TomlFile, byte_of, number_at, number_or, section_at, text_at};
 use point_types::Items;
 use site_model::Text;
 use std::alloc::{AllocError, Global};
@@ -56,15 +56,14 @@ impl DevicePlace {
     }
 }
 
-/// Where the text of a site file says that its devices are, in their order: by `address`, and by `remote_unit` or else
+/// Where a site file says that its devices are, in their order: by `address`, and by `remote_unit` or else
 /// `unit`.
-pub fn read_places(alloc: Global, site: &str) -> Result<Items<DevicePlace>, AddressFault>
+pub fn read_places(alloc: Global, site: &TomlFile<'_>) -> Result<Items<DevicePlace>, AddressFault>
     ensures told { IfOk result (λ places. places_in site.now ≡ Ok places) }
     ensures refused { IfErr result (λ e. e ≢ fault.OutOfMemory → places_in site.now ≡ Err e) }
 {
-    match toml::table_from_str(alloc, site) {
-        Ok(table) => places_of(alloc, &Value::Table(table)),
-        Err(e) if e.is_memory() => Err(AddressFault::OutOfMemory),
+    match site.tree() {
+        Ok(tree) => places_of(alloc, tree),
         Err(_) => Err(AddressFault::NotToml),
     }
 }

@@ -7,6 +7,7 @@ ghost use Rattle.service_texts.specs.declared.device_places.AddressFault.TheVari
 
 use crate::addresses::{Addresses, has_port};
 use crate::device_places::{AddressFault, DevicePlace, read_places};
+use file_keys::TomlFile;
 use site_model::SiteDevice;
 use std::alloc::{AllocError, Global};
 
@@ -49,12 +50,12 @@ pub fn devices_of<'a>(
     }
 }
 
-/// The addresses of the devices of a site, by its text and its list of devices: one for each different address that the text
+/// The addresses of the devices of a site, by its file and its list of devices: one for each different address that the file
 /// has, in order, or the one that is given.
 pub fn addresses_of(
     alloc: Global,
     devices: Devices<'_>,
-    site: &str,
+    site: &TomlFile<'_>,
     listed: &[SiteDevice],
 ) -> Result<Addresses, AddressFault>
     ensures told { IfOk result (AreReached devices.entry site.now listed.now) }
@@ -67,8 +68,8 @@ pub fn addresses_of(
     }
 }
 
-/// The addresses in the text of a site file.
-fn addresses_in(alloc: Global, site: &str) -> Result<Addresses, AddressFault>
+/// The addresses in a site file.
+fn addresses_in(alloc: Global, site: &TomlFile<'_>) -> Result<Addresses, AddressFault>
     ensures told { IfOk result (AreReachedBySite site.now) }
     ensures refused { IfErr result (λ e. e ≢ fault.OutOfMemory → AreUnreachedBySite site.now e) }
 {

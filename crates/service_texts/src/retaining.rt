@@ -6,7 +6,7 @@ ghost use Rattle.service_texts.specs.Retaining.{Keeps, is_among, is_said, may_be
 ghost use Rattle.service_texts.specs.declared.retaining.RetainFault.TheVariants as fault;
 
 use crate::state_lines::{push_setting, setting_in};
-use file_keys::optional_texts_at;
+use file_keys::{TomlFile, optional_texts_at};
 use point_types::{Items, Name, Var};
 use scan_vm::may_begin;
 use std::alloc::{AllocError, Global};
@@ -41,13 +41,12 @@ impl From<AllocError> for RetainFault {
 
 /// The names of the variables that a site file wants to be kept: the list `retain` of its section `gateway`, in order; none
 /// where the key isn't there.
-pub fn retained_names(alloc: Global, site: &str) -> Result<Items<Name>, RetainFault>
+pub fn retained_names(alloc: Global, site: &TomlFile<'_>) -> Result<Items<Name>, RetainFault>
     ensures told { IfOk result (λ names. retained_in site.now ≡ Ok names) }
     ensures refused { IfErr result (λ e. e ≢ fault.OutOfMemory → retained_in site.now ≡ Err e) }
 {
-    match toml::table_from_str(alloc, site) {
-        Ok(table) => names_in(alloc, &Value::Table(table)),
-        Err(e) if e.is_memory() => Err(RetainFault::OutOfMemory),
+    match site.tree() {
+        Ok(tree) => names_in(alloc, tree),
         Err(_) => Err(RetainFault::NotToml),
     }
 }

@@ -21,7 +21,7 @@ use crate::site::Site;
 use crate::tag::SiteTag;
 use crate::tags::{Scope, read_tags};
 use crate::wants::{outs_of, wants_of};
-use file_keys::{Placed, has_over, section_at};
+use file_keys::{Placed, TomlFile, has_over, section_at};
 use model_defs::ModelDef;
 use point_types::Items;
 use std::alloc::{AllocError, Global};
@@ -43,22 +43,26 @@ impl Site {
         ensures told { IfOk result (λ site. site_in defs.now toml.now ≡ Ok (site_view site)) }
         ensures refused { IfErr result (λ e. e ≢ fault.OutOfMemory → site_in defs.now toml.now ≡ Err e) }
     {
-        let mut part = SitePart::File;
-        read_to(alloc, toml, defs, &mut part)
+        let file = TomlFile::parse(alloc, toml)?;
+        match Site::read_file(alloc, &file, defs) {
+            Ok(site) => Ok(site),
+            Err(placed) => Err(placed.fault),
+        }
     }
 
-    /// The same; the fault, which is that of [`Site::read`], has the part of the file that breaks the rule.
-    pub fn read_placed(
+    /// The same of a file that is parsed; the fault, which is that of [`Site::read`], has the part of the file that breaks
+    /// the rule.
+    pub fn read_file(
         alloc: Global,
-        toml: &str,
+        file: &TomlFile<'_>,
         defs: &[ModelDef],
     ) -> Result<Site, Placed<SiteFault, SitePart>>
-        ensures told { IfOk result (λ site. site_in defs.now toml.now ≡ Ok (site_view site)) }
-        ensures refused { IfErr result (λ p. p.fault ≢ fault.OutOfMemory → site_in defs.now toml.now ≡ Err p.fault) }
-        ensures placed { IfErr result (λ p. p.fault ≢ fault.OutOfMemory → IsAtFault defs.now toml.now p.part p.fault) }
+        ensures told { IfOk result (λ site. site_in defs.now file.now ≡ Ok (site_view site)) }
+        ensures refused { IfErr result (λ p. p.fault ≢ fault.OutOfMemory → site_in defs.now file.now ≡ Err p.fault) }
+        ensures placed { IfErr result (λ p. p.fault ≢ fault.OutOfMemory → IsAtFault defs.now file.now p.part p.fault) }
     {
         let mut part = SitePart::File;
-        match read_to(alloc, toml, defs, &mut part) {
+        match read_to(alloc, file, defs, &mut part) {
             Ok(site) => Ok(site),
             Err(fault) => Err(Placed { fault, part }),
         }
@@ -68,18 +72,17 @@ impl Site {
 /// Reads a site file, and notes the part that it has come to.
 fn read_to(
     alloc: Global,
-    toml: &str,
+    file: &TomlFile<'_>,
     defs: &[ModelDef],
     part: &mut SitePart,
 ) -> Result<Site, SiteFault>
     requires { part.old ≡ parts.File }
-    ensures told { IfOk result (λ site. site_in defs.now toml.now ≡ Ok (site_view site)) }
-    ensures refused { IfErr result (λ e. e ≢ fault.OutOfMemory → site_in defs.now toml.now ≡ Err e) }
-    ensures placed { IfErr result (λ e. e ≢ fault.OutOfMemory → IsAtFault defs.now toml.now part.new e) }
+    ensures told { IfOk result (λ site. site_in defs.now file.now ≡ Ok (site_view site)) }
+    ensures refused { IfErr result (λ e. e ≢ fault.OutOfMemory → site_in defs.now file.now ≡ Err e) }
+    ensures placed { IfErr result (λ e. e ≢ fault.OutOfMemory → IsAtFault defs.now file.now part.new e) }
 {
-    match toml::table_from_str(alloc, toml) {
-        Ok(table) => read_tree(alloc, defs, &Value::Table(table), part),
-        Err(e) if e.is_memory() => Err(SiteFault::OutOfMemory),
+    match file.tree() {
+        Ok(tree) => read_tree(alloc, defs, tree, part),
         Err(_) => Err(SiteFault::NotToml),
     }
 }

@@ -185,7 +185,7 @@ pub(crate) fn is_taken(seen: &[SiteTag], tag: &SiteTag) -> bool
 fn clashes(tag: &SiteTag, other: &SiteTag) -> bool
     ensures { result ≡ clashes (tag_view tag.now) (tag_view other.now) }
 {
-    tag.name.as_str() == other.name.as_str() || is_same_point(tag, other)
+    tag.name.as_bytes() == other.name.as_bytes() || is_same_point(tag, other)
 }
 
 fn is_same_point(tag: &SiteTag, other: &SiteTag) -> bool

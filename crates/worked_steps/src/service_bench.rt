@@ -6,6 +6,7 @@ use crate::page::Page;
 use crate::service_step::ServiceStep;
 use crate::sites::{machine, plant, site};
 use crate::texts::Texts;
+use file_keys::TomlFile;
 use gateway::{Core, DEPTH, Event};
 use service_core::Service;
 use service_texts::{Addresses, limits, read_places};
@@ -53,7 +54,8 @@ impl ServiceBench {
             opened.push(plant(alloc, texts, *name)?)?;
             waiting.push(Vec::new(alloc))?;
         }
-        let places = needed(read_places(alloc, texts.get(SITE)?).ok())?;
+        let file = TomlFile::parse(alloc, texts.get(SITE)?)?;
+        let places = needed(read_places(alloc, &file).ok())?;
         let stations = Addresses::of(alloc, places.as_slice())?.stations.into_vec();
         let site = site(alloc, texts, SITE)?;
         let machine = machine(alloc, &site, texts.get(PROGRAM)?)?;

@@ -3,6 +3,7 @@ use crate::bytes::{needed, number};
 use crate::page::Page;
 use crate::sites::site;
 use crate::texts::Texts;
+use file_keys::TomlFile;
 use service_texts::{
     AddressFault, Addresses, WriterFault, has_port, limits, may_write, read_places, setting_in,
     state_text, tag_named, writers_of,
@@ -110,7 +111,7 @@ fn tell_state(
 }
 
 fn tell_places(alloc: Global, page: &mut Page, text: &str) -> io::Result<()> {
-    match read_places(alloc, text) {
+    match read_places(alloc, &TomlFile::parse(alloc, text)?) {
         Ok(places) => tell_addresses(page, &Addresses::of(alloc, places.as_slice())?),
         Err(AddressFault::NotToml) => page.tell("no site file"),
         Err(AddressFault::Missing(device)) => page.tell(format_args!("no address of {device}")),

@@ -1,5 +1,6 @@
 //! Links in memory: to a plant, and one that fails.
 use commands::plant_of;
+use file_keys::TomlFile;
 use inverter_sim::{Plant, serve_link};
 use modbus_frame::{Down, Frame, Link, MemLink};
 use std::alloc::Global;
@@ -22,7 +23,8 @@ pub struct PlantLink {
 impl PlantLink {
     /// A link to the plant of a file.
     pub fn new(rt: &(impl AllocGlobal + Abort), plant: &str) -> PlantLink {
-        let plant = plant_of(rt.alloc(), plant, &[]).expect(rt, "memory");
+        let plant = TomlFile::parse(rt.alloc(), plant).expect(rt, "memory");
+        let plant = plant_of(rt.alloc(), &plant, &[]).expect(rt, "memory");
         PlantLink {
             alloc: rt.alloc(),
             plant: plant.ok().expect(rt, "a plant"),

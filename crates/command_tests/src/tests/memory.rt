@@ -1,6 +1,7 @@
 //! A program that is judged where memory is refused.
 use crate::tests::{assert_same, printed};
 use commands::check;
+use file_keys::TomlFile;
 use std::process::Abort;
 
 const SITE: &str = r#"
@@ -27,7 +28,10 @@ high = 100000
 const PROGRAM: &str = "PROGRAM p\nVAR a : INT := 7; END_VAR\nLD a\nST a\nEND_PROGRAM\n";
 
 fn assert_verdict_or_refusal(rt: &(impl AllocGlobal + Abort), mut out: Vec<u8>) {
-    let status = check(rt.alloc(), SITE, PROGRAM, &[], &mut out);
+    let Ok(site) = TomlFile::parse(rt.alloc(), SITE) else {
+        return;
+    };
+    let status = check(rt.alloc(), &site, PROGRAM, &[], &mut out);
     let told = if status == 0 {
         "accepted\nbudget 3\n"
     } else {

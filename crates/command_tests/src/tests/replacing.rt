@@ -1,6 +1,7 @@
 //! A program that is put in where memory is refused.
 use crate::tests::assert_same;
 use commands::{Accepted, accept};
+use file_keys::TomlFile;
 use gateway::CoreFault;
 use served_site::{replace_program, service_of};
 use service_core::Service;
@@ -37,7 +38,8 @@ END_PROGRAM
 ";
 
 fn accepted(alloc: Global, program: &str) -> Option<Accepted> {
-    match accept(alloc, SITE, program, &[]) {
+    let site = TomlFile::parse(alloc, SITE).ok()?;
+    match accept(alloc, &site, program, &[]) {
         Ok(Ok(given)) => Some(given),
         _ => None,
     }

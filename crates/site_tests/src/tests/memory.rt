@@ -3,6 +3,7 @@
 
 use crate::tests::files::SITE;
 use crate::tests::{assert_same, assert_true, given_definitions};
+use file_keys::TomlFile;
 use model_defs::ModelDef;
 use site_model::{Site, SiteFault};
 use std::alloc::Global;
@@ -38,7 +39,10 @@ fn a_site_is_refused(rt: HostRuntime) {
         return;
     };
     let text = "[gateway]\nunit = 300\nmodels = [1]\n";
-    if let Some(refused) = Site::read_placed(rt.alloc(), text, &defs).err() {
+    let Ok(file) = TomlFile::parse(rt.alloc(), text) else {
+        return;
+    };
+    if let Some(refused) = Site::read_file(rt.alloc(), &file, &defs).err() {
         let is_memory = refused.fault == SiteFault::OutOfMemory;
         assert_true(&rt, is_memory || refused.fault == SiteFault::BadRange);
     }
