@@ -40,7 +40,7 @@ fn detail_in(alloc: Global, program: &Program, context: &Context) -> Result<Deta
 {
     let rows: Items<Row> = rows_of(alloc, program, context)?;
     let reached = reached_flags(alloc, rows.as_slice())?;
-    let listing = context.instructions();
+    let listing = &context.listing;
     if reached.len() != listing.len() {
         return Ok(Detail {
             line: 0,

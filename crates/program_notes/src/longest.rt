@@ -3,12 +3,12 @@ ghost use Rattle.std.specs.Prelude.{◌≡◌, ◌<◌, length};
 
 use crate::items::Line;
 use facts::context::Context;
+use facts::instructions::Instructions;
 use point_types::Condition;
 use program_rows::Row;
 use scan_code::Op;
 use std::alloc::{AllocError, Global};
 use verifier::budget::path_lengths;
-use verifier::listing::number_at;
 use verifier::told::Standing;
 
 /// Appends the longest path, by lines; nothing where an instruction wasn't judged.
@@ -20,7 +20,7 @@ pub(crate) fn push_longest(
 ) -> Result<(), AllocError>
     requires { length context.now.listing < 65536 }
 {
-    let listing = context.instructions();
+    let listing = &context.listing;
     let reached = reached_flags(alloc, rows)?;
     if reached.len() != listing.len() {
         return Ok(());
@@ -33,7 +33,7 @@ pub(crate) fn push_longest(
 /// How many instructions a longest path has.
 pub(crate) fn longest_length(
     alloc: Global,
-    listing: &[(usize, Op)],
+    listing: &Instructions,
     reached: &[bool],
 ) -> Result<usize, AllocError>
     requires few { length listing.now < 65536 }
@@ -59,7 +59,7 @@ pub(crate) fn reached_flags(alloc: Global, rows: &[Row]) -> Result<Vec<bool>, Al
 /// The numbers of the instructions on a longest path from a start to an end.
 fn longest_steps(
     alloc: Global,
-    listing: &[(usize, Op)],
+    listing: &Instructions,
     lengths: &[Option<usize>],
 ) -> Result<Vec<usize>, AllocError> {
     let mut steps = Vec::new(alloc);
@@ -77,11 +77,11 @@ fn longest_steps(
 }
 
 /// Where a longest path begins: at the first instruction, or where a counted jump leads.
-fn longest_start(listing: &[(usize, Op)], lengths: &[Option<usize>]) -> usize {
+fn longest_start(listing: &Instructions, lengths: &[Option<usize>]) -> usize {
     let mut start = 0;
-    for (_, op) in listing {
+    for (_, op) in listing.as_slice() {
         if let Op::Repeat(_, _, _, to) = op {
-            let head = number_at(listing, usize::from(*to)).unwrap_or(0);
+            let head = listing.number_at(usize::from(*to)).unwrap_or(0);
             if length_of(lengths, head) > length_of(lengths, start) {
                 start = head;
             }
@@ -99,18 +99,17 @@ fn length_of(lengths: &[Option<usize>], at: usize) -> usize {
 
 /// The next instruction of a longest path, on which so many are left.
 fn next_of(
-    listing: &[(usize, Op)],
+    listing: &Instructions,
     lengths: &[Option<usize>],
     at: usize,
     left: usize,
 ) -> Option<usize> {
     let next = at.checked_add(1)?;
-    match listing.get(at) {
-        Some((_, Op::Jump(Condition::Always, to))) => number_at(listing, usize::from(*to)),
-        Some((_, Op::Jump(_, to))) if length_of(lengths, next) != left => number_at(
-            listing,
-            usize::from(*to),
-        ),
+    match listing.as_slice().get(at) {
+        Some((_, Op::Jump(Condition::Always, to))) => listing.number_at(usize::from(*to)),
+        Some((_, Op::Jump(_, to))) if length_of(lengths, next) != left => {
+            listing.number_at(usize::from(*to))
+        }
         Some(_) => Some(next),
         None => None,
     }

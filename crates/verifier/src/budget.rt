@@ -5,7 +5,7 @@ ghost use Rattle.facts.specs.Flow.{number_at};
 ghost use Rattle.verifier.specs.Heads.{heads_of, is_among};
 
 use crate::heads::{is_head, loop_heads};
-use crate::listing::number_at;
+use facts::instructions::Instructions;
 use point_types::Condition;
 use scan_code::Op;
 use std::alloc::{AllocError, Global};
@@ -15,7 +15,7 @@ use std::alloc::{AllocError, Global};
 /// be taken (IEC 61131-3 edition 2, 3.2.1). Paths go through reached instructions alone.
 pub fn most_steps(
     alloc: Global,
-    listing: &[(usize, Op)],
+    listing: &Instructions,
     reached: &[bool],
 ) -> Result<usize, AllocError>
     requires few { length listing.now < 65536 }
@@ -23,15 +23,15 @@ pub fn most_steps(
     ensures { IfOk result (λ steps. steps ≡ budget_of listing.now reached.now) }
 {
     let lengths = path_lengths(alloc, listing, reached)?;
-    let heads = loop_heads(alloc, listing)?;
-    let longest = longest_path(listing, &heads, &lengths);
-    Ok(longest * (1 + total_count(listing)))
+    let heads = loop_heads(alloc, listing.as_slice())?;
+    let longest = longest_path(listing.as_slice(), &heads, &lengths);
+    Ok(longest * (1 + total_count(listing.as_slice())))
 }
 
 /// For each instruction how many are on the longest path from it to an end, if any leads there.
 pub fn path_lengths(
     alloc: Global,
-    listing: &[(usize, Op)],
+    listing: &Instructions,
     reached: &[bool],
 ) -> Result<Vec<Option<usize>>, AllocError>
     requires few { length listing.now < 65536 }
@@ -43,7 +43,7 @@ pub fn path_lengths(
     while n > 0 {
         n -= 1;
         let (_, later) = lengths.split_at(n + 1);
-        let length = length_if(reached[n], listing, n, listing[n].1, later);
+        let length = length_if(reached[n], listing, n, listing.as_slice()[n].1, later);
         lengths[n] = length;
     }
     Ok(lengths)
@@ -52,7 +52,7 @@ pub fn path_lengths(
 /// The length at an instruction that is reached or not.
 fn length_if(
     reached: bool,
-    listing: &[(usize, Op)],
+    listing: &Instructions,
     n: usize,
     op: Op,
     later: &[Option<usize>],
@@ -68,7 +68,7 @@ fn length_if(
 }
 
 /// The length at one instruction, from those of the later ones.
-fn length_from(listing: &[(usize, Op)], n: usize, op: Op, later: &[Option<usize>]) -> Option<usize>
+fn length_from(listing: &Instructions, n: usize, op: Op, later: &[Option<usize>]) -> Option<usize>
     requires { AreUpTo 65535 later.now }
     ensures { result ≡ length_from listing.now n op later.now }
 {
@@ -82,12 +82,12 @@ fn length_from(listing: &[(usize, Op)], n: usize, op: Op, later: &[Option<usize>
 }
 
 /// The length at the instruction that a jump leads to.
-fn length_of(listing: &[(usize, Op)], n: usize, to: u16, later: &[Option<usize>]) -> Option<usize>
+fn length_of(listing: &Instructions, n: usize, to: u16, later: &[Option<usize>]) -> Option<usize>
     requires short { AreUpTo 65535 later.now }
     ensures value { result ≡ length_of later.now n (number_at listing.now 0 to) }
     ensures short { IsUpTo 65535 result }
 {
-    match number_at(listing, usize::from(to)) {
+    match listing.number_at(usize::from(to)) {
         Some(target) if n < target => length_at(later, target - n - 1),
         _ => None,
     }
