@@ -103,7 +103,7 @@ fn judge_frame(alloc: Global, context: &Context) -> Result<u32, Refusal>
         Ok(reached) => reached,
         Err(refusal) => return Err(refusal),
     };
-    let steps = most_steps(alloc, &context.listing, reached.as_slice())?;
+    let steps = most_steps(alloc, context, reached.as_slice())?;
     within_budget(steps)
 }
 
