@@ -1,3 +1,4 @@
+pub mod Addresses
 pub mod Branches
 pub mod Ends
 pub mod Fact

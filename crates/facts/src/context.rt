@@ -1,6 +1,8 @@
 //! What stays the same throughout a program: its variables, tags and code.
 ghost use Rattle.std.specs.Prelude.{◌≡◌, ◌<◌, MatchOption, Some, None, length, slice_get};
+ghost use Rattle.facts.specs.Flow.{number_at};
 
+use crate::instructions::Instructions;
 use crate::tag_range::TagRange;
 use point_types::{Items, Var};
 use scan_code::Op;
@@ -13,7 +15,7 @@ pub struct Context {
     pub variables: Items<Var>,
     pub tags: Items<TagRange>,
     pub depth: usize,
-    pub listing: Items<(usize, Op)>,
+    pub listing: Instructions,
 }
 
 impl Model for Context {
@@ -52,5 +54,12 @@ impl Context {
         ensures { slice_get self.now.listing at ≡ Some result }
     {
         self.listing.as_slice()[at]
+    }
+
+    /// The number of the first instruction at an address.
+    pub fn number_at(&self, address: usize) -> Option<usize>
+        ensures { result ≡ number_at self.now.listing 0 address }
+    {
+        self.listing.number_at(address)
     }
 }

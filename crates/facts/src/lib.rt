@@ -6,13 +6,13 @@
 #![tactic(auto)]
 
 pub mod abstract_value;
-pub mod address;
 pub mod changed_spans;
 mod consequences;
 pub mod context;
 mod deferred;
 pub mod fact;
 mod flow;
+pub mod instructions;
 pub mod operand;
 mod parts;
 pub mod present_inputs;

@@ -40,15 +40,14 @@ fn detail_in(alloc: Global, program: &Program, context: &Context) -> Result<Deta
 {
     let rows: Items<Row> = rows_of(alloc, program, context)?;
     let reached = reached_flags(alloc, rows.as_slice())?;
-    let listing = context.instructions();
-    if reached.len() != listing.len() {
+    if reached.len() != context.size() {
         return Ok(Detail {
             line: 0,
             text: String::new(alloc),
         });
     }
-    let steps = most_steps(alloc, listing, &reached)?;
-    let longest = longest_length(alloc, listing, &reached)?;
+    let steps = most_steps(alloc, context, &reached)?;
+    let longest = longest_length(alloc, context, &reached)?;
     let (turns, line) = turns_in(rows.as_slice());
     let mut text = format!(in alloc; "at most {steps} instructions: ")?;
     let parts = format!(in alloc;

@@ -8,7 +8,6 @@ use program_rows::Row;
 use scan_code::Op;
 use std::alloc::{AllocError, Global};
 use verifier::budget::path_lengths;
-use verifier::listing::number_at;
 use verifier::told::Standing;
 
 /// Appends the longest path, by lines; nothing where an instruction wasn't judged.
@@ -20,27 +19,26 @@ pub(crate) fn push_longest(
 ) -> Result<(), AllocError>
     requires { length context.now.listing < 65536 }
 {
-    let listing = context.instructions();
     let reached = reached_flags(alloc, rows)?;
-    if reached.len() != listing.len() {
+    if reached.len() != context.size() {
         return Ok(());
     }
-    let lengths = path_lengths(alloc, listing, &reached)?;
-    let steps = longest_steps(alloc, listing, &lengths)?;
+    let lengths = path_lengths(alloc, context, &reached)?;
+    let steps = longest_steps(alloc, context, &lengths)?;
     push_steps(alloc, line, rows, &steps)
 }
 
 /// How many instructions a longest path has.
 pub(crate) fn longest_length(
     alloc: Global,
-    listing: &[(usize, Op)],
+    context: &Context,
     reached: &[bool],
 ) -> Result<usize, AllocError>
-    requires few { length listing.now < 65536 }
-    requires each { length reached.now ≡ length listing.now }
+    requires few { length context.now.listing < 65536 }
+    requires each { length reached.now ≡ length context.now.listing }
 {
-    let lengths = path_lengths(alloc, listing, reached)?;
-    Ok(length_of(&lengths, longest_start(listing, &lengths)))
+    let lengths = path_lengths(alloc, context, reached)?;
+    Ok(length_of(&lengths, longest_start(context, &lengths)))
 }
 
 /// Which instructions a path reaches; of those that were judged.
@@ -59,15 +57,15 @@ pub(crate) fn reached_flags(alloc: Global, rows: &[Row]) -> Result<Vec<bool>, Al
 /// The numbers of the instructions on a longest path from a start to an end.
 fn longest_steps(
     alloc: Global,
-    listing: &[(usize, Op)],
+    context: &Context,
     lengths: &[Option<usize>],
 ) -> Result<Vec<usize>, AllocError> {
     let mut steps = Vec::new(alloc);
-    let mut at = longest_start(listing, lengths);
+    let mut at = longest_start(context, lengths);
     let length = length_of(lengths, at);
     steps.push(at)?;
     for done in 1..length {
-        let Some(next) = next_of(listing, lengths, at, length.saturating_sub(done)) else {
+        let Some(next) = next_of(context, lengths, at, length.saturating_sub(done)) else {
             break;
         };
         steps.push(next)?;
@@ -77,11 +75,11 @@ fn longest_steps(
 }
 
 /// Where a longest path begins: at the first instruction, or where a counted jump leads.
-fn longest_start(listing: &[(usize, Op)], lengths: &[Option<usize>]) -> usize {
+fn longest_start(context: &Context, lengths: &[Option<usize>]) -> usize {
     let mut start = 0;
-    for (_, op) in listing {
+    for (_, op) in context.instructions() {
         if let Op::Repeat(_, _, _, to) = op {
-            let head = number_at(listing, usize::from(*to)).unwrap_or(0);
+            let head = context.number_at(usize::from(*to)).unwrap_or(0);
             if length_of(lengths, head) > length_of(lengths, start) {
                 start = head;
             }
@@ -98,19 +96,13 @@ fn length_of(lengths: &[Option<usize>], at: usize) -> usize {
 }
 
 /// The next instruction of a longest path, on which so many are left.
-fn next_of(
-    listing: &[(usize, Op)],
-    lengths: &[Option<usize>],
-    at: usize,
-    left: usize,
-) -> Option<usize> {
+fn next_of(context: &Context, lengths: &[Option<usize>], at: usize, left: usize) -> Option<usize> {
     let next = at.checked_add(1)?;
-    match listing.get(at) {
-        Some((_, Op::Jump(Condition::Always, to))) => number_at(listing, usize::from(*to)),
-        Some((_, Op::Jump(_, to))) if length_of(lengths, next) != left => number_at(
-            listing,
-            usize::from(*to),
-        ),
+    match context.instructions().get(at) {
+        Some((_, Op::Jump(Condition::Always, to))) => context.number_at(usize::from(*to)),
+        Some((_, Op::Jump(_, to))) if length_of(lengths, next) != left => {
+            context.number_at(usize::from(*to))
+        }
         Some(_) => Some(next),
         None => None,
     }

@@ -5,7 +5,7 @@ ghost use Rattle.facts.specs.Flow.{number_at};
 ghost use Rattle.verifier.specs.Heads.{heads_of, is_among};
 
 use crate::heads::{is_head, loop_heads};
-use crate::listing::number_at;
+use facts::context::Context;
 use point_types::Condition;
 use scan_code::Op;
 use std::alloc::{AllocError, Global};
@@ -13,16 +13,13 @@ use std::alloc::{AllocError, Global};
 /// The greatest number of instructions that a scan takes: those of the longest path from instruction 0 or
 /// from the label of a counted jump to an end, once, and once more for each time that a counted jump may
 /// be taken (IEC 61131-3 edition 2, 3.2.1). Paths go through reached instructions alone.
-pub fn most_steps(
-    alloc: Global,
-    listing: &[(usize, Op)],
-    reached: &[bool],
-) -> Result<usize, AllocError>
-    requires few { length listing.now < 65536 }
-    requires each { length reached.now ≡ length listing.now }
-    ensures { IfOk result (λ steps. steps ≡ budget_of listing.now reached.now) }
+pub fn most_steps(alloc: Global, context: &Context, reached: &[bool]) -> Result<usize, AllocError>
+    requires few { length context.now.listing < 65536 }
+    requires each { length reached.now ≡ length context.now.listing }
+    ensures { IfOk result (λ steps. steps ≡ budget_of context.now.listing reached.now) }
 {
-    let lengths = path_lengths(alloc, listing, reached)?;
+    let lengths = path_lengths(alloc, context, reached)?;
+    let listing = context.instructions();
     let heads = loop_heads(alloc, listing)?;
     let longest = longest_path(listing, &heads, &lengths);
     Ok(longest * (1 + total_count(listing)))
@@ -31,19 +28,20 @@ pub fn most_steps(
 /// For each instruction how many are on the longest path from it to an end, if any leads there.
 pub fn path_lengths(
     alloc: Global,
-    listing: &[(usize, Op)],
+    context: &Context,
     reached: &[bool],
 ) -> Result<Vec<Option<usize>>, AllocError>
-    requires few { length listing.now < 65536 }
-    requires each { length reached.now ≡ length listing.now }
-    ensures { IfOk result (λ lengths. lengths.items ≡ lengths_from listing.now 0 reached.now listing.now) }
+    requires few { length context.now.listing < 65536 }
+    requires each { length reached.now ≡ length context.now.listing }
+    ensures { IfOk result (λ lengths. lengths.items ≡ lengths_from context.now.listing 0 reached.now context.now.listing) }
 {
+    let listing = context.instructions();
     let mut lengths = vec![in alloc; None; listing.len()]?;
     let mut n = listing.len();
     while n > 0 {
         n -= 1;
         let (_, later) = lengths.split_at(n + 1);
-        let length = length_if(reached[n], listing, n, listing[n].1, later);
+        let length = length_if(reached[n], context, n, listing[n].1, later);
         lengths[n] = length;
     }
     Ok(lengths)
@@ -52,42 +50,42 @@ pub fn path_lengths(
 /// The length at an instruction that is reached or not.
 fn length_if(
     reached: bool,
-    listing: &[(usize, Op)],
+    context: &Context,
     n: usize,
     op: Op,
     later: &[Option<usize>],
 ) -> Option<usize>
     requires { AreUpTo 65535 later.now }
-    ensures { result ≡ (if reached then length_from listing.now n op later.now else None) }
+    ensures { result ≡ (if reached then length_from context.now.listing n op later.now else None) }
 {
     if reached {
-        length_from(listing, n, op, later)
+        length_from(context, n, op, later)
     } else {
         None
     }
 }
 
 /// The length at one instruction, from those of the later ones.
-fn length_from(listing: &[(usize, Op)], n: usize, op: Op, later: &[Option<usize>]) -> Option<usize>
+fn length_from(context: &Context, n: usize, op: Op, later: &[Option<usize>]) -> Option<usize>
     requires { AreUpTo 65535 later.now }
-    ensures { result ≡ length_from listing.now n op later.now }
+    ensures { result ≡ length_from context.now.listing n op later.now }
 {
     match op {
         Op::End | Op::Return(Condition::Always) => Some(1),
         Op::Return(_) => longer(Some(1), one_more(length_at(later, 0))),
-        Op::Jump(Condition::Always, to) => one_more(length_of(listing, n, to, later)),
-        Op::Jump(_, to) => one_more(longer(length_at(later, 0), length_of(listing, n, to, later))),
+        Op::Jump(Condition::Always, to) => one_more(length_of(context, n, to, later)),
+        Op::Jump(_, to) => one_more(longer(length_at(later, 0), length_of(context, n, to, later))),
         _ => one_more(length_at(later, 0)),
     }
 }
 
 /// The length at the instruction that a jump leads to.
-fn length_of(listing: &[(usize, Op)], n: usize, to: u16, later: &[Option<usize>]) -> Option<usize>
+fn length_of(context: &Context, n: usize, to: u16, later: &[Option<usize>]) -> Option<usize>
     requires short { AreUpTo 65535 later.now }
-    ensures value { result ≡ length_of later.now n (number_at listing.now 0 to) }
+    ensures value { result ≡ length_of later.now n (number_at context.now.listing 0 to) }
     ensures short { IsUpTo 65535 result }
 {
-    match number_at(listing, usize::from(to)) {
+    match context.number_at(usize::from(to)) {
         Some(target) if n < target => length_at(later, target - n - 1),
         _ => None,
     }

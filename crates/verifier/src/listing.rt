@@ -3,7 +3,7 @@ ghost use Rattle.std.specs.Prelude.{◌≡◌, ◌<◌, ◌+◌, ◌^◌, slice_
 ghost use Rattle.verifier.specs.Listing.{is_end, is_placed, is_tag, is_there, jumps_after, listing_of};
 ghost use Rattle.facts.specs.Word.{AnswersOrWantsMemory};
 
-pub use facts::address::number_at;
+use facts::instructions::Instructions;
 use facts::refusal::{Refusal, RefusalKind, RefusedAt};
 use point_types::Items;
 use scan_code::{Image, Op, decode};
@@ -13,7 +13,7 @@ use std::alloc::Global;
 /// Code is the first one, by its number, that doesn't decode, that names a variable or a tag that isn't
 /// there or a tag of the other direction, or that is a counted jump with another counter than its own
 /// or in an image of version 1; and the number of the instructions, where the last one isn't END.
-pub fn listing(alloc: Global, image: &Image) -> Result<Items<(usize, Op)>, Refusal>
+pub fn listing(alloc: Global, image: &Image) -> Result<Instructions, Refusal>
     ensures { AnswersOrWantsMemory (λ listing. listing) (listing_of image.now) result }
 {
     let code = image.code.as_slice();
@@ -34,7 +34,7 @@ pub fn listing(alloc: Global, image: &Image) -> Result<Items<(usize, Op)>, Refus
         at = next;
     }
     if ended {
-        Ok(Items::from_vec(listing))
+        Ok(Instructions::of(alloc, Items::from_vec(listing))?)
     } else {
         Err(wrong_at(listing.len()))
     }

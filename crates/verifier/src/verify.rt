@@ -14,9 +14,10 @@ use crate::tag_link::{TagLink, links, ranges};
 use crate::verified::Verified;
 use facts::context::Context;
 use facts::fact::Fact;
+use facts::instructions::Instructions;
 use facts::refusal::{Refusal, RefusalKind, RefusedAt};
 use point_types::Items;
-use scan_code::{Image, Op};
+use scan_code::Image;
 use site_model::Site;
 use std::alloc::{AllocError, Global};
 
@@ -67,7 +68,7 @@ fn judge(alloc: Global, image: &Image, links: &[TagLink], depth: usize) -> Resul
 }
 
 /// The instructions of an image; they are few, since each has a byte.
-pub(crate) fn listed(alloc: Global, image: &Image) -> Result<Items<(usize, Op)>, Refusal>
+pub(crate) fn listed(alloc: Global, image: &Image) -> Result<Instructions, Refusal>
     ensures listed { AnswersOrWantsMemory (λ listing. listing) (listing_of image.now) result }
     ensures few { IfOk result (λ listing. length listing < 65536) }
 {
@@ -81,7 +82,7 @@ pub(crate) fn frame_of(
     image: &Image,
     links: &[TagLink],
     depth: usize,
-    listing: Items<(usize, Op)>,
+    listing: Instructions,
 ) -> Result<Context, AllocError>
     ensures { IfOk result (λ context. context ≡ linked_frame image.now links.now depth listing) }
 {
@@ -102,7 +103,7 @@ fn judge_frame(alloc: Global, context: &Context) -> Result<u32, Refusal>
         Ok(reached) => reached,
         Err(refusal) => return Err(refusal),
     };
-    let steps = most_steps(alloc, context.instructions(), reached.as_slice())?;
+    let steps = most_steps(alloc, context, reached.as_slice())?;
     within_budget(steps)
 }
 

@@ -10,6 +10,7 @@ mod site_links;
 mod values;
 mod verdicts;
 
+use facts::instructions::Instructions;
 use point_types::{Items, Name};
 use site_model::Access;
 use std::alloc::Global;
@@ -43,7 +44,7 @@ pub(crate) fn frame_of(rt: &impl Abort, alloc: Global, rows: &[DeclaredVariable]
         variables,
         tags,
         depth: 1,
-        listing: Items::new(alloc),
+        listing: Instructions::of(alloc, Items::new(alloc)).expect(rt, "memory"),
     }
 }
 

@@ -5,7 +5,6 @@ ghost use Rattle.facts.specs.Branches.{jumps_where, refused_or, stays_where, ste
 ghost use Rattle.facts.specs.Flow.{bool_result, earlier, flow, goes_on, later, tested};
 
 use crate::abstract_value::AbstractValue;
-use crate::address::number_at;
 use crate::context::Context;
 use crate::fact::Fact;
 use crate::flow::{Step, add_way, unless};
@@ -26,7 +25,7 @@ impl Fact {
         requires { at + 1 < 2 ^ 64 }
         ensures { IfOk result (λ step. flow context.now at (does.Jump condition to) self.now ≡ stepped at self.now step) }
     {
-        let target = later(at, number_at(context.instructions(), to));
+        let target = later(at, context.number_at(to));
         match condition {
             Condition::Always => match target {
                 Ok(number) => self.goes_to(alloc, number),
@@ -139,7 +138,7 @@ impl Fact {
         if let Err(kind) = self.tested(condition) {
             return Some(kind);
         }
-        match earlier(at, number_at(context.listing.as_slice(), to)) {
+        match earlier(at, context.number_at(to)) {
             Ok(_) => None,
             Err(kind) => Some(kind),
         }

@@ -1,6 +1,7 @@
 //! Spans by their changes.
 
 use crate::tests::assert_same;
+use facts::instructions::Instructions;
 use point_types::{IlType, Items};
 use std::alloc::Global;
 use std::process::Abort;
@@ -51,12 +52,12 @@ fn a_span_is_that_at_entry_where_nothing_changed_it(rt: HostRuntime) {
 }
 
 /// A context of nothing.
-fn empty_frame(alloc: Global) -> Context {
+fn empty_frame(rt: &impl Abort, alloc: Global) -> Context {
     Context {
         variables: Items::new(alloc),
         tags: Items::new(alloc),
         depth: 0,
-        listing: Items::new(alloc),
+        listing: Instructions::of(alloc, Items::new(alloc)).expect(rt, "memory"),
     }
 }
 
@@ -75,7 +76,7 @@ fn fact(rt: &impl Abort, alloc: Global) -> Fact {
 
 /// The same, where 5 is stored in the second variable.
 fn stored(rt: &impl Abort, alloc: Global) -> Fact {
-    let context = empty_frame(alloc);
+    let context = empty_frame(rt, alloc);
     let five = AbstractValue::plain(alloc, &context, IlType::Int, Span::only(5));
     let stored = fact(rt, alloc).stored(alloc, 1, five);
     stored.expect(rt, "memory")

@@ -102,7 +102,7 @@ fn judged_in(
     }
     let reached = passed.reached(alloc).expect(rt, "memory");
     assert!(rt; reached.len() == context.size());
-    let steps = most_steps(alloc, context.instructions(), reached.as_slice());
+    let steps = most_steps(alloc, context, reached.as_slice());
     Ok(steps.expect(rt, "memory"))
 }
 

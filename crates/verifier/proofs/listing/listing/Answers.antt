@@ -1,10 +1,10 @@
-use Rattle.std.proofs.Common.{rules, ◌≡◌, ◌+◌, ◌<◌, ◌≤◌, length, false, true, Some, Err, List, [], ◌∷◌, ◌++◌, inl, sym, ap, ◌∙◌, arith, length-append}
+use Rattle.std.proofs.Common.{rules, ◌≡◌, ◌+◌, ◌<◌, ◌≤◌, length, false, true, Some, Ok, Err, List, [], ◌∷◌, ◌++◌, inl, refl, sym, ap, if◌then◌else◌, ◌∙◌, arith, length-append}
 use Rattle.scan_code.specs.Instruction.{decoded_at}
 use Rattle.facts.specs.declared.refusal.Refusal.{Refusal}
 use Rattle.facts.specs.declared.refusal.RefusedAt.TheVariants as spot
 use Rattle.facts.specs.declared.refusal.RefusalKind.TheVariants.{Code}
-use Rattle.verifier.specs.Listing.{Entry, is_placed}
-use Rattle.verifier.proofs.Listed.{left_after, left_misplaced, jumps_few}
+use Rattle.verifier.specs.Listing.{Entry, is_placed, wrong_at}
+use Rattle.verifier.proofs.Listed.{left_at_last, left_after, left_misplaced, jumps_few}
 use Rattle.verifier.proofs.listing.listing.Goals as goal
 
 pub returns-then-not-is_placed : goal.returns-then-not-is_placed
@@ -36,3 +36,10 @@ loop-at-preserved c =
       omega (arith, long, few, jumps, l.invariant.2),
       within,
     )
+
+pub returns-in_ok-of : goal.returns-in_ok-of
+returns-in_ok-of c =
+    let l = c.loop-at in
+    let past : length c.args.image.now.code ≤ l.at = search rules in
+    let all : (if l.ended then Ok l.listing.items else wrong_at (length l.listing.items)) ≡ Ok l.listing.items = rw c.if-ended.true refl in
+    sym l.invariant.0 ∙ left_at_last c.args.image.now l.listing.items l.at l.jumps l.ended past ∙ all ∙ ap (λ (es : List Entry). Ok es) (sym (c.in_ok-of.ensures ∙ c.from_vec.ensures))

@@ -3,6 +3,7 @@
 use crate::tests::assert_same;
 use crate::tests::full::first_difference;
 use facts::TagRange;
+use facts::instructions::Instructions;
 use point_types::{Condition, IlType, Items, Operator};
 use scan_code::Op;
 use std::alloc::Global;
@@ -154,7 +155,8 @@ fn assert_programs(rt: &impl Abort, alloc: Global, frame: usize) {
     let mut context = empty(rt, alloc);
     for turn in 0..TURNS {
         let number = turn * STRIDE;
-        context.listing = listing(rt, alloc, frame, number);
+        let entries = listing(rt, alloc, frame, number);
+        context.listing = Instructions::of(alloc, entries).expect(rt, "memory");
         let difference = first_difference(rt, alloc, &context);
         assert_same(rt, &(frame, number, difference), &(frame, number, None));
     }
@@ -166,7 +168,7 @@ fn empty(rt: &impl Abort, alloc: Global) -> Context {
         variables: variables(alloc, &VARIABLES, &[]).expect(rt, "variables"),
         tags: tags(rt, alloc),
         depth: 2,
-        listing: Items::new(alloc),
+        listing: Instructions::of(alloc, Items::new(alloc)).expect(rt, "memory"),
     }
 }
 
