@@ -7,9 +7,7 @@ mod notes;
 mod pages;
 mod probe;
 mod replacing;
-mod standard_error;
 mod surveys;
-mod words;
 
 use std::fmt::Debug;
 use std::process::Abort;
@@ -22,16 +20,6 @@ pub(crate) fn assert_same<T: PartialEq + Debug>(rt: &impl Abort, found: &T, want
 /// `assert!`, in the same way.
 pub(crate) fn assert_true(rt: &impl Abort, found: bool) {
     assert!(rt; found);
-}
-
-/// Texts as the commands take them.
-fn texts(rt: &(impl AllocGlobal + Abort), parts: &[&str]) -> Vec<String> {
-    let mut texts = Vec::new(rt.alloc());
-    for part in parts {
-        let text = part.to_string(rt.alloc()).expect(rt, "memory");
-        texts.push(text).expect(rt, "memory");
-    }
-    texts
 }
 
 /// What was printed.
