@@ -1,6 +1,7 @@
 """How long runs of a program take, and how many requests a second a server answers."""
 
 import os
+import resource
 import shutil
 import socket
 import statistics
@@ -48,6 +49,14 @@ class Command:
         with tempfile.NamedTemporaryFile("r") as told:
             Run([timer, "-f", "%M", "-o", told.name, *self.words], self.standard_input)
             return int(told.read()) / 1024
+
+
+def processor_seconds(words):
+    """The processor's seconds, user and system, of one run of a program."""
+    before = resource.getrusage(resource.RUSAGE_CHILDREN)
+    Run(words)
+    after = resource.getrusage(resource.RUSAGE_CHILDREN)
+    return after.ru_utime + after.ru_stime - before.ru_utime - before.ru_stime
 
 
 def per_step(program, folder, text, scans, times=5):

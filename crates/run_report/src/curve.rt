@@ -2,7 +2,7 @@
 use crate::axis::Axis;
 use crate::coordinates::x_at;
 use crate::recorded::Sample;
-use std::alloc::AllocError;
+use crate::sheet::Sheet;
 
 /// Which numbers a line is drawn of.
 #[derive(Clone, Copy)]
@@ -24,19 +24,19 @@ impl Stroke {
 
 /// Appends the steps of a line over n scans, as the data of a path.
 pub(crate) fn push_steps(
-    page: &mut String,
+    page: &mut Sheet,
     samples: &[Sample],
     n: usize,
     axis: Axis,
     stroke: Stroke,
-) -> Result<(), AllocError> {
+) {
     let mut pen = None;
     for (i, sample) in samples.iter().enumerate() {
         let height = height_of(axis, stroke.number_in(*sample));
-        push_step(page, x_at(i, n), pen, height)?;
+        push_step(page, x_at(i, n), pen, height);
         pen = height;
     }
-    push_step(page, x_at(samples.len(), n), pen, None)
+    push_step(page, x_at(samples.len(), n), pen, None);
 }
 
 fn height_of(axis: Axis, number: Option<i64>) -> Option<u32> {
@@ -47,16 +47,11 @@ fn height_of(axis: Axis, number: Option<i64>) -> Option<u32> {
 }
 
 /// Moves the pen from one height to the next one; it is on paper where there is one.
-fn push_step(
-    page: &mut String,
-    x: u32,
-    from: Option<u32>,
-    to: Option<u32>,
-) -> Result<(), AllocError> {
+fn push_step(page: &mut Sheet, x: u32, from: Option<u32>, to: Option<u32>) {
     match (from, to) {
-        (None, Some(y)) => write!(page, "M{x} {y}"),
-        (Some(_), None) => write!(page, "H{x}"),
-        (Some(before), Some(y)) if before != y => write!(page, "H{x}V{y}"),
-        _ => Ok(()),
+        (None, Some(y)) => page.say(format_args!("M{x} {y}")),
+        (Some(_), None) => page.say(format_args!("H{x}")),
+        (Some(before), Some(y)) if before != y => page.say(format_args!("H{x}V{y}")),
+        _ => {}
     }
 }

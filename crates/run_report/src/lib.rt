@@ -15,6 +15,7 @@ mod numbers;
 mod page;
 mod recorded;
 mod remarks;
+mod sheet;
 mod spans;
 mod style;
 mod table;

@@ -3,6 +3,7 @@ use crate::axis::Axis;
 use crate::coordinates::{BOTTOM, TOP, x_at};
 use crate::numbers::shown;
 use crate::recorded::{Sample, Series};
+use crate::sheet::Sheet;
 use crate::spans::Span;
 use std::alloc::{AllocError, Global};
 
@@ -10,31 +11,28 @@ use std::alloc::{AllocError, Global};
 const LETTER: u32 = 78;
 
 /// Appends a mark over the whole plot for each span of a line over n scans.
-pub(crate) fn push_spans(page: &mut String, spans: &[Span], n: usize) -> Result<(), AllocError> {
+pub(crate) fn push_spans(page: &mut Sheet, spans: &[Span], n: usize) {
     for span in spans {
-        push_span(page, *span, n)?;
+        push_span(page, *span, n);
     }
-    Ok(())
 }
 
-fn push_span(page: &mut String, span: Span, n: usize) -> Result<(), AllocError> {
+fn push_span(page: &mut Sheet, span: Span, n: usize) {
     let x = x_at(span.first.saturating_sub(1), n);
     let (wide, tall) = (x_at(span.last, n).saturating_sub(x), BOTTOM - TOP);
     let (class, words, cause) = (span.wrong.class(), span.wrong.words(), span.cause);
-    write!(
-        page,
+    page.say(format_args!(
         "<rect class=\"{class}\" x=\"{x}\" y=\"{TOP}\" width=\"{wide}\" height=\"{tall}\"><title>"
-    )?;
-    push_scan_range(page, span.first, span.last)?;
-    write!(page, ": {words} ({cause})</title></rect>\n")?;
+    ));
+    push_scan_range(page, span.first, span.last);
+    page.say(format_args!(": {words} ({cause})</title></rect>\n"));
     if !has_room(cause, wide) {
-        return Ok(());
+        return;
     }
     let (middle, base) = (x + wide / 2, TOP + 160);
-    write!(
-        page,
+    page.say(format_args!(
         "<text class=\"mid cause\" x=\"{middle}\" y=\"{base}\">{cause}</text>\n"
-    )
+    ));
 }
 
 /// Whether a mark has room for its cause.
@@ -44,15 +42,12 @@ fn has_room(cause: &str, wide: u32) -> bool {
 }
 
 /// Appends `scan 5`, or `scans 5 to 7`.
-pub(crate) fn push_scan_range(
-    page: &mut String,
-    first: usize,
-    last: usize,
-) -> Result<(), AllocError> {
+pub(crate) fn push_scan_range(page: &mut Sheet, first: usize, last: usize) {
     if first == last {
-        return write!(page, "scan {first}");
+        page.say(format_args!("scan {first}"));
+        return;
     }
-    write!(page, "scans {first} to {last}")
+    page.say(format_args!("scans {first} to {last}"));
 }
 
 /// A number that a client set, and the first scan that read it, counted from 1.
@@ -79,31 +74,23 @@ pub(crate) fn sets_of(alloc: Global, samples: &[Sample]) -> Result<Vec<Set>, All
 
 /// Appends a mark for each number that a client set.
 pub(crate) fn push_sets(
-    page: &mut String,
+    page: &mut Sheet,
     alloc: Global,
     series: &Series,
     sets: &[Set],
     n: usize,
     axis: Axis,
-) -> Result<(), AllocError> {
+) {
     for set in sets {
-        let number = shown(alloc, set.number, series.exponent)?;
-        push_set(page, *set, number.as_str(), n, axis)?;
+        let number = page.got(shown(alloc, set.number, series.exponent));
+        push_set(page, *set, number.as_str(), n, axis);
     }
-    Ok(())
 }
 
-fn push_set(
-    page: &mut String,
-    set: Set,
-    number: &str,
-    n: usize,
-    axis: Axis,
-) -> Result<(), AllocError> {
+fn push_set(page: &mut Sheet, set: Set, number: &str, n: usize, axis: Axis) {
     let scan = set.scan;
     let (x, y) = (x_at(scan.saturating_sub(1), n), axis.y_of(set.number));
-    write!(
-        page,
+    page.say(format_args!(
         "<circle class=\"set\" cx=\"{x}\" cy=\"{y}\" r=\"45\"><title>set to {number} in scan {scan}</title></circle>\n"
-    )
+    ));
 }

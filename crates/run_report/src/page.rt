@@ -1,9 +1,9 @@
 //! The whole page.
 use crate::axis::extent_of;
 use crate::chart::push_chart;
-use crate::html::push_html;
 use crate::numbers::seconds;
 use crate::recorded::{Report, Role, Source};
+use crate::sheet::Sheet;
 use crate::style::{LEGEND, STYLE};
 use crate::table::push_table;
 use std::alloc::{AllocError, Global};
@@ -20,100 +20,106 @@ const PARTS: [(&str, &[Role]); 3] = [
 
 /// The page of a run, in HTML.
 pub fn page_of(alloc: Global, report: &Report) -> Result<String, AllocError> {
-    let mut page = String::new(alloc);
-    push_head(&mut page, report)?;
-    push_run(&mut page, alloc, report)?;
-    for (head, roles) in PARTS {
-        let charts = charts_of(alloc, report, roles)?;
-        push_part(&mut page, head, charts.as_str())?;
-    }
-    let mut steps = String::new(alloc);
-    push_chart(&mut steps, alloc, report, &report.steps)?;
-    push_part(&mut page, "Its instructions", steps.as_str())?;
-    push_table(&mut page, alloc, report)?;
-    page.push_str("</body>\n</html>\n")?;
-    Ok(page)
+    let mut page = Sheet::new(alloc);
+    push_head(&mut page, report);
+    push_run(&mut page, alloc, report);
+    push_parts(&mut page, alloc, report);
+    push_table(&mut page, alloc, report);
+    page.push("</body>\n</html>\n");
+    page.whole()
 }
 
-fn push_head(page: &mut String, report: &Report) -> Result<(), AllocError> {
-    page.push_str(
+fn push_head(page: &mut Sheet, report: &Report) {
+    page.push(
         "<!DOCTYPE html>\n<html lang=\"en\">\n<head>\n<meta charset=\"utf-8\">\n<meta name=\"viewport\" content=\"width=device-width, initial-scale=1\">\n<title>",
-    )?;
-    push_title(page, report)?;
-    page.push_str("</title>\n<style>\n")?;
-    page.push_str(STYLE)?;
-    page.push_str("</style>\n</head>\n<body>\n<h1>")?;
-    push_title(page, report)?;
-    page.push_str("</h1>\n")
+    );
+    push_title(page, report);
+    page.push("</title>\n<style>\n");
+    page.push(STYLE);
+    page.push("</style>\n</head>\n<body>\n<h1>");
+    push_title(page, report);
+    page.push("</h1>\n");
 }
 
-fn push_title(page: &mut String, report: &Report) -> Result<(), AllocError> {
-    push_html(page, report.program.path.as_str())?;
-    page.push_str(" on ")?;
-    push_html(page, report.site.path.as_str())
+fn push_title(page: &mut Sheet, report: &Report) {
+    page.push_html(report.program.path.as_str());
+    page.push(" on ");
+    page.push_html(report.site.path.as_str());
 }
 
 /// Appends what the run was of, and how far it came.
-fn push_run(page: &mut String, alloc: Global, report: &Report) -> Result<(), AllocError> {
-    page.push_str("<dl>\n")?;
-    push_source(page, "Site", &report.site)?;
-    push_source(page, "Program", &report.program)?;
-    page.push_str("<dt>Plant</dt><dd>")?;
-    push_html(page, report.plant.as_str())?;
-    page.push_str("</dd>\n<dt>Scans</dt><dd>")?;
-    push_scans(page, alloc, report)?;
-    page.push_str("</dd>\n<dt>Instructions</dt><dd>")?;
-    push_steps(page, report)?;
-    page.push_str("</dd>\n</dl>\n")?;
-    page.push_str(LEGEND)
+fn push_run(page: &mut Sheet, alloc: Global, report: &Report) {
+    page.push("<dl>\n");
+    push_source(page, "Site", &report.site);
+    push_source(page, "Program", &report.program);
+    page.push("<dt>Plant</dt><dd>");
+    page.push_html(report.plant.as_str());
+    page.push("</dd>\n<dt>Scans</dt><dd>");
+    push_scans(page, alloc, report);
+    page.push("</dd>\n<dt>Instructions</dt><dd>");
+    push_steps(page, report);
+    page.push("</dd>\n</dl>\n");
+    page.push(LEGEND);
 }
 
 /// Appends the path of a file, and the digits of its hash.
-fn push_source(page: &mut String, what: &str, source: &Source) -> Result<(), AllocError> {
-    write!(page, "<dt>{what}</dt><dd>")?;
-    push_html(page, source.path.as_str())?;
-    page.push_str(" <small>SHA-256 ")?;
-    push_html(page, source.digits.as_str())?;
-    page.push_str("..</small></dd>\n")
+fn push_source(page: &mut Sheet, what: &str, source: &Source) {
+    page.say(format_args!("<dt>{what}</dt><dd>"));
+    page.push_html(source.path.as_str());
+    page.push(" <small>SHA-256 ");
+    page.push_html(source.digits.as_str());
+    page.push("..</small></dd>\n");
 }
 
-fn push_scans(page: &mut String, alloc: Global, report: &Report) -> Result<(), AllocError> {
+fn push_scans(page: &mut Sheet, alloc: Global, report: &Report) {
     let done = u32::try_from(report.steps.samples.len()).unwrap_or(u32::MAX);
     let all = report.scans;
-    let every = seconds(alloc, u64::from(report.every))?;
+    let every = page.got(seconds(alloc, u64::from(report.every)));
     if done == all {
-        return write!(page, "{done}, {every} apart");
+        page.say(format_args!("{done}, {every} apart"));
+        return;
     }
-    write!(page, "{done} of {all}, {every} apart")
+    page.say(format_args!("{done} of {all}, {every} apart"));
 }
 
-fn push_steps(page: &mut String, report: &Report) -> Result<(), AllocError> {
+fn push_steps(page: &mut Sheet, report: &Report) {
     let budget = report.budget;
     match extent_of(report.steps.samples.as_slice()) {
-        Some(all) => write!(
-            page,
-            "{} at most in a scan, of a budget of {budget}",
-            all.high
-        ),
-        None => write!(page, "none, of a budget of {budget}"),
+        Some(all) => {
+            let most = all.high;
+            page.say(format_args!("{most} at most in a scan, of a budget of {budget}"));
+        }
+        None => page.say(format_args!("none, of a budget of {budget}")),
     }
+}
+
+/// Appends the parts with charts.
+fn push_parts(page: &mut Sheet, alloc: Global, report: &Report) {
+    for (head, roles) in PARTS {
+        let charts = page.got(charts_of(alloc, report, roles));
+        push_part(page, head, charts.as_str());
+    }
+    let mut steps = Sheet::new(alloc);
+    push_chart(&mut steps, alloc, report, &report.steps);
+    let steps = page.got(steps.whole());
+    push_part(page, "Its instructions", steps.as_str());
 }
 
 /// Appends a part of the page, where it has a chart.
-fn push_part(page: &mut String, head: &str, charts: &str) -> Result<(), AllocError> {
+fn push_part(page: &mut Sheet, head: &str, charts: &str) {
     if charts.is_empty() {
-        return Ok(());
+        return;
     }
-    write!(page, "<h2>{head}</h2>\n<section>\n{charts}</section>\n")
+    page.say(format_args!("<h2>{head}</h2>\n<section>\n{charts}</section>\n"));
 }
 
 /// The charts of the lines of some roles.
 fn charts_of(alloc: Global, report: &Report, roles: &[Role]) -> Result<String, AllocError> {
-    let mut charts = String::new(alloc);
+    let mut charts = Sheet::new(alloc);
     for series in &report.series {
         if roles.contains(&series.role) {
-            push_chart(&mut charts, alloc, report, series)?;
+            push_chart(&mut charts, alloc, report, series);
         }
     }
-    Ok(charts)
+    charts.whole()
 }

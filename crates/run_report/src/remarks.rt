@@ -1,28 +1,25 @@
 //! What is said of a line above and below its chart.
 use crate::axis::extent_of;
-use crate::html::push_html;
 use crate::marks::{Set, push_scan_range};
 use crate::numbers::shown;
 use crate::recorded::{Role, Series};
+use crate::sheet::Sheet;
 use crate::spans::Span;
-use std::alloc::{AllocError, Global};
+use std::alloc::Global;
 
 /// How many marks of a kind are told below a chart.
 const MOST: usize = 4;
 
 /// Appends a line's name, the least and the greatest of its numbers, and its range.
-pub(crate) fn push_caption(
-    page: &mut String,
-    alloc: Global,
-    series: &Series,
-) -> Result<(), AllocError> {
-    page.push_str("<figcaption><b>")?;
-    push_html(page, series.name.as_str())?;
-    write!(page, "</b> {}", role_words(series.role))?;
-    push_extent(page, alloc, series)?;
-    let low = shown(alloc, series.low, series.exponent)?;
-    let high = shown(alloc, series.high, series.exponent)?;
-    write!(page, "; may be {low} to {high}</figcaption>\n")
+pub(crate) fn push_caption(page: &mut Sheet, alloc: Global, series: &Series) {
+    page.push("<figcaption><b>");
+    page.push_html(series.name.as_str());
+    page.push("</b> ");
+    page.push(role_words(series.role));
+    push_extent(page, alloc, series);
+    let low = page.got(shown(alloc, series.low, series.exponent));
+    let high = page.got(shown(alloc, series.high, series.exponent));
+    page.say(format_args!("; may be {low} to {high}</figcaption>\n"));
 }
 
 fn role_words(role: Role) -> &'static str {
@@ -37,61 +34,60 @@ fn role_words(role: Role) -> &'static str {
     }
 }
 
-fn push_extent(page: &mut String, alloc: Global, series: &Series) -> Result<(), AllocError> {
+fn push_extent(page: &mut Sheet, alloc: Global, series: &Series) {
     let Some(all) = extent_of(series.samples.as_slice()) else {
-        return page.push_str("; never had a number");
+        page.push("; never had a number");
+        return;
     };
-    let low = shown(alloc, all.low, series.exponent)?;
+    let low = page.got(shown(alloc, all.low, series.exponent));
     if all.low == all.high {
-        return write!(page, "; was {low}");
+        page.say(format_args!("; was {low}"));
+        return;
     }
-    let high = shown(alloc, all.high, series.exponent)?;
-    write!(page, "; was {low} to {high}")
+    let high = page.got(shown(alloc, all.high, series.exponent));
+    page.say(format_args!("; was {low} to {high}"));
 }
 
 /// Appends when clients set a line, and when it was missing or not written.
 pub(crate) fn push_remarks(
-    page: &mut String,
+    page: &mut Sheet,
     alloc: Global,
     series: &Series,
     sets: &[Set],
     spans: &[Span],
-) -> Result<(), AllocError> {
+) {
     if sets.is_empty() && spans.is_empty() {
-        return Ok(());
+        return;
     }
-    page.push_str("<ul>\n")?;
+    page.push("<ul>\n");
     for set in sets.iter().take(MOST) {
-        let number = shown(alloc, set.number, series.exponent)?;
+        let number = page.got(shown(alloc, set.number, series.exponent));
         let scan = set.scan;
-        write!(
-            page,
-            "<li class=\"set\">set to {number} in scan {scan}</li>\n"
-        )?;
+        page.say(format_args!("<li class=\"set\">set to {number} in scan {scan}</li>\n"));
     }
-    push_more(page, "set", sets.len())?;
-    push_span_remarks(page, spans)?;
-    page.push_str("</ul>\n")
+    push_more(page, "set", sets.len());
+    push_span_remarks(page, spans);
+    page.push("</ul>\n");
 }
 
-fn push_span_remarks(page: &mut String, spans: &[Span]) -> Result<(), AllocError> {
+fn push_span_remarks(page: &mut Sheet, spans: &[Span]) {
     for span in spans.iter().take(MOST) {
-        push_span_remark(page, *span)?;
+        push_span_remark(page, *span);
     }
-    push_more(page, "more", spans.len())
+    push_more(page, "more", spans.len());
 }
 
-fn push_span_remark(page: &mut String, span: Span) -> Result<(), AllocError> {
+fn push_span_remark(page: &mut Sheet, span: Span) {
     let (class, words, cause) = (span.wrong.class(), span.wrong.words(), span.cause);
-    write!(page, "<li class=\"{class}\">")?;
-    push_scan_range(page, span.first, span.last)?;
-    write!(page, ": {words} ({cause})</li>\n")
+    page.say(format_args!("<li class=\"{class}\">"));
+    push_scan_range(page, span.first, span.last);
+    page.say(format_args!(": {words} ({cause})</li>\n"));
 }
 
 /// Appends how many more marks there are than are told.
-fn push_more(page: &mut String, class: &str, count: usize) -> Result<(), AllocError> {
+fn push_more(page: &mut Sheet, class: &str, count: usize) {
     match count.saturating_sub(MOST) {
-        0 => Ok(()),
-        more => write!(page, "<li class=\"{class}\">and {more} times more</li>\n"),
+        0 => {}
+        more => page.say(format_args!("<li class=\"{class}\">and {more} times more</li>\n")),
     }
 }

@@ -1,6 +1,7 @@
 //! What a case works on, and which of these takes a step.
 use crate::bytes::needed;
 use crate::core_bench::{CoreBench, CoreStep};
+use crate::fault::Shown;
 use crate::link_bench::{LinkBench, LinkStep};
 use crate::page::Page;
 use crate::plant_bench::PlantStep;
@@ -15,7 +16,6 @@ use crate::texts::Texts;
 use inverter_sim::Plant;
 use register_map::Map;
 use std::alloc::Global;
-use std::io;
 
 /// What a case works on.
 #[derive(Drop)]
@@ -52,12 +52,7 @@ impl Benches {
     }
 
     /// Takes a step, or keeps it where steps wait.
-    pub(crate) fn take(
-        &mut self,
-        texts: &Texts<'_>,
-        page: &mut Page,
-        step: &str,
-    ) -> io::Result<()> {
+    pub(crate) fn take(&mut self, texts: &Texts<'_>, page: &mut Page, step: &str) -> Shown<()> {
         match (step, &mut self.shuffled) {
             ("end-of-order", _) => self.take_shuffled(texts),
             (_, Some(waiting)) => Ok(waiting.push(step.to_string(self.alloc)?)?),
@@ -70,7 +65,7 @@ impl Benches {
     }
 
     /// Takes the steps that wait in the order of the case's number, and shows nothing of them.
-    fn take_shuffled(&mut self, texts: &Texts<'_>) -> io::Result<()> {
+    fn take_shuffled(&mut self, texts: &Texts<'_>) -> Shown<()> {
         let mut waiting = needed(self.shuffled.take())?;
         let mut page = Page::new(self.alloc, true);
         let mut rest = self.number;
@@ -87,7 +82,7 @@ impl Benches {
     }
 
     /// Takes a step, with the case's number in place of each word `N`.
-    fn take_now(&mut self, texts: &Texts<'_>, page: &mut Page, step: &str) -> io::Result<()> {
+    fn take_now(&mut self, texts: &Texts<'_>, page: &mut Page, step: &str) -> Shown<()> {
         let number = format!(in self.alloc; "{}", self.number)?;
         let mut words = Vec::new(self.alloc);
         for word in step.split_ascii_whitespace() {
@@ -105,7 +100,7 @@ impl Benches {
         page: &mut Page,
         name: &str,
         args: &[&str],
-    ) -> io::Result<()> {
+    ) -> Shown<()> {
         if let Some(step) = ServiceStep::read(name, args) {
             return needed(self.service.as_mut())?.take(texts, page, step);
         }
@@ -142,7 +137,7 @@ impl Benches {
         page: &mut Page,
         name: &str,
         args: &[&str],
-    ) -> io::Result<()> {
+    ) -> Shown<()> {
         match (name, args) {
             ("service", [clients, plants @ ..]) => self.begin_service(texts, *clients, plants),
             ("core", [site, program]) => self.begin_core(texts, page, (*site, *program, *site)),
@@ -166,12 +161,7 @@ impl Benches {
         }
     }
 
-    fn begin_service(
-        &mut self,
-        texts: &Texts<'_>,
-        clients: &str,
-        plants: &[&str],
-    ) -> io::Result<()> {
+    fn begin_service(&mut self, texts: &Texts<'_>, clients: &str, plants: &[&str]) -> Shown<()> {
         let clients = needed(clients.parse::<usize>().ok())?;
         let bench = ServiceBench::new(self.alloc, texts, clients, plants)?;
         self.service = Some(Box::new(self.alloc, bench)?);
@@ -184,7 +174,7 @@ impl Benches {
         texts: &Texts<'_>,
         page: &mut Page,
         names: (&str, &str, &str),
-    ) -> io::Result<()> {
+    ) -> Shown<()> {
         let maps = match self.maps.take() {
             Some(maps) => maps,
             None => self.maps_of(site(self.alloc, texts, names.0)?.devices().len())?,
@@ -198,7 +188,7 @@ impl Benches {
         }
     }
 
-    fn maps_of(&self, devices: usize) -> io::Result<Vec<Option<Map>>> {
+    fn maps_of(&self, devices: usize) -> Shown<Vec<Option<Map>>> {
         let mut maps = Vec::new(self.alloc);
         for _ in 0..devices {
             maps.push(self.registers.map()?)?;

@@ -1,15 +1,14 @@
 //! What the words of a step say: numbers, bytes and registers.
+use crate::fault::{Fault, Shown};
 use modbus_frame::Pdu;
 use std::alloc::Global;
-use std::io;
-use std::io::ErrorKind;
 use std::str::FromStr;
 
 /// What a step needs, where it is there.
-pub(crate) fn needed<T>(found: Option<T>) -> io::Result<T> {
+pub(crate) fn needed<T>(found: Option<T>) -> Shown<T> {
     match found {
         Some(found) => Ok(found),
-        None => Err(io::Error::from(ErrorKind::InvalidData)),
+        None => Err(Fault::Step),
     }
 }
 
@@ -25,7 +24,7 @@ where
 }
 
 /// The bytes that words spell, each by two digits a byte, or by `DIGITS*TIMES` so many times.
-pub(crate) fn bytes_of(alloc: Global, words: &[&str]) -> io::Result<Vec<u8>> {
+pub(crate) fn bytes_of(alloc: Global, words: &[&str]) -> Shown<Vec<u8>> {
     let mut bytes = Vec::new(alloc);
     for word in words {
         push_bytes(alloc, &mut bytes, *word)?;
@@ -33,7 +32,7 @@ pub(crate) fn bytes_of(alloc: Global, words: &[&str]) -> io::Result<Vec<u8>> {
     Ok(bytes)
 }
 
-fn push_bytes(alloc: Global, bytes: &mut Vec<u8>, word: &str) -> io::Result<()> {
+fn push_bytes(alloc: Global, bytes: &mut Vec<u8>, word: &str) -> Shown<()> {
     let (digits, times) = word.split_once("*").unwrap_or((word, "1"));
     let part = needed(hex::decode(alloc, digits).ok())?;
     for _ in 0..needed(times.parse::<usize>().ok())? {
@@ -43,7 +42,7 @@ fn push_bytes(alloc: Global, bytes: &mut Vec<u8>, word: &str) -> io::Result<()> 
 }
 
 /// How bytes are shown, `-` where there are none.
-pub(crate) fn hex_of(alloc: Global, bytes: &[u8]) -> io::Result<String> {
+pub(crate) fn hex_of(alloc: Global, bytes: &[u8]) -> Shown<String> {
     match bytes {
         [] => Ok("-".to_string(alloc)?),
         _ => Ok(hex::encode(alloc, bytes)?),
@@ -51,17 +50,17 @@ pub(crate) fn hex_of(alloc: Global, bytes: &[u8]) -> io::Result<String> {
 }
 
 /// The PDU of such bytes.
-pub(crate) fn pdu_of(alloc: Global, words: &[&str]) -> io::Result<Pdu> {
+pub(crate) fn pdu_of(alloc: Global, words: &[&str]) -> Shown<Pdu> {
     needed(Pdu::from_bytes(&bytes_of(alloc, words)?))
 }
 
 /// The registers of such bytes.
-pub(crate) fn registers_of(alloc: Global, words: &[&str]) -> io::Result<Vec<u16>> {
+pub(crate) fn registers_of(alloc: Global, words: &[&str]) -> Shown<Vec<u16>> {
     registers_in(alloc, &bytes_of(alloc, words)?)
 }
 
 /// The registers that bytes are, two of them each.
-pub(crate) fn registers_in(alloc: Global, bytes: &[u8]) -> io::Result<Vec<u16>> {
+pub(crate) fn registers_in(alloc: Global, bytes: &[u8]) -> Shown<Vec<u16>> {
     let mut registers = Vec::new(alloc);
     let mut rest = bytes;
     for _ in 0..bytes.len() {

@@ -1,10 +1,10 @@
 //! A file of cases, read line by line.
 use crate::benches::Benches;
+use crate::fault::{Fault, Shown};
 use crate::page::Page;
 use crate::texts::Texts;
 use std::alloc::Global;
-use std::io;
-use std::io::{ErrorKind, Write};
+use std::io::Write;
 
 /// Before a case's headline.
 const HEADLINE: &str = "=== ";
@@ -44,7 +44,7 @@ impl<'a> CaseFile<'a> {
     }
 
     /// Shows all cases: the texts before the first one are there for each.
-    pub(crate) fn show<W: Write>(&mut self, out: &mut W) -> io::Result<()> {
+    pub(crate) fn show<W: Write>(&mut self, out: &mut W) -> Shown<()> {
         let first = self.next_headline(0);
         self.page_of(Page::new(self.alloc, false), 0, first, 0)?;
         self.texts.share();
@@ -72,7 +72,7 @@ impl<'a> CaseFile<'a> {
 
     /// Shows the case of these lines. One with a range is done for each number of it; where the same comes of numbers in a
     /// row it is shown once, without the steps of which nothing comes.
-    fn show_case<W: Write>(&mut self, out: &mut W, start: usize, end: usize) -> io::Result<()> {
+    fn show_case<W: Write>(&mut self, out: &mut W, start: usize, end: usize) -> Shown<()> {
         let headline = self.lines.get(start).copied().unwrap_or("");
         writeln!(out, "{headline}")?;
         self.line = start.saturating_add(1);
@@ -81,7 +81,7 @@ impl<'a> CaseFile<'a> {
             None => {
                 let page = Page::new(self.alloc, false);
                 let page = self.page_of(page, start.saturating_add(1), end, 0)?;
-                out.write_all(page.as_bytes())
+                Ok(out.write_all(page.as_bytes())?)
             }
         }
     }
@@ -91,7 +91,7 @@ impl<'a> CaseFile<'a> {
         out: &mut W,
         lines: (usize, usize),
         (first, last): (usize, usize),
-    ) -> io::Result<()> {
+    ) -> Shown<()> {
         let mut shown = String::new(self.alloc);
         let mut from = first;
         for number in first..=last {
@@ -113,7 +113,7 @@ impl<'a> CaseFile<'a> {
         start: usize,
         end: usize,
         number: usize,
-    ) -> io::Result<String> {
+    ) -> Shown<String> {
         self.texts.begin_case();
         let mut benches = Benches::new(self.alloc, number);
         let lines = self.lines;
@@ -124,7 +124,7 @@ impl<'a> CaseFile<'a> {
         page.text()
     }
 
-    fn take(&mut self, benches: &mut Benches, page: &mut Page, line: &'a str) -> io::Result<()> {
+    fn take(&mut self, benches: &mut Benches, page: &mut Page, line: &'a str) -> Shown<()> {
         if let Some(name) = line.strip_prefix(TEXT) {
             self.texts.begin(name)
         } else if let Some(step) = line.strip_prefix(STEP) {
@@ -137,25 +137,25 @@ impl<'a> CaseFile<'a> {
     }
 }
 
-fn show_group<W: Write>(out: &mut W, from: usize, to: usize, page: &str) -> io::Result<()> {
+fn show_group<W: Write>(out: &mut W, from: usize, to: usize, page: &str) -> Shown<()> {
     match from == to {
         true => writeln!(out, "N = {from}")?,
         false => writeln!(out, "N = {from}..{to}")?,
     }
-    out.write_all(page.as_bytes())
+    Ok(out.write_all(page.as_bytes())?)
 }
 
 /// The two numbers of `FIRST..LAST`.
-fn bounds_of(range: &str) -> io::Result<(usize, usize)> {
+fn bounds_of(range: &str) -> Shown<(usize, usize)> {
     match range.split_once("..") {
         Some((first, last)) => Ok((bound(first)?, bound(last)?)),
-        None => Err(io::Error::from(ErrorKind::InvalidInput)),
+        None => Err(Fault::Step),
     }
 }
 
-fn bound(word: &str) -> io::Result<usize> {
+fn bound(word: &str) -> Shown<usize> {
     match word.parse::<usize>() {
         Ok(number) => Ok(number),
-        Err(_) => Err(io::Error::from(ErrorKind::InvalidInput)),
+        Err(_) => Err(Fault::Step),
     }
 }

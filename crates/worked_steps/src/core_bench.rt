@@ -1,5 +1,6 @@
 //! A core over events.
 use crate::bytes::{bytes_of, hex_of, needed, number, pdu_of, registers_of};
+use crate::fault::Shown;
 use crate::link_bench::LinkBench;
 use crate::page::Page;
 use crate::sites::{machine, site};
@@ -10,7 +11,6 @@ use register_map::Map;
 use scan_vm::Machine;
 use site_model::Want;
 use std::alloc::Global;
-use std::io;
 
 /// A step of a core; devices, models and outputs are told by their numbers.
 #[derive(Clone, Copy)]
@@ -77,7 +77,7 @@ impl CoreBench {
         texts: &Texts<'_>,
         names: (&str, &str, &str),
         maps: Vec<Option<Map>>,
-    ) -> io::Result<Result<CoreBench, CoreFault>> {
+    ) -> Shown<Result<CoreBench, CoreFault>> {
         let (name, program, accepted) = names;
         let machine = machine_for(alloc, texts, accepted, program)?;
         let site = site(alloc, texts, name)?;
@@ -101,7 +101,7 @@ impl CoreBench {
         links: &mut LinkBench,
         page: &mut Page,
         step: CoreStep<'_>,
-    ) -> io::Result<()> {
+    ) -> Shown<()> {
         match step {
             CoreStep::Block(device, model, words) => {
                 let words = registers_of(self.alloc, words)?;
@@ -127,12 +127,12 @@ impl CoreBench {
         }
     }
 
-    fn step(&mut self, page: &mut Page, event: Event) -> io::Result<()> {
+    fn step(&mut self, page: &mut Page, event: Event) -> Shown<()> {
         let answer = self.core.step(event);
         self.tell_answer(page, &answer)
     }
 
-    fn tell_answer(&self, page: &mut Page, answer: &Answer) -> io::Result<()> {
+    fn tell_answer(&self, page: &mut Page, answer: &Answer) -> Shown<()> {
         match answer {
             Answer::None => Ok(()),
             Answer::Writes(n) => page.tell(format_args!("{n} outputs")),
@@ -140,14 +140,14 @@ impl CoreBench {
         }
     }
 
-    fn replay(&mut self, page: &mut Page, want: Want) -> io::Result<()> {
+    fn replay(&mut self, page: &mut Page, want: Want) -> Shown<()> {
         let mut answers = [Answer::Writes(0), Answer::None];
         self.core
             .replay(&[Event::Lost(want), Event::Scan], &mut answers);
         page.tell(format_args!("{answers:?}"))
     }
 
-    fn tell_write(&mut self, page: &mut Page, output: usize) -> io::Result<()> {
+    fn tell_write(&mut self, page: &mut Page, output: usize) -> Shown<()> {
         if output >= self.core.site().outs().len() {
             return needed(None);
         }
@@ -155,12 +155,12 @@ impl CoreBench {
         page.tell(format_args!("{write:?}"))
     }
 
-    fn tell_budget(&mut self, page: &mut Page) -> io::Result<()> {
+    fn tell_budget(&mut self, page: &mut Page) -> Shown<()> {
         let most = self.core.machine().verified().budget();
         page.tell(format_args!("{most} at most, {} taken", self.core.steps()))
     }
 
-    fn tell_request(&mut self, page: &mut Page, tag: &str, number: i64) -> io::Result<()> {
+    fn tell_request(&mut self, page: &mut Page, tag: &str, number: i64) -> Shown<()> {
         let tag = needed(self.core.site().tag(tag))?;
         match self.core.request_to_set(tag, number) {
             Some(request) => page.tell(hex_of(self.alloc, request_pdu(&request).bytes())?),
@@ -168,7 +168,7 @@ impl CoreBench {
         }
     }
 
-    fn run_scan(&mut self, links: &mut LinkBench, page: &mut Page) -> io::Result<()> {
+    fn run_scan(&mut self, links: &mut LinkBench, page: &mut Page) -> Shown<()> {
         match run_scan(&mut self.core, links.poller()?) {
             Ok(report) => page.tell(format_args!("{report:?}")),
             Err(fault) => {
@@ -188,7 +188,7 @@ fn machine_for(
     texts: &Texts<'_>,
     site_name: &str,
     program: &str,
-) -> io::Result<Machine<DEPTH>> {
+) -> Shown<Machine<DEPTH>> {
     let program = texts.get(program)?;
     let accepted = site(alloc, texts, site_name)?;
     machine(alloc, &accepted, program)

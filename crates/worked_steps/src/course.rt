@@ -1,11 +1,11 @@
 //! What happened to a service, against the site run of the same events.
 use crate::bytes::needed;
 use crate::devices::frame_in;
+use crate::fault::Shown;
 use gateway::{Answer, Core, DEPTH, Event};
 use modbus_frame::Pdu;
 use scan_vm::Machine;
 use std::alloc::Global;
-use std::io;
 
 /// The events of a service's core, and what its clients got, in order.
 #[derive(Drop)]
@@ -37,12 +37,12 @@ impl Course {
     }
 
     /// This happened.
-    pub(crate) fn add(&mut self, event: Event) -> io::Result<()> {
+    pub(crate) fn add(&mut self, event: Event) -> Shown<()> {
         Ok(self.events.push(event)?)
     }
 
     /// The program ran at this time of the service, of which the core is told before.
-    pub(crate) fn add_scan(&mut self, now: u64) -> io::Result<()> {
+    pub(crate) fn add_scan(&mut self, now: u64) -> Shown<()> {
         let since = now.saturating_sub(self.scanned_at);
         self.scanned_at = now;
         self.add(Event::Time(u32::try_from(since).unwrap_or(u32::MAX)))?;
@@ -55,7 +55,7 @@ impl Course {
     }
 
     /// A client's request got this reply.
-    pub(crate) fn add_reply(&mut self, request: &[u8], reply: &[u8]) -> io::Result<()> {
+    pub(crate) fn add_reply(&mut self, request: &[u8], reply: &[u8]) -> Shown<()> {
         self.add(Event::Client(needed(frame_in(request))?.pdu))?;
         self.replies.push(needed(frame_in(reply))?.pdu)?;
         Ok(())
@@ -63,11 +63,7 @@ impl Course {
 
     /// Whether a core on which nothing happened yet gives the same replies by these events, with the program that was put in
     /// between them, and knows what this one does.
-    pub(crate) fn is_that_of(
-        &mut self,
-        core: &mut Core<DEPTH>,
-        now: &Core<DEPTH>,
-    ) -> io::Result<bool> {
+    pub(crate) fn is_that_of(&mut self, core: &mut Core<DEPTH>, now: &Core<DEPTH>) -> Shown<bool> {
         let mut answers = Vec::new(self.alloc);
         match self.put_in.take() {
             Some((at, machine)) => {
@@ -87,7 +83,7 @@ impl Course {
         core: &mut Core<DEPTH>,
         events: &[Event],
         answers: &mut Vec<Answer>,
-    ) -> io::Result<()> {
+    ) -> Shown<()> {
         let mut more = Vec::new(self.alloc);
         for _ in events {
             more.push(Answer::None)?;

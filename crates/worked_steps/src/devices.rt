@@ -1,12 +1,12 @@
 //! The devices of a service: a plant at the other end of each link.
 use crate::bytes::{needed, registers_in};
+use crate::fault::Shown;
 use gateway::Event;
 use inverter_sim::Plant;
 use modbus_frame::{Frame, Framer, Pdu, Words, write_frame};
 use service_parts::Station;
 use site_model::Want;
 use std::alloc::Global;
-use std::io;
 
 /// How a device answers.
 #[derive(Clone, Copy)]
@@ -29,11 +29,7 @@ pub(crate) struct Devices {
 
 impl Devices {
     /// Devices that answer well, at these stations.
-    pub(crate) fn new(
-        alloc: Global,
-        plants: Vec<Plant>,
-        stations: Vec<Station>,
-    ) -> io::Result<Devices> {
+    pub(crate) fn new(alloc: Global, plants: Vec<Plant>, stations: Vec<Station>) -> Shown<Devices> {
         let mut manners = Vec::new(alloc);
         for _ in 0..stations.len() {
             manners.push(Manner::Well)?;
@@ -47,24 +43,24 @@ impl Devices {
     }
 
     /// A device answers so from now on.
-    pub(crate) fn become_so(&mut self, device: usize, manner: Manner) -> io::Result<()> {
+    pub(crate) fn become_so(&mut self, device: usize, manner: Manner) -> Shown<()> {
         *needed(self.manners.get_mut(device))? = manner;
         Ok(())
     }
 
     /// Another plant is at the end of a link from now on.
-    pub(crate) fn replace(&mut self, link: usize, plant: Plant) -> io::Result<()> {
+    pub(crate) fn replace(&mut self, link: usize, plant: Plant) -> Shown<()> {
         *needed(self.plants.get_mut(link))? = plant;
         Ok(())
     }
 
     /// What a unit of a link's plant answers.
-    pub(crate) fn answer(&mut self, link: usize, unit: u8, pdu: &Pdu) -> io::Result<Pdu> {
+    pub(crate) fn answer(&mut self, link: usize, unit: u8, pdu: &Pdu) -> Shown<Pdu> {
         Ok(needed(self.plants.get_mut(link))?.serve(unit, pdu))
     }
 
     /// The bytes that come over a link for a request.
-    pub(crate) fn reply(&mut self, link: usize, request: &[u8]) -> io::Result<Vec<u8>> {
+    pub(crate) fn reply(&mut self, link: usize, request: &[u8]) -> Shown<Vec<u8>> {
         let frame = needed(frame_in(request))?;
         match self.manner_at(link, frame.unit) {
             Manner::Well => {
@@ -112,7 +108,7 @@ pub(crate) fn frame_in(bytes: &[u8]) -> Option<Frame> {
 }
 
 /// The bytes of a frame.
-pub(crate) fn bytes_of_frame(alloc: Global, frame: &Frame) -> io::Result<Vec<u8>> {
+pub(crate) fn bytes_of_frame(alloc: Global, frame: &Frame) -> Shown<Vec<u8>> {
     let mut buffer = [0; Frame::MAX_LEN];
     let len = write_frame(frame, &mut buffer);
     Ok(Vec::from_slice(alloc, buffer.split_at(len).0)?)

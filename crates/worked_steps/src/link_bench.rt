@@ -1,6 +1,7 @@
 //! A link in memory, and a poller over one.
 use crate::bytes::{bytes_of, hex_of, needed, number, pdu_of};
 use crate::devices::bytes_of_frame;
+use crate::fault::Shown;
 use crate::page::Page;
 use crate::register_bench::map_text;
 use crate::texts::Texts;
@@ -11,7 +12,6 @@ use modbus_frame::{
 use register_map::Map;
 use site_model::Site;
 use std::alloc::Global;
-use std::io;
 
 /// A step of a link.
 #[derive(Clone, Copy)]
@@ -103,12 +103,12 @@ impl LinkBench {
     }
 
     /// The link that is open.
-    pub(crate) fn link(&mut self) -> io::Result<&mut MemLink> {
+    pub(crate) fn link(&mut self) -> Shown<&mut MemLink> {
         needed(self.link.as_mut())
     }
 
     /// The poller that is at work.
-    pub(crate) fn poller(&mut self) -> io::Result<&mut Poller<MemLink>> {
+    pub(crate) fn poller(&mut self) -> Shown<&mut Poller<MemLink>> {
         needed(self.poller.as_mut())
     }
 
@@ -118,7 +118,7 @@ impl LinkBench {
         texts: &Texts<'_>,
         page: &mut Page,
         step: LinkStep<'_>,
-    ) -> io::Result<()> {
+    ) -> Shown<()> {
         match step {
             LinkStep::Coming(bytes) => self.come(&bytes_of(self.alloc, bytes)?),
             LinkStep::ComingFrames(n, id, unit, pdu) => {
@@ -145,11 +145,11 @@ impl LinkBench {
 
 /// What is to come, and what went out.
 impl LinkBench {
-    fn come(&mut self, bytes: &[u8]) -> io::Result<()> {
+    fn come(&mut self, bytes: &[u8]) -> Shown<()> {
         Ok(self.coming.extend_from_slice(bytes)?)
     }
 
-    fn come_frames(&mut self, n: usize, id: u16, unit: u8, pdu: &[u8]) -> io::Result<()> {
+    fn come_frames(&mut self, n: usize, id: u16, unit: u8, pdu: &[u8]) -> Shown<()> {
         let frame = Frame {
             transaction: id,
             unit,
@@ -162,7 +162,7 @@ impl LinkBench {
         Ok(())
     }
 
-    fn come_answers(&mut self, first: u16, unit: u8, pdus: &[&str]) -> io::Result<()> {
+    fn come_answers(&mut self, first: u16, unit: u8, pdus: &[&str]) -> Shown<()> {
         let mut id = first;
         for pdu in pdus {
             let pdu = bytes_of(self.alloc, &[*pdu])?;
@@ -172,25 +172,25 @@ impl LinkBench {
         Ok(())
     }
 
-    fn opened(&self, largest: usize, down: Option<usize>) -> io::Result<MemLink> {
+    fn opened(&self, largest: usize, down: Option<usize>) -> Shown<MemLink> {
         let largest = largest.max(1);
         Ok(MemLink::new(self.alloc, &self.coming, largest, down)?)
     }
 
-    fn open(&mut self, largest: usize, down: Option<usize>) -> io::Result<()> {
+    fn open(&mut self, largest: usize, down: Option<usize>) -> Shown<()> {
         self.link = Some(self.opened(largest, down)?);
         Ok(())
     }
 
     /// What went out over the poller's link, or else over the one that is open.
-    fn sent(&self) -> io::Result<&[u8]> {
+    fn sent(&self) -> Shown<&[u8]> {
         match &self.poller {
             Some(poller) => Ok(poller.link().sent()),
             None => Ok(needed(self.link.as_ref())?.sent()),
         }
     }
 
-    fn tell_sent_of(&mut self, page: &mut Page, text: &str) -> io::Result<()> {
+    fn tell_sent_of(&mut self, page: &mut Page, text: &str) -> Shown<()> {
         let words: Vec<&str> = text.split_ascii_whitespace().collect(self.alloc)?;
         let whole = bytes_of(self.alloc, &words)?;
         let sent = self.sent()?;
@@ -206,7 +206,7 @@ impl LinkBench {
 
 /// One call after another.
 impl LinkBench {
-    fn read(&mut self, page: &mut Page) -> io::Result<()> {
+    fn read(&mut self, page: &mut Page) -> Shown<()> {
         let mut buffer = [0; 260];
         match self.link()?.read(&mut buffer) {
             Ok(n) => {
@@ -217,7 +217,7 @@ impl LinkBench {
         }
     }
 
-    fn write(&mut self, page: &mut Page, bytes: &[&str]) -> io::Result<()> {
+    fn write(&mut self, page: &mut Page, bytes: &[&str]) -> Shown<()> {
         let bytes = bytes_of(self.alloc, bytes)?;
         if bytes.is_empty() {
             return needed(None);
@@ -228,7 +228,7 @@ impl LinkBench {
         }
     }
 
-    fn next_frame(&mut self, page: &mut Page, turns: u32) -> io::Result<()> {
+    fn next_frame(&mut self, page: &mut Page, turns: u32) -> Shown<()> {
         let mut left = turns;
         let link = needed(self.link.as_mut())?;
         let next = self.reader.next_frame(link, &mut left);
@@ -240,7 +240,7 @@ impl LinkBench {
         page.tell(format_args!("{left} calls left"))
     }
 
-    fn send(&mut self, page: &mut Page, turns: u32, bytes: &[&str]) -> io::Result<()> {
+    fn send(&mut self, page: &mut Page, turns: u32, bytes: &[&str]) -> Shown<()> {
         let mut left = turns;
         let bytes = bytes_of(self.alloc, bytes)?;
         match send(self.link()?, &bytes, &mut left) {
@@ -252,18 +252,18 @@ impl LinkBench {
 
 /// A poller.
 impl LinkBench {
-    fn begin_poller(&mut self, id: u16, largest: usize, down: Option<usize>) -> io::Result<()> {
+    fn begin_poller(&mut self, id: u16, largest: usize, down: Option<usize>) -> Shown<()> {
         self.poller = Some(Poller::beginning_at(self.opened(largest, down)?, id));
         Ok(())
     }
 
     /// How many bytes went out over the poller's link, and how many are still to come.
-    pub(crate) fn counts(&mut self) -> io::Result<(usize, usize)> {
+    pub(crate) fn counts(&mut self) -> Shown<(usize, usize)> {
         let link = self.poller()?.link();
         Ok((link.sent().len(), link.coming().len()))
     }
 
-    fn poll(&mut self, page: &mut Page, unit: u8, pdu: &[&str]) -> io::Result<()> {
+    fn poll(&mut self, page: &mut Page, unit: u8, pdu: &[&str]) -> Shown<()> {
         let Ok(request) = parse_request(&pdu_of(self.alloc, pdu)?) else {
             return needed(None);
         };
@@ -280,7 +280,7 @@ impl LinkBench {
     }
 
     /// Finds the maps of a site's devices, and tells them.
-    pub(crate) fn find(&mut self, page: &mut Page, site: &Site) -> io::Result<Vec<Option<Map>>> {
+    pub(crate) fn find(&mut self, page: &mut Page, site: &Site) -> Shown<Vec<Option<Map>>> {
         let alloc = self.alloc;
         match self.poller()?.find(alloc, site) {
             Ok(maps) => {

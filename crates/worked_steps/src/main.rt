@@ -10,6 +10,7 @@ mod core_bench;
 mod counter;
 mod course;
 mod devices;
+mod fault;
 mod link_bench;
 mod page;
 mod plant_bench;
@@ -23,6 +24,7 @@ mod text_bench;
 mod texts;
 
 use crate::case_file::CaseFile;
+use crate::fault::{Fault, Shown};
 use std::process::ExitCode;
 use std::{env, fs, io};
 
@@ -36,14 +38,14 @@ fn main(rt: HostRuntime) -> ExitCode {
     }
 }
 
-fn show_files(rt: &HostRuntime) -> io::Result<()> {
+fn show_files(rt: &HostRuntime) -> Shown<()> {
     let words: Vec<String> = env::args(rt)?.collect(rt.alloc())?;
     for file in words.iter().skip(1) {
         match fs::read_to_string(rt, file.as_str()) {
             Ok(text) => show_file(rt, file.as_str(), text.as_str())?,
             Err(fault) => {
                 eprintln!(rt; "{file}: {fault}")?;
-                return Err(fault);
+                return Err(Fault::from(fault));
             }
         }
     }
@@ -51,7 +53,7 @@ fn show_files(rt: &HostRuntime) -> io::Result<()> {
 }
 
 /// Shows the cases of a file; where one of its lines can't be taken, standard error has its place.
-fn show_file(rt: &HostRuntime, name: &str, text: &str) -> io::Result<()> {
+fn show_file(rt: &HostRuntime, name: &str, text: &str) -> Shown<()> {
     let lines: Vec<&str> = text.lines().collect(rt.alloc())?;
     let mut file = CaseFile::new(rt.alloc(), lines.as_slice());
     let shown = file.show(&mut io::writer(rt));

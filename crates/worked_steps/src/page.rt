@@ -1,7 +1,7 @@
 //! What a case shows.
+use crate::fault::Shown;
 use std::alloc::Global;
 use std::fmt::Display;
-use std::io;
 
 /// What a case has shown so far. Of lines that are equal and follow one another one is written, and how many they are.
 #[derive(Drop)]
@@ -29,7 +29,7 @@ impl Page {
     }
 
     /// Begins a step, by its line.
-    pub(crate) fn begin(&mut self, line: &str) -> io::Result<()> {
+    pub(crate) fn begin(&mut self, line: &str) -> Shown<()> {
         self.end_line()?;
         self.step = line.to_string(self.alloc)?;
         if !self.is_short {
@@ -38,7 +38,7 @@ impl Page {
         Ok(())
     }
 
-    fn write_step(&mut self) -> io::Result<()> {
+    fn write_step(&mut self) -> Shown<()> {
         if !self.step.is_empty() {
             writeln!(self.text, "{}", self.step)?;
             self.step.clear();
@@ -47,7 +47,7 @@ impl Page {
     }
 
     /// Shows what came of a step.
-    pub(crate) fn tell<D: Display + Drop>(&mut self, what: D) -> io::Result<()> {
+    pub(crate) fn tell<D: Display + Drop>(&mut self, what: D) -> Shown<()> {
         self.write_step()?;
         let line = format!(in self.alloc; "{what}")?;
         if line.as_str() != self.last.as_str() {
@@ -59,13 +59,13 @@ impl Page {
     }
 
     /// All that was shown.
-    pub(crate) fn text(mut self) -> io::Result<String> {
+    pub(crate) fn text(mut self) -> Shown<String> {
         self.end_line()?;
         Ok(self.text)
     }
 
     /// Writes the line that came last, with how often it came.
-    fn end_line(&mut self) -> io::Result<()> {
+    fn end_line(&mut self) -> Shown<()> {
         let last = self.last.as_str();
         let times = self.times;
         match times {

@@ -1,10 +1,10 @@
 //! A plant of simulated inverters by itself.
 use crate::bytes::{hex_of, number, pdu_of};
+use crate::fault::Shown;
 use crate::link_bench::LinkBench;
 use crate::page::Page;
 use inverter_sim::{Plant, serve_link};
 use std::alloc::Global;
-use std::io;
 
 /// A step of a plant.
 #[derive(Clone, Copy)]
@@ -35,7 +35,7 @@ impl<'a> PlantStep<'a> {
         plant: &mut Plant,
         links: &mut LinkBench,
         page: &mut Page,
-    ) -> io::Result<()> {
+    ) -> Shown<()> {
         match self {
             PlantStep::Unit(unit, pdu) => {
                 let answer = plant.serve(unit, &pdu_of(alloc, pdu)?);

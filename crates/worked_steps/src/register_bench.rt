@@ -1,5 +1,6 @@
 //! The registers of a device, and the search for its map.
 use crate::bytes::{needed, number, registers_of};
+use crate::fault::{Fault, Shown};
 use crate::page::Page;
 use gateway::Outcome;
 use modbus_frame::{Exception, Request, Words};
@@ -8,7 +9,6 @@ use register_map::{
 };
 use service::{Search, Step};
 use std::alloc::Global;
-use std::io;
 
 /// A step of registers.
 #[derive(Clone, Copy)]
@@ -68,7 +68,7 @@ impl RegisterBench {
     }
 
     /// Takes a step, and tells what came of it.
-    pub(crate) fn take(&mut self, page: &mut Page, step: RegisterStep<'_>) -> io::Result<()> {
+    pub(crate) fn take(&mut self, page: &mut Page, step: RegisterStep<'_>) -> Shown<()> {
         match step {
             RegisterStep::Registers(start, words) => self.become_these(start, words),
             RegisterStep::Fault(reads_before, fault) => {
@@ -86,23 +86,23 @@ impl RegisterBench {
         }
     }
 
-    fn become_these(&mut self, start: u16, words: &[&str]) -> io::Result<()> {
+    fn become_these(&mut self, start: u16, words: &[&str]) -> Shown<()> {
         self.start = start;
         self.words = registers_of(self.alloc, words)?;
         self.planned = None;
         Ok(())
     }
 
-    fn device(&self) -> io::Result<MemRegisters> {
+    fn device(&self) -> Shown<MemRegisters> {
         Ok(MemRegisters::new(self.alloc, self.start, &self.words, self.planned)?)
     }
 
     /// The map at the usual bases.
-    pub(crate) fn map(&self) -> io::Result<Option<Map>> {
+    pub(crate) fn map(&self) -> Shown<Option<Map>> {
         Ok(discover(&mut self.device()?, &[40000, 50000, 0]).ok())
     }
 
-    fn tell_discovered(&mut self, page: &mut Page, bases: &[&str]) -> io::Result<()> {
+    fn tell_discovered(&mut self, page: &mut Page, bases: &[&str]) -> Shown<()> {
         let mut device = self.device()?;
         let found = match bases {
             [] => discover(&mut device, &[]),
@@ -120,19 +120,19 @@ impl RegisterBench {
         }
     }
 
-    fn tell_map(&self, page: &mut Page, found: &Result<Map, MapFault>) -> io::Result<()> {
+    fn tell_map(&self, page: &mut Page, found: &Result<Map, MapFault>) -> Shown<()> {
         match found {
             Ok(map) => page.tell(map_text(self.alloc, map)?),
             Err(fault) => page.tell(*fault),
         }
     }
 
-    fn tell_model(&mut self, page: &mut Page, id: u16) -> io::Result<()> {
+    fn tell_model(&mut self, page: &mut Page, id: u16) -> Shown<()> {
         let block = needed(self.map()?)?.block(id);
         page.tell(format_args!("{block:?}"))
     }
 
-    fn tell_search(&mut self, page: &mut Page, base: Option<u16>) -> io::Result<()> {
+    fn tell_search(&mut self, page: &mut Page, base: Option<u16>) -> Shown<()> {
         let (map, reads) = searched(&mut self.device()?, base)?;
         match &map {
             Some(map) => page.tell(map_text(self.alloc, map)?)?,
@@ -141,7 +141,7 @@ impl RegisterBench {
         page.tell(format_args!("{reads} reads"))
     }
 
-    fn tell_both(&mut self, page: &mut Page) -> io::Result<()> {
+    fn tell_both(&mut self, page: &mut Page) -> Shown<()> {
         let (map, _) = searched(&mut self.device()?, None)?;
         let whole = self.map()?;
         if ends_of(&map) != ends_of(&whole) {
@@ -154,12 +154,12 @@ impl RegisterBench {
     }
 }
 
-fn base_of(word: &str) -> io::Result<u16> {
+fn base_of(word: &str) -> Shown<u16> {
     needed(word.parse::<u16>().ok())
 }
 
 /// The map that a search by single reads finds, and how many these were.
-fn searched(device: &mut MemRegisters, base: Option<u16>) -> io::Result<(Option<Map>, usize)> {
+fn searched(device: &mut MemRegisters, base: Option<u16>) -> Shown<(Option<Map>, usize)> {
     let mut search = Search::new(base);
     for reads in 0..133 {
         match search.next() {
@@ -174,7 +174,7 @@ fn searched(device: &mut MemRegisters, base: Option<u16>) -> io::Result<(Option<
 }
 
 /// What a device answers to a request for registers.
-fn outcome_of(device: &mut MemRegisters, addr: u16, qty: u16) -> io::Result<Outcome> {
+fn outcome_of(device: &mut MemRegisters, addr: u16, qty: u16) -> Shown<Outcome> {
     let mut words = [0; 2];
     let (out, _) = words.split_at_mut(usize::from(qty).min(2));
     match device.read(addr, out) {
@@ -192,7 +192,7 @@ fn ends_of(map: &Option<Map>) -> Option<(usize, u16)> {
 }
 
 /// The models of a map, each with the address of its registers and how many there are, and its end.
-pub(crate) fn map_text(alloc: Global, map: &Map) -> io::Result<String> {
+pub(crate) fn map_text(alloc: Global, map: &Map) -> Shown<String> {
     let mut text = String::new(alloc);
     for block in map.blocks() {
         write!(text, "{} at {}+{}, ", block.id, block.addr, block.length)?;

@@ -2,6 +2,7 @@
 use crate::bytes::{bytes_of, hex_of, needed, pdu_of};
 use crate::course::Course;
 use crate::devices::Devices;
+use crate::fault::Shown;
 use crate::page::Page;
 use crate::service_step::ServiceStep;
 use crate::sites::{machine, plant, site};
@@ -11,7 +12,6 @@ use gateway::{Core, DEPTH, Event};
 use service_core::Service;
 use service_texts::{Addresses, limits, read_places};
 use std::alloc::Global;
-use std::io;
 
 /// The site of a service, and its program.
 const SITE: &str = "site.toml";
@@ -47,7 +47,7 @@ impl ServiceBench {
         texts: &Texts<'_>,
         clients: usize,
         plants: &[&str],
-    ) -> io::Result<ServiceBench> {
+    ) -> Shown<ServiceBench> {
         let mut opened = Vec::new(alloc);
         let mut waiting = Vec::new(alloc);
         for name in plants {
@@ -79,7 +79,7 @@ impl ServiceBench {
         texts: &Texts<'_>,
         page: &mut Page,
         step: ServiceStep<'_>,
-    ) -> io::Result<()> {
+    ) -> Shown<()> {
         match step {
             ServiceStep::Up(link) => self.come_up(link),
             ServiceStep::Down(link) => self.go_down(link),
@@ -118,25 +118,25 @@ impl ServiceBench {
 /// What happens on links, and as time passes.
 impl ServiceBench {
     /// A link comes up: a new stream.
-    fn come_up(&mut self, link: usize) -> io::Result<()> {
+    fn come_up(&mut self, link: usize) -> Shown<()> {
         needed(self.waiting.get_mut(link))?.clear();
         self.service.link_up(link, self.now);
         Ok(())
     }
 
-    fn go_down(&mut self, link: usize) -> io::Result<()> {
+    fn go_down(&mut self, link: usize) -> Shown<()> {
         self.service.link_down(link, self.now);
         Ok(())
     }
 
-    fn tick(&mut self, page: &mut Page, now: u64) -> io::Result<()> {
+    fn tick(&mut self, page: &mut Page, now: u64) -> Shown<()> {
         self.now = now;
         self.service.tick(now);
         self.tell_notes(page)
     }
 
     /// Time passes to this one, from wake to wake. A wake that isn't yet to come is told, and ends it.
-    fn pass(&mut self, page: &mut Page, until: u64) -> io::Result<()> {
+    fn pass(&mut self, page: &mut Page, until: u64) -> Shown<()> {
         self.answer_all(page)?;
         for _ in 0..4000 {
             let at = self.service.wakes_at();
@@ -154,7 +154,7 @@ impl ServiceBench {
     }
 
     /// Exchanges requests and replies, at this time, until there is none.
-    fn answer_all(&mut self, page: &mut Page) -> io::Result<()> {
+    fn answer_all(&mut self, page: &mut Page) -> Shown<()> {
         for _ in 0..2000 {
             if !self.answer_one(page)? {
                 break;
@@ -164,7 +164,7 @@ impl ServiceBench {
     }
 
     /// One exchange on each link; whether there was one.
-    fn answer_one(&mut self, page: &mut Page) -> io::Result<bool> {
+    fn answer_one(&mut self, page: &mut Page) -> Shown<bool> {
         let mut was_one = false;
         for link in 0..self.waiting.len() {
             was_one = self.exchange(link)? || was_one;
@@ -174,7 +174,7 @@ impl ServiceBench {
     }
 
     /// One exchange on a link, a dial or a hang-up; whether there was one.
-    fn exchange(&mut self, link: usize) -> io::Result<bool> {
+    fn exchange(&mut self, link: usize) -> Shown<bool> {
         if self.dial_or_hang_up(link) {
             return Ok(true);
         }
@@ -201,20 +201,20 @@ impl ServiceBench {
     }
 
     /// Takes what a link has to send; the reply to it.
-    fn reply(&mut self, link: usize) -> io::Result<Vec<u8>> {
+    fn reply(&mut self, link: usize) -> Shown<Vec<u8>> {
         let request = Vec::from_slice(self.alloc, self.service.to_link(link))?;
         self.service.sent_to_link(link, request.len());
         self.devices.reply(link, &request)
     }
 
     /// Bytes come over a link, after those that wait there.
-    fn give(&mut self, link: usize, bytes: &[u8]) -> io::Result<()> {
+    fn give(&mut self, link: usize, bytes: &[u8]) -> Shown<()> {
         needed(self.waiting.get_mut(link))?.extend_from_slice(bytes)?;
         self.offer(link)
     }
 
     /// What came over a link is handed in, piece by piece, as far as it is used.
-    fn offer(&mut self, link: usize) -> io::Result<()> {
+    fn offer(&mut self, link: usize) -> Shown<()> {
         let waiting = needed(self.waiting.get_mut(link))?;
         let came = std::mem::replace(waiting, Vec::new(self.alloc));
         let mut rest = came.as_slice();
@@ -231,7 +231,7 @@ impl ServiceBench {
     }
 
     /// The requests of a link are answered until there is none, and the events that this brings are kept.
-    fn answer_link(&mut self, link: usize) -> io::Result<()> {
+    fn answer_link(&mut self, link: usize) -> Shown<()> {
         for _ in 0..20 {
             if self.service.to_link(link).is_empty() {
                 break;
@@ -249,47 +249,47 @@ impl ServiceBench {
         Ok(())
     }
 
-    fn keep_back(&mut self, link: usize) -> io::Result<()> {
+    fn keep_back(&mut self, link: usize) -> Shown<()> {
         self.late = self.reply(link)?;
         Ok(())
     }
 
-    fn give_back(&mut self, link: usize) -> io::Result<()> {
+    fn give_back(&mut self, link: usize) -> Shown<()> {
         let late = std::mem::replace(&mut self.late, Vec::new(self.alloc));
         self.give(link, &late)
     }
 
-    fn cut_off(&mut self, link: usize, n: usize) -> io::Result<()> {
+    fn cut_off(&mut self, link: usize, n: usize) -> Shown<()> {
         let reply = self.reply(link)?;
         self.give(link, reply.split_at(n.min(reply.len())).0)
     }
 
-    fn cut_in_pieces(&mut self, size: usize) -> io::Result<()> {
+    fn cut_in_pieces(&mut self, size: usize) -> Shown<()> {
         self.piece = size;
         Ok(())
     }
 
-    fn rebuild(&mut self, texts: &Texts<'_>, link: usize, name: &str) -> io::Result<()> {
+    fn rebuild(&mut self, texts: &Texts<'_>, link: usize, name: &str) -> Shown<()> {
         self.devices.replace(link, plant(self.alloc, texts, name)?)
     }
 }
 
 /// What clients do, and what they did before a restart.
 impl ServiceBench {
-    fn client_comes(&mut self, page: &mut Page, may_write: bool) -> io::Result<()> {
+    fn client_comes(&mut self, page: &mut Page, may_write: bool) -> Shown<()> {
         match self.service.client_came(may_write, self.now) {
             Some(place) => page.tell(format_args!("place {place}")),
             None => page.tell("no place"),
         }
     }
 
-    fn say(&mut self, page: &mut Page, place: usize, bytes: &[&str]) -> io::Result<()> {
+    fn say(&mut self, page: &mut Page, place: usize, bytes: &[&str]) -> Shown<()> {
         let bytes = bytes_of(self.alloc, bytes)?;
         let used = self.service.from_client(place, &bytes, self.now);
         page.tell(format_args!("{used} of {} bytes used", bytes.len()))
     }
 
-    fn serve(&mut self, page: &mut Page, place: usize, bytes: &[&str]) -> io::Result<()> {
+    fn serve(&mut self, page: &mut Page, place: usize, bytes: &[&str]) -> Shown<()> {
         let request = bytes_of(self.alloc, bytes)?;
         self.service.from_client(place, &request, self.now);
         let reply = Vec::from_slice(self.alloc, self.service.to_client(place))?;
@@ -298,27 +298,27 @@ impl ServiceBench {
         page.tell(hex_of(self.alloc, &reply)?)
     }
 
-    fn took(&mut self, place: usize, n: usize) -> io::Result<()> {
+    fn took(&mut self, place: usize, n: usize) -> Shown<()> {
         self.service.sent_to_client(place, n);
         Ok(())
     }
 
-    fn leave(&mut self, place: usize) -> io::Result<()> {
+    fn leave(&mut self, place: usize) -> Shown<()> {
         self.service.client_gone(place);
         Ok(())
     }
 
-    fn restore(&mut self, page: &mut Page, tag: usize, number: i64) -> io::Result<()> {
+    fn restore(&mut self, page: &mut Page, tag: usize, number: i64) -> Shown<()> {
         let is_set = self.service.restore(tag, number);
         page.tell(if is_set { "set" } else { "not set" })
     }
 
-    fn elapse(&mut self, elapsed: u32) -> io::Result<()> {
+    fn elapse(&mut self, elapsed: u32) -> Shown<()> {
         self.service.pass(elapsed);
         self.course.add(Event::Time(elapsed))
     }
 
-    fn adopt(&mut self, program: &str) -> io::Result<()> {
+    fn adopt(&mut self, program: &str) -> Shown<()> {
         let put_in = machine(self.alloc, self.service.core().site(), program)?;
         needed(self.service.adopt(self.alloc, put_in).ok())?;
         let kept = machine(self.alloc, self.service.core().site(), program)?;
@@ -330,7 +330,7 @@ impl ServiceBench {
 /// What is looked at.
 impl ServiceBench {
     /// Whether what happened gives the same on a core on which nothing happened yet.
-    pub(crate) fn compare(&mut self, page: &mut Page, core: &mut Core<DEPTH>) -> io::Result<()> {
+    pub(crate) fn compare(&mut self, page: &mut Page, core: &mut Core<DEPTH>) -> Shown<()> {
         let replies = self.course.replies();
         let scans = self.service.scans();
         page.tell(format_args!("{replies} replies, {scans} scans"))?;
@@ -340,7 +340,7 @@ impl ServiceBench {
         }
     }
 
-    fn tell_notes(&mut self, page: &mut Page) -> io::Result<()> {
+    fn tell_notes(&mut self, page: &mut Page) -> Shown<()> {
         for _ in 0..100 {
             let Some(note) = self.service.next_note() else {
                 break;
@@ -350,19 +350,13 @@ impl ServiceBench {
         Ok(())
     }
 
-    fn tell_held(
-        &mut self,
-        page: &mut Page,
-        link: usize,
-        unit: u8,
-        pdu: &[&str],
-    ) -> io::Result<()> {
+    fn tell_held(&mut self, page: &mut Page, link: usize, unit: u8, pdu: &[&str]) -> Shown<()> {
         let pdu = pdu_of(self.alloc, pdu)?;
         let answer = self.devices.answer(link, unit, &pdu)?;
         page.tell(hex_of(self.alloc, answer.bytes())?)
     }
 
-    fn tell_link(&mut self, page: &mut Page, link: usize) -> io::Result<()> {
+    fn tell_link(&mut self, page: &mut Page, link: usize) -> Shown<()> {
         let bytes = hex_of(self.alloc, self.service.to_link(link))?;
         page.tell(format_args!("to be sent: {bytes}"))?;
         if self.service.wants_dial(link) {
@@ -374,17 +368,17 @@ impl ServiceBench {
         Ok(())
     }
 
-    fn tell_device(&mut self, page: &mut Page, device: usize) -> io::Result<()> {
+    fn tell_device(&mut self, page: &mut Page, device: usize) -> Shown<()> {
         let status = needed(self.service.device_status(device))?;
         page.tell(format_args!("{status:?}"))
     }
 
-    fn tell_output(&mut self, page: &mut Page, output: usize) -> io::Result<()> {
+    fn tell_output(&mut self, page: &mut Page, output: usize) -> Shown<()> {
         let state = self.service.output_state(output);
         page.tell(format_args!("{state:?}"))
     }
 
-    fn tell_client(&mut self, page: &mut Page, place: usize) -> io::Result<()> {
+    fn tell_client(&mut self, page: &mut Page, place: usize) -> Shown<()> {
         let bytes = hex_of(self.alloc, self.service.to_client(place))?;
         page.tell(format_args!("to be sent: {bytes}"))?;
         let answered = self.service.client_requests(place);
@@ -395,12 +389,12 @@ impl ServiceBench {
         Ok(())
     }
 
-    fn tell_setting(&mut self, page: &mut Page, tag: usize) -> io::Result<()> {
+    fn tell_setting(&mut self, page: &mut Page, tag: usize) -> Shown<()> {
         let setting = self.service.core().settings().get(tag).copied().flatten();
         page.tell(format_args!("{setting:?}"))
     }
 
-    fn tell_counts(&mut self, page: &mut Page) -> io::Result<()> {
+    fn tell_counts(&mut self, page: &mut Page) -> Shown<()> {
         let scans = self.service.scans();
         let at = self.service.wakes_at();
         page.tell(format_args!("{scans} scans, wakes at {at}"))

@@ -2,6 +2,7 @@
 use crate::bytes::{bytes_of, hex_of, needed, pdu_of};
 use crate::counter::Counter;
 use crate::devices::bytes_of_frame;
+use crate::fault::Shown;
 use crate::page::Page;
 use crate::stream_step::StreamStep;
 use modbus_frame::{
@@ -9,7 +10,6 @@ use modbus_frame::{
 };
 use service::{Fate, Inquiry, Session, is_write, refusal};
 use std::alloc::Global;
-use std::io;
 
 /// One register, W of an inverter.
 const W: Request = Request::Read {
@@ -39,7 +39,7 @@ impl StreamBench {
     }
 
     /// Takes a step, and tells what came of it.
-    pub(crate) fn take(&mut self, page: &mut Page, step: StreamStep<'_>) -> io::Result<()> {
+    pub(crate) fn take(&mut self, page: &mut Page, step: StreamStep<'_>) -> Shown<()> {
         match step {
             StreamStep::Feed(bytes) => self.feed(page, &bytes_of(self.alloc, bytes)?),
             StreamStep::FeedBytes(bytes) => self.feed_bytes(page, bytes),
@@ -66,14 +66,14 @@ impl StreamBench {
 
 /// Frames, and the messages in them.
 impl StreamBench {
-    fn feed(&mut self, page: &mut Page, bytes: &[u8]) -> io::Result<()> {
+    fn feed(&mut self, page: &mut Page, bytes: &[u8]) -> Shown<()> {
         match self.framer.feed(bytes) {
             Ok(fed) => self.tell_fed(page, bytes.len(), fed),
             Err(fault) => page.tell(fault),
         }
     }
 
-    fn tell_fed(&mut self, page: &mut Page, given: usize, fed: Fed) -> io::Result<()> {
+    fn tell_fed(&mut self, page: &mut Page, given: usize, fed: Fed) -> Shown<()> {
         if fed.used < given {
             page.tell(format_args!("{} of {given} bytes used", fed.used))?;
         }
@@ -83,21 +83,21 @@ impl StreamBench {
         }
     }
 
-    fn feed_bytes(&mut self, page: &mut Page, bytes: &[&str]) -> io::Result<()> {
+    fn feed_bytes(&mut self, page: &mut Page, bytes: &[&str]) -> Shown<()> {
         for byte in &bytes_of(self.alloc, bytes)? {
             self.feed(page, &[*byte])?;
         }
         Ok(())
     }
 
-    fn feed_cut(&mut self, page: &mut Page, n: usize, bytes: &[&str]) -> io::Result<()> {
+    fn feed_cut(&mut self, page: &mut Page, n: usize, bytes: &[&str]) -> Shown<()> {
         let bytes = bytes_of(self.alloc, bytes)?;
         let (front, back) = bytes.split_at(n.min(bytes.len()));
         self.feed(page, front)?;
         self.feed(page, back)
     }
 
-    fn tell_frame(&mut self, page: &mut Page, id: u16, unit: u8, pdu: &[&str]) -> io::Result<()> {
+    fn tell_frame(&mut self, page: &mut Page, id: u16, unit: u8, pdu: &[&str]) -> Shown<()> {
         match Pdu::from_bytes(&bytes_of(self.alloc, pdu)?) {
             Some(pdu) => {
                 let frame = Frame {
@@ -112,7 +112,7 @@ impl StreamBench {
         }
     }
 
-    fn tell_request(&mut self, page: &mut Page, pdu: &[&str]) -> io::Result<()> {
+    fn tell_request(&mut self, page: &mut Page, pdu: &[&str]) -> Shown<()> {
         let pdu = pdu_of(self.alloc, pdu)?;
         match parse_request(&pdu) {
             Ok(request) => {
@@ -126,7 +126,7 @@ impl StreamBench {
         }
     }
 
-    fn tell_reply(&mut self, page: &mut Page, request: &str, pdu: &[&str]) -> io::Result<()> {
+    fn tell_reply(&mut self, page: &mut Page, request: &str, pdu: &[&str]) -> Shown<()> {
         let request = needed(parse_request(&pdu_of(self.alloc, &[request])?).ok())?;
         let response = parse_response(&request, &pdu_of(self.alloc, pdu)?);
         page.tell(format_args!("{response:?}"))
@@ -135,7 +135,7 @@ impl StreamBench {
 
 /// A request under way.
 impl StreamBench {
-    fn ask(&mut self, page: &mut Page, id: u16, unit: u8, pdu: &[&str]) -> io::Result<()> {
+    fn ask(&mut self, page: &mut Page, id: u16, unit: u8, pdu: &[&str]) -> Shown<()> {
         let Ok(request) = parse_request(&pdu_of(self.alloc, pdu)?) else {
             return needed(None);
         };
@@ -143,7 +143,7 @@ impl StreamBench {
         page.tell(hex_of(self.alloc, frame.as_slice())?)
     }
 
-    fn hear(&mut self, page: &mut Page, bytes: &[&str]) -> io::Result<()> {
+    fn hear(&mut self, page: &mut Page, bytes: &[&str]) -> Shown<()> {
         let fate = heard(&mut self.inquiry, &bytes_of(self.alloc, bytes)?);
         page.tell(format_args!("{fate:?}"))?;
         if self.inquiry.is_open() {
@@ -152,7 +152,7 @@ impl StreamBench {
         Ok(())
     }
 
-    fn hear_cut(&mut self, page: &mut Page, bytes: &[&str]) -> io::Result<()> {
+    fn hear_cut(&mut self, page: &mut Page, bytes: &[&str]) -> Shown<()> {
         let bytes = bytes_of(self.alloc, bytes)?;
         for second in 0..=bytes.len() {
             for first in 0..=second {
@@ -191,13 +191,13 @@ fn cut(stream: &[u8], first: usize, second: usize) -> [&[u8]; 3] {
 
 /// A client's session.
 impl StreamBench {
-    fn begin_session(&mut self, last: u8) -> io::Result<()> {
+    fn begin_session(&mut self, last: u8) -> Shown<()> {
         self.session = Session::new();
         self.counter = Counter::new(last);
         Ok(())
     }
 
-    fn turn(&mut self, page: &mut Page, room: usize, bytes: &[&str]) -> io::Result<()> {
+    fn turn(&mut self, page: &mut Page, room: usize, bytes: &[&str]) -> Shown<()> {
         let mut out = [0; 260];
         let (room, _) = out.split_at_mut(room.min(260));
         let bytes = bytes_of(self.alloc, bytes)?;
@@ -211,7 +211,7 @@ impl StreamBench {
         Ok(())
     }
 
-    fn take_frame(&mut self, page: &mut Page, bytes: &[&str]) -> io::Result<()> {
+    fn take_frame(&mut self, page: &mut Page, bytes: &[&str]) -> Shown<()> {
         let bytes = bytes_of(self.alloc, bytes)?;
         if self.session.is_free() {
             let taken = self.session.take(&mut self.counter, &bytes);
@@ -220,7 +220,7 @@ impl StreamBench {
         self.tell_free(page)
     }
 
-    fn put(&mut self, page: &mut Page, room: usize) -> io::Result<()> {
+    fn put(&mut self, page: &mut Page, room: usize) -> Shown<()> {
         let mut out = [0; 260];
         let (room, _) = out.split_at_mut(room.min(260));
         let put = self.session.put(room);
@@ -228,7 +228,7 @@ impl StreamBench {
         self.tell_free(page)
     }
 
-    fn tell_free(&mut self, page: &mut Page) -> io::Result<()> {
+    fn tell_free(&mut self, page: &mut Page) -> Shown<()> {
         page.tell(if self.session.is_free() {
             "free"
         } else {
@@ -236,7 +236,7 @@ impl StreamBench {
         })
     }
 
-    fn turn_cut(&mut self, page: &mut Page, bytes: &[&str]) -> io::Result<()> {
+    fn turn_cut(&mut self, page: &mut Page, bytes: &[&str]) -> Shown<()> {
         let bytes = bytes_of(self.alloc, bytes)?;
         for second in 0..=bytes.len() {
             for first in 0..=second {
@@ -247,7 +247,7 @@ impl StreamBench {
         Ok(())
     }
 
-    fn tell_guarded(&mut self, page: &mut Page, pdu: &[&str]) -> io::Result<()> {
+    fn tell_guarded(&mut self, page: &mut Page, pdu: &[&str]) -> Shown<()> {
         let frame = Frame {
             transaction: 7,
             unit: 1,
@@ -264,7 +264,7 @@ impl StreamBench {
 }
 
 /// What goes out of a session over three pieces, each given as often as some of it is left.
-fn answers_to(alloc: Global, pieces: [&[u8]; 3]) -> io::Result<Vec<u8>> {
+fn answers_to(alloc: Global, pieces: [&[u8]; 3]) -> Shown<Vec<u8>> {
     let mut session = Session::new();
     let mut counter = Counter::new(0);
     let mut sent = Vec::new(alloc);
@@ -279,7 +279,7 @@ fn talk(
     counter: &mut Counter,
     piece: &[u8],
     sent: &mut Vec<u8>,
-) -> io::Result<()> {
+) -> Shown<()> {
     let mut rest = piece;
     for _ in 0..40 {
         let mut room = [0; 16];

@@ -1,5 +1,6 @@
 //! What a service reads and writes as text, and what it is told.
 use crate::bytes::{needed, number};
+use crate::fault::Shown;
 use crate::page::Page;
 use crate::sites::site;
 use crate::texts::Texts;
@@ -54,7 +55,7 @@ impl<'a> TextStep<'a> {
     }
 
     /// Tells what comes of it.
-    pub(crate) fn tell(self, alloc: Global, texts: &Texts<'_>, page: &mut Page) -> io::Result<()> {
+    pub(crate) fn tell(self, alloc: Global, texts: &Texts<'_>, page: &mut Page) -> Shown<()> {
         match self {
             TextStep::Ports(name) => tell_ports(page, texts.get(name)?),
             TextStep::Settings(name) => tell_settings(page, texts.get(name)?),
@@ -74,7 +75,7 @@ impl<'a> TextStep<'a> {
     }
 }
 
-fn tell_ports(page: &mut Page, text: &str) -> io::Result<()> {
+fn tell_ports(page: &mut Page, text: &str) -> Shown<()> {
     for line in text.lines() {
         let is_one = has_port(line);
         page.tell(format_args!("{line:?} {is_one}"))?;
@@ -82,7 +83,7 @@ fn tell_ports(page: &mut Page, text: &str) -> io::Result<()> {
     Ok(())
 }
 
-fn tell_settings(page: &mut Page, text: &str) -> io::Result<()> {
+fn tell_settings(page: &mut Page, text: &str) -> Shown<()> {
     for line in text.lines() {
         match setting_in(line) {
             Some(set) => page.tell(format_args!("{:?} is set to {}", set.name, set.number))?,
@@ -98,7 +99,7 @@ fn tell_state(
     page: &mut Page,
     name: &str,
     numbers: &[&str],
-) -> io::Result<()> {
+) -> Shown<()> {
     let mut settings = Vec::new(alloc);
     for number in numbers {
         settings.push(number.parse::<i64>().ok())?;
@@ -110,7 +111,7 @@ fn tell_state(
     Ok(())
 }
 
-fn tell_places(alloc: Global, page: &mut Page, text: &str) -> io::Result<()> {
+fn tell_places(alloc: Global, page: &mut Page, text: &str) -> Shown<()> {
     match read_places(alloc, &TomlFile::parse(alloc, text)?) {
         Ok(places) => tell_addresses(page, &Addresses::of(alloc, places.as_slice())?),
         Err(AddressFault::NotToml) => page.tell("no site file"),
@@ -121,7 +122,7 @@ fn tell_places(alloc: Global, page: &mut Page, text: &str) -> io::Result<()> {
     }
 }
 
-fn tell_addresses(page: &mut Page, found: &Addresses) -> io::Result<()> {
+fn tell_addresses(page: &mut Page, found: &Addresses) -> Shown<()> {
     for link in found.links.as_slice() {
         page.tell(link.as_str())?;
     }
@@ -131,7 +132,7 @@ fn tell_addresses(page: &mut Page, found: &Addresses) -> io::Result<()> {
     Ok(())
 }
 
-fn tell_writer(alloc: Global, page: &mut Page, address: &str, words: &[&str]) -> io::Result<()> {
+fn tell_writer(alloc: Global, page: &mut Page, address: &str, words: &[&str]) -> Shown<()> {
     let address = needed(address.parse::<IpAddr>().ok())?;
     match writers_of(alloc, words) {
         Ok(writers) => page.tell(may_write(writers.as_slice(), address)),

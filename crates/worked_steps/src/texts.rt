@@ -1,7 +1,6 @@
 //! The texts of cases by their names.
+use crate::fault::{Fault, Shown};
 use std::alloc::Global;
-use std::io;
-use std::io::ErrorKind;
 
 /// Before the name of the text that an edited one begins as.
 const EDITED: &str = " from ";
@@ -48,7 +47,7 @@ impl<'a> Texts<'a> {
     }
 
     /// Begins a text: `NAME`, or `NAME from OTHER` for one with edits of another.
-    pub(crate) fn begin(&mut self, words: &'a str) -> io::Result<()> {
+    pub(crate) fn begin(&mut self, words: &'a str) -> Shown<()> {
         let (name, other) = words.split_once(EDITED).unwrap_or((words, ""));
         let text = match other {
             "" => String::new(self.alloc),
@@ -66,7 +65,7 @@ impl<'a> Texts<'a> {
     }
 
     /// Takes a line of the text that stands open; where none does it is a remark.
-    pub(crate) fn take(&mut self, line: &'a str) -> io::Result<()> {
+    pub(crate) fn take(&mut self, line: &'a str) -> Shown<()> {
         let alloc = self.alloc;
         match self.all.last_mut() {
             Some(text) if self.is_open => text.take(alloc, line),
@@ -80,8 +79,8 @@ impl<'a> Texts<'a> {
     }
 
     /// The last text of a name.
-    pub(crate) fn get(&self, name: &str) -> io::Result<&str> {
-        let mut found = Err(io::Error::from(ErrorKind::NotFound));
+    pub(crate) fn get(&self, name: &str) -> Shown<&str> {
+        let mut found = Err(Fault::Step);
         for text in self.all.iter() {
             if text.name == name {
                 found = Ok(text.text.as_str());
@@ -94,7 +93,7 @@ impl<'a> Texts<'a> {
 impl<'a> NamedText<'a> {
     /// Takes a line: of an edited text the part `- OLD` that is replaced, or what stands in its place, `+ NEW`, both with
     /// escapes as in Rust.
-    fn take(&mut self, alloc: Global, line: &'a str) -> io::Result<()> {
+    fn take(&mut self, alloc: Global, line: &'a str) -> Shown<()> {
         if !self.is_edited {
             writeln!(self.text, "{line}")?;
         } else if let Some(old) = line.strip_prefix("- ") {
@@ -109,15 +108,15 @@ impl<'a> NamedText<'a> {
 }
 
 /// A text with its first `old` replaced.
-fn replaced(alloc: Global, text: &str, old: &str, new: &str) -> io::Result<String> {
+fn replaced(alloc: Global, text: &str, old: &str, new: &str) -> Shown<String> {
     match text.split_once(old) {
         Some((before, after)) => Ok(format!(in alloc; "{before}{new}{after}")?),
-        None => Err(io::Error::from(ErrorKind::NotFound)),
+        None => Err(Fault::Step),
     }
 }
 
 /// A line with the letters that `\n`, `\t`, `\r` and `\\` stand for.
-fn unescaped(alloc: Global, line: &str) -> io::Result<String> {
+fn unescaped(alloc: Global, line: &str) -> Shown<String> {
     let mut text = String::new(alloc);
     let mut is_escaped = false;
     for letter in line.chars() {
