@@ -1,5 +1,6 @@
 pub mod Alarms
 pub mod Changing
+pub mod Finding
 pub mod Hiding
 pub mod Lines
 pub mod Meeting

@@ -49,7 +49,7 @@ pub enum Alarm {
 }
 
 /// What an alarm is of. Two alarms of one subject tell of one thing, for causes that may differ.
-#[derive(Clone, Copy, Debug, PartialEq, Eq)]
+#[derive(Clone, Copy, Debug, PartialEq, Eq, Hash)]
 pub enum Subject {
     /// The device of this number.
     Device(usize),

@@ -1,15 +1,20 @@
 //! What changed in what is wrong.
-ghost use Rattle.std.specs.Prelude.{◌≡◌, Decides, OnOk, length, slice_get};
+ghost use Rattle.std.specs.Prelude.{Decides, List, OnOk, length, slice_get};
 ghost use Rattle.site_alarms.specs.Changing.{AreBegun, AreOf, AreOver, IsChange, NextBegun, NextOver, Stood};
+ghost use Rattle.site_alarms.specs.Finding.{TellOfAlarms, TellOfStood};
+ghost use Rattle.site_alarms.specs.declared.alarm.Alarm.{Alarm};
 
-use crate::alarm::{Alarm, Subject, is_one, is_same};
-use crate::standing::Standing;
+use crate::alarm::{Alarm, Subject, is_one};
+use crate::places::Places;
+use crate::standing::{Standing, from_first};
 use point_types::Items;
 use std::alloc::{AllocError, Global};
 
 /// What changed from one list of alarms to the next one.
 #[derive(Drop)]
 pub struct Changes {
+    /// Where the first alarm of each subject is, of those that were seen last.
+    places: Places,
     /// The alarms that didn't stand before, with this cause.
     pub begun: Items<Alarm>,
     /// Those that stood before, of which nothing is wrong any more.
@@ -20,44 +25,50 @@ impl Changes {
     /// Nothing changed.
     pub fn new(alloc: Global) -> Changes {
         Changes {
+            places: Places::new(alloc),
             begun: Items::new(alloc),
             over: Items::new(alloc),
         }
     }
 
-    /// From now on it is what changed from what stood to these alarms.
-    pub(crate) fn see(&mut self, stood: &[Standing], alarms: &[Alarm]) -> Result<(), AllocError>
+    /// From now on it is what changed from what stood, of which the places tell, to these alarms.
+    pub(crate) fn see(
+        &mut self,
+        stood: &[Standing],
+        places: &Places,
+        alarms: &[Alarm],
+    ) -> Result<(), AllocError>
+        requires { TellOfStood places.now stood.now }
         ensures { OnOk result (IsChange stood.now alarms.now self.new.begun self.new.over) }
     {
-        fill_begun(&mut self.begun, stood, alarms)?;
-        fill_over(&mut self.over, stood, alarms)
+        fill_begun(&mut self.begun, stood, places, alarms)?;
+        self.places.note_alarms(alarms)?;
+        fill_over(&mut self.over, stood, &self.places)
     }
 }
 
 fn fill_begun(
     begun: &mut Items<Alarm>,
     stood: &[Standing],
+    places: &Places,
     alarms: &[Alarm],
 ) -> Result<(), AllocError>
+    requires { TellOfStood places.now stood.now }
     ensures { OnOk result (AreBegun stood.now alarms.now (length alarms.now) begun.new) }
 {
     begun.clear();
     for i in 0..alarms.len() {
-        push_begun(begun, stood, alarms, i)?;
+        push_begun(begun, stood, places, alarms, i)?;
     }
     Ok(())
 }
 
-fn fill_over(
-    over: &mut Items<Alarm>,
-    stood: &[Standing],
-    alarms: &[Alarm],
-) -> Result<(), AllocError>
-    ensures { OnOk result (AreOver stood.now alarms.now (length stood.now) over.new) }
+fn fill_over(over: &mut Items<Alarm>, stood: &[Standing], places: &Places) -> Result<(), AllocError>
+    ensures { (alarms : List Alarm) → TellOfAlarms places.now alarms → OnOk result (AreOver stood.now alarms (length stood.now) over.new) }
 {
     over.clear();
     for i in 0..stood.len() {
-        push_over(over, stood, alarms, i)?;
+        push_over(over, stood, places, i)?;
     }
     Ok(())
 }
@@ -65,13 +76,15 @@ fn fill_over(
 fn push_begun(
     begun: &mut Items<Alarm>,
     stood: &[Standing],
+    places: &Places,
     alarms: &[Alarm],
     i: usize,
 ) -> Result<(), AllocError>
+    requires { TellOfStood places.now stood.now }
     ensures { OnOk result (NextBegun stood.now (slice_get alarms.now i) begun.old begun.new) }
 {
     match alarms.get(i) {
-        Some(alarm) if !has_stood(stood, *alarm) => begun.push(*alarm),
+        Some(alarm) if !has_stood(stood, places, *alarm) => begun.push(*alarm),
         _ => Ok(()),
     }
 }
@@ -79,19 +92,27 @@ fn push_begun(
 fn push_over(
     over: &mut Items<Alarm>,
     stood: &[Standing],
-    alarms: &[Alarm],
+    places: &Places,
     i: usize,
 ) -> Result<(), AllocError>
-    ensures { OnOk result (NextOver alarms.now (slice_get stood.now i) over.old over.new) }
+    ensures { (alarms : List Alarm) → TellOfAlarms places.now alarms → OnOk result (NextOver alarms (slice_get stood.now i) over.old over.new) }
 {
     match stood.get(i) {
-        Some(before) if !are_of(alarms, before.alarm.subject()) => over.push(before.alarm),
+        Some(before) if !are_of(places, before.alarm.subject()) => over.push(before.alarm),
         _ => Ok(()),
     }
 }
 
 /// Whether an alarm stood, with its cause.
-fn has_stood(stood: &[Standing], alarm: Alarm) -> bool
+fn has_stood(stood: &[Standing], places: &Places, alarm: Alarm) -> bool
+    requires { TellOfStood places.now stood.now }
+    ensures { Decides result (Stood stood.now alarm) }
+{
+    is_among(from_first(stood, places, alarm.subject()), alarm)
+}
+
+/// Whether an alarm is among these, with its cause. They begin with the first of its subject, which mostly is the one.
+fn is_among(stood: &[Standing], alarm: Alarm) -> bool
     ensures { Decides result (Stood stood.now alarm) }
 {
     for before in stood {
@@ -102,14 +123,9 @@ fn has_stood(stood: &[Standing], alarm: Alarm) -> bool
     false
 }
 
-/// Whether some of the alarms is of a subject.
-fn are_of(alarms: &[Alarm], subject: Subject) -> bool
-    ensures { Decides result (AreOf alarms.now subject) }
+/// Whether some alarm is of a subject, of those that the places tell of.
+fn are_of(places: &Places, subject: Subject) -> bool
+    ensures { (alarms : List Alarm) → TellOfAlarms places.now alarms → Decides result (AreOf alarms subject) }
 {
-    for alarm in alarms {
-        if is_same(alarm.subject(), subject) {
-            return true;
-        }
-    }
-    false
+    places.first(subject).is_some()
 }

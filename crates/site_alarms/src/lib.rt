@@ -12,6 +12,7 @@ mod mending;
 mod met;
 mod names;
 mod outputs;
+mod places;
 mod points;
 mod sentences;
 mod served;

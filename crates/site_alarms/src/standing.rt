@@ -1,9 +1,11 @@
 //! Since when something is wrong.
 ghost use Rattle.std.specs.Prelude.{◌≡◌, [], OnErr, OnOk, length, slice_get};
 ghost use Rattle.site_alarms.specs.Changing.{AreStanding, IsChange, IsSince, NextStanding};
+ghost use Rattle.site_alarms.specs.Finding.{TellOfStood, from_first};
 
 use crate::alarm::{Alarm, Subject, is_same};
 use crate::changes::Changes;
+use crate::places::Places;
 use point_types::Items;
 use std::alloc::{AllocError, Global};
 
@@ -21,6 +23,8 @@ pub struct Watch {
     standing: Items<Standing>,
     /// Room for those that come next.
     next: Items<Standing>,
+    /// Where the first of each subject was, of what stood before.
+    places: Places,
     changes: Changes,
 }
 
@@ -32,6 +36,7 @@ impl Watch {
         Watch {
             standing: Items::new(alloc),
             next: Items::new(alloc),
+            places: Places::new(alloc),
             changes: Changes::new(alloc),
         }
     }
@@ -56,8 +61,16 @@ impl Watch {
         ensures changed { OnOk result (IsChange self.old.standing alarms.now self.new.changes.begun self.new.changes.over) }
         ensures refused { OnErr result (self.new.standing ≡ self.old.standing) }
     {
-        self.changes.see(self.standing.as_slice(), alarms)?;
-        fill_standing(&mut self.next, self.standing.as_slice(), alarms, now)?;
+        self.places.note_stood(self.standing.as_slice())?;
+        self.changes
+            .see(self.standing.as_slice(), &self.places, alarms)?;
+        fill_standing(
+            &mut self.next,
+            self.standing.as_slice(),
+            &self.places,
+            alarms,
+            now,
+        )?;
         std::mem::swap(&mut self.standing, &mut self.next);
         Ok(())
     }
@@ -67,14 +80,16 @@ impl Watch {
 fn fill_standing(
     standing: &mut Items<Standing>,
     stood: &[Standing],
+    places: &Places,
     alarms: &[Alarm],
     now: u64,
 ) -> Result<(), AllocError>
+    requires { TellOfStood places.now stood.now }
     ensures { OnOk result (AreStanding stood.now alarms.now now (length alarms.now) standing.new) }
 {
     standing.clear();
     for i in 0..alarms.len() {
-        push_standing(standing, stood, alarms, now, i)?;
+        push_standing(standing, stood, places, alarms, now, i)?;
     }
     Ok(())
 }
@@ -82,22 +97,32 @@ fn fill_standing(
 fn push_standing(
     standing: &mut Items<Standing>,
     stood: &[Standing],
+    places: &Places,
     alarms: &[Alarm],
     now: u64,
     i: usize,
 ) -> Result<(), AllocError>
+    requires { TellOfStood places.now stood.now }
     ensures { OnOk result (NextStanding stood.now now (slice_get alarms.now i) standing.old standing.new) }
 {
     match alarms.get(i) {
         Some(alarm) => standing.push(Standing {
             alarm: *alarm,
-            since: since_of(stood, alarm.subject(), now),
+            since: since_of(stood, places, alarm.subject(), now),
         }),
         None => Ok(()),
     }
 }
 
-fn since_of(stood: &[Standing], subject: Subject, now: u64) -> u64
+/// Since when the first of a subject stood, or from now on.
+fn since_of(stood: &[Standing], places: &Places, subject: Subject, now: u64) -> u64
+    requires { TellOfStood places.now stood.now }
+    ensures { IsSince stood.now now subject result }
+{
+    since_among(from_first(stood, places, subject), subject, now)
+}
+
+fn since_among(stood: &[Standing], subject: Subject, now: u64) -> u64
     ensures { IsSince stood.now now subject result }
 {
     for before in stood {
@@ -106,4 +131,19 @@ fn since_of(stood: &[Standing], subject: Subject, now: u64) -> u64
         }
     }
     now
+}
+
+/// What stood, from the first of a subject on.
+pub(crate) fn from_first<'a>(
+    stood: &'a [Standing],
+    places: &Places,
+    subject: Subject,
+) -> &'a [Standing]
+    requires { TellOfStood places.now stood.now }
+    ensures { result.now ≡ from_first stood.now subject }
+{
+    match places.first(subject) {
+        Some(i) => stood.split_at(i).1,
+        None => &[],
+    }
 }

@@ -1,6 +1,6 @@
 use Rattle.std.proofs.Common.{ℕ, drop}
 use Rattle.site_alarms.specs.Changing.{IsSince}
-use Rattle.site_alarms.proofs.standing.since_of.Given as goal
+use Rattle.site_alarms.proofs.standing.since_among.Given as goal
 
 -- what holds of what remains, holds of all
 abbrev pub invariant-loop-before : goal.invariant-loop-before

@@ -1,6 +1,6 @@
 use Rattle.std.proofs.Common.{drop}
 use Rattle.site_alarms.specs.Changing.{Stood}
-use Rattle.site_alarms.proofs.changes.has_stood.Given as goal
+use Rattle.site_alarms.proofs.changes.is_among.Given as goal
 
 -- it stood just where it is one of what remains
 abbrev pub invariant-loop-before : goal.invariant-loop-before
