@@ -12,7 +12,7 @@ ghost use Rattle.commands.specs.Told.{refused_with};
 use crate::definitions::definitions;
 use crate::outcome::Outcome;
 use crate::report::{no_site, undefined, unverified};
-use file_keys::TomlFile;
+use file_keys::{Placed, TomlFile};
 pub use gateway::DEPTH;
 use il_assemble::assemble;
 use il_assemble::laws::texts_keep_the_limits;
@@ -65,7 +65,12 @@ fn accept_over(
 {
     match Site::read_file(alloc, site, models) {
         Ok(site) => accept_on(alloc, site, program),
-        Err(placed) if placed.fault == SiteFault::OutOfMemory => Err(AllocError),
+        Err(
+            Placed {
+                fault: SiteFault::OutOfMemory,
+                ..
+            },
+        ) => Err(AllocError),
         Err(placed) => {
             let line = no_site(alloc, placed.fault.word())?;
             let cause = cause_of_site(alloc, site, models, placed);

@@ -9,7 +9,7 @@ use crate::accepted::DEPTH;
 use crate::definitions::definitions;
 use crate::outcome::{Outcome, tell_no_memory};
 use crate::report::{no_site, undefined, unverified};
-use file_keys::TomlFile;
+use file_keys::{Placed, TomlFile};
 use il_assemble::assemble;
 use il_assemble::laws::texts_keep_the_limits;
 use il_reader::{Program, read};
@@ -74,7 +74,12 @@ fn outcome_over(
 {
     match Site::read_file(alloc, site, models) {
         Ok(site) => outcome_on(alloc, &site, program, beside),
-        Err(placed) if placed.fault == SiteFault::OutOfMemory => Err(AllocError),
+        Err(
+            Placed {
+                fault: SiteFault::OutOfMemory,
+                ..
+            },
+        ) => Err(AllocError),
         Err(placed) => {
             let line = no_site(alloc, placed.fault.word())?;
             let cause = cause_of_site(alloc, site, models, placed);

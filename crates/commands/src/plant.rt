@@ -6,7 +6,7 @@ use crate::definitions::definitions;
 use crate::obeyed::Obeyed;
 use crate::outcome::{Outcome, tell_no_memory};
 use crate::report::{no_plant, undefined};
-use file_keys::TomlFile;
+use file_keys::{Placed, TomlFile};
 use inverter_sim::{Plant, PlantFault};
 use model_defs::{DefFault, ModelDef};
 use refusal_notes::{cause_of_definition, cause_of_plant};
@@ -60,7 +60,12 @@ fn plant_over(
 {
     match Plant::read_file(alloc, plant, models) {
         Ok(plant) => Ok(Ok(plant)),
-        Err(placed) if placed.fault == PlantFault::OutOfMemory => Err(AllocError),
+        Err(
+            Placed {
+                fault: PlantFault::OutOfMemory,
+                ..
+            },
+        ) => Err(AllocError),
         Err(placed) => {
             let line = no_plant(alloc, placed.fault.word())?;
             let cause = cause_of_plant(alloc, plant, models, placed);

@@ -11,6 +11,6 @@ returns-in-Ok c = site_explained c.args.models.now c.args.site.now c.args.progra
 
 pub returns-in_ok-line-in-Err : goal.returns-in_ok-line-in-Err
 returns-in_ok-line-in-Err c =
-    let why : site_in c.args.models.now c.args.site.now ≡ Err c.in-Err.fault = search rules in
-    let is : c.caused.result ≡ refused_with (bad_site_line (fault_word c.in-Err.fault)) = search rules in
-    no_site_explained c.args.models.now c.args.site.now c.args.program.now c.in-Err.fault c.caused.result why is
+    let why : site_in c.args.models.now c.args.site.now ≡ Err c.in-Err.placed.fault = search rules in
+    let is : c.caused.result ≡ refused_with (bad_site_line (fault_word c.in-Err.placed.fault)) = search rules in
+    no_site_explained c.args.models.now c.args.site.now c.args.program.now c.in-Err.placed.fault c.caused.result why is
