@@ -1,6 +1,6 @@
-"""The manual pages sunsite(1) and sunsite-site(5), made of docs/FORMATS.md.
+"""The manual pages sunsite(1) and sunsite-site(5), made of the documents that docs/FORMATS.md names.
 
-Each section of the document stands on one page: those named in FILE_SECTIONS on sunsite-site(5), all others on sunsite(1). A
+Each section of these stands on one page: those named in FILE_SECTIONS on sunsite-site(5), all others on sunsite(1). A
 form of markdown that isn't known here ends the tool with the line's number, so that nothing is left out in silence.
 """
 
@@ -8,8 +8,18 @@ import re
 from typing import NamedTuple
 
 DOCUMENTS = "/usr/share/doc/sunsite"
+# the documents, in order
+PARTS = ("COMMANDS", "MESSAGES", "FILES", "LANGUAGE")
 # the sections about files, in the order of their page
-FILE_SECTIONS = ("Site file (TOML)", "Plant file (TOML)", "Instruction List text", "Instructions of each form")
+FILE_SECTIONS = (
+    "Site file (TOML)",
+    "Plant file (TOML)",
+    "Definition files",
+    "Instruction List text",
+    "Instructions of each form",
+    "The file of set values",
+    "The status file",
+)
 # columns of a table whose cells don't speak for themselves
 LABELLED = ("Status", "Example", "Count", "What to do")
 OTHER_FORMS = re.compile(r"\s*(?:\d+\. |\* |\+ |>|<|!\[|---)|\s+\S")
@@ -93,7 +103,7 @@ def bold(text):
 
 
 class Names(NamedTuple):
-    """What links may lead to: the page of each heading, by its anchor, and the documents beside this one."""
+    """What links may lead to: the page of each heading, by its anchor, and the documents beside these."""
 
     pages: dict
     documents: set
@@ -170,14 +180,21 @@ def is_command(heading):
     return re.match(r"`[a-z]+ [A-Z]", heading) is not None
 
 
+def joined(read):
+    """The documents as one, in which links from one to another lead to its headings."""
+    text = "\n".join(read(f"docs/{it}.md") for it in PARTS)
+    return re.sub(rf"\]\((?:{'|'.join(PARTS)})\.md#", "](#", text)
+
+
 def sections(text):
-    """The sections of a document by their headings, each with its blocks; the first has no heading."""
-    found = {"": []}
+    """The sections of the documents by their headings, each with its blocks; what stands before a document's first has none."""
+    found, told = {"": []}, ""
     for block in blocks(text):
-        if block.form == "heading" and block.depth == 2:
-            found[title(block)] = []
+        if block.form == "heading" and block.depth <= 2:
+            told = title(block) if block.depth == 2 else ""
+            found.setdefault(told, [])
         if block.form != "heading" or block.depth > 1:
-            found[list(found)[-1]].append(block)
+            found[told].append(block)
     return found
 
 
@@ -246,7 +263,7 @@ def file_page(parts, names, version, date):
 
 
 def pages(text, version, date):
-    """The pages that the text of docs/FORMATS.md makes, by their files' names, and the documents that they name."""
+    """The pages that the text of the documents makes, by their files' names, and the documents that they name."""
     parts = sections(text)
     names = Names(placed(parts), set())
     made = {"sunsite.1": command_page(parts, names, version, date), "sunsite-site.5": file_page(parts, names, version, date)}

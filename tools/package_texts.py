@@ -7,6 +7,7 @@ import re
 import shutil
 import subprocess
 
+import manual
 from serve_parts import TOP
 
 PAGES = ("man1/sunsite.1", "man5/sunsite-site.5")
@@ -66,8 +67,8 @@ def words_of_document(text):
 def try_manual(counts, root, folder, program_words):
     """Manual pages: nothing of their document is missing, each option stands on them, and their readers have no warnings."""
     texts = [page(root, name) for name in PAGES]
-    missing = words_of_document(read(f"{TOP}/docs/FORMATS.md")) - words_of("\n".join(map(shown, texts)))
-    counts.note("all words of docs/FORMATS.md are on the manual pages", not missing, missing)
+    missing = words_of_document(manual.joined(lambda path: read(f"{TOP}/{path}"))) - words_of("\n".join(map(shown, texts)))
+    counts.note("all words of their documents are on the manual pages", not missing, missing)
     for command, options in program_words.items():
         for option in [it for it in options if it.startswith("--")]:
             counts.note(f"sunsite(1) has {option} of {command or 'sunsite'}", re.search(rf"{option}\b", shown(texts[0])))

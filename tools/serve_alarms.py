@@ -185,7 +185,7 @@ def play_unscaled(counts, program, folder):
 
 
 def play_own(counts, program, folder):
-    """What is wrong with the service itself: a round that began late, and a file that can't be written."""
+    """What is wrong with the service itself: a scan that came late, and a file that can't be written."""
     devices = [OwnDevice({1: inverter(1500)})]
     service, status = serve(program, folder, "own", devices, more=["--state", f"{folder}/own.state"], keys=TARGET)
     counts.note("nothing is wrong with it", until(lambda: alarms_of(status, "kind") if text_of(status) else None, []) == [], text_of(status))
@@ -199,15 +199,10 @@ def play_own(counts, program, folder):
     service.process.send_signal(signal.SIGSTOP)
     time.sleep(0.5)
     service.process.send_signal(signal.SIGCONT)
-    counts.note("a round that began late", service.has(r"\S+ late 1") and until(lambda: alarms_of(status, "kind", "name", "cause"), [("round_late", "rounds", "Late")]) == [("round_late", "rounds", "Late")], text_of(status))
+    counts.note("a scan that came late", service.has(r"\S+ late 1") and until(lambda: alarms_of(status, "kind", "name", "cause"), [("round_late", "rounds", "Late")]) == [("round_late", "rounds", "Late")], text_of(status))
     client.close()
     service.end()
     devices[0].gone()
 
 
-def try_all(counts, program, folder):
-    play_inputs(counts, program, folder)
-    play_alarms(counts, program, folder)
-    play_sum(counts, program, folder)
-    play_unscaled(counts, program, folder)
-    play_own(counts, program, folder)
+PLAYS = (play_inputs, play_alarms, play_sum, play_unscaled, play_own)

@@ -3,11 +3,9 @@
 import calendar
 import hashlib
 import json
-import os
 import re
 import struct
 import subprocess
-import tempfile
 import time
 
 from serve_parts import TOP, Client, Service, text_of, until
@@ -50,7 +48,7 @@ def play_start(counts, program, folder):
     service.end()
 
 
-def play_times(counts, program):
+def play_times(counts, program, folder):
     """With --times utc each line begins with the time of day, and those that had no time have none."""
     service = Service(program, [*WORDS, "--times", "utc", "--verbose"])
     counts.note("a line's time of day", service.has(rf"{TIME} device inv1 lost \w+"), service.lines)
@@ -119,7 +117,7 @@ def play_set(counts, program, folder):
     service.end()
 
 
-def play_refused(counts, program):
+def play_refused(counts, program, folder):
     """A write that is refused is told, with what it would have set where that is known."""
     service = Service(program, WORDS)
     port = service.port()
@@ -148,9 +146,9 @@ def play_refused(counts, program):
     service.end()
 
 
-def begin_flood(program):
-    """A service at which an address has more writes refused in a minute than are told."""
-    service = Service(program, WORDS)
+def play_flood(counts, program, folder):
+    """An address has more writes refused in a minute than are told: ten of them are, the others counted, once the minute is over."""
+    service, began = Service(program, WORDS), time.monotonic()
     for _ in range(2):
         client = Client(service.port())
         for _ in range(6):
@@ -159,24 +157,20 @@ def begin_flood(program):
     other = Client(service.port(), "127.0.0.3")
     other.write(LIMIT, 7)
     other.close()
-    return service, time.monotonic()
-
-
-def end_flood(counts, service, began):
-    """Ten of them are told, the others counted, once the minute is over."""
-    told = [it for it in told_of(service, "client 127.0.0.1:") if " refused 6 " in it]
-    counts.note("ten refusals in a minute", len(told) == 10, service.lines)
+    time.sleep(50)
+    told = lambda: [it for it in told_of(service, "client 127.0.0.1:") if " refused 6 " in it]
+    counts.note("ten refusals in a minute", len(told()) == 10, service.lines)
     counts.note("another address has its own", len([it for it in told_of(service, "client 127.0.0.3:") if " refused 6 " in it]) == 1, service.lines)
     counts.note("the count comes later", time.monotonic() - began > 59 or not told_of(service, "refused "), service.lines)
-    counts.note("the others are counted", service.has(r"\d+\.\d{3} refused 2 more from 127\.0\.0\.1", max(0, 65 + began - time.monotonic())), service.lines)
+    counts.note("the others are counted", service.has(r"\d+\.\d{3} refused 2 more from 127\.0\.0\.1", 65 + began - time.monotonic()), service.lines)
     counts.note("they are told once", len(told_of(service, "refused ")) == 1, service.lines)
     client = Client(service.port())
     client.write(LIMIT, 200)
-    counts.note("and the next minute has ten of its own", until(lambda: len([it for it in told_of(service, "client 127.0.0.1:") if " refused 6 " in it]), 11) == 11, service.lines)
+    counts.note("and the next minute has ten of its own", until(lambda: len(told()), 11) == 11, service.lines)
     service.end()
 
 
-def play_moves(counts, program):
+def play_moves(counts, program, folder):
     """A client that connects for each request is told to have come once, and to have left once."""
     for more, wanted in (([], 1), (["--verbose"], 50)):
         service = Service(program, [*WORDS, *more])
@@ -194,12 +188,4 @@ def play_moves(counts, program):
         service.end()
 
 
-def try_all(counts, program):
-    program = os.path.abspath(program)
-    with tempfile.TemporaryDirectory() as folder:
-        play_start(counts, program, folder)
-        play_times(counts, program)
-        play_shown(counts, program, folder)
-        play_set(counts, program, folder)
-    play_refused(counts, program)
-    play_moves(counts, program)
+PLAYS = (play_start, play_times, play_shown, play_set, play_refused, play_moves)

@@ -4,14 +4,12 @@
 """
 
 import json
-import os
 import subprocess
 import sys
-import tempfile
 import time
 
 sys.dont_write_bytecode = True
-from serve_parts import TOP, Client, Counts, Service, close, files_of, program_of, text_of, until
+from serve_parts import TOP, Client, Service, close, files_of, text_of, try_alone, until
 from serve_plays import OwnDevice, inverter, put
 
 # registers of model 123 of the gateway, and the limit of a device at the same place
@@ -54,8 +52,10 @@ class Site:
         return [words[0] for _, addr, words in self.devices[0].written if addr == LIMIT]
 
     def alarms(self):
+        """The alarms, except for scans that came late: those are of the machine."""
         text = text_of(self.status)
-        return [(it["kind"], it["name"], it["cause"]) for it in json.loads(text)["alarms"]] if text else None
+        alarms = [(it["kind"], it["name"], it["cause"]) for it in json.loads(text)["alarms"]] if text else []
+        return [it for it in alarms if it[0] != "round_late"] if text else None
 
     def end(self):
         for it in self.devices:
@@ -103,7 +103,8 @@ def play_alarm(counts, site, service, client):
     """The alarm stands until the tag is written again."""
     counts.note("its alarm", until(site.alarms, [("lapsed", "target", "Lapsed")]) == [("lapsed", "target", "Lapsed")], site.alarms())
     status = json.loads(text_of(site.status))
-    counts.note("its sentence", status["alarms"][0]["text"] == "no client wrote target for 2 s: the program works with its default", status["alarms"])
+    sentences = [it["text"] for it in status["alarms"] if it["kind"] == "lapsed"]
+    counts.note("its sentence", sentences == ["no client wrote target for 2 s: the program works with its default"], status["alarms"])
     counts.note("it isn't set", status["set"] == {} and status["tags"]["target"] == {"access": "set", "exponent": 0, "default": 50}, status)
     counts.note("it is told once", sum("lapsed" in it for it in service.lines) == 1, service.lines)
     told = len(service.lines)
@@ -194,7 +195,9 @@ def play_rewrite(counts, program, folder):
     time.sleep(1.5)
     scans = [it for it in service.lines[told:] if it.startswith("scan ")]
     counts.note("it isn't written in each scan", len(scans) > 5 and len(site.writes()) == first, (scans, site.writes()))
-    counts.note("what isn't sent counts as written", all(" writes 2 refused 0 " in it for it in scans), scans)
+    # (a scan before which the device wasn't read in time plans nothing for it)
+    planned = {int(it.split(" writes ")[1].split()[0]) for it in scans}
+    counts.note("what isn't sent counts as written", {2} <= planned <= {0, 2}, scans)
     counts.note("no line says it", not any("unwritten" in it for it in service.lines[told:]), service.lines)
     counts.note("but after a while", until(lambda: len(site.writes()), first + 1) == first + 1, site.writes())
     counts.note("the status file has it as written", json.loads(text_of(site.status))["outputs"]["lim1"] == {"value": 50, "state": "written"}, text_of(site.status))
@@ -220,13 +223,17 @@ def again(counts, what, site, seconds=1.0):
 
 
 def play_cut(counts, site, service):
-    """A new connection: what the device took over the old one counts for nothing."""
+    """A new connection, where the old one was cut while nothing was under way: that is no loss, and what the device took over it
+    counts for nothing."""
     told, device = len(service.lines), site.devices[0]
-    for it in device.sockets:
+    came = device.came
+    until(lambda: time.monotonic() - device.asked_at > 0.015, True)
+    for it in list(device.sockets):
         close(it)
     device.units[1][LIMIT] = 77
-    counts.note("the connection is cut", service.has(r"\S+ device inv1 found 1 103 123", behind=told), service.lines)
+    counts.note("a connection that is cut is made again at once", until(lambda: device.came > came, True, 1), (device.came, service.lines))
     again(counts, "over a new connection", site)
+    counts.note("a connection that is cut is no loss", not any("inv1" in it for it in service.lines[told:]), service.lines[told:])
 
 
 def play_refusal(counts, site, service, client):
@@ -253,19 +260,8 @@ def play_silence(counts, site, service):
     again(counts, "after a loss", site)
 
 
-def try_all(counts, program):
-    program = os.path.abspath(program)
-    for play in (play_lapse, play_restart, play_lines, play_short, play_rewrite):
-        with tempfile.TemporaryDirectory(prefix="try-serve-") as folder:
-            play(counts, program, folder)
-
-
-def main():
-    counts = Counts()
-    try_all(counts, program_of(sys.argv[1:]))
-    print(f"{counts.passed} passed, {counts.failed} failed")
-    return 1 if counts.failed else 0
+PLAYS = (play_lapse, play_restart, play_lines, play_short, play_rewrite)
 
 
 if __name__ == "__main__":
-    sys.exit(main())
+    sys.exit(try_alone(sys.argv[1:], PLAYS))

@@ -5,7 +5,6 @@ import signal
 import socket
 import stat
 import subprocess
-import tempfile
 
 from serve_parts import TOP, Client, Service, text_of, until
 from serve_plays import LIMIT, OwnDevice, inverter
@@ -98,7 +97,4 @@ def play_changed(counts, program, folder):
     counts.note("it is taken as it is then", ran.returncode == 0 and text_of(path) == "target=60\n", ran)
 
 
-def try_all(counts, program):
-    for play in (play_one_service, play_folders, play_changed):
-        with tempfile.TemporaryDirectory() as folder:
-            play(counts, program, folder)
+PLAYS = (play_one_service, play_folders, play_changed)

@@ -5,7 +5,6 @@ import os
 import signal
 import socket
 import subprocess
-import tempfile
 import time
 
 from serve_parts import Client, Service, until
@@ -199,16 +198,20 @@ def play_end(counts, program, folder):
     counts.note("no lookup outlives its service", sleepers() == [], sleepers())
 
 
-def try_all(counts, program):
-    with tempfile.TemporaryDirectory() as folder:
-        play_names(counts, program, folder)
-        play_no_process(counts, program, folder)
+def with_lookups(play):
+    """A play with a script in place of the lookup of names, where one can be; no script is left after it."""
+
+    def tried(counts, program, folder):
         if cause := no_namespace(folder):
-            print(f"skipped: lookups of names that are silent or odd: {cause}")
+            print(f"skipped: {play.__name__}: {cause}")
             return
         try:
-            play_silent_names(counts, program, folder)
-            play_odd_lookups(counts, program, folder)
-            play_end(counts, program, folder)
+            play(counts, program, folder)
         finally:
             end_sleepers()
+
+    tried.__name__ = play.__name__
+    return tried
+
+
+PLAYS = (play_names, play_no_process, *map(with_lookups, (play_silent_names, play_odd_lookups, play_end)))

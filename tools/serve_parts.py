@@ -1,12 +1,18 @@
-"""What tools/try-serve and its plays share: simulators, clients, and `sunsite serve` with its lines."""
+"""What tools/try-serve and its plays share: simulators, clients, `sunsite serve` with its lines, and how plays are tried.
+
+A play is a function of what it counts, the program, and a folder of its own. A host that withholds its processors makes devices slow
+and waits short, so a play that failed is tried again, alone and with more patience.
+"""
 
 import os
 import re
 import socket
 import struct
 import subprocess
+import tempfile
 import threading
 import time
+from concurrent.futures import ThreadPoolExecutor
 
 TOP = os.path.dirname(os.path.dirname(os.path.realpath(__file__)))
 PLANT = """[[device]]
@@ -28,21 +34,101 @@ raw = -1
 
 
 class Counts:
-    passed = failed = 0
+    """What held in a play, what didn't, and what it measured."""
+
+    def __init__(self):
+        self.passed, self.failures, self.measured = 0, [], []
 
     def note(self, what, holds, seen=""):
         if holds:
             self.passed += 1
         else:
-            self.failed += 1
-            print(f"failed: {what} {seen}")
+            self.failures.append(f"failed: {what} {seen}")
+
+    def tell(self, what, text):
+        self.measured.append(f"{what}: {text}")
+
+
+class Patience:
+    """How many times as long as on a quick host a play waits, and may take."""
+
+    times = 1
+    # when a play is tried again, and again
+    later = (2, 4, 4)
+
+
+def within(seconds):
+    """A bound of time on this host."""
+    return seconds * Patience.times
+
+
+class Trials:
+    """The plays that were tried, each with what its last try counted."""
+
+    def __init__(self, program):
+        self.program, self.plays, self.done = os.path.abspath(program), [], []
+
+    def once(self, play):
+        """A try in a folder of its own; one that breaks off has failed."""
+        own = Counts()
+        try:
+            with tempfile.TemporaryDirectory(prefix="try-serve-") as folder:
+                play(own, self.program, folder)
+        except Exception as why:
+            own.note(title(play), False, repr(why))
+        return own
+
+    def add(self, plays, lanes=1):
+        """Tries these, so many side by side."""
+        with ThreadPoolExecutor(lanes) as pool:
+            self.done += pool.map(self.once, plays)
+        self.plays += plays
+
+    def again(self):
+        """Tries those that failed one by one, with more patience each time."""
+        for n, play in enumerate(self.plays):
+            for times in Patience.later:
+                if not self.done[n].failures:
+                    break
+                print("\n".join(self.done[n].failures), f"once more alone, with {times} times as long: {title(play)}", sep="\n", flush=True)
+                Patience.times = times
+                self.done[n] = self.once(play)
+        Patience.times = 1
+
+    def verdict(self):
+        """Of the last try of each play."""
+        return verdict(self.done)
+
+
+def verdict(counted):
+    """Prints what failed, and how many clauses held and didn't; the status of a tool."""
+    failures = [it for own in counted for it in own.failures]
+    print("".join(f"{it}\n" for it in failures), end="")
+    print(f"{sum(own.passed for own in counted)} passed, {len(failures)} failed")
+    return 1 if failures else 0
+
+
+def title(play):
+    """The name of a play, with what it was given."""
+    given = [f"{name}={value}" for name, value in getattr(play, "keywords", {}).items()]
+    return " ".join([getattr(play, "func", play).__name__, *given])
+
+
+def try_alone(words, plays, lanes=1):
+    """What a file of plays does by itself; also prints what was measured."""
+    trials = Trials(program_of(words))
+    trials.add(plays, lanes)
+    trials.again()
+    for own in trials.done:
+        print("".join(f"{it}\n" for it in own.measured), end="")
+    return trials.verdict()
 
 
 class Device:
     """A simulator behind a port that stays, with a new simulator for each connection."""
 
     def __init__(self, program, plant):
-        self.program, self.plant, self.port = program, plant, 0
+        self.program, self.plant, self.port, self.lock = program, plant, 0, threading.Lock()
         self.start()
 
     def start(self):
@@ -57,19 +143,29 @@ class Device:
                 near, _ = door.accept()
             except OSError:
                 return
-            simulator = subprocess.Popen([self.program, "simulate", self.plant], stdout=subprocess.PIPE, text=True)
-            self.simulators.append(simulator)
-            far = socket.create_connection(("127.0.0.1", int(simulator.stdout.readline().split()[1])))
-            self.sockets += [near, far]
-            for one, other in ((near, far), (far, near)):
-                threading.Thread(target=pump, args=(one, other), daemon=True).start()
+            with self.lock:
+                self.connect(near, door)
+
+    def connect(self, near, door):
+        """One that came as the device was killed is closed: a connection that ends is dialed again at once."""
+        if self.door is not door:
+            close(near)
+            return
+        simulator = subprocess.Popen([self.program, "simulate", self.plant], stdout=subprocess.PIPE, text=True)
+        self.simulators.append(simulator)
+        far = socket.create_connection(("127.0.0.1", int(simulator.stdout.readline().split()[1])))
+        self.sockets += [near, far]
+        for one, other in ((near, far), (far, near)):
+            threading.Thread(target=pump, args=(one, other), daemon=True).start()
 
     def kill(self):
-        for it in self.simulators:
-            it.kill()
-            it.wait()
-        for it in self.sockets:
-            close(it)
+        with self.lock:
+            self.door = None
+            for it in self.sockets:
+                close(it)
+            for it in self.simulators:
+                it.kill()
+                it.wait()
 
 
 def pump(one, other):
@@ -144,7 +240,7 @@ class Service:
 
     def has(self, pattern, seconds=5.0, behind=0):
         """Whether such a line is there, or comes."""
-        until = time.monotonic() + seconds
+        until = time.monotonic() + within(seconds)
         while not any(re.fullmatch(pattern, line) for line in self.lines[behind:]):
             if time.monotonic() >= until:
                 return False
@@ -171,12 +267,12 @@ def program_of(words):
     for path in (f"{TOP}/crates/sunsite/out/unproved/sunsite", f"{TOP}/crates/sunsite/out/sunsite"):
         if os.path.exists(path):
             return path
-    raise SystemExit("tools/try-serve: there is no program")
+    raise SystemExit("there is no program")
 
 
 def until(call, wanted, seconds=4.0):
     """The last result of a call, which is made until it is the wanted one."""
-    end = time.monotonic() + seconds
+    end = time.monotonic() + within(seconds)
     while (got := call()) != wanted and time.monotonic() < end:
         time.sleep(0.02)
     return got

@@ -1,10 +1,8 @@
 """Plays of tools/try-serve, with devices that do what each play asks for."""
 
 import json
-import os
 import socket
 import struct
-import tempfile
 import threading
 import time
 
@@ -142,6 +140,7 @@ class OwnDevice:
     def __init__(self, units):
         self.units, self.silent, self.refuses = units, False, False
         self.written, self.came, self.sockets, self.port = [], 0, [], 0
+        self.asked_at = 0.0
         self.open()
 
     def open(self):
@@ -176,6 +175,7 @@ class OwnDevice:
         close(it)
 
     def answer(self, it, number, unit, pdu):
+        self.asked_at = time.monotonic()
         if not self.silent:
             reply = self.reply(unit, pdu)
             it.sendall(struct.pack(">HHHB", number, 0, len(reply) + 1, unit) + reply)
@@ -244,10 +244,10 @@ def play_three_links(counts, program, folder):
 
 
 def play_counted(counts, service, status):
-    """The program counts its scans, and each round has one."""
+    """The program counts its scans: there is one each period."""
     time.sleep(0.6)
     told = json.loads(text_of(status))
-    counts.note("a scan a round", told["scans"] == told["variables"]["scans"] > 3, (told["scans"], told["variables"]))
+    counts.note("a scan each period", told["scans"] == told["variables"]["scans"] > 3, (told["scans"], told["variables"]))
     lines = [int(it.split()[1]) for it in service.lines if it.startswith("scan ")]
     counts.note("each has its line", lines == list(range(1, len(lines) + 1)), lines)
 
@@ -257,7 +257,8 @@ def play_silence(counts, service, client, device):
     device.silent = True
     counts.note("a silent device is lost", service.has(r"\S+ device inv3 lost Silent", behind=behind), service.lines[behind:])
     counts.note("what it showed is gone", until(lambda: shown(client), [1001, 1002, 0xFFFF]) == [1001, 1002, 0xFFFF], shown(client))
-    counts.note("it is hung up and dialed again", until(lambda: device.came > came, True), device.came)
+    # (three requests without an answer: each is waited for as long as a reply may take, and comes as long after the one before)
+    counts.note("it is hung up and dialed again", until(lambda: device.came > came, True, 8), device.came)
     device.silent = False
     counts.note("it comes back", until(lambda: shown(client), [1001, 1002, 1003], 15) == [1001, 1002, 1003], service.lines[behind:][-8:])
 
@@ -285,7 +286,7 @@ def play_late(counts, service, client, device, status):
     first = json.loads(text_of(status))
     time.sleep(1)
     second = json.loads(text_of(status))
-    counts.note("rounds go on in time", 6 <= second["scans"] - first["scans"] <= 12, (first["scans"], second["scans"]))
+    counts.note("scans stand still in time", 8 <= second["scans"] - first["scans"] <= 12, (first["scans"], second["scans"]))
     counts.note("the client stays", client.read(SHOWN[0]) == (1001,))
 
 
@@ -388,12 +389,4 @@ def play_slow_reader(counts, program, folder):
     service.end()
 
 
-def try_all(counts, program):
-    program = os.path.abspath(program)
-    with tempfile.TemporaryDirectory() as folder:
-        play_three_links(counts, program, folder)
-        play_one_address(counts, program, folder)
-        play_writers(counts, program, folder)
-        play_networks(counts, program, folder)
-        play_definitions(counts, program, folder)
-        play_slow_reader(counts, program, folder)
+PLAYS = (play_three_links, play_one_address, play_writers, play_networks, play_definitions, play_slow_reader)

@@ -6,15 +6,14 @@
 import hashlib
 import json
 import os
+import select
 import subprocess
 import sys
-import tempfile
-import threading
 import time
 
 sys.dont_write_bytecode = True
 from serve_client_plays import TIME, is_near
-from serve_parts import TOP, Client, Counts, Service, program_of, text_of, until
+from serve_parts import TOP, Client, Service, text_of, try_alone, until
 from serve_plays import LIMIT, put
 
 # it counts the scans, each as so many, and has a variable beside
@@ -147,6 +146,8 @@ def play_back(counts, site, first, client):
     until(lambda: "VAR more=" in text_of(site.state), True)
     kept = dict(it.split("=") for it in text_of(site.state).splitlines())
     errors = site.errors()
+    # (what the status file says then is of the next start)
+    os.remove(site.status_path)
     counts.note("names of no variable are told", errors.count("'retain' names more, and the program has no such variable") == 2, errors)
     site.begin(["--reload"])
     now = until(lambda: site.variables().get("more"), 8) and site.variables()
@@ -310,6 +311,7 @@ def play_full(counts, program, folder):
     counts.note("it was full", len(filled) >= 65536 and set(filled) == {46}, len(filled))
     site.replace(UNSAFE)
     counts.note("and the next one", site.service.has(r"\S+ program refused verify StoreRange at 4"), site.service.lines)
+    select.select([near], [], [], 5)
     site.service.end()
     os.close(far)
     errors = b""
@@ -335,8 +337,8 @@ def play_order(counts, program, folder):
     site.service.end()
 
 
-def play_rounds(counts, program, folder):
-    """Programs that come in the middle of rounds: devices that answer late have one under way most of the time."""
+def play_busy(counts, program, folder):
+    """Programs that come while devices are asked: they answer late, so that a request is under way most of the time."""
     plant = put(folder, "plant.toml", text_of(f"{TOP}/examples/plant.toml").replace("unit = 1\n", "unit = 1\nslow = 150\n").replace("unit = 2\n", "unit = 2\nslow = 150\n"))
     site = Site(program, folder, program_text(), ("--reload", "--verbose"), ("--plant", plant), "650")
     client = Client(site.port)
@@ -345,44 +347,20 @@ def play_rounds(counts, program, folder):
     for step in range(2, 7):
         behind, before = len(site.service.lines), site.variables()["scans"]
         site.replace(program_text(step=1000 * step))
-        counts.note(f"in a round: program {step} is taken", site.service.has(r"\S+ program taken budget \d+", 4, behind), site.service.lines[behind:])
+        counts.note(f"while devices are asked: program {step} is taken", site.service.has(r"\S+ program taken budget \d+", 4, behind), site.service.lines[behind:])
         after = len([it for it in site.service.lines if it.startswith("scan ")])
         now = until(lambda: site.variables()["scans"] >= before + 1000 * step, True) and site.variables()["scans"]
-        counts.note(f"in a round: program {step} goes on", before + 1000 * step <= now, (before, now, after))
+        counts.note(f"while devices are asked: program {step} goes on", before + 1000 * step <= now, (before, now, after))
     counts.note("nothing is lost or unwritten meanwhile", not any(" lost " in it and not it.endswith(" lost 0") or "unwritten" in it or " late " in it for it in site.service.lines), site.service.lines)
     counts.note("each scan has all its reads and writes", all(it.endswith(" writes 2 refused 0 lost 0") for it in site.service.lines if it.startswith("scan ")), site.service.lines)
     counts.note("the client is there", client.read(LIMIT) == (70,), client.read(LIMIT))
     site.service.end()
 
 
-def in_folder(play, counts, program):
-    """A play in a folder of its own; one that breaks off has failed."""
-    try:
-        with tempfile.TemporaryDirectory(prefix="try-serve-") as folder:
-            play(counts, program, folder)
-    except Exception as why:
-        counts.note(play.__name__, False, repr(why))
-
-
-def try_all(counts, program):
-    """The plays side by side: each waits for looks, a second apart, most of its time."""
-    under_way = []
-    for play in (play_taken, play_ranges, play_refused, play_unread, play_half, play_words, play_full, play_order, play_rounds):
-        own = Counts()
-        thread = threading.Thread(target=in_folder, args=(play, own, os.path.abspath(program)))
-        thread.start()
-        under_way.append((thread, own))
-    for thread, own in under_way:
-        thread.join()
-        counts.passed, counts.failed = counts.passed + own.passed, counts.failed + own.failed
-
-
-def main():
-    counts = Counts()
-    try_all(counts, program_of(sys.argv[1:]))
-    print(f"{counts.passed} passed, {counts.failed} failed")
-    return 1 if counts.failed else 0
+PLAYS = (play_taken, play_ranges, play_refused, play_unread, play_half, play_words, play_full, play_order, play_busy)
+# (each waits for looks, a second apart, most of its time; a host with few processors makes the rounds of more late)
+LANES = 4
 
 
 if __name__ == "__main__":
-    sys.exit(main())
+    sys.exit(try_alone(sys.argv[1:], PLAYS, LANES))

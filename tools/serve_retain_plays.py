@@ -1,8 +1,8 @@
 """Plays of tools/try-serve on the variables that are kept over a restart."""
 
 import json
+import os
 import subprocess
-import tempfile
 import time
 
 from serve_parts import TOP, Client, Service, text_of, until
@@ -59,6 +59,7 @@ def play_ramp(counts, program, folder):
     counts.note("what a client sets is written at once, with them", client.write(LIMIT, 60)[0] == 6 and text_of(state).startswith("target=60\nVAR ramp="), text_of(state))
     kept = dict(it.removeprefix("VAR ").split("=") for it in text_of(state).splitlines())
     service.end()
+    os.remove(status)
     service = begin(program, names, folder, "--state", state, "--verbose")
     counts.note("a scan comes after the kill", service.has(r"scan 1 .*"), service.lines)
     now = until(lambda: variables(status).get("other"), 5) and variables(status)
@@ -94,7 +95,4 @@ def play_names(counts, program, folder):
     counts.note("nothing is kept without a file", "'--state PATH' keeps those of 'retain'" in ran.stderr, ran)
 
 
-def try_all(counts, program):
-    for play in (play_ramp, play_left_out, play_names):
-        with tempfile.TemporaryDirectory(prefix="try-serve-") as folder:
-            play(counts, program, folder)
+PLAYS = (play_ramp, play_left_out, play_names)

@@ -3,16 +3,14 @@
   tools/serve_slow_plays.py [PROGRAM]     these plays alone
 """
 
-import os
 import socket
 import struct
 import subprocess
 import sys
-import tempfile
 import time
 
 sys.dont_write_bytecode = True
-from serve_parts import PLANT, TOP, Client, Counts, Service, program_of
+from serve_parts import PLANT, TOP, Client, Service, try_alone
 
 # a register that is read, and the limit that is written
 MARK, LIMIT = 40000, 40124 + 3
@@ -139,23 +137,17 @@ def play_service(counts, program, folder):
     counts.note("the late one never is", not any("inv1 found" in line for line in service.lines), service.lines)
     counts.note("the other one isn't lost", not any("inv2 lost" in line for line in service.lines), service.lines)
     service.end()
-    service = Service(program, [*words, "--every", "2000", "--timeout", "1000"])
-    counts.note("with time enough it is found", service.has(r"\S+ device inv1 found 1 103 123", 15), service.lines)
-    service.end()
+    services = [(every, Service(program, [*words, "--every", every, "--timeout", "1000"])) for every in ("2000", "400")]
+    for every, service in services:
+        found = service.has(r"\S+ device inv1 found 1 103 123", 15)
+        counts.note(f"with time enough it is found, and isn't lost, by --every {every}", found and not any("lost" in it for it in service.lines), service.lines)
+        service.end()
     for it in plants:
         it.end()
 
 
-def try_all(counts, program):
-    program = os.path.abspath(program)
-    with tempfile.TemporaryDirectory() as folder:
-        play_answers(counts, program, folder)
-        play_faults(counts, program, folder)
-        play_service(counts, program, folder)
+PLAYS = (play_answers, play_faults, play_service)
 
 
 if __name__ == "__main__":
-    COUNTS = Counts()
-    try_all(COUNTS, program_of(sys.argv[1:]))
-    print(f"{COUNTS.passed} passed, {COUNTS.failed} failed")
-    sys.exit(COUNTS.failed > 0)
+    sys.exit(try_alone(sys.argv[1:], PLAYS))

@@ -1,5 +1,6 @@
 """Plays of tools/try-serve on `sunsite survey`: what it says of devices that are well or not, and that it writes nothing."""
 
+import re
 import subprocess
 import time
 
@@ -79,7 +80,11 @@ def site_of(folder, devices, limit=None, tags=None):
 
 
 def survey(program, *words):
-    return subprocess.run([program, "survey", *words], capture_output=True, text=True, check=False, timeout=30)
+    """What a survey prints; its rows of paces stand apart, since they have times."""
+    ran = subprocess.run([program, "survey", *words], capture_output=True, text=True, check=False, timeout=30)
+    ran.paces = re.findall(r"(?m)^pace .*\n", ran.stdout)
+    ran.stdout = re.sub(r"(?m)^pace .*\n", "", ran.stdout)
+    return ran
 
 
 def found(n, device):
@@ -94,6 +99,8 @@ def try_well(counts, program, folder):
     wanted += "input w1 inv1 103 W 4000 W raw 4000 factor 0\ninput w2 inv2 103 W 2500 W raw 2500 factor 0\n"
     wanted += "output lim1 inv1 123 WMaxLimPct 0..100 % WMax now 100 raw 100 factor 0\nserved 103 W 6500 W\n" + NOTHING
     counts.note("a well site", (ran.returncode, ran.stdout, ran.stderr) == (0, wanted, ""), ran)
+    paces = [rf"pace inv{n} replies in \d+ to \d+ ms, {requests} a round: keeps up with --every \d+\n" for n, requests in ((1, "3 requests"), (2, "1 request"))]
+    counts.note("how often they can be asked", all(re.fullmatch(*it) for it in zip(paces, ran.paces)) and len(ran.paces) == 2, ran.paces)
     counts.note("it is asked for reads alone", [it.functions for it in devices] == [{3}, {3}] and not devices[0].written, devices[0].functions)
     counts.note("one connection each", [it.came for it in devices] == [1, 1], [it.came for it in devices])
     began = time.monotonic()
@@ -195,10 +202,4 @@ def try_many(counts, program, folder):
     device.gone()
 
 
-def try_all(counts, program, folder):
-    try_well(counts, program, folder)
-    try_wrong(counts, program, folder)
-    try_shared(counts, program, folder)
-    try_words(counts, program, folder)
-    try_units(counts, program, folder)
-    try_many(counts, program, folder)
+PLAYS = (try_well, try_wrong, try_shared, try_words, try_units, try_many)

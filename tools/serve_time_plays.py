@@ -4,7 +4,6 @@ import json
 import os
 import signal
 import socket
-import tempfile
 import time
 
 from serve_parts import TOP, Client, Device, Service, files_of, plant_of, text_of, until
@@ -141,7 +140,4 @@ def play_stopped(counts, program, folder):
     service.end()
 
 
-def try_all(counts, program):
-    for play in (play_periods, play_first, play_silent, play_stopped):
-        with tempfile.TemporaryDirectory(prefix="try-serve-") as folder:
-            play(counts, program, folder)
+PLAYS = (play_periods, play_first, play_silent, play_stopped)

@@ -1,16 +1,15 @@
 -- What goes out of a service is of its site.
-use Rattle.std.proofs.Common.{◌≡◌, ◌⊎◌, inl, inr, ℕ, ℤ, Bool, true, false, List, [], Option, None, Some, Ok, slice_get, sym, ap, subst, ◌∙◌, if◌then◌else◌}
+use Rattle.std.proofs.Common.{◌≡◌, ◌⊎◌, inl, inr, ℕ, Bool, true, false, List, Option, None, Some, Ok, sym, ap, ◌∙◌, if◌then◌else◌}
 use Rattle.std.specs.Prelude.{◌==◌}
 use Rattle.std.proofs.Math.Logic.{∥∥₁_elim, ∥∥₁_prop}
 use Rattle.modbus_frame.specs.declared.message.Request.{Request}
-use Rattle.site_model.specs.declared.device.SiteDevice.{SiteDevice}
 use Rattle.site_model.specs.declared.site.Site.{Site}
 use Rattle.point_writer.specs.declared.write.Write.{Write}
 use Rattle.gateway.specs.declared.poller.cycle.Call.{Call}
 use Rattle.gateway.specs.event_core.Control.{SetsItsTag}
 use Rattle.gateway.specs.event_core.Core.{Gateway}
 use Rattle.gateway.specs.poller.Cycle.{write_of}
-use Rattle.service_parts.specs.Calls.{IsCallFor, write_to}
+use Rattle.service_parts.specs.Calls.{IsCallFor}
 use Rattle.service_parts.specs.declared.limits.Station.{Station}
 use Rattle.service_parts.specs.declared.wire.Aim.{Aim}
 use Rattle.service_parts.specs.declared.wire.Aim.TheVariants as aim
@@ -19,7 +18,7 @@ use Rattle.service_parts.specs.Requests.{IsRest, IsRightful, MayBeAsked}
 use Rattle.service_core.proofs.Runs.{courses_are_site_runs, runs_site}
 use Rattle.site_survey.proofs.ReadsAlone.{IsRead, of_read}
 use Rattle.served_site.proofs.Served.{serves_site}
-use Rattle.served_site.specs.Going.{IsOfTheSite, IsRestOfSetPoint, SetPointsAloneAreWritten}
+use Rattle.served_site.specs.Going.{IsOfTheSite, SetPointsAloneAreWritten}
 
 -- a call writes a set point of this state
 record Writes (g : Gateway) (call : Call) : Type 0 where
@@ -41,7 +40,6 @@ of_call g (aim.Output output) device call is = inr (record {
   written = chosen (is.write.device == device) (write_of g.site.devices (Ok is.write)) call is.written;
 })
 of_call g aim.Map device call is = absurd is
-of_call g aim.Past device call is = absurd is
 
 -- a request that may be asked, with the unit that it is for where it writes
 abbrev IsAllowed : Gateway → Request → Type 0

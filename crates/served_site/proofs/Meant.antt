@@ -1,5 +1,5 @@
 -- Each scan of a service computes what its program means.
-use Rattle.std.proofs.Common.{◌≡◌, ◌⊎◌, inl, inr, ℕ, ℤ, List, Option, None, Some, Ok, refl, sym, ap, subst, ◌∙◌}
+use Rattle.std.proofs.Common.{◌≡◌, inl, inr, ℕ, ℤ, Bool, true, List, Option, Ok, refl, sym, subst, ◌∙◌}
 use Rattle.scan_code.specs.Image.{Image, IsProper}
 use Rattle.scan_vm.specs.Resuming.{first_numbers, resumed}
 use Rattle.scan_vm.proofs.Accepted.{resumed_sized, resumed_within}
@@ -14,16 +14,15 @@ use Rattle.verifier.specs.Verified.{Acceptance, HasLinks}
 use Rattle.gateway.specs.declared.event_core.event.Event.{Event}
 use Rattle.gateway.specs.declared.event_core.event.Event.TheVariants as event
 use Rattle.gateway.specs.declared.event_core.event.Answer.{Answer}
-use Rattle.gateway.specs.event_core.Core.{Gateway, StepsOn, gateway_of, numbers_of}
-use Rattle.gateway.specs.event_core.SiteRun.{Standing, Steps, after_time, none_of}
+use Rattle.gateway.specs.event_core.Core.{Gateway, StepsOn, numbers_of}
+use Rattle.gateway.specs.event_core.SiteRun.{Standing, Steps, after_time}
 use Rattle.service.specs.declared.fate.Fate.{Fate}
 use Rattle.service.specs.declared.fate.Fate.TheVariants as fate
-use Rattle.service_core.specs.Rounds.{event_told, since}
+use Rattle.service_core.specs.Rounds.{event_of, since}
 use Rattle.service_core.specs.Stages as stages
-use Rattle.service_core.specs.Stages.{Adopts, Ends, IsReached, RoundStep, RunStep, Scans, Stage, TakesEvent}
-use Rattle.service_core.proofs.OneRound.{scans_are_of_their_rounds}
+use Rattle.service_core.specs.Stages.{Adopts, IsReached, RoundStep, RunStep, Scans, Stage, TakesEvent, Tells}
+use Rattle.service_core.proofs.Blocks.{scans_are_of_what_was_told}
 use Rattle.commands.specs.Accepted.{Accepts, most_deferred}
-use Rattle.commands.specs.Meant.{IsMeantScan}
 use Rattle.commands.proofs.MeaningLemmas.{IsKept, begun_kept, from_ranges, left_variables, step_meant, stored_ranged}
 use Rattle.served_site.specs.Serving as serving
 use Rattle.served_site.specs.Serving.{IsScanOf, IsStart, ScansMeanTheProgram, Serves, at_scan}
@@ -41,9 +40,8 @@ module _ (site : Site) (p : Program) (a : Acceptance) (right : DoesWhatItMeans p
       subst (λ (x : Acceptance). Steps site x.image (numbers_of x) x.budget g.standing e r h.standing) keeps.program_is
       (subst (λ (x : Site). Steps x g.machine.accepted.image (numbers_of g.machine.accepted) g.machine.accepted.budget g.standing e r h.standing) keeps.site_is steps)
 
-  event_keeps : (o : Option Event) (g h : Gateway) → TakesEvent o g h → Keeps g → Keeps h
-  event_keeps None g h same keeps = subst Keeps (sym same) keeps
-  event_keeps (Some e) g h (r, one) keeps =
+  event_keeps : (e : Event) (g h : Gateway) → TakesEvent e g h → Keeps g → Keeps h
+  event_keeps e g h (r, one) keeps =
       let advances = (one.1).0 in
       record {
         site_is = advances.1.site ∙ keeps.site_is;
@@ -51,22 +49,22 @@ module _ (site : Site) (p : Program) (a : Acceptance) (right : DoesWhatItMeans p
         kept = (step_meant site p a right linked proper verdict matched g.standing e r h.standing keeps.kept (steps_here g e r h keeps advances.0)).1;
       }
 
-  ends_keeps : (device : ℕ) (f : Fate) (s t : Stage) → Ends device f s t → Keeps s.core → Keeps t.core
-  ends_keeps device f s t is keeps = event_keeps is.happens s.core t.core is.told keeps
+  told_keeps : (i : ℕ) (f : Fate) (is_new : Bool) (s t : Stage) → Tells i f is_new s t → Keeps s.core → Keeps t.core
+  told_keeps i f is_new s t is keeps = event_keeps (event_of is.want f) s.core t.core is.told keeps
 
   round_keeps : (s t : Stage) → RoundStep s t → Keeps s.core → Keeps t.core
-  round_keeps s t (stages.begins is) keeps = subst (λ (x : Stage). Keeps x.core) (sym is) keeps
-  round_keeps s t (stages.opens device next is) keeps = event_keeps (event_told next) s.core t.core is.told keeps
-  round_keeps s t (stages.gives_up device is) keeps = ends_keeps device fate.Lost s t is keeps
-  round_keeps s t (stages.scans now is) keeps = event_keeps (Some event.Scan) is.waited t.core is.runs (event_keeps (Some (event.Time (since s.round.at now))) s.core is.waited is.waits keeps)
+  round_keeps s t (stages.loses i is_new is) keeps = told_keeps i fate.Lost is_new s t is keeps
+  round_keeps s t (stages.opens device next is) keeps = subst Keeps (sym is.core) keeps
+  round_keeps s t (stages.ends device is) keeps = subst Keeps (sym is.core) keeps
+  round_keeps s t (stages.skips device is) keeps = subst (λ (x : Stage). Keeps x.core) (sym is) keeps
+  round_keeps s t (stages.scans now is) keeps = event_keeps event.Scan is.waited t.core is.runs (event_keeps (event.Time (since s.round.at now)) s.core is.waited is.waits keeps)
   round_keeps s t (stages.learns device found is) keeps = subst (λ (x : Stage). Keeps x.core) (sym is.same) (record { site_is = keeps.site_is; program_is = keeps.program_is; kept = keeps.kept })
-  round_keeps s t (stages.forgets want is) keeps = event_keeps (Some (event.Lost want)) s.core t.core is.told keeps
-  round_keeps s t (stages.waits ms is) keeps = event_keeps (Some (event.Time ms)) s.core t.core is.told keeps
+  round_keeps s t (stages.waits ms is) keeps = event_keeps (event.Time ms) s.core t.core is.told keeps
 
   run_keeps : (s t : Stage) → RunStep s t → Keeps s.core → Keeps t.core
   run_keeps s t (inl (inl step)) keeps = round_keeps s t step keeps
-  run_keeps s t (inl (inr (device, o, is))) keeps = ends_keeps device (fate.Told o) s t is keeps
-  run_keeps s t (inr (pdu, is)) keeps = event_keeps (Some (event.Client pdu)) s.core t.core is.told keeps
+  run_keeps s t (inl (inr (i, o, is))) keeps = told_keeps i (fate.Told o) true s t is keeps
+  run_keeps s t (inr (pdu, is)) keeps = event_keeps (event.Client pdu) s.core t.core is.told keeps
 
   -- the variables that begin with what is kept of them, or else with their start values
   begun_within : (kept : List (Option ℤ)) → AreVariables a.image.vars (first_numbers a.image.vars kept)
@@ -82,13 +80,13 @@ module _ (site : Site) (p : Program) (a : Acceptance) (right : DoesWhatItMeans p
       subst (λ (x : Stage). Keeps x.core) (sym is.same) (record { site_is = same; program_is = refl; kept = record { sets = ranged; variables = begun_within kept } })
 
   -- what is told of time changes the core in that alone
-  waited_so : (g h : Gateway) (ms : ℕ) → TakesEvent (Some (event.Time ms)) g h → h.standing ≡ after_time g.site ms g.standing
+  waited_so : (g h : Gateway) (ms : ℕ) → TakesEvent (event.Time ms) g h → h.standing ≡ after_time g.site ms g.standing
   waited_so g h ms (r, one) = (((one.1).0).0).1
 
   scan_of : (s t : Stage) (now : ℕ) → Keeps s.core → IsReached s → Scans now s t → IsScanOf site p a now s t
   scan_of s t now before reached scans =
       let w = scans.waited in
-      let keeps = event_keeps (Some (event.Time (since s.round.at now))) s.core w scans.waits before in
+      let keeps = event_keeps (event.Time (since s.round.at now)) s.core w scans.waits before in
       let same = waited_so s.core w (since s.round.at now) scans.waits in
       let advances = ((scans.runs.1).1).0 in
       let stepped = steps_here w event.Scan scans.runs.0 t.core keeps advances.0 in
@@ -99,7 +97,7 @@ module _ (site : Site) (p : Program) (a : Acceptance) (right : DoesWhatItMeans p
       record {
         same_site = before.site_is;
         same_program = before.program_is;
-        round = scans_are_of_their_rounds s t now reached scans;
+        blocks = scans_are_of_what_was_told s t now reached scans;
         readings = scan.readings;
         steps = scan.steps;
         end = scan.end;

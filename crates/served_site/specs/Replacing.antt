@@ -1,6 +1,6 @@
 -- With which numbers the variables of a program begin that is put in for the one that runs.
 -- IEC 61131-3 edition 2, 2.4.2 (initial values).
-use Rattle.std.specs.Prelude.{ℕ, nat_eq, Bool, ◌&&◌, ℤ, List, map, Option, option_and_then, slice_get}
+use Rattle.std.specs.Prelude.{nat_eq, Bool, ◌&&◌, ℤ, List, map, Option, option_and_then, slice_get}
 use Rattle.std.specs.List.{position}
 use Rattle.std.specs.Str.{bytes_eq}
 use Rattle.point_types.specs.Value.{code_of}

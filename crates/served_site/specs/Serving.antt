@@ -9,7 +9,7 @@ use Rattle.il_assemble.specs.Meaning.{Program}
 use Rattle.verifier.specs.Verified.{Acceptance, HasLinks}
 use Rattle.gateway.specs.event_core.Core.{gateway_of, numbers_of}
 use Rattle.gateway.specs.event_core.SiteRun.{Standing, after_time, none_of, scanned}
-use Rattle.service_core.specs.OneRound.{IsOfItsRound}
+use Rattle.service_core.specs.Blocks.{IsOfWhatWasTold}
 use Rattle.service_core.specs.Rounds.{ArePlanned, since}
 use Rattle.service_core.specs.Stages.{Adopts, IsFirst, RunStep, Scans, Stage}
 use Rattle.commands.specs.Accepted.{Accepts}
@@ -35,19 +35,20 @@ pub data Serves (site_text : List ℕ) (texts : List (List ℕ)) (site : Site) :
 abbrev pub at_scan : ℕ → Stage → Standing
 at_scan now s = after_time s.core.site (since s.round.at now) s.core.standing
 
--- A scan from the one stage to the other, at this time of the service, of what was told in its own round, or is known no more.
+-- A scan from the one stage to the other, at this time of the service, of what was told last of each wanted block, a few scans ago
+-- at most.
 -- As in `run` it is safe, and computes what the program means; and for each output just what is due is to be written.
 pub record IsScanOf (site : Site) (p : Program) (a : Acceptance) (now : ℕ) (old new : Stage) : Type 0 where
   pub same_site : old.core.site ≡ site
   pub same_program : old.core.machine.accepted ≡ a
-  pub round : IsOfItsRound old
+  pub blocks : IsOfWhatWasTold old
   pub readings : List Reading
   pub steps : ℕ
   pub end : State
   pub safe : IsSafe site a readings old.core.standing.variables steps end
   pub means : IsMeant site a p (at_scan now old) readings end
   pub leaves : new.core.standing ≡ scanned site (numbers_of a) (at_scan now old) readings steps end
-  pub planned : ArePlanned new.core new.round.writes
+  pub planned : ArePlanned new.core old.round.told old.round.writes new.round.writes
 
 -- Whatever a service of accepted programs does, each of its scans is so, of the program that it runs then.
 abbrev pub ScansMeanTheProgram : Type 0

@@ -30,7 +30,6 @@ pub fn replace_program(
     ensures kept { IfErr result (λ e. stage_of service.new.cycle ≡ stage_of service.old.cycle) }
     ensures searches { service.new.cycle.searches ≡ service.old.cycle.searches }
     ensures over { service.new.cycle.over ≡ service.old.cycle.over }
-    ensures lost { service.new.cycle.lost ≡ service.old.cycle.lost }
     ensures side { service.new.side ≡ service.old.side }
     ensures sent { service.new.sent ≡ service.old.sent }
     ensures links { service.new.lines.links ≡ service.old.lines.links }

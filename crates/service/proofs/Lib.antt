@@ -1,5 +1,5 @@
 pub mod Heard
-pub mod Marks
+pub mod Mapping
 pub mod Replayed
 pub mod Cuts
 pub mod Waiting

@@ -1,9 +1,8 @@
 -- Requests to devices that are still to be made, under way, or over. No standard says how they are marked; it is this
 -- project's.
-use Rattle.std.specs.Prelude.{◌≡◌, ℕ, ◌==◌, Bool, true, false, List, slice_get, slice_set, Option, None, Some, if◌then◌else◌}
+use Rattle.std.specs.Prelude.{◌≡◌, ℕ, ◌==◌, Bool, false, List, slice_get, slice_set, Option, None, Some, if◌then◌else◌}
 use Rattle.std.specs.List.{position}
 use Rattle.std.specs.Option.{option_map_or}
-use Rattle.site_model.specs.declared.want.Want.{Want}
 use Rattle.service.specs.declared.task.Mark.{Mark}
 use Rattle.service.specs.declared.task.Mark.TheVariants as mark
 use Rattle.service.specs.declared.task.Task.{Task}
@@ -29,12 +28,6 @@ is_due device t = is_due_by t.mark t.device device
 abbrev pub IsDone : Task → Type 0
 IsDone t = t.mark ≡ mark.Done
 
-abbrev pub device_of : Task → ℕ
-device_of t = t.device
-
-abbrev pub device_wanted : Want → ℕ
-device_wanted want = want.device
-
 -- the i-th one has this mark from now on
 abbrev pub with_mark : ℕ → Mark → List Task → List Task
 with_mark i m tasks = option_map_or (λ (t : Task). slice_set tasks i (record t { mark = m })) (slice_get tasks i) tasks
@@ -47,14 +40,6 @@ due_unless (Some i) device tasks = None
 abbrev pub next_place : ℕ → List Task → Option ℕ
 next_place device tasks = due_unless (position (is_asked device) tasks) device tasks
 
--- whether the one at a place is to the device, and under way
-abbrev pub is_asked_at : ℕ → ℕ → List Task → Bool
-is_asked_at i device tasks = option_map_or (is_asked device) (slice_get tasks i) false
-
--- whether the one at a place is to the device, and still to be made
-abbrev pub is_due_at : ℕ → ℕ → List Task → Bool
-is_due_at i device tasks = option_map_or (is_due device) (slice_get tasks i) false
-
--- One to a device of these is over from now on, any other stays as it is.
-abbrev pub given_up : (ℕ → Bool) → Task → Task
-given_up is_one t = if is_one t.device then record t { mark = mark.Done } else t
+-- One to the device is over from now on, any other stays as it is.
+abbrev pub given_up : ℕ → Task → Task
+given_up device t = if t.device == device then record t { mark = mark.Done } else t

@@ -1,5 +1,5 @@
 -- Devices and outputs stand by what was told of them.
-use Rattle.std.proofs.Common.{◌≡◌, ◌≢◌, ◌⊎◌, inl, inr, ℕ, Bool, true, false, not, ◌&&◌, eqb, List, Option, None, Some, set, slice_get, refl, sym, ap, subst, ◌∙◌, if◌then◌else◌}
+use Rattle.std.proofs.Common.{◌≡◌, ◌≢◌, ◌⊎◌, inl, inr, ℕ, Bool, true, false, not, ◌&&◌, ◌||◌, eqb, List, Option, None, Some, set, slice_get, refl, sym, ap, subst, ◌∙◌, if◌then◌else◌}
 use Rattle.std.specs.Prelude.{◌==◌, option_and_then}
 use Rattle.std.specs.List.{list_all}
 use Rattle.std.specs.Option.{option_map_or}
@@ -14,7 +14,7 @@ use Rattle.service_core.specs.declared.note.Note.TheVariants as note
 use Rattle.service_core.specs.declared.output.Output.{Output}
 use Rattle.service_core.specs.declared.output.OutputState.{OutputState}
 use Rattle.service_core.specs.declared.output.OutputState.TheVariants as state
-use Rattle.service_core.specs.Noting.{HearsFrom, Loses, heard_by, lost_by, told, told_if}
+use Rattle.service_core.specs.Noting.{Finds, HearsFrom, Loses, heard_by, lost_by, told, told_if}
 use Rattle.service_core.specs.Telling.{told_at}
 use Rattle.service_core.specs.Losing.{IsLost}
 use Rattle.service_core.specs.Told.{Course, Goes, Losses, LosesBy, StatesAreByNotes, Tells, TellsNothing, allows, goes, happened, lost_after, lost_at, lost_then, note_of, state_after, state_at, state_then, stays, tells}
@@ -154,6 +154,26 @@ hears_so old new device found is_mapped own at there is devices notes = subst (�
     same_of : {a b : Device} → Some a ≡ Some b → a ≡ b
     same_of e = cc
 
+-- its map is found, as was told already
+not_either : (a b : Bool) → (a || b) ≡ false → a ≡ false
+not_either true b is = absurd (cc)
+not_either false b is = refl
+
+pub found_quiet : (old new : DeviceSide) (device : ℕ) (own : Device) → slice_get old.devices.items device ≡ Some own → (own.is_lost || not own.is_told) ≡ false
+    → new.devices.items ≡ set old.devices.items device (record own { is_lost = false; is_behind = true; is_told = true }) → new.outputs ≡ old.outputs → new.notes.items.items ≡ old.notes.items.items → Goes old new
+found_quiet old new device own at quiet devices outputs notes =
+    device_goes old new device own at (record own { is_lost = false; is_behind = true; is_told = true }) devices (sym (not_either own.is_lost (not own.is_told) quiet)) outputs notes
+
+pub finds_so : (old new : DeviceSide) (device : ℕ) (found own : Device) → slice_get old.devices.items device ≡ Some found → slice_get old.devices.items device ≡ Some own → (found.is_lost || not found.is_told) ≡ false
+    → new.devices.items ≡ set old.devices.items device (record found { is_lost = false; is_behind = true; is_told = true }) → new.notes.items.items ≡ old.notes.items.items → Finds device own old new
+finds_so old new device found own at there quiet devices notes = subst (λ (x : Device). Finds device x old new) (same_of (sym at ∙ there)) (record {
+  stands = devices;
+  tells = notes ∙ ap (λ b. told_if b (note.Found device) old.notes) (sym quiet);
+})
+  where
+    same_of : {a b : Device} → Some a ≡ Some b → a ≡ b
+    same_of e = cc
+
 -- ---- outputs
 
 told_set : (xs : List Output) (at k : ℕ) (old new : Output) → slice_get xs at ≡ Some old → told_at (set xs at new) k ≡ (if k == at then new.told else told_at xs k)
@@ -202,14 +222,6 @@ settled_goes old new output own at next s outputs is devices {n = n} notes named
     says : (x : OutputState) (k : ℕ) (was : Option OutputState) → state_then (note_of output x) k was ≡ (if k == output then Some x else was)
     says state.Written k was = refl
     says (state.Unwritten cause) k was = refl
-
--- a device that isn't there
-pub found_none : (old new : DeviceSide) (device : ℕ) → slice_get old.devices.items device ≡ None → new.devices ≡ old.devices → new.outputs ≡ old.outputs → new.notes.items.items ≡ told (note.Found device) old.notes → Goes old new
-found_none old new device none devices outputs notes = told_step (note.Found device) old new (λ may. refl) (record {
-  notes = notes;
-  devices = λ k. ap (λ d. option_map_or (λ (own : Device). own.is_lost) (slice_get d.items k) false) devices ∙ sym (put_none (λ (d : Device). d.is_lost) false old.devices.items device k none);
-  outputs = λ k. ap (λ o. told_at o.items k) outputs;
-})
 
 -- a note that says nothing of a device's loss or of an output
 pub other_goes : (n : Note) (old new : DeviceSide) → ((may : Losses) → allows may n ≡ true) → ((k : ℕ) (was : Bool) → lost_then n k was ≡ was) → ((k : ℕ) (was : Option OutputState) → state_then n k was ≡ was) → new.devices ≡ old.devices → new.outputs ≡ old.outputs

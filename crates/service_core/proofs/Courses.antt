@@ -1,11 +1,10 @@
 -- Steps of a service lead its core and its round on.
-use Rattle.std.proofs.Common.{◌≡◌, ◌≢◌, ◌⊎◌, inl, inr, ℕ, Bool, true, false, eqb, not, ◌&&◌, List, [], ◌∷◌, Option, None, Some, Result, Ok, Err, set, refl, sym, ap, subst, ◌∙◌}
-use Rattle.std.specs.Prelude.{IfErr, OnOk}
+use Rattle.std.proofs.Common.{◌≡◌, ◌≢◌, ◌⊎◌, inl, inr, ℕ, Bool, true, false, eqb, not, ◌&&◌, List, [], ◌∷◌, Option, Result, Ok, Err, set, refl, sym, ap, subst, ◌∙◌}
+use Rattle.std.specs.Prelude.{All, IfErr, OnOk}
 use Rattle.std.proofs.lemmas.Bool.Decides.{eqb_tells}
 use Rattle.std.proofs.Math.Logic.{∥∥₁_elim, ∥∥₁_prop}
 use Rattle.register_map.specs.Layout.{Layout}
 use Rattle.site_model.specs.declared.site.Site.{Site}
-use Rattle.site_model.specs.declared.want.Want.{Want}
 use Rattle.modbus_frame.specs.declared.frame.Frame.{Frame}
 use Rattle.scan_vm.specs.Machine.{Running}
 use Rattle.verifier.specs.Verified.{HasLinks}
@@ -24,6 +23,7 @@ use Rattle.service.specs.Sessions.{IsChain, Turn}
 use Rattle.service_parts.specs.declared.client_place.ClientPlace.{ClientPlace}
 use Rattle.service_parts.specs.Clients.{Hears}
 use Rattle.service_parts.specs.declared.wire.Aim.{Aim}
+use Rattle.service_parts.specs.declared.wire.Aim.TheVariants as aim
 use Rattle.service_parts.specs.declared.wire.Asked.{Asked}
 use Rattle.service_parts.specs.Course as core
 use Rattle.service_parts.specs.Course.{Goes, GoesBy, GoesOn, IsAny, IsNew, IsOfClients, IsOfRounds, Reached}
@@ -35,9 +35,9 @@ use Rattle.service_parts.proofs.Rightful.{goes_further, right_adopting, right_be
 use Rattle.service_core.specs.declared.round.Turn as Turns
 use Rattle.service_core.specs.declared.scan_cycle.ScanCycle.{ScanCycle}
 use Rattle.service_core.specs.Cycle.{Answers, AnswersIf, DevicesLeadOn, EndsOwn, Settles, is_answer, stage_of}
-use Rattle.service_core.specs.Rounds.{IsRoundFor, Progress, begun, event_told, since}
-use Rattle.service_core.specs.Stages.{Adopts, AnyStep, Asks, Begins, ClientStep, CourseBy, Ends, Forgets, IsFirst, IsReached, LeadsOnBy, OpensNext, OwnStep, RoundStep, RunStep, Scans, Stage, TakesEvent, Waits, begins, opens, gives_up, scans, learns, forgets, waits, stays, goes}
-use Rattle.service_core.proofs.Told.{closed_of_rounds, turn_of_rounds}
+use Rattle.service_core.specs.Rounds.{IsRoundFor, IsUntold, Progress, event_of, since}
+use Rattle.service_core.specs.Stages.{Adopts, AnyStep, Asks, ClientStep, CourseBy, Ends, IsFirst, IsReached, LeadsOnBy, OpensNext, OwnStep, RoundStep, RunStep, Scans, Skips, Stage, TakesEvent, Tells, Waits, loses, opens, ends, skips, scans, learns, waits, stays, goes}
+use Rattle.service_core.proofs.Told.{of_fate}
 
 -- ---- one step
 
@@ -49,40 +49,35 @@ no_step Step s t same from before = subst (λ x. ∥ CourseBy Step from x ∥₁
 
 -- ---- what a step does to the core
 
-some_event : {e f : Event} → Some e ≡ Some f → e ≡ f
-some_event same = cc
+-- an event of this kind
+moved : (Kinds : Event → Type 0) (f g h : Gateway) (e : Event) → Kinds e → TakesEvent e g h → GoesBy Kinds f g → GoesBy Kinds f h
+moved Kinds f g h e kind (a, one) before = core.steps before e kind a h one
 
--- an event of this kind, or none
-moved : (Kinds : Event → Type 0) (f g h : Gateway) (o : Option Event) → ((e : Event) → o ≡ Some e → Kinds e) → TakesEvent o g h → GoesBy Kinds f g → GoesBy Kinds f h
-moved Kinds f g h None kind same before = subst (GoesBy Kinds f) (sym same) before
-moved Kinds f g h (Some e) kind (a, one) before = core.steps before e (kind e refl) a h one
-
-one_kind : (Kinds : Event → Type 0) (e : Event) → Kinds e → (f : Event) → Some e ≡ Some f → Kinds f
-one_kind Kinds e kind f same = subst Kinds (some_event same) kind
+same_core : (Kinds : Event → Type 0) (f g h : Gateway) → h ≡ g → GoesBy Kinds f g → GoesBy Kinds f h
+same_core Kinds f g h same before = subst (GoesBy Kinds f) (sym same) before
 
 module _ (Kinds : Event → Type 0) (all : (e : Event) → IsOfRounds e → Kinds e) where
-  ends_core : (f : Gateway) (s t : Stage) (device : ℕ) (o : Fate) → Ends device o s t → GoesBy Kinds f s.core → GoesBy Kinds f t.core
-  ends_core f s t device o is before =
-      moved Kinds f s.core t.core is.happens (λ e same. all e (closed_of_rounds s.core.site device o s.round is.happens t.round e is.closes same)) is.told before
+  told_core : (f : Gateway) (s t : Stage) (i : ℕ) (o : Fate) (is_new : Bool) → Tells i o is_new s t → GoesBy Kinds f s.core → GoesBy Kinds f t.core
+  told_core f s t i o is_new is before = moved Kinds f s.core t.core (event_of is.want o) (all (event_of is.want o) (of_fate is.want o)) is.told before
 
   round_core : (f : Gateway) (s t : Stage) → RoundStep s t → GoesBy Kinds f s.core → GoesBy Kinds f t.core
-  round_core f s t (begins is) before = subst (λ (x : Stage). GoesBy Kinds f x.core) (sym is) before
-  round_core f s t (opens device turn is) before = moved Kinds f s.core t.core (event_told turn) (λ e same. all e (turn_of_rounds turn e same)) is.told before
-  round_core f s t (gives_up device is) before = ends_core f s t device fate.Lost is before
+  round_core f s t (loses i is_new is) before = told_core f s t i fate.Lost is_new is before
+  round_core f s t (opens device turn is) before = same_core Kinds f s.core t.core is.core before
+  round_core f s t (ends device is) before = same_core Kinds f s.core t.core is.core before
+  round_core f s t (skips device is) before = same_core Kinds f s.core t.core (ap (λ (x : Stage). x.core) is) before
   round_core f s t (scans now is) before =
       let wait = event.Time (since s.round.at now) in
-      let waited = moved Kinds f s.core is.waited (Some wait) (one_kind Kinds wait (all wait tt)) is.waits before in
-      moved Kinds f is.waited t.core (Some event.Scan) (one_kind Kinds event.Scan (all event.Scan tt)) is.runs waited
+      let waited = moved Kinds f s.core is.waited wait (all wait tt) is.waits before in
+      moved Kinds f is.waited t.core event.Scan (all event.Scan tt) is.runs waited
   round_core f s t (learns device found is) before = subst (λ (x : Stage). GoesBy Kinds f x.core) (sym is.same) (core.learns before device found is.own)
-  round_core f s t (forgets want is) before = moved Kinds f s.core t.core (Some (event.Lost want)) (one_kind Kinds (event.Lost want) (all (event.Lost want) tt)) is.told before
-  round_core f s t (waits ms is) before = moved Kinds f s.core t.core (Some (event.Time ms)) (one_kind Kinds (event.Time ms) (all (event.Time ms) tt)) is.told before
+  round_core f s t (waits ms is) before = moved Kinds f s.core t.core (event.Time ms) (all (event.Time ms) tt) is.told before
 
   own_core : (f : Gateway) (s t : Stage) → OwnStep s t → GoesBy Kinds f s.core → GoesBy Kinds f t.core
   own_core f s t (inl step) before = round_core f s t step before
-  own_core f s t (inr (device, o, is)) before = ends_core f s t device (fate.Told o) is before
+  own_core f s t (inr (i, o, is)) before = told_core f s t i (fate.Told o) true is before
 
 client_core : (Kinds : Event → Type 0) → ((pdu : List ℕ) → Kinds (event.Client pdu)) → (f : Gateway) (s t : Stage) → ClientStep s t → GoesBy Kinds f s.core → GoesBy Kinds f t.core
-client_core Kinds kind f s t (pdu, is) before = moved Kinds f s.core t.core (Some (event.Client pdu)) (one_kind Kinds (event.Client pdu) (kind pdu)) is.told before
+client_core Kinds kind f s t (pdu, is) before = moved Kinds f s.core t.core (event.Client pdu) (kind pdu) is.told before
 
 run_core : (f : Gateway) (s t : Stage) → RunStep s t → Goes f s.core → Goes f t.core
 run_core f s t (inl step) before = own_core IsAny (λ e is. tt) f s t step before
@@ -149,11 +144,6 @@ reached_own s t reached led = reached_by OwnStep (λ x y step. inl (inl step)) s
 pub reached_clients : (s t : Stage) → ∥ IsReached s ∥₁ → LeadsOnBy ClientStep s t → ∥ IsReached t ∥₁
 reached_clients s t reached led = reached_by ClientStep (λ x y step. inl (inr step)) s t reached led
 
--- an outcome, or none, ends a request
-pub reached_ends : (s t : Stage) (device : ℕ) (f : Fate) → ∥ IsReached s ∥₁ → Ends device f s t → ∥ IsReached t ∥₁
-reached_ends s t device (fate.Told o) reached ends = reached_own s t reached (one_step OwnStep s t (inr (device, o, ends)))
-reached_ends s t device fate.Lost reached ends = reached_rounds s t reached (one_step RoundStep s t (gives_up device ends))
-
 pub same_stage : (s t : Stage) → t.core ≡ s.core → t.round ≡ s.round → t ≡ s
 same_stage s t core_same round_same = ap (λ (g : Gateway). record { core = g; round = t.round }) core_same ∙ ap (λ (p : Progress). record { core = s.core; round = p }) round_same
 
@@ -172,8 +162,11 @@ own_of_rounds s t led from before = ∥∥₁_elim before ∥∥₁_prop (λ b. 
 -- ---- what an outcome does is a step of the service
 
 pub own_of_ends : (made_for : Aim) (device : ℕ) (o : Outcome) (s t : Stage) → EndsOwn made_for device o s t → LeadsOnBy OwnStep s t
-own_of_ends made_for device o s t (inl (under_way, ends)) = one_step OwnStep s t (inr (device, o, ends))
-own_of_ends made_for device o s t (inr (over, same)) = no_step OwnStep s t same
+own_of_ends (aim.Block i) device o s t (inl told) = one_step OwnStep s t (inr (i, o, told))
+own_of_ends (aim.Block i) device o s t (inr (none, same)) = no_step OwnStep s t same
+own_of_ends (aim.Output output) device o s t (inl (under_way, is)) = one_step OwnStep s t (inl (ends device is))
+own_of_ends (aim.Output output) device o s t (inr (over, same)) = no_step OwnStep s t same
+own_of_ends aim.Map device o s t same = no_step OwnStep s t same
 
 pub own_of_answers : (asked : Asked) (o : Outcome) (old new : ScanCycle) → Answers asked o old new → DevicesLeadOn old new
 own_of_answers asked o old new answers from before =
@@ -189,19 +182,18 @@ own_of_settles fate.Lost asked old new led = own_of_rounds (stage_of old) (stage
 
 -- ---- what the core takes
 
-pub takes_event : (g : Gateway) (e : Event) (a : Answer) (h : Gateway) (depth : ℕ) → StepsOn g e a h → Drives depth g e h → IsSame g h → TakesEvent (Some e) g h
+pub takes_event : (g : Gateway) (e : Event) (a : Answer) (h : Gateway) (depth : ℕ) → StepsOn g e a h → Drives depth g e h → IsSame g h → TakesEvent e g h
 takes_event g e a h depth step drives same = (a, (depth, ((step, same), drives)))
 
 -- the core that is kept in a box
-pub takes_from : (g m : Gateway) (o : Option Event) (h : Gateway) → m ≡ g → TakesEvent o m h → TakesEvent o g h
-takes_from g m o h same takes = subst (λ x. TakesEvent o x h) same takes
+pub takes_from : (g m : Gateway) (e : Event) (h : Gateway) → m ≡ g → TakesEvent e m h → TakesEvent e g h
+takes_from g m e h same takes = subst (λ (x : Gateway). TakesEvent e x h) same takes
 
 pub sought_for : (g h : Gateway) (searches : List Sought) → h.site ≡ g.site → AreOf g.site searches → AreOf h.site searches
 sought_for g h searches same own = subst (λ (s : Site). AreOf s searches) (sym same) own
 
-pub taken_site : (o : Option Event) (g h : Gateway) → TakesEvent o g h → h.site ≡ g.site
-taken_site None g h same = ap (λ (x : Gateway). x.site) same
-taken_site (Some e) g h (a, one) = (((one.1).0).1).site
+pub taken_site : (e : Event) (g h : Gateway) → TakesEvent e g h → h.site ≡ g.site
+taken_site e g h (a, one) = (((one.1).0).1).site
 
 pub round_for : (s h : Gateway) (p : Progress) → h.site ≡ s.site → IsRoundFor s.site p → IsRoundFor h.site p
 round_for s h p same fits = subst (λ (x : Site). IsRoundFor x p) (sym same) fits
@@ -257,20 +249,20 @@ goes_learns g p device found h own is from before = ∥∥₁_elim own ∥∥₁
 pub reached_learns : (g : Gateway) (p : Progress) (device : ℕ) (found : Option Layout) (h : Gateway) → ∥ IsReached (record { core = g; round = p }) ∥₁ → ∥ IsFound g.site device found ∥₁ → h ≡ record g { maps = set g.maps device found } → ∥ IsReached (record { core = h; round = p }) ∥₁
 reached_learns g p device found h reached own is = reached_rounds (record { core = g; round = p }) (record { core = h; round = p }) reached (goes_learns g p device found h own is)
 
-pub goes_begins : (s t : Stage) → Begins s t → LeadsOnBy RoundStep s t
-goes_begins s t is = one_step RoundStep s t (begins is)
-
 pub goes_opens : (s t : Stage) (device : ℕ) (turn : Turns.Turn) → OpensNext device turn s t → LeadsOnBy RoundStep s t
 goes_opens s t device turn is = one_step RoundStep s t (opens device turn is)
 
-pub goes_gives_up : (s t : Stage) (device : ℕ) → Ends device fate.Lost s t → LeadsOnBy RoundStep s t
-goes_gives_up s t device is = one_step RoundStep s t (gives_up device is)
+pub goes_ends : (s t : Stage) (device : ℕ) → Ends device s t → LeadsOnBy RoundStep s t
+goes_ends s t device is = one_step RoundStep s t (ends device is)
+
+pub goes_skips : (s t : Stage) (device : ℕ) → Skips device s t → LeadsOnBy RoundStep s t
+goes_skips s t device is = one_step RoundStep s t (skips device is)
+
+pub goes_loses : (s t : Stage) (i : ℕ) (is_new : Bool) → Tells i fate.Lost is_new s t → LeadsOnBy RoundStep s t
+goes_loses s t i is_new is = one_step RoundStep s t (loses i is_new is)
 
 pub goes_scans : (s t : Stage) (now : ℕ) → Scans now s t → LeadsOnBy RoundStep s t
 goes_scans s t now is = one_step RoundStep s t (scans now is)
-
-pub goes_forgets : (s t : Stage) (want : Want) → Forgets want s t → LeadsOnBy RoundStep s t
-goes_forgets s t want is = one_step RoundStep s t (forgets want is)
 
 pub goes_waits : (s t : Stage) (ms : ℕ) → Waits ms s t → LeadsOnBy RoundStep s t
 goes_waits s t ms is = one_step RoundStep s t (waits ms is)
@@ -278,17 +270,14 @@ goes_waits s t ms is = one_step RoundStep s t (waits ms is)
 pub goes_asks : (s t : Stage) (pdu : List ℕ) → Asks pdu s t → LeadsOnBy ClientStep s t
 goes_asks s t pdu is = one_step ClientStep s t (pdu, is)
 
-pub begins_by : (s : Stage) (site : Site) (p : Progress) → site ≡ s.core.site → p ≡ begun site s.round → Begins s (record { core = s.core; round = p })
-begins_by s site p same is = ap (λ (x : Progress). record { core = s.core; round = x }) (is ∙ ap (λ (x : Site). begun x s.round) same)
-
 pub answered_in : (g m h : Gateway) (p : Progress) (frame : Frame) (bytes : List ℕ) (goes_on : Bool) → m ≡ g → AnswersFrame m frame bytes goes_on h → LeadsOnBy ClientStep (record { core = g; round = p }) (record { core = h; round = p })
 answered_in g m h p frame bytes goes_on same answers = subst (λ (x : Gateway). LeadsOnBy ClientStep (record { core = x; round = p }) (record { core = h; round = p })) same (answered (record { core = m; round = p }) (record { core = h; round = p }) frame bytes goes_on answers refl)
 
 pub answered_site : (g m h : Gateway) (frame : Frame) (bytes : List ℕ) (goes_on : Bool) → m ≡ g → AnswersFrame m frame bytes goes_on h → h.site ≡ g.site
 answered_site g m h frame bytes goes_on same answers = same_site m frame bytes goes_on h answers ∙ ap (λ (x : Gateway). x.site) same
 
-pub first_stage : (s : Stage) (g : Gateway) (p : Progress) → s.core ≡ g → s.round ≡ p → IsNew g → IsRoundFor g.site p → p.scanned ≡ true → IsFirst s
-first_stage s g p core round opening fits over = subst IsFirst (sym (same_stage (record { core = g; round = p }) s core round)) (record { core = opening; round = fits; over = over })
+pub first_stage : (s : Stage) (g : Gateway) (p : Progress) → s.core ≡ g → s.round ≡ p → IsNew g → IsRoundFor g.site p → All IsUntold p.told → IsFirst s
+first_stage s g p core round opening fits none = subst IsFirst (sym (same_stage (record { core = g; round = p }) s core round)) (record { core = opening; round = fits; none = none })
 
 -- ---- another program is put in, or nothing changes
 

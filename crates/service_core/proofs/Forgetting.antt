@@ -8,14 +8,13 @@ use Rattle.site_model.specs.Wants.{same_want}
 use Rattle.gateway.specs.declared.event_core.event.Event.TheVariants as event
 use Rattle.gateway.specs.event_core.Core.{Gateway}
 use Rattle.gateway.specs.event_core.SiteRun.{Standing, with_block}
-use Rattle.service_core.specs.Forgetting.{blocks_but, entry_but, first_but, forgotten, with_blocks}
-use Rattle.service_core.specs.Maps.{has_map, is_there}
+use Rattle.service_core.specs.Forgetting.{blocks_but, entry_but, first_but, forgotten, with_blocks, without_blocks}
 use Rattle.service_core.specs.Stages.{TakesEvent}
 use Rattle.service_core.proofs.Known.{place_of}
 
 -- ---- one block
 
-pub lost_alone : (g h : Gateway) (want : Want) → TakesEvent (Some (event.Lost want)) g h → h ≡ with_blocks (with_block g.site.wants want None g.standing.blocks) g
+pub lost_alone : (g h : Gateway) (want : Want) → TakesEvent (event.Lost want) g h → h ≡ with_blocks (with_block g.site.wants want None g.standing.blocks) g
 lost_alone g h want (a, (depth, ((step, same), drives))) =
     ap (λ (x : Site). record { site = x; maps = h.maps; machine = h.machine; standing = h.standing }) same.site
     ∙ ap (λ (x : List (Option Layout)). record { site = g.site; maps = x; machine = h.machine; standing = h.standing }) same.maps
@@ -88,11 +87,6 @@ module _ (device i : ℕ) (g : Gateway) (before : List (Option (List ℕ))) (is 
 
 -- ---- all of them
 
-pub unmapped : (device : ℕ) (maps : List (Option Layout)) → is_there (slice_get (set maps device None) device) ≡ false
-unmapped device [] = refl
-unmapped zero (m ∷ maps) = refl
-unmapped (suc device) (m ∷ maps) = unmapped device maps
-
 all_first : (device : ℕ) (wants : List Want) (blocks : List (Option (List ℕ))) → first_but device (length wants) wants blocks ≡ blocks_but device wants blocks
 all_first device [] blocks = refl
 all_first device (w ∷ wants) [] = refl
@@ -100,23 +94,25 @@ all_first device (w ∷ wants) (b ∷ blocks) = ap (λ l. entry_but device w b �
 
 -- so many of the device's wants are gone through
 abbrev pub so_far : ℕ → ℕ → Gateway → Gateway
-so_far device i g = with_blocks (first_but device i g.site.wants g.standing.blocks) (record g { maps = set g.maps device None })
+so_far device i g = with_blocks (first_but device i g.site.wants g.standing.blocks) g
 
-pub none_so_far : (device : ℕ) (g h : Gateway) → h ≡ record g { maps = set g.maps device None } → h ≡ so_far device 0 g
-none_so_far device g h is = is
+pub none_so_far : (device : ℕ) (g : Gateway) → g ≡ so_far device 0 g
+none_so_far device g = refl
 
 pub one_further : (device i : ℕ) (g m h : Gateway) → m ≡ so_far device i g
-    → (has_map m device ≡ false → (before : List (Option (List ℕ))) → m.standing.blocks ≡ first_but device i m.site.wants before → h ≡ with_blocks (first_but device (i + 1) m.site.wants before) m)
+    → ((before : List (Option (List ℕ))) → m.standing.blocks ≡ first_but device i m.site.wants before → h ≡ with_blocks (first_but device (i + 1) m.site.wants before) m)
     → h ≡ so_far device (i + 1) g
 one_further device i g m h is step =
     let site : m.site ≡ g.site = ap (λ (x : Gateway). x.site) is in
-    let none : has_map m device ≡ false = ap (λ (x : Gateway). has_map x device) is ∙ unmapped device g.maps in
     let blocks : m.standing.blocks ≡ first_but device i m.site.wants g.standing.blocks = ap (λ (x : Gateway). x.standing.blocks) is ∙ ap (λ (x : Site). first_but device i x.wants g.standing.blocks) (sym site) in
-    step none g.standing.blocks blocks
+    step g.standing.blocks blocks
     ∙ ap (λ (x : Site). with_blocks (first_but device (i + 1) x.wants g.standing.blocks) m) site
     ∙ ap (λ (x : Gateway). with_blocks (first_but device (i + 1) g.site.wants g.standing.blocks) x) is
 
-pub all_gone : (device i : ℕ) (g h : Gateway) → i ≡ length g.site.wants → h ≡ so_far device i g → h ≡ forgotten device g
+pub all_gone : (device i : ℕ) (g h : Gateway) → i ≡ length g.site.wants → h ≡ so_far device i g → h ≡ without_blocks device g
 all_gone device i g h all is =
-    is ∙ ap (λ (l : List (Option (List ℕ))). with_blocks l (record g { maps = set g.maps device None }))
+    is ∙ ap (λ (l : List (Option (List ℕ))). with_blocks l g)
     (ap (λ n. first_but device n g.site.wants g.standing.blocks) all ∙ all_first device g.site.wants g.standing.blocks)
+
+pub forgotten_so : (device : ℕ) (g m h : Gateway) → m ≡ record g { maps = set g.maps device None } → h ≡ without_blocks device m → h ≡ forgotten device g
+forgotten_so device g m h mapped lost = lost ∙ ap (without_blocks device) mapped

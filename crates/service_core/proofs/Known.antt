@@ -1,16 +1,13 @@
--- Each scan is of the blocks of its own round.
-use Rattle.std.proofs.Common.{◌≡◌, ◌≢◌, ◌⊎◌, inl, inr, ℕ, zero, suc, ◌<◌, Bool, true, false, eqb, ◌||◌, ◌&&◌, List, [], ◌∷◌, ◌++◌, length, get_or, slice_get, slice_set, position, Option, None, Some, refl, sym, ap, subst, ◌∙◌, arith, eq-eqb}
+-- The place of a want is its number.
+use Rattle.std.proofs.Common.{◌≡◌, ◌⊎◌, inl, inr, ℕ, zero, suc, ◌<◌, Bool, true, false, eqb, ◌||◌, ◌&&◌, List, [], ◌∷◌, ◌++◌, length, get_or, slice_get, position, Option, None, Some, refl, sym, ap, subst, ◌∙◌, arith, eq-eqb}
 use Rattle.std.specs.List.{list_any, position_or_len}
 use Rattle.std.proofs.lemmas.Bool.{eqb-true}
-use Rattle.std.proofs.lemmas.Bool.Decides.{eqb_tells}
 use Rattle.std.proofs.lemmas.List.Quantifiers.{position-Some}
 use Rattle.std.proofs.lemmas.Option.{slice_get-get_or}
 use Rattle.site_model.specs.declared.site.Site.{Site}
 use Rattle.site_model.specs.declared.tag.SiteTag.{SiteTag}
 use Rattle.site_model.specs.declared.want.Want.{Want}
-use Rattle.site_model.specs.Readings.{known_at}
 use Rattle.site_model.specs.Wants.{same_want, want_of, wants_behind, with_want}
-use Rattle.gateway.specs.event_core.SiteRun.{with_block}
 
 -- ---- the wants of a site are different
 
@@ -113,48 +110,3 @@ place_of site j w at = go (position (same_want w) site.wants) refl
     go (Some k) is =
         let found = position-Some (same_want w) site.wants k w is in
         is ∙ ap Some (sym (wants_distinct site j k w (get_or site.wants k w) at (slice_get-get_or site.wants k w found.0) found.1))
-
--- ---- blocks
-
--- another entry at a place
-abbrev At : List (Option (List ℕ)) → ℕ → Option (List ℕ)
-At blocks i = known_at blocks i
-
-set_here : (blocks : List (Option (List ℕ))) (i : ℕ) (entry : Option (List ℕ)) → (known_at (slice_set blocks i entry) i ≡ entry) ⊎ (known_at (slice_set blocks i entry) i ≡ None)
-set_here [] i entry = inr refl
-set_here (b ∷ blocks) zero entry = inl (same entry)
-  where
-    same : (e : Option (List ℕ)) → known_at (e ∷ blocks) 0 ≡ e
-    same e = refl
-set_here (b ∷ blocks) (suc i) entry = set_here blocks i entry
-
-set_there : (blocks : List (Option (List ℕ))) (i k : ℕ) (entry : Option (List ℕ)) → k ≢ i → known_at (slice_set blocks i entry) k ≡ known_at blocks k
-set_there [] i k entry other = refl
-set_there (b ∷ blocks) zero zero entry other = absurd (other refl)
-set_there (b ∷ blocks) zero (suc k) entry other = refl
-set_there (b ∷ blocks) (suc i) zero entry other = refl
-set_there (b ∷ blocks) (suc i) (suc k) entry other = set_there blocks i k entry (λ e. other (ap suc e))
-
--- a block that is forgotten is known no more, and no other one changes
-pub forgets_at : (wants : List Want) (want : Want) (blocks : List (Option (List ℕ))) (i : ℕ) → (known_at (with_block wants want None blocks) i ≡ known_at blocks i) ⊎ (known_at (with_block wants want None blocks) i ≡ None)
-forgets_at wants want blocks i = go (position (same_want want) wants) refl
-  where
-    either : (k : ℕ) → ((eqb i k ≡ true) × (i ≡ k)) ⊎ ((eqb i k ≡ false) × (i ≢ k)) → (known_at (slice_set blocks k None) i ≡ known_at blocks i) ⊎ (known_at (slice_set blocks k None) i ≡ None)
-    either k (inl same) = inr (none_of (subst (λ n. (known_at (slice_set blocks n None) i ≡ None) ⊎ (known_at (slice_set blocks n None) i ≡ None)) same.1 (set_here blocks i None)))
-      where
-        none_of : {A : Type 0} → A ⊎ A → A
-        none_of (inl a) = a
-        none_of (inr a) = a
-    either k (inr other) = inl (set_there blocks k i None other.1)
-
-    go : (o : Option ℕ) → position (same_want want) wants ≡ o → (known_at (with_block wants want None blocks) i ≡ known_at blocks i) ⊎ (known_at (with_block wants want None blocks) i ≡ None)
-    go None is = rw is (inl refl)
-    go (Some k) is = rw is (either k (eqb_tells i k))
-
--- the block of a want is what was told of it, and no other one changes
-module _ (site : Site) (j : ℕ) (want : Want) (at : slice_get site.wants j ≡ Some want) (entry : Option (List ℕ)) (blocks : List (Option (List ℕ))) where
-  pub block_here : (known_at (with_block site.wants want entry blocks) j ≡ entry) ⊎ (known_at (with_block site.wants want entry blocks) j ≡ None)
-  block_here = rw (place_of site j want at) (set_here blocks j entry)
-
-  pub block_there : (i : ℕ) → i ≢ j → known_at (with_block site.wants want entry blocks) i ≡ known_at blocks i
-  block_there i other = rw (place_of site j want at) (set_there blocks j i entry other)

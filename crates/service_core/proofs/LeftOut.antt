@@ -3,10 +3,8 @@ use Rattle.std.proofs.Common.{◌≡◌, inl, inr, ℕ, ◌-◌, ◌*◌, nat_eq
 use Rattle.std.specs.Option.{option_map_or}
 use Rattle.modbus_frame.specs.declared.message.Request.{Request}
 use Rattle.site_model.specs.declared.device.SiteDevice.{SiteDevice}
-use Rattle.site_model.specs.declared.want.Want.{Want}
 use Rattle.site_model.specs.Readings.{known_at}
 use Rattle.gateway.specs.declared.poller.cycle.Call.{Call}
-use Rattle.service.specs.declared.fate.Fate.TheVariants as fate
 use Rattle.service_parts.specs.declared.wire.Aim.{Aim}
 use Rattle.service_parts.specs.declared.wire.Aim.TheVariants as aim
 use Rattle.service_core.specs.declared.round.Turn.TheVariants as turn
@@ -15,27 +13,14 @@ use Rattle.service_core.specs.declared.sent_writes.SentWrites.{SentWrites}
 use Rattle.service_core.specs.declared.sent_writes.Taken.{Taken}
 use Rattle.service_core.specs.declared.wish.Wish.{Wish}
 use Rattle.service_core.specs.LeftOut as left
-use Rattle.service_core.specs.LeftOut as left
-use Rattle.service_core.specs.LeftOut.{GivesDue, GivesNext, HasNone, IsNext, Lacks, LeavesOut, NothingIsLeftOutWithoutRewrite, held_by}
+use Rattle.service_core.specs.LeftOut.{GivesDue, GivesNext, IsNext, LeavesOut, NothingIsLeftOutWithoutRewrite, held_by}
 use Rattle.service_core.specs.Rewriting.{held_output, is_recent, is_same}
 use Rattle.service_core.specs.Stages.{Ends, OpensNext, Stage}
 
 -- ---- what comes next
 
-pub lacks_nothing : (device : ℕ) (s : Stage) → Lacks device s s
-lacks_nothing device s = left.lacks_none
-
-pub lacks_one : (device : ℕ) (old s t : Stage) (want : Want) → Lacks device old s → OpensNext device (turn.Lack want) s t → Lacks device old t
-lacks_one device old s t want before opens = left.lacks_more before want t opens
-
-pub is_next : (device : ℕ) (old s t : Stage) (made_for : Aim) (call : Call) → Lacks device old s → OpensNext device (turn.Ask made_for call) s t → IsNext device made_for call.request old t
-is_next device old s t made_for call before opens = record { before = s; lacks = before; call = call; opens = opens; own = refl }
-
-pub rests : (device : ℕ) (old s t : Stage) → Lacks device old s → OpensNext device turn.Rest s t → HasNone device old t
-rests device old s t before opens = record { before = s; lacks = before; rests = inl opens }
-
-pub none_so_far : (device : ℕ) (old s : Stage) → Lacks device old s → HasNone device old s
-none_so_far device old s before = record { before = s; lacks = before; rests = inr refl }
+pub is_next : (device : ℕ) (s t : Stage) (made_for : Aim) (call : Call) → OpensNext device (turn.Ask made_for call) s t → IsNext device made_for call.request s t
+is_next device s t made_for call opens = record { call = call; opens = opens; own = refl }
 
 -- ---- what is left out
 
@@ -44,16 +29,16 @@ left_nothing device held s = left.leaves_none
 
 module _ (device : ℕ) (held : Stage → Aim → Request → Option ℕ) (old s t : Stage) where
   pub none_due : LeavesOut device held old s → GivesNext device None s t → GivesDue device held None old t
-  none_due leaves next = record { middle = s; leaves = leaves; next = next }
+  none_due leaves next = record { middle = s; leaves = leaves; next = inl next }
 
   pub none_left : LeavesOut device held old s → GivesDue device held None old s
-  none_left leaves = record { middle = s; leaves = leaves; next = none_so_far device s s left.lacks_none }
+  none_left leaves = record { middle = s; leaves = leaves; next = inr (refl, refl) }
 
   pub one_due : (wish : Wish) → LeavesOut device held old s → GivesNext device (Some wish) s t → GivesDue device held (Some wish) old t
-  one_due wish leaves next = record { middle = s; leaves = leaves; next = next }
+  one_due wish leaves next = record { middle = s; leaves = leaves; next = inl next }
 
 pub left_one : (device number : ℕ) (first sent : SentWrites) (start now : ℕ) (old s t u : Stage) (wish : Wish) (output : ℕ) → LeavesOut device (held_by first device number start) old s → IsNext device wish.aim wish.request s t
-    → sent ≡ first → now ≡ start → held_by sent device number now t wish.aim wish.request ≡ Some output → Ends device fate.Lost t u → LeavesOut device (held_by first device number start) old u
+    → sent ≡ first → now ≡ start → held_by sent device number now t wish.aim wish.request ≡ Some output → Ends device t u → LeavesOut device (held_by first device number start) old u
 left_one device number first sent start now old s t u wish output before next same_sent same_time held ends =
     let P : SentWrites → Type 0 = λ x. held_by x device number now t wish.aim wish.request ≡ Some output in
     let Q : ℕ → Type 0 = λ x. held_by first device number x t wish.aim wish.request ≡ Some output in
@@ -81,7 +66,6 @@ none_held : (writes : List (Option SentWrite)) (taken : List (Option Taken)) (de
 none_held writes taken device number now (aim.Output output) asked = ap (λ b. if b then Some output else None) (never_held (known_at writes output) taken output device asked number now)
 none_held writes taken device number now (aim.Block want) asked = refl
 none_held writes taken device number now aim.Map asked = refl
-none_held writes taken device number now aim.Past asked = refl
 
 kept_never : (o : Option SiteDevice) (own : SiteDevice) → o ≡ Some own → own.rewrite ≡ 0 → option_map_or (λ (d : SiteDevice). d.rewrite * 1000) o 0 ≡ 0
 kept_never o own is none = ap (λ x. option_map_or (λ (d : SiteDevice). d.rewrite * 1000) x 0) is ∙ ap (λ n. n * 1000) none

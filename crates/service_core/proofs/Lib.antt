@@ -5,10 +5,11 @@ pub mod Restored
 pub mod Told
 pub mod Courses
 pub mod Known
-pub mod OneRound
+pub mod Blocks
+pub mod LastTold
 pub mod Opening
 pub mod Whole
-pub mod Once
+pub mod Marks
 pub mod Sent
 pub mod WritesOnce
 pub mod Stays
@@ -18,5 +19,4 @@ pub mod Carried
 pub mod ByNotes
 pub mod Losing
 pub mod Forgetting
-pub mod GivingUp
 pub mod LeftOut

@@ -16,7 +16,7 @@ use Rattle.site_model.specs.declared.site.Site.{Site}
 use Rattle.service_core.specs.Stages.{TakesEvent}
 
 -- Time that went by, and nothing else.
-pub time_alone : (g h : Gateway) (ms : ℕ) → TakesEvent (Some (event.Time ms)) g h → h ≡ after_wait ms g
+pub time_alone : (g h : Gateway) (ms : ℕ) → TakesEvent (event.Time ms) g h → h ≡ after_wait ms g
 time_alone g h ms (a, (depth, ((step, same), drives))) =
     ap (λ (x : Site). record { site = x; maps = h.maps; machine = h.machine; standing = h.standing }) same.site
     ∙ ap (λ (x : List (Option Layout)). record { site = g.site; maps = x; machine = h.machine; standing = h.standing }) same.maps

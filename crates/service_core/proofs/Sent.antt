@@ -1,19 +1,18 @@
 -- Each output is written once at most.
-use Rattle.std.proofs.Common.{◌≡◌, ◌≢◌, ◌⊎◌, inl, inr, ℕ, ◌+◌, ◌≤◌, Bool, true, false, List, ◌∷◌, ◌++◌, slice_get, position, Option, None, Some, refl, sym, ap, subst, arith, eq-eqb}
+use Rattle.std.proofs.Common.{◌≡◌, ◌≢◌, ◌⊎◌, inl, inr, ℕ, ◌+◌, ◌≤◌, ◌==◌, Bool, true, false, List, ◌∷◌, ◌++◌, map, slice_get, position, Option, None, Some, refl, sym, ap, subst, arith, eq-eqb, if◌then◌else◌}
 use Rattle.std.proofs.lemmas.Bool.{ne_eqb}
 use Rattle.std.proofs.lemmas.Bool.Decides.{eqb_tells}
 use Rattle.site_model.proofs.Entries.{set-cases}
 use Rattle.gateway.specs.declared.poller.cycle.Call.{Call}
-use Rattle.gateway.specs.declared.event_core.event.Event.{Event}
 use Rattle.gateway.specs.event_core.Core.{Gateway}
 use Rattle.service_core.specs.declared.round.Turn.{Turn}
 use Rattle.service.specs.declared.task.Mark.{Mark}
 use Rattle.service.specs.declared.task.Mark.TheVariants as mark
 use Rattle.service.specs.declared.task.Task.{Task}
-use Rattle.service.specs.Tasks.{is_asked, is_due, next_place, with_mark}
+use Rattle.service.specs.Tasks.{given_up, is_asked, is_due, next_place, with_mark}
 use Rattle.service_parts.specs.Calls.{write_to}
-use Rattle.service_core.specs.Rounds.{AsksWrite, ClosesWrite, EachOutputIsWrittenOnce, OpensWrite, Progress, Writing, begin, sends, ends, asked_of, times_asked}
-use Rattle.service_core.proofs.Once.{at_place, some_task, next_is_due, with_mark-at}
+use Rattle.service_core.specs.Rounds.{AsksWrite, ClosesWrite, EachOutputIsWrittenOnce, OpensWrite, Progress, Writing, begin, sends, ends, skips, tells, asked_of, times_asked}
+use Rattle.service_core.proofs.Marks.{at_place, map_at, some_task, next_is_due, with_mark-at}
 
 abbrev ZeroIfDue : ℕ → Mark → Type 0
 ZeroIfDue n mark.Due = n ≡ 0
@@ -91,11 +90,25 @@ opens_write g device q r asked t (Some j) is fits opens =
     let none = due_zero device (times_asked j asked) found.0 _ refl found.2 ((fits j).1 found.0 found.1) in
     asks_write q r asked j found.0 (write_to device g.site.devices opens.0) t found.1 none fits opens.2
 
-closes_write : (device : ℕ) (q r : Progress) (asked : List ℕ) (happens : Option Event) (o : Option ℕ) → position (is_asked device) q.writes ≡ o → Fits q.writes asked → ClosesWrite o q happens r → Fits r.writes asked
-closes_write device q r asked happens None is fits closes = same_writes q r asked q.writes (ap (λ (p : Progress). p.writes) closes.1) fits
-closes_write device q r asked happens (Some j) is fits closes =
+closes_write : (device : ℕ) (q r : Progress) (asked : List ℕ) (o : Option ℕ) → position (is_asked device) q.writes ≡ o → Fits q.writes asked → ClosesWrite o q r → Fits r.writes asked
+closes_write device q r asked None is fits closes = same_writes q r asked q.writes (ap (λ (p : Progress). p.writes) closes) fits
+closes_write device q r asked (Some j) is fits closes =
     let found = at_place (is_asked device) q.writes j some_task is in
-    same_writes q r asked _ (ap (λ (p : Progress). p.writes) closes.1) (fits_marked q.writes asked j found.0 mark.Done (λ n. tt) found.1 fits)
+    same_writes q r asked _ (ap (λ (p : Progress). p.writes) closes) (fits_marked q.writes asked j found.0 mark.Done (λ n. tt) found.1 fits)
+
+zero_by : (n : ℕ) (u : Task) (b : Bool) → ZeroIfDue n u.mark → ZeroIfDue n (if b then record u { mark = mark.Done } else u).mark
+zero_by n u true zero_if = tt
+zero_by n u false zero_if = zero_if
+
+-- what is given up isn't asked any more
+fits_given : (device : ℕ) (tasks : List Task) (asked : List ℕ) → Fits tasks asked → Fits (map (given_up device) tasks) asked
+fits_given device tasks asked fits i = (
+  (fits i).0,
+  λ t is. (
+      let (u, at, same) = map_at (given_up device) tasks i t is in
+      let P : Task → Type 0 = λ x. ZeroIfDue (times_asked i asked) x.mark in
+      subst P same (zero_by (times_asked i asked) u (u.device == device) ((fits i).1 u at))),
+)
 
 none_zero : (tasks : List Task) (m : Mark) → ZeroIfDue 0 m
 none_zero tasks mark.Due = refl
@@ -105,7 +118,9 @@ none_zero tasks mark.Done = tt
 all_writes : (old : Progress) (asked : List ℕ) (new : Progress) → Writing old asked new → Fits new.writes asked
 all_writes old asked new (begin p) = λ i. (omega arith, λ t at. none_zero old.writes t.mark)
 all_writes old asked new (sends {q} {asked = before} run g device t r opens) = opens_write g device q r before t (next_place device q.writes) refl (all_writes old before q run) opens
-all_writes old asked new (ends {q} run device happens r closes) = closes_write device q r asked happens (position (is_asked device) q.writes) refl (all_writes old asked q run) closes
+all_writes old asked new (ends {q} run device r closes) = closes_write device q r asked (position (is_asked device) q.writes) refl (all_writes old asked q run) closes
+all_writes old asked new (skips {q} run device r is) = same_writes q r asked _ (ap (λ (p : Progress). p.writes) is) (fits_given device q.writes asked (all_writes old asked q run))
+all_writes old asked new (tells {q} run r same) = same_writes q r asked q.writes same (all_writes old asked q run)
 
 pub each_output_once : EachOutputIsWrittenOnce
 each_output_once old asked new run i = (all_writes old asked new run i).0

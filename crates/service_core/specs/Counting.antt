@@ -1,9 +1,11 @@
--- How often devices were asked and lost. No standard says what is counted; it is this project's.
-use Rattle.std.specs.Prelude.{ℕ, ◌+◌, ◌-◌, ◌^◌, min, Option, option_map, slice_get}
+-- How often devices were asked, planned and lost, and how long their replies take. No standard says what is counted; it is this
+-- project's.
+use Rattle.std.specs.Prelude.{ℕ, ◌+◌, ◌-◌, ◌/◌, ◌^◌, ◌==◌, min, max, Bool, not, Option, option_map, slice_get, if◌then◌else◌}
 use Rattle.service_core.specs.declared.counts.Counts.{Counts}
 use Rattle.service_core.specs.declared.device.Device.{Device}
 use Rattle.service_core.specs.declared.device_side.DeviceSide.{DeviceSide}
 use Rattle.service_core.specs.declared.note.Loss.{Loss}
+use Rattle.service_core.specs.declared.replies.Replies.{Replies}
 use Rattle.service_core.specs.declared.note.Loss.TheVariants as loss
 
 -- a count that is full stays
@@ -18,7 +20,23 @@ lost_once_more loss.Down c = record c { down = one_more c.down }
 lost_once_more loss.Silent c = record c { silent = one_more c.silent }
 lost_once_more loss.Frame c = record c { frame = one_more c.frame }
 lost_once_more loss.Stale c = record c { stale = one_more c.stale }
-lost_once_more loss.NoTime c = record c { no_time = one_more c.no_time }
+lost_once_more loss.Gateway c = record c { gateway = one_more c.gateway }
+
+-- A reply came after so many milliseconds: the longest lately loses a tenth by each later one, and is 1 at least.
+abbrev pub after_reply : ℕ → Replies → Replies
+after_reply reply r = record {
+  lately = max (max reply (r.lately - r.lately / 10)) 1;
+  least = if r.lately == 0 then reply else min r.least reply;
+  most = max r.most reply;
+}
+
+-- A scan plans the device's outputs, the first so many scans after the last one that did, or passes it over.
+abbrev pub scanned_by : Bool → Device → Device
+scanned_by is_planned own = record own {
+  is_behind = not is_planned;
+  scans = if is_planned then 0 else one_more own.scans;
+  each = if is_planned then one_more own.scans else own.each;
+}
 
 -- what is counted of a device
 abbrev pub counts_at : DeviceSide → ℕ → Option Counts

@@ -1,19 +1,20 @@
 -- What the calls of a service do to its core and its round.
-use Rattle.std.specs.Prelude.{◌≡◌, ◌⊎◌, ℕ, Bool, true, false, Option, None, Some}
+use Rattle.std.specs.Prelude.{◌≡◌, ◌⊎◌, ℕ, nat_eq, Bool, true, false, not, ◌||◌, Option, None, Some, slice_get}
 use Rattle.gateway.specs.declared.poller.outcome.Outcome.{Outcome}
 use Rattle.gateway.specs.declared.poller.outcome.Outcome.TheVariants as outcome
 use Rattle.service.specs.declared.fate.Fate.{Fate}
 use Rattle.service.specs.declared.fate.Fate.TheVariants as fate
 use Rattle.service_parts.specs.declared.wire.Aim.{Aim}
+use Rattle.service_parts.specs.declared.wire.Aim.TheVariants as aim
 use Rattle.service_parts.specs.declared.wire.Asked.{Asked}
 use Rattle.service_core.specs.declared.scan_cycle.ScanCycle.{ScanCycle}
 use Rattle.service_core.specs.Rounds.{IsUnderWay}
-use Rattle.service_core.specs.Stages.{ClientStep, Ends, LeadsOnBy, OwnStep, RoundStep, Stage}
+use Rattle.service_core.specs.Stages.{ClientStep, Ends, LeadsOnBy, OwnStep, RoundStep, Stage, Tells}
 
 abbrev pub stage_of : ScanCycle → Stage
 stage_of c = record { core = c.core.value; round = c.round }
 
--- By the time and by what the round still wants alone: no device told an outcome, and no client asked.
+-- By the time and by what is still to be written alone: no device told of a block, and no client asked.
 abbrev pub LeadsOn : ScanCycle → ScanCycle → Type 0
 LeadsOn old new = LeadsOnBy RoundStep (stage_of old) (stage_of new)
 
@@ -27,10 +28,12 @@ ClientsLeadOn old new = LeadsOnBy ClientStep (stage_of old) (stage_of new)
 
 -- ---- what an outcome does
 
--- The outcome of a request ends that very request of the round, and the core is told of its block. One that isn't under way
--- any more, or that was made for a search, changes neither round nor core.
+-- The outcome of a request for a wanted block tells of that block; that of a write ends that very write, where it is still
+-- under way. One that was made for a search changes neither round nor core.
 abbrev pub EndsOwn : Aim → ℕ → Outcome → Stage → Stage → Type 0
-EndsOwn made_for device o old new = (IsUnderWay made_for device old.round × Ends device (fate.Told o) old new) ⊎ ((IsUnderWay made_for device old.round → ⊥) × (new ≡ old))
+EndsOwn (aim.Block i) device o old new = Tells i (fate.Told o) true old new ⊎ ((slice_get old.core.site.wants i ≡ None) × (new ≡ old))
+EndsOwn (aim.Output output) device o old new = (IsUnderWay output device old.round × Ends device old new) ⊎ ((IsUnderWay output device old.round → ⊥) × (new ≡ old))
+EndsOwn aim.Map device o old new = new ≡ old
 
 -- It ends so, and then the service goes on by itself.
 pub record Answers (asked : Asked) (o : Outcome) (old new : ScanCycle) : Type 0 where
@@ -38,11 +41,15 @@ pub record Answers (asked : Asked) (o : Outcome) (old new : ScanCycle) : Type 0 
   pub ends : EndsOwn asked.aim asked.device o (stage_of old) middle
   pub goes : LeadsOnBy RoundStep middle (stage_of new)
 
--- After too many frames that answer something else there is no answer.
+-- whether a gateway says by this code that the unit behind it can't be reached, or doesn't answer
+abbrev pub is_gateways : ℕ → Bool
+is_gateways code = nat_eq code 10 || nat_eq code 11
+
+-- After too many frames that answer something else there is no answer; nor is what a gateway says in place of its unit.
 abbrev pub is_answer : Outcome → Bool
 is_answer (outcome.Words words) = true
 is_answer outcome.Wrote = true
-is_answer (outcome.Exception e) = true
+is_answer (outcome.Exception e) = not (is_gateways e.0)
 is_answer outcome.Mismatch = true
 is_answer outcome.Stale = false
 

@@ -17,9 +17,13 @@ blocks_but device (want ∷ wants) (block ∷ blocks) = entry_but device want bl
 abbrev pub with_blocks : List (Option (List ℕ)) → Gateway → Gateway
 with_blocks blocks core = record core { standing = record core.standing { blocks = blocks } }
 
--- There is no map of the device, and none of its blocks is known. All else is as it was.
+-- None of the device's blocks is known. All else is as it was.
+abbrev pub without_blocks : ℕ → Gateway → Gateway
+without_blocks device core = with_blocks (blocks_but device core.site.wants core.standing.blocks) core
+
+-- There is no map of the device either.
 abbrev pub forgotten : ℕ → Gateway → Gateway
-forgotten device core = with_blocks (blocks_but device core.site.wants core.standing.blocks) (record core { maps = set core.maps device None })
+forgotten device core = without_blocks device (record core { maps = set core.maps device None })
 
 -- ---- on the way there
 

@@ -1,11 +1,9 @@
--- Which requests of a round to a device are left out: those that would write once more what the device has, and no others.
+-- Which writes to a device are left out: those that would write once more what the device has, and no others.
 -- No standard says when; it is this project's.
 use Rattle.std.specs.Prelude.{◌≡◌, ◌⊎◌, ℕ, Option, None, Some, slice_get}
 use Rattle.modbus_frame.specs.declared.message.Request.{Request}
 use Rattle.site_model.specs.declared.device.SiteDevice.{SiteDevice}
-use Rattle.site_model.specs.declared.want.Want.{Want}
 use Rattle.gateway.specs.declared.poller.cycle.Call.{Call}
-use Rattle.service.specs.declared.fate.Fate.TheVariants as fate
 use Rattle.service_parts.specs.declared.wire.Aim.{Aim}
 use Rattle.service_core.specs.declared.round.Turn.TheVariants as turn
 use Rattle.service_core.specs.declared.wish.Wish.{Wish}
@@ -13,29 +11,16 @@ use Rattle.service_core.specs.declared.sent_writes.SentWrites.{SentWrites}
 use Rattle.service_core.specs.Rewriting.{held_output, kept_for}
 use Rattle.service_core.specs.Stages.{Ends, OpensNext, Stage}
 
--- ---- what a round asks of a device next
+-- ---- what is written to a device next
 
--- Wanted blocks of the device that there is no request for are lost, one after another.
-pub data Lacks (device : ℕ) (old : Stage) : Stage → Type 0 where
-  lacks_none : Lacks device old old
-  lacks_more : {s : Stage} → Lacks device old s → (want : Want) (t : Stage) → OpensNext device (turn.Lack want) s t → Lacks device old t
-
--- After these the next request to the device is this one.
+-- The next request to the device is this one.
 pub record IsNext (device : ℕ) (made_for : Aim) (request : Request) (old new : Stage) : Type 0 where
-  pub before : Stage
-  pub lacks : Lacks device old before
   pub call : Call
-  pub opens : OpensNext device (turn.Ask made_for call) before new
+  pub opens : OpensNext device (turn.Ask made_for call) old new
   pub own : call.request ≡ request
 
--- After these there is none, or none so far.
-pub record HasNone (device : ℕ) (old new : Stage) : Type 0 where
-  pub before : Stage
-  pub lacks : Lacks device old before
-  pub rests : OpensNext device turn.Rest before new ⊎ (new ≡ before)
-
 abbrev pub GivesNext : ℕ → Option Wish → Stage → Stage → Type 0
-GivesNext device None old new = HasNone device old new
+GivesNext device None old new = OpensNext device turn.Rest old new
 GivesNext device (Some wish) old new = IsNext device wish.aim wish.request old new
 
 -- ---- what is left out of that
@@ -48,13 +33,13 @@ held_by sent device number now s made_for request = held_output sent.writes.item
 pub data LeavesOut (device : ℕ) (held : Stage → Aim → Request → Option ℕ) (old : Stage) : Stage → Type 0 where
   leaves_none : LeavesOut device held old old
   leaves_more : {s : Stage} → LeavesOut device held old s → (made_for : Aim) (request : Request) (output : ℕ) (t : Stage) → IsNext device made_for request s t → held t made_for request ≡ Some output
-      → (u : Stage) → Ends device fate.Lost t u → LeavesOut device held old u
+      → (u : Stage) → Ends device t u → LeavesOut device held old u
 
--- Some are left out, and then this is the next request to the device, or there is none.
+-- Some are left out, and then this is the next request to the device, or there is none, or none so far.
 pub record GivesDue (device : ℕ) (held : Stage → Aim → Request → Option ℕ) (wish : Option Wish) (old new : Stage) : Type 0 where
   pub middle : Stage
   pub leaves : LeavesOut device held old middle
-  pub next : GivesNext device wish middle new
+  pub next : GivesNext device wish middle new ⊎ ((wish ≡ None) × (new ≡ middle))
 
 -- ---- without `rewrite`
 

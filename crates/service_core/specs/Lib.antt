@@ -1,3 +1,4 @@
+pub mod Blocks
 pub mod Connections
 pub mod Counting
 pub mod Cycle
@@ -7,8 +8,6 @@ pub mod LeftOut
 pub mod Losing
 pub mod Maps
 pub mod Noting
-pub mod OneRound
-pub mod Phases
 pub mod Rewriting
 pub mod Rounds
 pub mod Running

@@ -1,5 +1,5 @@
 -- What is told of devices and outputs, and how they stand by it. No standard says what is told; it is this project's.
-use Rattle.std.specs.Prelude.{◌≡◌, ℕ, Bool, true, false, not, ◌&&◌, nat_lt, List, [], ◌∷◌, ◌++◌, set, Option, None, Some, if◌then◌else◌}
+use Rattle.std.specs.Prelude.{◌≡◌, ℕ, Bool, true, false, not, ◌&&◌, ◌||◌, nat_lt, List, [], ◌∷◌, ◌++◌, set, Option, None, Some, if◌then◌else◌}
 use Rattle.service_core.specs.declared.device.Device.{Device}
 use Rattle.service_core.specs.declared.device_side.DeviceSide.{DeviceSide}
 use Rattle.service_core.specs.declared.note.Loss.{Loss}
@@ -34,14 +34,14 @@ pub record Loses (device : ℕ) (loss : Loss) (own : Device) (old new : DeviceSi
   pub stands : new.devices.items ≡ set old.devices.items device (lost_by loss own)
   pub tells : new.notes.items.items ≡ told_if (not own.is_lost) (note.Lost device loss) old.notes
 
--- Its map is found: it isn't lost any more, which is told each time.
+-- Its map is found: it isn't lost any more, and is read at once. It is told, unless that was told before and it wasn't lost since.
 pub record Finds (device : ℕ) (own : Device) (old new : DeviceSide) : Type 0 where
-  pub stands : new.devices.items ≡ set old.devices.items device (record own { is_lost = false })
-  pub tells : new.notes.items.items ≡ told (note.Found device) old.notes
+  pub stands : new.devices.items ≡ set old.devices.items device (record own { is_lost = false; is_behind = true; is_told = true })
+  pub tells : new.notes.items.items ≡ told_if (own.is_lost || not own.is_told) (note.Found device) old.notes
 
--- it answered: one that has a map isn't lost any more
+-- it answered: one that has a map isn't lost any more, and is read at once where it was
 abbrev pub heard_by : Bool → Device → Device
-heard_by is_mapped own = record own { wait = 0; rest_until = 0; is_lost = own.is_lost && not is_mapped }
+heard_by is_mapped own = record own { misses = 0; is_behind = own.is_behind || (own.is_lost && is_mapped); is_lost = own.is_lost && not is_mapped }
 
 -- It answered: one that was lost and has a map is back, which is told.
 pub record HearsFrom (device : ℕ) (is_mapped : Bool) (own : Device) (old new : DeviceSide) : Type 0 where

@@ -26,7 +26,6 @@ abbrev pub sent_for : Aim → (device : ℕ) → Request → List (Option SentWr
 sent_for (aim.Output output) device asked writes taken = (slice_set writes output (sent_by device asked), slice_set taken output None)
 sent_for (aim.Block want) device asked writes taken = (writes, taken)
 sent_for aim.Map device asked writes taken = (writes, taken)
-sent_for aim.Past device asked writes taken = (writes, taken)
 
 -- a write that went to this device
 abbrev pub is_of : (device : ℕ) → Option SentWrite → Bool
@@ -64,7 +63,6 @@ abbrev pub held_output : List (Option SentWrite) → List (Option Taken) → (de
 held_output writes taken device number within now (aim.Output output) asked = if is_held writes taken output device asked number within now then Some output else None
 held_output writes taken device number within now (aim.Block want) asked = None
 held_output writes taken device number within now aim.Map asked = None
-held_output writes taken device number within now aim.Past asked = None
 
 -- ---- what is known after an answer
 

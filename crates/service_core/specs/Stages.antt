@@ -1,7 +1,7 @@
--- What a service does to its core and to the round that is under way, step by step: by the time and what the round still
--- wants, by what devices answer, by what clients ask, and by programs that are put in (IEC 61131-3 edition 2, 3.2; Modbus Application Protocol V1.1b3,
+-- What a service does to its core and to its round, step by step: by the time and what is still to be written, by what devices
+-- answer, by what clients ask, and by programs that are put in (IEC 61131-3 edition 2, 3.2; Modbus Application Protocol V1.1b3,
 -- sections 6.3, 6.6 and 6.12).
-use Rattle.std.specs.Prelude.{◌≡◌, ◌⊎◌, ℕ, Bool, true, false, List, All, Option, None, Some, set}
+use Rattle.std.specs.Prelude.{◌≡◌, ◌⊎◌, ℕ, Bool, true, false, List, All, Option, Some, set, slice_get}
 use Rattle.register_map.specs.Layout.{Layout}
 use Rattle.scan_vm.specs.Machine.{Running}
 use Rattle.site_model.specs.declared.want.Want.{Want}
@@ -14,98 +14,96 @@ use Rattle.gateway.specs.event_core.Core.{Gateway, adopting}
 use Rattle.gateway.specs.event_core.Driving.{Happens}
 use Rattle.service.specs.declared.fate.Fate.{Fate}
 use Rattle.service.specs.declared.fate.Fate.TheVariants as fate
-use Rattle.service.specs.Tasks.{IsDone}
 use Rattle.service_parts.specs.Course.{IsNew}
 use Rattle.service_parts.specs.Seeking.{IsFound}
 use Rattle.service_core.specs.declared.round.Turn.{Turn}
-use Rattle.service_core.specs.Maps.{has_map}
-use Rattle.service_core.specs.Rounds.{ArePlanned, Closes, IsRoundFor, Opens, Progress, begun, event_told, since}
+use Rattle.service_core.specs.Rounds.{ArePlanned, Closes, IsRecent, IsRoundFor, IsUntold, Opens, Progress, after_scan, event_of, since, skipped, told_at}
 
 -- a core, and the round that is under way
 pub record Stage : Type 0 where
   pub core : Gateway
   pub round : Progress
 
--- The core takes this event, where there is one; without one it stays.
-abbrev pub TakesEvent : Option Event → Gateway → Gateway → Type 0
-TakesEvent None g h = h ≡ g
-TakesEvent (Some e) g h = (a : Answer) × Happens g e a h
+-- The core takes this event.
+abbrev pub TakesEvent : Event → Gateway → Gateway → Type 0
+TakesEvent e g h = (a : Answer) × Happens g e a h
 
--- ---- what happens to a round
+-- ---- what happens
 
--- The next round begins: each wanted block is to be asked for.
-abbrev pub Begins : Stage → Stage → Type 0
-Begins old new = new ≡ record old { round = begun old.core.site old.round }
+-- The wanted block of this number is told: by the outcome of a request for it, or as lost; for the next plan of its device, or not.
+pub record Tells (i : ℕ) (f : Fate) (is_new : Bool) (old new : Stage) : Type 0 where
+  pub want : Want
+  pub wanted : slice_get old.core.site.wants i ≡ Some want
+  pub told : TakesEvent (event_of want f) old.core new.core
+  pub round : new.round ≡ record old.round { told = told_at i is_new old.round.told }
 
--- What comes next for a device: a request to it, or a wanted block is told as lost, since there is no request for it.
+-- What is written next to a device: a request to it, or nothing.
 pub record OpensNext (device : ℕ) (t : Turn) (old new : Stage) : Type 0 where
   pub opens : Opens old.core device old.round t new.round
-  pub told : TakesEvent (event_told t) old.core new.core
+  pub core : new.core ≡ old.core
 
--- The device's request that is under way is over, and the core is told of the block that it reads, if it reads one.
-pub record Ends (device : ℕ) (f : Fate) (old new : Stage) : Type 0 where
-  pub happens : Option Event
-  pub closes : Closes old.core.site device f old.round happens new.round
-  pub told : TakesEvent happens old.core new.core
+-- The device's write that is under way is over.
+pub record Ends (device : ℕ) (old new : Stage) : Type 0 where
+  pub closes : Closes device old.round new.round
+  pub core : new.core ≡ old.core
 
--- The program runs, at this time of the service: once in a round, when each wanted block was told in it. The core is told
--- before how long ago the scan before was. What the program set is to be written.
+-- Nothing more is written to the device.
+abbrev pub Skips : ℕ → Stage → Stage → Type 0
+Skips device old new = new ≡ record old { round = skipped device old.round }
+
+-- The program runs, at this time of the service, where each wanted block was told lately. The core is told before how long ago
+-- the scan before was. What the program set is to be written to the devices all of whose wanted blocks were told since they were
+-- written last.
 pub record Scans (now : ℕ) (old new : Stage) : Type 0 where
-  pub first : old.round.scanned ≡ false
-  pub read : All IsDone old.round.reads
+  pub recent : All IsRecent old.round.told
   pub waited : Gateway
-  pub waits : TakesEvent (Some (event.Time (since old.round.at now))) old.core waited
-  pub runs : TakesEvent (Some event.Scan) waited new.core
-  pub planned : ArePlanned new.core new.round.writes
-  pub same : new.round ≡ record old.round { writes = new.round.writes; scanned = true; at = now }
+  pub waits : TakesEvent (event.Time (since old.round.at now)) old.core waited
+  pub runs : TakesEvent event.Scan waited new.core
+  pub planned : ArePlanned new.core old.round.told old.round.writes new.round.writes
+  pub same : new.round ≡ record { told = after_scan old.round.told; writes = new.round.writes; at = now }
 
 -- It runs, where this says so. Else it isn't due, and nothing happens.
 abbrev pub ScansIf : Bool → ℕ → Stage → Stage → Type 0
 ScansIf true now old new = Scans now old new
-ScansIf false now old new = (new ≡ old) × (old.round.scanned ≡ false → All IsDone old.round.reads → ⊥)
+ScansIf false now old new = (new ≡ old) × (All IsRecent old.round.told → ⊥)
 
 -- A search found the device's map, or it is forgotten.
 pub record Learns (device : ℕ) (found : Option Layout) (old new : Stage) : Type 0 where
   pub own : IsFound old.core.site device found
   pub same : new ≡ record old { core = record old.core { maps = set old.core.maps device found } }
 
--- A wanted block is known no more, since its device has no map.
-pub record Forgets (want : Want) (old new : Stage) : Type 0 where
-  pub none : has_map old.core want.device ≡ false
-  pub told : TakesEvent (Some (event.Lost want)) old.core new.core
-  pub round : new.round ≡ old.round
-
 -- So many milliseconds go by before the next scan, beside those that a scan tells.
 pub record Waits (ms : ℕ) (old new : Stage) : Type 0 where
-  pub told : TakesEvent (Some (event.Time ms)) old.core new.core
+  pub told : TakesEvent (event.Time ms) old.core new.core
   pub round : new.round ≡ old.round
 
 -- A client asks.
 pub record Asks (pdu : List ℕ) (old new : Stage) : Type 0 where
-  pub told : TakesEvent (Some (event.Client pdu)) old.core new.core
+  pub told : TakesEvent (event.Client pdu) old.core new.core
   pub round : new.round ≡ old.round
 
 -- Another program, which was accepted for the site's tags, is put in with its variables at these numbers: it runs from the next
--- scan on. What is known, set and planned stays, as does the round that is under way.
+-- scan on. What is known, set and planned stays.
 pub record Adopts (machine : Running) (old new : Stage) : Type 0 where
   pub links : HasLinks old.core.site.tags machine.accepted.links
   pub same : new ≡ record old { core = adopting machine old.core }
 
 -- ---- kinds of steps
 
--- By the time, and by what the round still wants. A request that is under way may be given up at any time.
+-- By the time, and by what is still to be written. A wanted block may be lost, and a write that is under way may be over, at any
+-- time.
 pub data RoundStep (s t : Stage) : Type 0 where
-  begins : Begins s t → RoundStep s t
+  loses : (i : ℕ) (is_new : Bool) → Tells i fate.Lost is_new s t → RoundStep s t
   opens : (device : ℕ) (turn : Turn) → OpensNext device turn s t → RoundStep s t
-  gives_up : (device : ℕ) → Ends device fate.Lost s t → RoundStep s t
+  ends : (device : ℕ) → Ends device s t → RoundStep s t
+  skips : (device : ℕ) → Skips device s t → RoundStep s t
   scans : (now : ℕ) → Scans now s t → RoundStep s t
   learns : (device : ℕ) (found : Option Layout) → Learns device found s t → RoundStep s t
-  forgets : (want : Want) → Forgets want s t → RoundStep s t
   waits : (ms : ℕ) → Waits ms s t → RoundStep s t
 
--- By what a device answers.
+-- By what a device answers to a request for a wanted block.
 abbrev pub DeviceStep : Stage → Stage → Type 0
-DeviceStep s t = (device : ℕ) × (o : Outcome) × Ends device (fate.Told o) s t
+DeviceStep s t = (i : ℕ) × (o : Outcome) × Tells i (fate.Told o) true s t
 
 -- By what a client asks.
 abbrev pub ClientStep : Stage → Stage → Type 0
@@ -136,11 +134,11 @@ pub data CourseBy (Step : Stage → Stage → Type 0) : Stage → Stage → Type
 abbrev pub LeadsOnBy : (Step : Stage → Stage → Type 0) → Stage → Stage → Type 0
 LeadsOnBy Step old new = (from : Stage) → ∥ CourseBy Step from old ∥₁ → ∥ CourseBy Step from new ∥₁
 
--- A core on which nothing happened, before its first round.
+-- A core on which nothing happened, before its first scan: no wanted block was told yet.
 pub record IsFirst (s : Stage) : Type 0 where
   pub core : IsNew s.core
   pub round : IsRoundFor s.core.site s.round
-  pub over : s.round.scanned ≡ true
+  pub none : All IsUntold s.round.told
 
 -- It came to this by steps alone, from a first stage.
 pub record IsReached (s : Stage) : Type 0 where

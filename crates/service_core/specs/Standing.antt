@@ -1,22 +1,27 @@
 -- How a device stands. No standard says what of it is told; it is this project's.
-use Rattle.std.specs.Prelude.{◌≡◌, ℕ, Bool, false, slice_get}
+use Rattle.std.specs.Prelude.{◌≡◌, ℕ, Bool, false, List, slice_get}
 use Rattle.std.specs.Option.{option_map_or}
 use Rattle.gateway.specs.event_core.Core.{Gateway}
 use Rattle.service_parts.specs.declared.lines.Lines.{Lines}
 use Rattle.service_parts.specs.declared.limits.Station.{Station}
 use Rattle.service_parts.specs.Waking.{is_up_at}
 use Rattle.service_core.specs.declared.device.Device.{Device}
+use Rattle.service_core.specs.declared.last_told.LastTold.{LastTold}
 use Rattle.service_core.specs.Maps.{has_map}
+use Rattle.service_core.specs.Rounds.{age_of}
 use Rattle.service_core.specs.declared.status.DeviceStatus.{DeviceStatus}
 
 -- whether the connection over which a device is reached is up
 abbrev pub is_reached : Lines → ℕ → Bool
 is_reached lines device = option_map_or (λ (at : Station). is_up_at lines.lines.items at.link) (slice_get lines.links.stations.items device) false
 
--- It tells what is kept of the device, whether its connection is up, and whether there is a map of it.
-pub record IsStatus (core : Gateway) (lines : Lines) (device : ℕ) (own : Device) (status : DeviceStatus) : Type 0 where
+-- It tells what is kept of the device, whether its connection is up, whether there is a map of it, and how old what it told is.
+pub record IsStatus (core : Gateway) (told : List LastTold) (lines : Lines) (device : ℕ) (own : Device) (status : DeviceStatus) : Type 0 where
   pub up : status.is_up ≡ is_reached lines device
   pub mapped : status.is_mapped ≡ has_map core device
   pub lost : status.is_lost ≡ own.is_lost
   pub last : status.last_loss ≡ own.last_loss
+  pub replies : status.replies ≡ own.replies
+  pub each : status.each ≡ own.each
+  pub age : status.age ≡ age_of device told
   pub counts : status.counts ≡ own.counts

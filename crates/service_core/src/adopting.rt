@@ -21,7 +21,6 @@ impl ScanCycle {
         ensures kept { IfErr result (λ e. stage_of self.new ≡ stage_of self.old) }
         ensures searches { self.new.searches ≡ self.old.searches }
         ensures over { self.new.over ≡ self.old.over }
-        ensures lost { self.new.lost ≡ self.old.lost }
         ensures foreign { IfErr result (λ e. e ≡ Foreign → HasLinks self.old.core.value.site.tags machine.accepted.links → ⊥) }
         ensures memory { IfErr result (λ e. e ≡ OutOfMemory → HasLinks self.old.core.value.site.tags machine.accepted.links) }
     {
@@ -38,7 +37,6 @@ impl Service {
         ensures kept { IfErr result (λ e. stage_of self.new.cycle ≡ stage_of self.old.cycle) }
         ensures searches { self.new.cycle.searches ≡ self.old.cycle.searches }
         ensures over { self.new.cycle.over ≡ self.old.cycle.over }
-        ensures lost { self.new.cycle.lost ≡ self.old.cycle.lost }
         ensures side { self.new.side ≡ self.old.side }
         ensures sent { self.new.sent ≡ self.old.sent }
         ensures links { self.new.lines.links ≡ self.old.lines.links }

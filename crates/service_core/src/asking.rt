@@ -1,29 +1,18 @@
 //! What is asked of devices next.
-ghost use Rattle.std.specs.Prelude.{◌≡◌, ◌<◌, ℕ, IfSome, Some, length, set, slice_get};
+ghost use Rattle.std.specs.Prelude.{◌≡◌, ℕ, Some, slice_get};
 ghost use Rattle.modbus_frame.specs.Message.{HasQuantity};
-ghost use Rattle.service.specs.declared.search.Step.TheVariants.{Found};
 ghost use Rattle.service_core.specs.Told.{Goes};
 ghost use Rattle.service_core.specs.Cycle.{LeadsOn};
 ghost use Rattle.service_core.specs.Rewriting.{sent_for};
 ghost use Rattle.service_parts.specs.Frames.{LinesGo};
 ghost use Rattle.service_parts.specs.Requests.{MayGoOver};
-ghost use Rattle.service_parts.specs.Seeking.{IsSought};
 
+use crate::link_pace::Purpose;
 use crate::service_state::Service;
 use crate::wish::Wish;
 use modbus_frame::Request;
 use register_map::Map;
-use service::Step;
 use service_parts::{Aim, Asked};
-
-/// What devices are asked for.
-#[derive(Clone, Copy)]
-enum Purpose {
-    /// The round that is under way.
-    Round,
-    /// Maps.
-    Search,
-}
 
 impl Service {
     /// Begins requests on all connections that are free.
@@ -53,11 +42,68 @@ impl Service {
             if !self.may_ask(link) {
                 return;
             }
-            if !self.ask_for(link, Purpose::Round) && !self.ask_for(link, Purpose::Search) {
+            if !self.ask_next(link) {
                 let until = self.asked_again_at(link);
                 self.lines.rest_until(link, until);
                 return;
             }
+        }
+    }
+
+    /// Asks what comes next over a connection; whether there is something. Writes come first, then reads, then what is searched;
+    /// after a request without an answer the device that answered last: it tells whether the others are still reached.
+    fn ask_next(&mut self, link: usize) -> bool
+        ensures links { self.new.lines.links ≡ self.old.lines.links }
+        ensures lines { LinesGo self.old.lines.lines.items self.new.lines.lines.items }
+        ensures goes { LeadsOn self.old.cycle self.new.cycle }
+        ensures places { self.new.places.items ≡ self.old.places.items }
+        ensures time { self.new.side.now ≡ self.old.side.now }
+        ensures stands { Goes self.old.side self.new.side }
+    {
+        self.ask_sign(link)
+            || self.ask_for(link, Purpose::Write)
+            || self.ask_for(link, Purpose::Doubt)
+            || self.ask_for(link, Purpose::GoOn)
+            || self.ask_for(link, Purpose::Read)
+            || self.ask_for(link, Purpose::Search)
+            || self.ask_for(link, Purpose::Probe)
+    }
+
+    /// Asks the device that answered last over a connection, where the last request had no answer; whether it does.
+    fn ask_sign(&mut self, link: usize) -> bool
+        ensures links { self.new.lines.links ≡ self.old.lines.links }
+        ensures lines { LinesGo self.old.lines.lines.items self.new.lines.lines.items }
+        ensures goes { LeadsOn self.old.cycle self.new.cycle }
+        ensures places { self.new.places.items ≡ self.old.places.items }
+        ensures time { self.new.side.now ≡ self.old.side.now }
+        ensures stands { Goes self.old.side self.new.side }
+    {
+        let Some(device) = self.side.sign_of(link) else {
+            return false;
+        };
+        if !self.is_served(link, device) {
+            return self.side.answers(device) && self.ask_device(link, device, Purpose::Sign);
+        }
+        self.ask_device(link, device, Purpose::Write)
+            || self.ask_device(link, device, Purpose::Read)
+            || self.ask_again(link, device)
+    }
+
+    /// Asks a device for the first registers of its map, whatever is known of it.
+    fn ask_again(&mut self, link: usize, device: usize) -> bool
+        ensures links { self.new.lines.links ≡ self.old.lines.links }
+        ensures lines { LinesGo self.old.lines.lines.items self.new.lines.lines.items }
+        ensures goes { LeadsOn self.old.cycle self.new.cycle }
+        ensures places { self.new.places.items ≡ self.old.places.items }
+        ensures time { self.new.side.now ≡ self.old.side.now }
+        ensures stands { Goes self.old.side self.new.side }
+    {
+        match self.wish_anew(link, device) {
+            Some(wish) => {
+                self.begin(link, device, wish);
+                true
+            }
+            None => false,
         }
     }
 
@@ -66,9 +112,9 @@ impl Service {
         self.lines.is_stirred(link, self.side.now) && self.lines.is_free(link)
     }
 
-    /// When one of a connection's devices may be asked again.
+    /// When something may be asked again over a connection.
     fn asked_again_at(&self, link: usize) -> u64 {
-        let mut until = u64::MAX;
+        let mut until = self.side.asked_over(link);
         for i in 0..self.lines.devices_on(link) {
             if let Some(device) = self.lines.device_at(link, i) {
                 until = self.side.asked_again(device, until);
@@ -77,7 +123,7 @@ impl Service {
         until
     }
 
-    /// Asks the next device in turn that there is something to ask of; whether there is one.
+    /// Asks the device whose turn it is, or the next one that there is something to ask of; whether there is one.
     fn ask_for(&mut self, link: usize, purpose: Purpose) -> bool
         ensures links { self.new.lines.links ≡ self.old.lines.links }
         ensures lines { LinesGo self.old.lines.lines.items self.new.lines.lines.items }
@@ -86,14 +132,12 @@ impl Service {
         ensures time { self.new.side.now ≡ self.old.side.now }
         ensures stands { Goes self.old.side self.new.side }
     {
-        let Some(turn) = self.lines.turn(link) else {
-            return false;
-        };
+        let turn = self.side.turn(link, purpose);
         self.ask_between(link, purpose, turn, usize::MAX)
             || self.ask_between(link, purpose, 0, turn)
     }
 
-    /// The same among the devices with these numbers.
+    /// The same among the devices at these places of the connection.
     fn ask_between(&mut self, link: usize, purpose: Purpose, first: usize, end: usize) -> bool
         ensures links { self.new.lines.links ≡ self.old.lines.links }
         ensures lines { LinesGo self.old.lines.lines.items self.new.lines.lines.items }
@@ -102,9 +146,11 @@ impl Service {
         ensures time { self.new.side.now ≡ self.old.side.now }
         ensures stands { Goes self.old.side self.new.side }
     {
-        for i in 0..self.lines.devices_on(link) {
+        for i in first..end.min(self.lines.devices_on(link)) {
             if let Some(device) = self.lines.device_at(link, i) {
-                if first <= device && device < end && self.ask_device(link, device, purpose) {
+                if self.ask_device(link, device, purpose) {
+                    let place = self.side.place_after(device, purpose, i);
+                    self.side.turned(link, purpose, place);
                     return true;
                 }
             }
@@ -120,9 +166,6 @@ impl Service {
         ensures time { self.new.side.now ≡ self.old.side.now }
         ensures stands { Goes self.old.side self.new.side }
     {
-        if !self.side.is_rested(device) {
-            return false;
-        }
         match self.wish_of(link, device, purpose) {
             Some(wish) => {
                 self.begin(link, device, wish);
@@ -130,124 +173,6 @@ impl Service {
             }
             None => false,
         }
-    }
-
-    fn wish_of(&mut self, link: usize, device: usize, purpose: Purpose) -> Option<Wish>
-        ensures quantity { IfSome result (λ wish. HasQuantity wish.request) }
-        ensures asked { IfSome result (λ wish. MayGoOver self.new.cycle.core.value self.new.lines.links.numbers.items self.new.lines.found_on.items link wish.aim device wish.request) }
-        ensures links { self.new.lines.links ≡ self.old.lines.links }
-        ensures lines { LinesGo self.old.lines.lines.items self.new.lines.lines.items }
-        ensures goes { LeadsOn self.old.cycle self.new.cycle }
-        ensures places { self.new.places.items ≡ self.old.places.items }
-        ensures time { self.new.side.now ≡ self.old.side.now }
-        ensures stands { Goes self.old.side self.new.side }
-    {
-        match (self.cycle.is_mapped(device), purpose) {
-            (true, Purpose::Round) => self.wish_of_round(link, device),
-            (false, Purpose::Search) => self.wish_of_search(link, device),
-            _ => None,
-        }
-    }
-
-    /// A request of the round, by the map that was found over this very connection.
-    #[tactic(auto, using(service_parts::proofs::Rightful::round_over))]
-    fn wish_of_round(&mut self, link: usize, device: usize) -> Option<Wish>
-        ensures quantity { IfSome result (λ wish. HasQuantity wish.request) }
-        ensures asked { IfSome result (λ wish. MayGoOver self.new.cycle.core.value self.new.lines.links.numbers.items self.new.lines.found_on.items link wish.aim device wish.request) }
-        ensures links { self.new.lines.links ≡ self.old.lines.links }
-        ensures lines { LinesGo self.old.lines.lines.items self.new.lines.lines.items }
-        ensures goes { LeadsOn self.old.cycle self.new.cycle }
-        ensures places { self.new.places.items ≡ self.old.places.items }
-        ensures time { self.new.side.now ≡ self.old.side.now }
-        ensures stands { Goes self.old.side self.new.side }
-    {
-        if !self.lines.is_found(link, device) {
-            return None;
-        }
-        let number = self.lines.number_of(link)?;
-        self.next_due(number, device)
-    }
-
-    #[tactic(auto, using(service_parts::proofs::Rightful::search_over))]
-    fn wish_of_search(&mut self, link: usize, device: usize) -> Option<Wish>
-        ensures quantity { IfSome result (λ wish. HasQuantity wish.request) }
-        ensures asked { IfSome result (λ wish. MayGoOver self.new.cycle.core.value self.new.lines.links.numbers.items self.new.lines.found_on.items link wish.aim device wish.request) }
-        ensures links { self.new.lines.links ≡ self.old.lines.links }
-        ensures lines { LinesGo self.old.lines.lines.items self.new.lines.lines.items }
-        ensures goes { LeadsOn self.old.cycle self.new.cycle }
-        ensures places { self.new.places.items ≡ self.old.places.items }
-        ensures time { self.new.side.now ≡ self.old.side.now }
-        ensures stands { Goes self.old.side self.new.side }
-    {
-        if !self.side.is_sought(device) {
-            return None;
-        }
-        match self.cycle.seek(device)? {
-            Step::Ask(request) => Some(Wish {
-                aim: Aim::Map,
-                request,
-            }),
-            Step::Found(map) => {
-                self.find_over(link, device, map);
-                None
-            }
-            Step::NoMap => {
-                self.find_none(device);
-                None
-            }
-        }
-    }
-
-    /// A search found the device's map. It is learned where all of its answers came over the connection that the link has
-    /// now; else it is searched again over this one.
-    fn find_over(&mut self, link: usize, device: usize, map: Map)
-        requires { ∥ IsSought self.old.cycle.core.value.site device (Found map) ∥₁ }
-        ensures links { self.new.lines.links ≡ self.old.lines.links }
-        ensures lines { LinesGo self.old.lines.lines.items self.new.lines.lines.items }
-        ensures goes { LeadsOn self.old.cycle self.new.cycle }
-        ensures places { self.new.places.items ≡ self.old.places.items }
-        ensures time { self.new.side.now ≡ self.old.side.now }
-        ensures stands { Goes self.old.side self.new.side }
-    {
-        let Some(number) = self.lines.number_of(link) else {
-            return;
-        };
-        if self.cycle.is_sought_over(device, number) {
-            self.find(link, device, number, map);
-        } else {
-            self.cycle.seek_anew(device, number);
-        }
-    }
-
-    fn find(&mut self, link: usize, device: usize, number: u64, map: Map)
-        requires sought { ∥ IsSought self.old.cycle.core.value.site device (Found map) ∥₁ }
-        requires number { slice_get self.old.lines.links.numbers.items link ≡ Some number }
-        requires over { slice_get self.old.cycle.over.items device ≡ Some number }
-        ensures learned { device < length self.old.cycle.core.value.site.devices → self.new.cycle.core.value.maps ≡ set self.old.cycle.core.value.maps device (Some map) }
-        ensures found { (unit : ℕ) → slice_get self.old.lines.links.stations.items device ≡ Some (record { link = link; unit = unit })
-            → device < length self.old.lines.found_on.items → self.new.lines.found_on.items ≡ set self.old.lines.found_on.items device (Some number) }
-        ensures links { self.new.lines.links ≡ self.old.lines.links }
-        ensures lines { LinesGo self.old.lines.lines.items self.new.lines.lines.items }
-        ensures goes { LeadsOn self.old.cycle self.new.cycle }
-        ensures places { self.new.places.items ≡ self.old.places.items }
-        ensures time { self.new.side.now ≡ self.old.side.now }
-        ensures stands { Goes self.old.side self.new.side }
-    {
-        self.cycle.learn(device, Some(map));
-        self.lines.find(link, device, number);
-        self.side.find(device);
-    }
-
-    fn find_none(&mut self, device: usize)
-        ensures links { self.new.lines.links ≡ self.old.lines.links }
-        ensures lines { LinesGo self.old.lines.lines.items self.new.lines.lines.items }
-        ensures goes { LeadsOn self.old.cycle self.new.cycle }
-        ensures places { self.new.places.items ≡ self.old.places.items }
-        ensures time { self.new.side.now ≡ self.old.side.now }
-        ensures stands { Goes self.old.side self.new.side }
-    {
-        self.cycle.seek_anew(device, self.lines.number_for(device));
-        self.side.find_none(device);
     }
 
     fn begin(&mut self, link: usize, device: usize, wish: Wish)
@@ -265,16 +190,20 @@ impl Service {
         let Some(number) = self.lines.number_of(link) else {
             return;
         };
+        let wait = self.wait_of(link, device, wish.aim);
         let asked = Asked {
             device,
             aim: wish.aim,
             number,
             since: self.side.now,
-            until: self.side.until(wish.aim),
+            until: self.side.now.saturating_add(wait),
         };
         self.sent.go_out(wish.aim, device, &wish.request);
         self.start(link, asked, wish.request);
-        self.side.count(device);
+        self.side.count_request(device);
+        if wish.aim == Aim::Map {
+            self.side.spare(link, device, wait);
+        }
     }
 
     /// Begins a request, where one may begin. Bytes that came before it are looked at with those that come next.

@@ -1,5 +1,5 @@
 //! A service is made.
-ghost use Rattle.std.specs.Prelude.{◌≡◌, ◌≤◌, length, [], map, replicate, true, IfErr, IfOk, OnOk};
+ghost use Rattle.std.specs.Prelude.{◌≡◌, All, length, [], map, replicate, IfErr, IfOk, OnOk};
 ghost use Rattle.verifier.specs.Verified.{HasLinks};
 ghost use Rattle.gateway.specs.declared.event_core.fault.CoreFault.TheVariants.{Foreign};
 ghost use Rattle.gateway.specs.event_core.Core.{Gateway, gateway_of};
@@ -7,11 +7,12 @@ ghost use Rattle.gateway.specs.event_core.SiteRun.{none_of};
 ghost use Rattle.service_parts.specs.Requests.{AreRightfulBy};
 ghost use Rattle.service_parts.specs.Seeking.{AreOf};
 ghost use Rattle.service_core.specs.Cycle.{stage_of};
-ghost use Rattle.service_core.specs.Rounds.{IsRoundFor};
+ghost use Rattle.service_core.specs.Rounds.{IsRoundFor, IsUntold};
 ghost use Rattle.service_core.specs.Stages.{IsFirst};
 
 use crate::device::Device;
-use crate::device_side::{DeviceSide, Phase};
+use crate::device_side::DeviceSide;
+use crate::link_pace::LinkPace;
 use crate::notes::Notes;
 use crate::output::Output;
 use crate::round::Round;
@@ -29,7 +30,7 @@ use std::alloc::{AllocError, Global};
 impl Service {
     /// A service for a site and the program that runs, over so many connections, all of them down; no device has a map
     /// yet. All memory is taken here. `stations` has an entry for each of the site's devices; one without is never asked.
-    /// The first round begins a period from now. Foreign: the program was accepted for tags that the site doesn't have so;
+    /// The first scan is a period from now. Foreign: the program was accepted for tags that the site doesn't have so;
     /// OutOfMemory: memory is refused.
     pub fn new(
         alloc: Global,
@@ -84,7 +85,7 @@ fn parts_of(
 ) -> Result<Parts, AllocError>
     ensures maps { IfOk result (λ parts. parts.maps.items ≡ none_of site.now.devices) }
     ensures round { IfOk result (λ parts. IsRoundFor site.now parts.round) }
-    ensures over { IfOk result (λ parts. parts.round.scanned ≡ true) }
+    ensures untold { IfOk result (λ parts. All IsUntold parts.round.told) }
     ensures searches { IfOk result (λ parts. AreOf site.now parts.searches.items) }
     ensures rightful { IfOk result (λ parts. (now : Gateway) → AreRightfulBy now parts.peers.lines) }
     ensures stations { IfOk result (λ parts. parts.peers.lines.links.stations.items ≡ stations.now) }
@@ -134,7 +135,7 @@ fn peers_of(
     ensures places { IfOk result (λ peers. length peers.places.items ≡ limits.clients) }
 {
     let lines = Lines::new(alloc, links, stations, site.devices().len())?;
-    let side = device_side(alloc, site, limits, now)?;
+    let side = device_side(alloc, site, links, limits, now)?;
     let places = places_for(alloc, limits.clients)?;
     Ok(Peers {
         lines,
@@ -143,10 +144,11 @@ fn peers_of(
     })
 }
 
-/// The devices and outputs of a site.
+/// The devices and outputs of a site, and what is asked over so many links.
 fn device_side(
     alloc: Global,
     site: &Site,
+    links: usize,
     limits: Limits,
     now: u64,
 ) -> Result<DeviceSide, AllocError>
@@ -155,17 +157,18 @@ fn device_side(
 {
     let devices = devices_of(alloc, site.devices().len())?;
     let outputs = outputs_of(alloc, site.outs())?;
+    let links = vec![in alloc; LinkPace::new(); links]?;
     let notes = Notes::new(alloc, most_notes(devices.len(), outputs.len()))?;
     Ok(DeviceSide {
         devices,
         outputs,
+        links,
         notes,
         limits,
         now,
-        next_round: now.saturating_add(limits.period),
-        deadline: now,
+        next_scan: now.saturating_add(limits.period),
         scans: 0,
-        phase: Phase::Resting,
+        is_writing: false,
         writes: 0,
         refused: 0,
     })

@@ -18,14 +18,14 @@ pub struct Counts {
     pub frame: u64,
     /// How often too many frames came that answered something else.
     pub stale: u64,
-    /// How often others used up the time of the round.
-    pub no_time: u64,
+    /// How often a gateway said that it doesn't answer.
+    pub gateway: u64,
 }
 
 impl Counts {
     /// None so far.
     pub fn new() -> Counts
-        ensures { result ≡ record { requests = 0; down = 0; silent = 0; frame = 0; stale = 0; no_time = 0 } }
+        ensures { result ≡ record { requests = 0; down = 0; silent = 0; frame = 0; stale = 0; gateway = 0 } }
     {
         Counts {
             requests: 0,
@@ -33,7 +33,7 @@ impl Counts {
             silent: 0,
             frame: 0,
             stale: 0,
-            no_time: 0,
+            gateway: 0,
         }
     }
 
@@ -53,7 +53,7 @@ impl Counts {
             Loss::Silent => self.silent = self.silent.saturating_add(1),
             Loss::Frame => self.frame = self.frame.saturating_add(1),
             Loss::Stale => self.stale = self.stale.saturating_add(1),
-            Loss::NoTime => self.no_time = self.no_time.saturating_add(1),
+            Loss::Gateway => self.gateway = self.gateway.saturating_add(1),
         }
     }
 }

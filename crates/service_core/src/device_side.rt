@@ -1,50 +1,38 @@
-//! The devices' side of a service, apart from its core and its connections: devices, outputs, and the times of rounds.
+//! The devices' side of a service, apart from its core and its connections: devices, outputs, and the times of scans.
 ghost use Rattle.std.specs.Prelude.{◌≡◌, ◌≤◌, ◌<◌, ℕ, Bool, IsTrue, Option, Some, true, length, max, slice_get};
 ghost use Rattle.service_core.specs.declared.device.Device.{Device as DeviceValue};
 ghost use Rattle.service_core.specs.Counting.{asked_once_more, counts_at};
 ghost use Rattle.service_core.specs.Noting.{Finds, HearsFrom, Loses};
-ghost use Rattle.service_core.specs.Phases.{is_reading};
-ghost use Rattle.service_core.specs.GivingUp.{is_rested};
 ghost use Rattle.service_core.specs.Telling.{told_at};
 ghost use Rattle.service_core.specs.declared.output.OutputState.{OutputState as StateValue};
-ghost use Rattle.service_core.specs.Losing.{IsLost, SameTimes};
+ghost use Rattle.service_core.specs.Losing.{IsLost};
 ghost use Rattle.service_core.specs.Told.{Goes, LosesBy, Losses, allows, lost_then, note_of, state_then};
 
 use crate::device::Device;
+use crate::link_pace::LinkPace;
 use crate::note::{Loss, Note, Unwritten};
 use crate::notes::Notes;
 use crate::output::{Output, OutputState};
+use crate::round::Round;
 use gateway::{Core, DEPTH, Report};
 use point_writer::{NoWrite, Write};
-use service_parts::{Aim, Limits, sooner};
+use service_parts::{Aim, Limits};
 
-/// How far a round is.
-#[derive(Clone, Copy)]
-pub(crate) enum Phase {
-    /// Wanted blocks are asked for.
-    Reading,
-    /// The program ran, and outputs are written.
-    Writing,
-    /// The round is over.
-    Resting,
-}
-
-/// How devices and outputs stand, what is told of them, how far the round is, and when something is to be done about all
-/// that.
+/// How devices and outputs stand, what is told of them, and when something is to be done about all that.
 #[derive(Drop)]
 pub struct DeviceSide {
     pub(crate) devices: Vec<Device>,
     pub(crate) outputs: Vec<Output>,
+    pub(crate) links: Vec<LinkPace>,
     pub(crate) notes: Notes,
     pub(crate) limits: Limits,
     pub(crate) now: u64,
-    /// When the next round begins.
-    pub(crate) next_round: u64,
-    /// Until when wanted blocks are waited for.
-    pub(crate) deadline: u64,
+    /// When the program runs next.
+    pub(crate) next_scan: u64,
     pub(crate) scans: u64,
-    pub(crate) phase: Phase,
-    /// How many writes of the round went out, and something came of them.
+    /// Whether what the last scan planned is still written.
+    pub(crate) is_writing: bool,
+    /// How many writes of the last scan went out, and something came of them.
     pub(crate) writes: usize,
     /// How many of these weren't done.
     pub(crate) refused: usize,
@@ -65,56 +53,49 @@ impl DeviceSide {
         self.now.saturating_add(self.limits.timeout)
     }
 
-    /// When a device may be asked and searched again, where that is yet to come and before the given time; else this time.
-    pub(crate) fn asked_again(&self, device: usize, until: u64) -> u64 {
-        match self.devices.get(device) {
-            Some(found) => sooner(until, found.asked_again_at(), self.now),
-            None => until,
-        }
+    /// When wanted blocks are read of all devices: half a period before the next scan.
+    pub(crate) fn reading_time(&self) -> u64 {
+        self.next_scan.saturating_sub(self.limits.period / 2)
     }
 
-    /// Until when an answer is waited for. A search takes nothing of the next round.
-    pub(crate) fn until(&self, aim: Aim) -> u64 {
-        let until = self.now.saturating_add(self.limits.timeout);
-        match aim {
-            Aim::Block(_) => until.min(self.deadline),
-            Aim::Map => until.min(self.next_round),
-            Aim::Output(_) | Aim::Past => until,
+    /// By when a request ends that takes nothing of what the scans need: when all devices are read, or the next scan.
+    pub(crate) fn spare_until(&self) -> u64 {
+        let reads = self.reading_time();
+        if self.now < reads {
+            reads
+        } else {
+            self.next_scan
         }
-    }
-
-    /// Whether a request since then had a fair time.
-    pub(crate) fn had_time(&self, since: u64) -> bool {
-        let fair = self.limits.timeout.min(self.limits.period / 4);
-        self.now >= since.saturating_add(fair)
     }
 }
 
 impl DeviceSide {
-    /// Whether a device may be asked, by its back-off.
-    pub(crate) fn is_rested(&self, device: usize) -> bool
-        ensures { result ≡ is_rested self.entry.now device }
-    {
-        match self.devices.get(device) {
-            Some(found) => found.is_rested(self.now),
-            None => false,
-        }
-    }
-
-    /// Whether a device may be searched.
-    pub(crate) fn is_sought(&self, device: usize) -> bool {
-        match self.devices.get(device) {
-            Some(found) => found.is_sought(self.now),
-            None => false,
-        }
-    }
-
     /// A device is searched from now on.
     pub(crate) fn seek(&mut self, device: usize)
         ensures now { self.new.now ≡ self.old.now }
         ensures stands { Goes self.old self.new }
     {
         self.seek_at(device, self.now);
+        self.begin_anew(device);
+    }
+
+    fn begin_anew(&mut self, device: usize)
+        ensures now { self.new.now ≡ self.old.now }
+        ensures stands { Goes self.old self.new }
+    {
+        if let Some(found) = self.devices.get_mut(device) {
+            found.begin_anew();
+        }
+    }
+
+    /// A device has other registers than its map said: its next map is told.
+    pub(crate) fn tell_again(&mut self, device: usize)
+        ensures now { self.new.now ≡ self.old.now }
+        ensures stands { Goes self.old self.new }
+    {
+        if let Some(found) = self.devices.get_mut(device) {
+            found.tell_again();
+        }
     }
 
     fn seek_at(&mut self, device: usize, at: u64)
@@ -145,12 +126,10 @@ impl DeviceSide {
         ensures now { self.new.now ≡ self.old.now }
         ensures stands { Goes self.old self.new }
     {
-        match self.devices.get_mut(device) {
-            Some(found) => {
-                found.found();
+        if let Some(found) = self.devices.get_mut(device) {
+            if found.found() {
                 self.notes.add(Note::Found(device));
             }
-            None => self.notes.add(Note::Found(device)),
         }
     }
 
@@ -165,7 +144,7 @@ impl DeviceSide {
     }
 
     /// A request to a device is counted.
-    pub(crate) fn count(&mut self, device: usize)
+    pub(crate) fn count_request(&mut self, device: usize)
         ensures counts { (own : DeviceValue) → slice_get self.old.devices.items device ≡ Some own → counts_at self.new device ≡ Some (asked_once_more own.counts) }
         ensures now { self.new.now ≡ self.old.now }
         ensures stands { Goes self.old self.new }
@@ -179,7 +158,6 @@ impl DeviceSide {
     pub(crate) fn lose(&mut self, device: usize, loss: Loss)
         ensures loses { (own : DeviceValue) → slice_get self.old.devices.items device ≡ Some own → Loses device loss own self.old self.new }
         ensures now { self.new.now ≡ self.old.now }
-        ensures times { SameTimes self.old self.new }
         ensures stands { LosesBy (IsLost device loss) self.old self.new }
     {
         if let Some(found) = self.devices.get_mut(device) {
@@ -202,63 +180,88 @@ impl DeviceSide {
         }
     }
 
+    /// An answer of a device came over the connection that there is.
+    pub(crate) fn hear_over(&mut self, device: usize)
+        ensures counts { counts_at self.new device ≡ counts_at self.old device }
+        ensures now { self.new.now ≡ self.old.now }
+        ensures stands { Goes self.old self.new }
+    {
+        if let Some(found) = self.devices.get_mut(device) {
+            found.hear();
+        }
+    }
+
+    /// A device answered after so many milliseconds.
+    pub(crate) fn replied(&mut self, device: usize, after: u64)
+        ensures counts { counts_at self.new device ≡ counts_at self.old device }
+        ensures now { self.new.now ≡ self.old.now }
+        ensures stands { Goes self.old self.new }
+    {
+        if let Some(found) = self.devices.get_mut(device) {
+            found.replied(after);
+        }
+    }
+
+    /// A request to a device had an answer, or none.
+    pub(crate) fn note_write(&mut self, device: usize, aim: Aim, is_answered: bool)
+        ensures counts { counts_at self.new device ≡ counts_at self.old device }
+        ensures now { self.new.now ≡ self.old.now }
+        ensures stands { Goes self.old self.new }
+    {
+        if let Aim::Output(_) = aim {
+            if let Some(found) = self.devices.get_mut(device) {
+                found.note_write(is_answered);
+            }
+        }
+    }
+
     /// A device didn't answer: it isn't asked for a while.
     pub(crate) fn miss(&mut self, device: usize)
         ensures counts { counts_at self.new device ≡ counts_at self.old device }
         ensures now { self.new.now ≡ self.old.now }
-        ensures times { SameTimes self.old self.new }
         ensures stands { Goes self.old self.new }
     {
         if let Some(found) = self.devices.get_mut(device) {
-            found.rest(self.now, &self.limits);
+            found.miss(self.now, &self.limits);
+        }
+    }
+
+    /// A scan plans the outputs of a device, or passes it over.
+    pub(crate) fn scan_device(&mut self, device: usize, is_planned: bool)
+        ensures counts { counts_at self.new device ≡ counts_at self.old device }
+        ensures now { self.new.now ≡ self.old.now }
+        ensures stands { Goes self.old self.new }
+    {
+        if let Some(found) = self.devices.get_mut(device) {
+            found.scanned(is_planned);
         }
     }
 }
 
 impl DeviceSide {
-    /// Whether the next round is to begin.
+    /// Whether the program is to run.
     pub(crate) fn is_due(&self) -> bool
-        ensures { IsTrue result → self.entry.now.next_round ≤ self.entry.now.now }
+        ensures { IsTrue result → self.entry.now.next_scan ≤ self.entry.now.now }
     {
-        self.now >= self.next_round
+        self.now >= self.next_scan
     }
 
-    /// Whether wanted blocks aren't waited for any more.
-    pub(crate) fn is_past_deadline(&self) -> bool
-        ensures { IsTrue result → self.entry.now.deadline ≤ self.entry.now.now }
-    {
-        self.now >= self.deadline
-    }
-
-    /// Whether wanted blocks are asked for.
-    pub(crate) fn is_reading(&self) -> bool
-        ensures { result ≡ is_reading self.entry.now.phase }
-    {
-        matches!(self.phase, Phase::Reading)
-    }
-
-    /// Whether the program ran in this round, and outputs are written.
-    pub(crate) fn is_writing(&self) -> bool {
-        self.phase == Phase::Writing
-    }
-
-    /// A round begins now: its deadline, and when the next one begins. A round that begins late is told, and the next one
-    /// begins a period after it.
-    pub(crate) fn plan_round(&mut self)
+    /// The program runs now: when it runs next. A scan that comes late is told, and the next one comes a period after it.
+    pub(crate) fn plan_scan(&mut self)
         ensures now { self.new.now ≡ self.old.now }
         ensures stands { Goes self.old self.new }
     {
-        self.begin_reading();
+        self.begin_writing();
         self.tell_late();
         self.set_times();
     }
 
     #[tactic(auto, using(crate::proofs::ByNotes::same_goes))]
-    fn begin_reading(&mut self)
+    fn begin_writing(&mut self)
         ensures now { self.new.now ≡ self.old.now }
         ensures stands { Goes self.old self.new }
     {
-        self.phase = Phase::Reading;
+        self.is_writing = true;
         self.writes = 0;
         self.refused = 0;
     }
@@ -268,10 +271,9 @@ impl DeviceSide {
         ensures now { self.new.now ≡ self.old.now }
         ensures stands { Goes self.old self.new }
     {
-        self.deadline = self.now.saturating_add(self.limits.period / 2);
-        self.next_round = self.next_round.saturating_add(self.limits.period);
-        if self.next_round <= self.now {
-            self.next_round = self.now.saturating_add(self.limits.period.max(1));
+        self.next_scan = self.next_scan.saturating_add(self.limits.period);
+        if self.next_scan <= self.now {
+            self.next_scan = self.now.saturating_add(self.limits.period.max(1));
         }
     }
 
@@ -279,8 +281,8 @@ impl DeviceSide {
         ensures now { self.new.now ≡ self.old.now }
         ensures stands { Goes self.old self.new }
     {
-        if self.now > self.next_round.saturating_add(self.limits.period) {
-            self.tell(Note::Late(self.now.saturating_sub(self.next_round)));
+        if self.now > self.next_scan.saturating_add(self.limits.period) {
+            self.tell(Note::Late(self.now.saturating_sub(self.next_scan)));
             self.begin_at_once();
         }
     }
@@ -290,29 +292,35 @@ impl DeviceSide {
         ensures now { self.new.now ≡ self.old.now }
         ensures stands { Goes self.old self.new }
     {
-        self.next_round = self.now;
+        self.next_scan = self.now;
     }
 
     /// The program ran, and this is planned for each output.
-    #[tactic(auto, using(crate::proofs::ByNotes::same_goes))]
-    pub(crate) fn count_scan(&mut self, core: &Core<DEPTH>)
+    pub(crate) fn count_scan(&mut self, core: &Core<DEPTH>, round: &Round)
         ensures now { self.new.now ≡ self.old.now }
         ensures stands { Goes self.old self.new }
     {
-        self.phase = Phase::Writing;
-        self.scans = self.scans.saturating_add(1);
+        self.count();
         for output in 0..core.site().outs().len() {
-            self.await_output(output, &core.write(output));
+            self.plan_output(output, &core.write(output), round.is_open(output));
         }
     }
 
-    /// An output's write is waited for from now on, where there is one.
-    fn await_output(&mut self, output: usize, plan: &Result<Write, NoWrite>)
+    #[tactic(auto, using(crate::proofs::ByNotes::same_goes))]
+    fn count(&mut self)
+        ensures now { self.new.now ≡ self.old.now }
+        ensures stands { Goes self.old self.new }
+    {
+        self.scans = self.scans.saturating_add(1);
+    }
+
+    /// An output's write is waited for from now on, where one is to be made; where there is no set point for it, it isn't written.
+    fn plan_output(&mut self, output: usize, plan: &Result<Write, NoWrite>, is_open: bool)
         ensures now { self.new.now ≡ self.old.now }
         ensures stands { Goes self.old self.new }
     {
         match plan {
-            Ok(_) => self.await_write(output),
+            Ok(_) => self.await_write(output, is_open),
             Err(cause) => {
                 let state = OutputState::Unwritten(Unwritten::NoSetPoint(*cause));
                 self.settle_output(output, state);
@@ -320,12 +328,12 @@ impl DeviceSide {
         }
     }
 
-    fn await_write(&mut self, output: usize)
+    fn await_write(&mut self, output: usize, is_open: bool)
         ensures now { self.new.now ≡ self.old.now }
         ensures stands { Goes self.old self.new }
     {
         if let Some(found) = self.outputs.get_mut(output) {
-            found.wait();
+            found.wait(is_open);
         }
     }
 
@@ -358,7 +366,6 @@ impl DeviceSide {
     #[tactic(auto, using(crate::proofs::ByNotes::same_goes))]
     pub(crate) fn lose_write(&mut self, aim: Aim)
         ensures now { self.new.now ≡ self.old.now }
-        ensures times { SameTimes self.old self.new }
         ensures stands { Goes self.old self.new }
     {
         if let Aim::Output(_) = aim {
@@ -366,20 +373,27 @@ impl DeviceSide {
         }
     }
 
-    /// A round is over: what was still to be written isn't.
-    #[tactic(auto, using(crate::proofs::ByNotes::same_goes))]
-    pub(crate) fn finish(&mut self, report: Report)
+    /// What the last scan planned is over: what was to be written and isn't any more wasn't done.
+    pub(crate) fn finish(&mut self, report: Report, round: &Round)
         ensures now { self.new.now ≡ self.old.now }
         ensures stands { Goes self.old self.new }
     {
-        self.phase = Phase::Resting;
+        self.end_writing();
         for output in 0..self.outputs.len() {
-            if self.is_awaited(output) {
+            if self.is_awaited(output) && !round.is_open(output) {
                 let state = OutputState::Unwritten(Unwritten::Unanswered);
                 self.settle_output(output, state);
             }
         }
         self.tell(Note::Scanned(report));
+    }
+
+    #[tactic(auto, using(crate::proofs::ByNotes::same_goes))]
+    fn end_writing(&mut self)
+        ensures now { self.new.now ≡ self.old.now }
+        ensures stands { Goes self.old self.new }
+    {
+        self.is_writing = false;
     }
 
     fn is_awaited(&self, output: usize) -> bool {

@@ -16,9 +16,9 @@ use crate::wish::Wish;
 use service_parts::Aim;
 
 impl Service {
-    /// The round's next request to a device over the connection with this number. What would write once more what the device
+    /// The next write to a device over the connection with this number. What would write once more what the device
     /// has is left out, and counts as written; nothing else is.
-    #[tactic(auto, using(crate::proofs::LeftOut::left_nothing, crate::proofs::LeftOut::none_due, crate::proofs::LeftOut::one_due, crate::proofs::LeftOut::left_one))]
+    #[tactic(auto, using(crate::proofs::LeftOut::left_nothing))]
     pub(crate) fn next_due(&mut self, number: u64, device: usize) -> Option<Wish>
         ensures quantity { IfSome result (λ wish. HasQuantity wish.request) }
         ensures asked { IfSome result (λ wish. IsOfRound self.new.cycle.core.value wish.aim device wish.request) }
@@ -31,8 +31,8 @@ impl Service {
         ensures time { self.new.side.now ≡ self.old.side.now }
         ensures stands { Goes self.old.side self.new.side }
     {
-        for _ in 0..self.cycle.requests() {
-            let Some(wish) = self.cycle.next(device) else {
+        for _ in 0..self.cycle.round().outputs() {
+            let Some(wish) = self.cycle.next_write(device) else {
                 return None;
             };
             let Some(output) = self.held_output(number, device, &wish) else {
@@ -75,7 +75,7 @@ impl Service {
 
     /// The device's request that is under way isn't sent: its output is written.
     fn hold_back(&mut self, device: usize, output: usize)
-        ensures ends { Ends device Lost (stage_of self.old.cycle) (stage_of self.new.cycle) }
+        ensures ends { Ends device (stage_of self.old.cycle) (stage_of self.new.cycle) }
         ensures same_lines { self.new.lines ≡ self.old.lines }
         ensures sent { self.new.sent ≡ self.old.sent }
         ensures goes { LeadsOn self.old.cycle self.new.cycle }
@@ -83,7 +83,7 @@ impl Service {
         ensures time { self.new.side.now ≡ self.old.side.now }
         ensures stands { Goes self.old.side self.new.side }
     {
-        self.cycle.drop_request(device);
+        self.cycle.drop_write(device);
         self.side.wrote(true);
         self.side.settle_output(output, OutputState::Written);
     }

@@ -3,6 +3,7 @@
 #![tactic(auto)]
 
 mod adopting;
+mod answers;
 mod asking;
 mod client_side;
 mod connections;
@@ -11,10 +12,14 @@ mod counts;
 mod device;
 mod device_side;
 mod held_back;
+mod last_told;
 pub mod laws;
+mod link_pace;
 mod note;
 mod notes;
 mod output;
+mod pacing;
+mod replies;
 mod restoring;
 mod round;
 mod round_times;
@@ -25,6 +30,7 @@ mod status;
 mod steps;
 mod wakes;
 mod wish;
+mod wishes;
 
 // a service, and what is asked of it
 pub use service_parts::{Limits, Station};
@@ -34,4 +40,5 @@ pub use note::{Loss, Note, Unwritten};
 // how it stands
 pub use counts::Counts;
 pub use output::OutputState;
+pub use replies::Replies;
 pub use status::DeviceStatus;

@@ -5,7 +5,7 @@ use point_writer::NoWrite;
 /// What happened. Devices and outputs are told by their numbers.
 #[derive(Clone, Copy, Debug, PartialEq, Eq)]
 pub enum Note {
-    /// A device's map was found: a new device, or one whose connection was made anew or whose registers changed.
+    /// A device's map was found: a new device, or one that was lost or whose registers changed.
     Found(usize),
     /// A device has no map.
     NoMap(usize),
@@ -13,9 +13,9 @@ pub enum Note {
     Lost(usize, Loss),
     /// A lost device that kept its map answered.
     Back(usize),
-    /// A round is over.
+    /// What a scan planned is written, or the next one comes.
     Scanned(Report),
-    /// A round began so many milliseconds after its time.
+    /// A scan came so many milliseconds after its time.
     Late(u64),
     /// An output isn't written any more, or for another cause than before.
     Unwritten(usize, Unwritten),
@@ -34,8 +34,8 @@ pub enum Loss {
     Frame,
     /// Too many frames came that answered something else.
     Stale,
-    /// Others used up the time of the round.
-    NoTime,
+    /// A gateway before it says that it doesn't answer, or can't be reached.
+    Gateway,
 }
 
 /// Why an output isn't written.
@@ -45,6 +45,6 @@ pub enum Unwritten {
     NoSetPoint(NoWrite),
     /// Its device answered otherwise than by taking it.
     Refused,
-    /// Its device didn't answer in this round, or wasn't asked.
+    /// Its device didn't answer, or was lost before it was asked.
     Unanswered,
 }

@@ -12,7 +12,7 @@ pub enum OutputState {
     Unwritten(Unwritten),
 }
 
-/// What was told of an output last, and whether its write is waited for in this round.
+/// What was told of an output last, and whether its write is waited for.
 #[derive(Clone, Copy)]
 pub struct Output {
     told: Option<OutputState>,
@@ -35,14 +35,14 @@ impl Output {
         self.told
     }
 
-    /// Its write is waited for in this round.
-    pub fn wait(&mut self)
-        ensures { self.new ≡ record self.old { is_awaited = true } }
+    /// Its write is waited for, where it is still to be made.
+    pub fn wait(&mut self, is_open: bool)
+        ensures { self.new ≡ record self.old { is_awaited = self.new.is_awaited } }
     {
-        self.is_awaited = true;
+        self.is_awaited = self.is_awaited || is_open;
     }
 
-    /// This became of it in this round; whether that is to be told.
+    /// This became of it; whether that is to be told.
     pub fn settle(&mut self, state: OutputState) -> bool
         ensures state { self.new ≡ record self.old { told = Some state; is_awaited = false } }
         ensures differs { result ≡ false → self.old.told ≡ Some state }

@@ -1,33 +1,33 @@
-//! One scan as requests that several devices answer side by side.
-ghost use Rattle.std.specs.Prelude.{◌≡◌, ◌<◌, ◌≤◌, ◌↔◌, All, IfOk, IfSome, IsTrue, false, length, map, slice_get, slice_index_or, true, None, Some};
-ghost use Rattle.std.specs.List.{position};
+//! What is known of the wanted blocks, and the writes of the outputs.
+ghost use Rattle.std.specs.Prelude.{◌≡◌, ◌<◌, ◌≤◌, ◌↔◌, All, IfOk, IfSome, IsTrue, length, slice_get, slice_set, Some};
 ghost use Rattle.modbus_frame.specs.Message.{HasQuantity};
-ghost use Rattle.gateway.specs.event_core.Control.{IsPlanned};
-ghost use Rattle.service.specs.Tasks.{IsDone, is_asked, is_asked_at, is_due_at, next_place};
+ghost use Rattle.std.specs.List.{position};
+ghost use Rattle.site_model.specs.declared.site.Site.{Site as SiteValue};
+ghost use Rattle.service.specs.declared.task.Task.{Task as TaskValue};
+ghost use Rattle.service.specs.Tasks.{IsDone};
 ghost use Rattle.service_parts.specs.Calls.{write_to};
-ghost use Rattle.service_parts.specs.declared.wire.Aim.TheVariants.{Block as BlockAim, Output as OutputAim};
 ghost use Rattle.service_core.specs.Running.{ScansAfter};
-ghost use Rattle.service_core.specs.Rounds.{ArePlanned, Closes, ClosesRead, IsUnderWay, ClosesWrite, IsRoundFor, IsSendable, Opens, OpensRead, OpensWrite, begun, event_of, requests_now, since, task_of};
+ghost use Rattle.service_core.specs.declared.last_told.LastTold.{LastTold as LastToldValue};
+ghost use Rattle.service_core.specs.Rounds.{ArePlanned, Closes, IsRecent, IsRoundFor, IsSendable, IsUnderWay, IsUntold, Opens, after_scan, age_of, is_ready, is_untold, since, skipped, task_of, told_at};
 
-use gateway::{Call, Core, DEPTH, Event, MOST_ELAPSED, event_by, read_of, write_of};
+use crate::last_told::{LastTold, age, age_of, are_recent, is_ready, none_told, untold};
+use gateway::{Call, Core, DEPTH, Event, MOST_ELAPSED, write_of};
 use point_writer::{NoWrite, Write};
-use register_map::Map;
-use service::{Fate, Mark, Task, Tasks};
+use service::{Mark, Task, Tasks};
 use service_parts::Aim;
-use site_model::{Site, SiteDevice, Want};
+use site_model::{Site, SiteDevice};
 use std::alloc::{AllocError, Global};
 use std::marker::Model;
 
-/// One scan over all devices: the wanted blocks are asked for, those of a device one after another, the program runs
-/// once, and what it set is written, to a device one after another. Devices are asked side by side. It takes memory when
-/// it is made alone.
+/// What is known of the wanted blocks of a site, and how far the writes of its outputs are. A device is asked for its wanted
+/// blocks one after another, over as many scans as it takes; a scan plans the outputs of each device all of whose blocks were
+/// told since its outputs were planned last. It takes memory when it is made alone.
 #[derive(Drop)]
 pub struct Round {
-    /// The request for each want of the site.
-    reads: Tasks,
+    /// When each want of the site was told last.
+    told: Vec<LastTold>,
     /// The request for each of its outputs.
     writes: Tasks,
-    scanned: bool,
     /// The service's time at the program's last run, in milliseconds.
     at: u64,
 }
@@ -37,91 +37,76 @@ impl Model for Round {
 
     ghost Value = { Progress };
 
-    ghost view = { λ r. record { reads = r.reads; writes = r.writes; scanned = r.scanned; at = r.at } };
+    ghost view = { λ r. record { told = r.told.items; writes = r.writes; at = r.at } };
 }
 
-/// What comes next for a device.
+/// What is written next to a device.
 #[derive(Drop)]
 pub enum Turn {
-    /// This request goes out to it, for this wanted block or output.
+    /// This request goes out to it, for this output.
     Ask(Aim, Call),
-    /// There is no request for this wanted block of it: it is lost.
-    Lack(Want),
     /// Nothing, now: a request is under way, or there is none to be made.
     Rest,
 }
 
 impl Round {
-    /// A round for this site: [`begin`](Round::begin) begins each scan. AllocError where memory for its requests is
-    /// refused.
-    #[tactic(auto, using(service::proofs::Marks::devices_when_due))]
+    /// A round for this site: nothing was told yet, and nothing is to be written. AllocError where memory is refused.
+    #[tactic(auto, using(crate::proofs::LastTold::devices_of_none, crate::proofs::LastTold::none_is_told))]
     pub fn new(alloc: Global, site: &Site) -> Result<Round, AllocError>
         ensures round { IfOk result (IsRoundFor site.now) }
-        ensures over { IfOk result (λ r. r.scanned ≡ true) }
+        ensures none { IfOk result (λ r. All IsUntold r.told) }
     {
-        let mut reads = Tasks::new(alloc, site.wants().len())?;
-        reads.restart(site.wants());
+        let told = none_told(alloc, site.wants())?;
         let writes = Tasks::new(alloc, site.outs().len())?;
         Ok(Round {
-            reads,
+            told,
             writes,
-            scanned: true,
             at: 0,
         })
     }
 
-    /// Begins the next round: each wanted block is to be asked for. Where requests are still under way their fates are
-    /// not taken any more.
-    #[tactic(auto, using(service::proofs::Marks::devices_when_due))]
-    pub fn begin(&mut self, site: &Site)
-        requires { IsRoundFor site.now self.old }
-        ensures begun { self.new ≡ begun site.now self.old }
-        ensures round { IsRoundFor site.now self.new }
+    /// The wanted block of this number is told now: for the next plan of its device, or not.
+    pub fn tell(&mut self, i: usize, is_new: bool)
+        ensures { self.new ≡ record self.old { told = told_at i is_new self.old.told } }
     {
-        self.reads.restart(site.wants());
-        self.scanned = false;
+        tell_at(&mut self.told, i, is_new);
     }
 
-    /// The next request to the device: before the scan for its next wanted block, after it for its next output, by what
-    /// the core plans. None while one is under way.
+    /// The first wanted block of the device that wasn't told since its outputs were planned last.
+    pub fn untold(&self, device: usize) -> Option<usize>
+        ensures { result ≡ position (is_untold device) self.now.told }
+    {
+        untold(&self.told, device)
+    }
+
+    /// Whether each wanted block of the device was told since its outputs were planned last.
+    pub fn is_ready(&self, device: usize) -> bool
+        ensures { result ≡ is_ready self.now.told device }
+    {
+        is_ready(&self.told, device)
+    }
+
+    /// Whether the wanted block of this number is known by a scan that isn't too long ago.
+    pub fn is_recent(&self, i: usize) -> bool
+        ensures { (last : LastToldValue) → slice_get self.now.told i ≡ Some last → IsTrue result ↔ IsRecent last }
+    {
+        match self.told.get(i) {
+            Some(last) => last.is_recent(),
+            None => true,
+        }
+    }
+
+    /// How often the program ran since the block of the device was told that was told least lately.
+    pub fn scans_since(&self, device: usize) -> u64
+        ensures { result ≡ age_of device self.now.told }
+    {
+        age_of(&self.told, device)
+    }
+
+    /// The next write to the device, by what the core plans. None while one is under way.
     pub fn open(&mut self, core: &Core<DEPTH>, device: usize) -> Turn
         requires { IsRoundFor core.now.site self.old }
         ensures opens { Opens core.now device self.old result self.new }
-        ensures quantity { IsSendable result }
-        ensures round { IsRoundFor core.now.site self.new }
-    {
-        if self.scanned {
-            self.open_write(core, device)
-        } else {
-            self.open_read(core.site(), core.maps(), device)
-        }
-    }
-
-    fn open_read(&mut self, site: &Site, maps: &[Option<Map>], device: usize) -> Turn
-        requires { IsRoundFor site.now self.old }
-        ensures opens { OpensRead site.now maps.now (next_place device self.old.reads) self.old result self.new }
-        ensures quantity { IsSendable result }
-        ensures round { IsRoundFor site.now self.new }
-    {
-        let Some(i) = self.reads.next(device) else {
-            return Turn::Rest;
-        };
-        let want = want_at(site, i);
-        match read_of(site, maps, want) {
-            Some(call) => {
-                self.reads.mark(i, Mark::Asked);
-                Turn::Ask(Aim::Block(i), call)
-            }
-            None => {
-                self.reads.mark(i, Mark::Done);
-                Turn::Lack(want)
-            }
-        }
-    }
-
-    fn open_write(&mut self, core: &Core<DEPTH>, device: usize) -> Turn
-        requires { IsRoundFor core.now.site self.old }
-        ensures opens { OpensWrite core.now device (next_place device self.old.writes) self.old result self.new }
         ensures quantity { IsSendable result }
         ensures round { IsRoundFor core.now.site self.new }
     {
@@ -140,121 +125,86 @@ impl Round {
         }
     }
 
-    /// Takes what became of the device's request that is under way, and gives the event that it is to the core: none for
-    /// a write.
-    pub fn take(&mut self, site: &Site, device: usize, fate: Fate) -> Option<Event>
-        requires { IsRoundFor site.now self.old }
-        ensures closes { Closes site.now device fate self.old result self.new }
-        ensures round { IsRoundFor site.now self.new }
-    {
-        if self.scanned {
-            self.close_write(device);
-            None
-        } else {
-            self.close_read(site, device, fate)
-        }
-    }
-
-    fn close_read(&mut self, site: &Site, device: usize, fate: Fate) -> Option<Event>
-        requires { IsRoundFor site.now self.old }
-        ensures closes { ClosesRead site.now (position (is_asked device) self.old.reads) fate self.old result self.new }
-        ensures round { IsRoundFor site.now self.new }
-    {
-        let i = self.reads.asked(device)?;
-        self.reads.mark(i, Mark::Done);
-        Some(event_of(want_at(site, i), fate))
-    }
-
-    fn close_write(&mut self, device: usize)
-        ensures closes { ClosesWrite (position (is_asked device) self.old.writes) self.old None self.new }
+    /// The device's write that is under way is over.
+    pub fn close(&mut self, device: usize)
+        ensures closes { Closes device self.old self.new }
+        ensures round { (site : SiteValue) → IsRoundFor site self.old → IsRoundFor site self.new }
     {
         if let Some(i) = self.writes.asked(device) {
             self.writes.mark(i, Mark::Done);
         }
     }
 
-    /// Whether before the scan the device's request that is under way is that for the wanted block of this number.
-    pub fn is_reading(&self, device: usize, want: usize) -> bool
-        ensures { IsTrue result ↔ IsUnderWay (BlockAim want) device self.now }
+    /// Nothing more is written to the device.
+    pub fn skip(&mut self, device: usize)
+        ensures skips { self.new ≡ skipped device self.old }
+        ensures round { (site : SiteValue) → IsRoundFor site self.old → IsRoundFor site self.new }
     {
-        !self.scanned && self.reads.asked(device) == Some(want)
+        self.writes.give_up(device);
     }
 
-    /// Whether after the scan the device's request that is under way is that which writes the output of this number.
+    /// Whether the device's write that is under way is that of the output of this number.
     pub fn is_writing(&self, device: usize, output: usize) -> bool
-        ensures { IsTrue result ↔ IsUnderWay (OutputAim output) device self.now }
+        ensures { IsTrue result ↔ IsUnderWay output device self.now }
     {
-        self.scanned && self.writes.asked(device) == Some(output)
+        self.writes.asked(device) == Some(output)
     }
 
-    /// Whether each wanted block was told, so that the program may run.
-    pub fn is_read(&self) -> bool
-        ensures { IsTrue result ↔ All IsDone self.now.reads }
+    /// How many outputs there are.
+    pub fn outputs(&self) -> usize
+        ensures { result ≡ length self.now.writes }
     {
-        self.reads.are_done()
+        self.writes.len()
     }
 
-    /// The requests of its stage: before the scan those for wanted blocks, after it those for outputs.
-    fn current(&self) -> &Tasks
-        ensures { result.now ≡ requests_now self.now }
-    {
-        if self.scanned {
-            &self.writes
-        } else {
-            &self.reads
-        }
+    /// Whether something is still to be written to the device, or under way.
+    pub fn has_writes(&self, device: usize) -> bool {
+        self.writes.has_open(device)
     }
 
-    /// How many requests there are at its stage, to all devices.
-    pub fn requests(&self) -> usize
-        ensures { result ≡ length (requests_now self.now) }
-    {
-        self.current().len()
+    /// Whether the write of this output is still to be made, or under way.
+    pub fn is_open(&self, output: usize) -> bool {
+        self.writes.is_open(output)
     }
 
-    /// Whether the request of this number, at its stage, is to the device and under way.
-    pub fn is_asked_at(&self, i: usize, device: usize) -> bool
-        ensures { result ≡ is_asked_at i device (requests_now self.now) }
-    {
-        self.current().is_asked_at(i, device)
-    }
-
-    /// Whether the request of this number, at its stage, is to the device and still to be made.
-    pub fn is_due_at(&self, i: usize, device: usize) -> bool
-        ensures { result ≡ is_due_at i device (requests_now self.now) }
-    {
-        self.current().is_due_at(i, device)
-    }
-
-    /// Whether the program ran.
-    pub fn is_scanned(&self) -> bool
-        ensures { result ≡ self.now.scanned }
-    {
-        self.scanned
-    }
-
-    /// Whether the program ran and nothing is left to be written.
+    /// Whether nothing is left to be written.
     pub fn is_complete(&self) -> bool
-        ensures { IsTrue result ↔ (IsTrue self.now.scanned × All IsDone self.now.writes) }
+        ensures { IsTrue result ↔ All IsDone self.now.writes }
     {
-        self.scanned && self.writes.are_done()
+        self.writes.are_done()
     }
 
-    /// Runs the program once, at this time: what it set is to be written. The core is told before how long ago its last run
-    /// was.
+    /// Whether each wanted block was told lately, so that the program may run.
+    pub fn are_recent(&self) -> bool
+        ensures { IsTrue result ↔ All IsRecent self.now.told }
+    {
+        are_recent(&self.told)
+    }
+
+    /// Runs the program once, at this time: what it set is to be written to the devices that are ready. The core is told before
+    /// how long ago its last run was.
     pub fn scan(&mut self, core: &mut Core<DEPTH>, now: u64)
         requires round { IsRoundFor core.old.site self.old }
-        requires read { All IsDone self.old.reads }
-        requires first { self.old.scanned ≡ false }
+        requires recent { All IsRecent self.old.told }
         ensures scanned { ScansAfter (since self.old.at now) core.old core.new }
-        ensures planned { ArePlanned core.new self.new.writes }
-        ensures same { self.new ≡ record self.old { writes = self.new.writes; scanned = true; at = now } }
-        ensures round { IsRoundFor core.new.site self.new }
+        ensures planned { ArePlanned core.new self.old.told self.old.writes self.new.writes }
+        ensures same { self.new ≡ record { told = after_scan self.old.told; writes = self.new.writes; at = now } }
+        ensures sized { length self.new.writes ≡ length self.old.writes }
+        ensures site { core.new.site ≡ core.old.site }
     {
         run_after(core, since(self.at, now));
-        plan_writes(core, &mut self.writes);
-        self.scanned = true;
+        plan_writes(core, &self.told, &mut self.writes);
+        age(&mut self.told);
         self.at = now;
+    }
+}
+
+fn tell_at(told: &mut [LastTold], i: usize, is_new: bool)
+    ensures told { told.new ≡ told_at i is_new told.old }
+    ensures len { length told.new ≡ length told.old }
+{
+    if i < told.len() {
+        told[i] = told[i].told_now(is_new);
     }
 }
 
@@ -279,24 +229,6 @@ fn since(at: u64, now: u64) -> u32
     }
 }
 
-/// The i-th want of a site.
-fn want_at(site: &Site, i: usize) -> Want
-    requires { i < length site.now.wants }
-    ensures { slice_get site.now.wants i ≡ Some result }
-{
-    site.wants()[i]
-}
-
-/// What is told of a wanted block.
-fn event_of(want: Want, fate: Fate) -> Event
-    ensures { result ≡ event_of want fate }
-{
-    match fate {
-        Fate::Told(outcome) => event_by(want, outcome),
-        Fate::Lost => Event::Lost(want),
-    }
-}
-
 /// The request that writes to the device by a plan.
 fn write_to(device: usize, devices: &[SiteDevice], plan: &Result<Write, NoWrite>) -> Option<Call>
     requires { IfOk plan.now (λ w. (1 ≤ length w.words) × (length w.words ≤ 123)) }
@@ -310,24 +242,34 @@ fn write_to(device: usize, devices: &[SiteDevice], plan: &Result<Write, NoWrite>
 }
 
 /// A request for each output by what is planned for it.
-fn plan_writes(core: &Core<DEPTH>, tasks: &mut Tasks)
+fn plan_writes(core: &Core<DEPTH>, told: &[LastTold], tasks: &mut Tasks)
     requires { length tasks.old ≡ length core.now.site.outs }
-    ensures planned { ArePlanned core.now tasks.new }
+    ensures planned { ArePlanned core.now told.now tasks.old tasks.new }
     ensures len { length tasks.new ≡ length tasks.old }
 {
     for i in 0..tasks.len() {
-        tasks.put(i, task_of(&core.write(i)));
+        plan_write(&core.write(i), told, tasks, i);
     }
 }
 
-fn task_of(plan: &Result<Write, NoWrite>) -> Task
-    ensures { result ≡ task_of plan.now }
+fn plan_write(plan: &Result<Write, NoWrite>, told: &[LastTold], tasks: &mut Tasks, i: usize)
+    requires { i < length tasks.old }
+    ensures planned { (before : TaskValue) → slice_get tasks.old i ≡ Some before → tasks.new ≡ slice_set tasks.old i (task_of told.now before plan.now) }
+    ensures len { length tasks.new ≡ length tasks.old }
+{
+    let before = tasks.at(i);
+    tasks.put(i, task_of(told, before, plan));
+}
+
+fn task_of(told: &[LastTold], before: Task, plan: &Result<Write, NoWrite>) -> Task
+    ensures { result ≡ task_of told.now before plan.now }
 {
     match plan {
-        Ok(write) => Task {
+        Ok(write) if is_ready(told, write.device) => Task {
             device: write.device,
             mark: Mark::Due,
         },
+        Ok(_) => before,
         Err(_) => Task {
             device: 0,
             mark: Mark::Done,

@@ -1,39 +1,35 @@
-//! Rounds, by the time.
-ghost use Rattle.std.specs.Prelude.{◌≡◌, ◌==◌, ◌&&◌, not, length, map, max, nat_lt};
-ghost use Rattle.service_core.specs.Losing.{AreLate, LostByRound, LostByTime, SameTimes};
+//! Scans, by the time.
+ghost use Rattle.std.specs.Prelude.{◌≡◌, map, max};
+ghost use Rattle.service_core.specs.Losing.{LostByWait};
 ghost use Rattle.service_core.specs.Told.{Goes, LosesBy};
 ghost use Rattle.service_core.specs.Cycle.{LeadsOn};
-ghost use Rattle.service_core.specs.GivingUp.{GivesUp, may_be_asked};
 ghost use Rattle.service_parts.specs.Frames.{LinesGo};
 ghost use Rattle.service_parts.specs.Places.{closed_if_idle};
 
-use crate::note::Loss;
 use crate::service_state::Service;
 use gateway::Report;
 use service_parts::close_idle;
 
 impl Service {
-    /// The time is this: ends waits, begins rounds. It is to be called after each wait.
+    /// The time is this: ends waits, runs the program where that is due. It is to be called after each wait.
     pub fn tick(&mut self, now: u64)
         ensures links { self.new.lines.links ≡ self.old.lines.links }
         ensures lines { LinesGo self.old.lines.lines.items self.new.lines.lines.items }
         ensures goes { LeadsOn self.old.cycle self.new.cycle }
         ensures places { self.new.places.items ≡ map (closed_if_idle (max self.old.side.now now) self.old.side.limits.idle) self.old.places.items }
         ensures time { self.new.side.now ≡ max self.old.side.now now }
-        ensures stands { LosesBy (LostByTime self.old.lines.links.stations.items self.old.lines.lines.items self.old.side (max self.old.side.now now)) self.old.side self.new.side }
+        ensures stands { LosesBy (LostByWait self.old.lines.links.stations.items self.old.lines.lines.items (max self.old.side.now now)) self.old.side self.new.side }
     {
         self.side.turn_to(now);
         close_idle(&mut self.places, self.side.now, self.side.limits.idle);
         self.end_waits();
-        // at its deadline a round waits for nothing more
-        if self.side.is_reading() && self.side.is_past_deadline() {
-            self.cut_off_all();
+        if self.side.is_due() {
+            self.scan();
         }
-        self.begin_round();
         self.go_on();
     }
 
-    /// Asks what can be asked, runs the program once all is read, and ends the round once all is written.
+    /// Asks what can be asked, and tells what the last scan came to once all of it is written.
     pub(crate) fn go_on(&mut self)
         ensures links { self.new.lines.links ≡ self.old.lines.links }
         ensures lines { LinesGo self.old.lines.lines.items self.new.lines.lines.items }
@@ -43,16 +39,27 @@ impl Service {
         ensures stands { Goes self.old.side self.new.side }
     {
         self.ask_all();
-        if self.side.is_reading() && self.scan() {
-            self.ask_all();
-        }
-        if self.side.is_writing() && self.cycle.is_complete() {
-            let report = self.report();
-            self.side.finish(report);
+        if self.cycle.is_complete() {
+            self.finish();
         }
     }
 
-    /// What the round did.
+    /// Tells what the last scan came to, where that wasn't told yet.
+    fn finish(&mut self)
+        ensures links { self.new.lines.links ≡ self.old.lines.links }
+        ensures lines { LinesGo self.old.lines.lines.items self.new.lines.lines.items }
+        ensures goes { LeadsOn self.old.cycle self.new.cycle }
+        ensures places { self.new.places.items ≡ self.old.places.items }
+        ensures time { self.new.side.now ≡ self.old.side.now }
+        ensures stands { Goes self.old.side self.new.side }
+    {
+        if self.side.is_writing {
+            let report = self.report();
+            self.side.finish(report, self.cycle.round());
+        }
+    }
+
+    /// What the last scan did.
     fn report(&self) -> Report {
         Report {
             steps: self.cycle.core().steps(),
@@ -62,83 +69,25 @@ impl Service {
         }
     }
 
-    /// Each device is asked nothing more before the scan.
-    #[tactic(auto, using(crate::proofs::GivingUp::before_all))]
-    fn cut_off_all(&mut self)
-        ensures over { GivesUp (λ device. nat_lt device (length self.old.cycle.core.value.site.devices)) self.old.cycle self.new.cycle }
+    /// Runs the program at its time, whatever was read: a block that was told too many scans ago isn't known any more.
+    fn scan(&mut self)
         ensures links { self.new.lines.links ≡ self.old.lines.links }
         ensures lines { LinesGo self.old.lines.lines.items self.new.lines.lines.items }
         ensures goes { LeadsOn self.old.cycle self.new.cycle }
         ensures places { self.new.places.items ≡ self.old.places.items }
         ensures time { self.new.side.now ≡ self.old.side.now }
-        ensures times { SameTimes self.old.side self.new.side }
-        ensures stands { LosesBy AreLate self.old.side self.new.side }
+        ensures stands { Goes self.old.side self.new.side }
     {
-        for device in 0..self.cycle.devices() {
-            self.cut_off(device);
-        }
-    }
-
-    fn cut_off(&mut self, device: usize)
-        ensures over { GivesUp (λ other. other == device) self.old.cycle self.new.cycle }
-        ensures links { self.new.lines.links ≡ self.old.lines.links }
-        ensures lines { LinesGo self.old.lines.lines.items self.new.lines.lines.items }
-        ensures goes { LeadsOn self.old.cycle self.new.cycle }
-        ensures places { self.new.places.items ≡ self.old.places.items }
-        ensures time { self.new.side.now ≡ self.old.side.now }
-        ensures times { SameTimes self.old.side self.new.side }
-        ensures stands { LosesBy AreLate self.old.side self.new.side }
-    {
-        let lost = self.cycle.lost();
-        self.cycle.give_up(device);
-        if self.cycle.lost() > lost {
-            self.side.lose(device, Loss::NoTime);
-        }
-    }
-
-    /// Begins the next round at its time.
-    fn begin_round(&mut self)
-        ensures links { self.new.lines.links ≡ self.old.lines.links }
-        ensures lines { LinesGo self.old.lines.lines.items self.new.lines.lines.items }
-        ensures goes { LeadsOn self.old.cycle self.new.cycle }
-        ensures places { self.new.places.items ≡ self.old.places.items }
-        ensures time { self.new.side.now ≡ self.old.side.now }
-        ensures stands { LosesBy (LostByRound self.old.side self.old.side.now) self.old.side self.new.side }
-    {
-        if !self.side.is_due() {
-            return;
-        }
-        self.end_round();
-        self.side.plan_round();
-        self.cycle.begin();
-        self.leave_out_all();
+        self.finish();
+        self.side.plan_scan();
+        self.note_devices();
+        self.expire();
+        self.run();
         self.lines.stir_all();
     }
 
-    /// The last round is over, whatever is left of it.
-    fn end_round(&mut self)
-        ensures links { self.new.lines.links ≡ self.old.lines.links }
-        ensures lines { LinesGo self.old.lines.lines.items self.new.lines.lines.items }
-        ensures goes { LeadsOn self.old.cycle self.new.cycle }
-        ensures places { self.new.places.items ≡ self.old.places.items }
-        ensures time { self.new.side.now ≡ self.old.side.now }
-        ensures stands { LosesBy AreLate self.old.side self.new.side }
-    {
-        // a round whose deadline comes after the next one's start
-        if self.side.is_reading() {
-            self.cut_off_all();
-            self.scan();
-        }
-        if self.side.is_writing() {
-            let report = self.report();
-            self.side.finish(report);
-        }
-        self.lines.outlive_all();
-    }
-
-    /// What can't be asked now isn't waited for.
-    fn leave_out_all(&mut self)
-        ensures over { GivesUp (λ device. nat_lt device (length self.old.cycle.core.value.site.devices) && not (may_be_asked self.old.lines self.old.side self.old.cycle.core.value device)) self.old.cycle self.new.cycle }
+    /// Blocks that were told too many scans ago aren't known any more.
+    fn expire(&mut self)
         ensures links { self.new.lines.links ≡ self.old.lines.links }
         ensures lines { LinesGo self.old.lines.lines.items self.new.lines.lines.items }
         ensures goes { LeadsOn self.old.cycle self.new.cycle }
@@ -146,44 +95,11 @@ impl Service {
         ensures time { self.new.side.now ≡ self.old.side.now }
         ensures stands { Goes self.old.side self.new.side }
     {
-        for device in 0..self.cycle.devices() {
-            self.leave_out(device);
-        }
+        self.cycle.expire();
     }
 
-    #[tactic(auto, using(crate::proofs::GivingUp::left_out))]
-    fn leave_out(&mut self, device: usize)
-        ensures over { GivesUp (λ other. other == device && not (may_be_asked self.old.lines self.old.side self.old.cycle.core.value other)) self.old.cycle self.new.cycle }
-        ensures same_lines { self.new.lines ≡ self.old.lines }
-        ensures same_side { self.new.side ≡ self.old.side }
-        ensures links { self.new.lines.links ≡ self.old.lines.links }
-        ensures lines { LinesGo self.old.lines.lines.items self.new.lines.lines.items }
-        ensures goes { LeadsOn self.old.cycle self.new.cycle }
-        ensures places { self.new.places.items ≡ self.old.places.items }
-        ensures time { self.new.side.now ≡ self.old.side.now }
-        ensures stands { Goes self.old.side self.new.side }
-    {
-        if !self.may_be_asked(device) {
-            self.cycle.give_up(device);
-        }
-    }
-
-    /// Whether a device may be asked: its connection is well, it has a map, and its back-off is over.
-    fn may_be_asked(&self, device: usize) -> bool
-        ensures { result ≡ may_be_asked self.now.lines self.now.side self.now.cycle.core.value device }
-    {
-        match self.lines.station(device) {
-            Some(station) => {
-                self.lines.is_well(station.link)
-                    && self.side.is_rested(device)
-                    && self.cycle.is_mapped(device)
-            }
-            None => false,
-        }
-    }
-
-    /// Runs the program, where all is read; whether it did.
-    fn scan(&mut self) -> bool
+    /// Runs the program.
+    fn run(&mut self)
         ensures links { self.new.lines.links ≡ self.old.lines.links }
         ensures lines { LinesGo self.old.lines.lines.items self.new.lines.lines.items }
         ensures goes { LeadsOn self.old.cycle self.new.cycle }
@@ -192,11 +108,23 @@ impl Service {
         ensures stands { Goes self.old.side self.new.side }
     {
         if !self.cycle.scan(self.side.now) {
-            return false;
+            return;
         }
-        self.side.count_scan(self.cycle.core());
-        self.leave_out_all();
-        self.lines.stir_all();
-        true
+        self.side.count_scan(self.cycle.core(), self.cycle.round());
+    }
+
+    /// Which devices the scan plans the outputs of, and which it passes over.
+    fn note_devices(&mut self)
+        ensures links { self.new.lines.links ≡ self.old.lines.links }
+        ensures lines { LinesGo self.old.lines.lines.items self.new.lines.lines.items }
+        ensures goes { LeadsOn self.old.cycle self.new.cycle }
+        ensures places { self.new.places.items ≡ self.old.places.items }
+        ensures time { self.new.side.now ≡ self.old.side.now }
+        ensures stands { Goes self.old.side self.new.side }
+    {
+        for device in 0..self.cycle.devices() {
+            let is_planned = self.cycle.round().is_ready(device);
+            self.side.scan_device(device, is_planned);
+        }
     }
 }

@@ -1,9 +1,9 @@
 //! The core with its round and its searches.
-ghost use Rattle.std.specs.Prelude.{◌≡◌, IfOk, IsTrue, Some, length, slice_get, true};
+ghost use Rattle.std.specs.Prelude.{◌≡◌, All, IfOk, IsTrue, Some, length, slice_get};
 ghost use Rattle.service_parts.specs.Course.{IsNew};
 ghost use Rattle.service_parts.specs.Seeking.{AreOf};
 ghost use Rattle.service_core.specs.Maps.{has_map, is_there};
-ghost use Rattle.service_core.specs.Rounds.{IsRoundFor};
+ghost use Rattle.service_core.specs.Rounds.{IsRoundFor, IsUntold};
 ghost use Rattle.service_core.specs.Stages.{IsReached};
 
 use crate::round::Round;
@@ -12,8 +12,7 @@ use register_map::Map;
 use service::Search;
 use std::alloc::{AllocError, Global};
 
-/// The core, behind its guard, with the round that is under way, how many blocks that lost, and the searches for its
-/// devices' maps.
+/// The core, behind its guard, with what is known and written, and the searches for its devices' maps.
 #[derive(Drop)]
 pub struct ScanCycle {
     pub(crate) core: Box<Core<DEPTH>>,
@@ -22,7 +21,6 @@ pub struct ScanCycle {
     pub(crate) searches: Vec<Search>,
     /// The number of the connection over which each device is searched.
     pub(crate) over: Vec<u64>,
-    pub(crate) lost: usize,
     /// Whether the client whose turn it is may write.
     pub(crate) may_write: bool,
     ghost reached: { ∥ IsReached (record { core = core.value; round = round }) ∥₁ },
@@ -42,7 +40,7 @@ impl ScanCycle {
     ) -> Result<ScanCycle, AllocError>
         requires opened { IsNew core }
         requires fits { IsRoundFor core.site round }
-        requires over { round.scanned ≡ true }
+        requires untold { All IsUntold round.told }
         requires sought { AreOf core.site searches.items }
         ensures core { IfOk result (λ cycle. cycle.core.value ≡ core) }
         ensures round { IfOk result (λ cycle. cycle.round ≡ round) }
@@ -53,7 +51,6 @@ impl ScanCycle {
             round,
             searches,
             over,
-            lost: 0,
             may_write: false,
         })
     }
@@ -64,14 +61,22 @@ impl ScanCycle {
         &self.core
     }
 
-    /// How many wanted blocks were lost in this round.
-    pub fn lost(&self) -> usize {
-        self.lost
+    /// What is known of the wanted blocks, and how far the writes are.
+    pub fn round(&self) -> &Round
+        ensures { result.now ≡ self.now.round }
+    {
+        &self.round
     }
 
-    /// How many requests the round has at its stage.
-    pub fn requests(&self) -> usize {
-        self.round.requests()
+    /// How many wanted blocks the last scan had nothing of.
+    pub fn lost(&self) -> usize {
+        let mut lost: usize = 0;
+        for block in self.core.scanned().iter() {
+            if block.is_none() {
+                lost = lost.saturating_add(1);
+            }
+        }
+        lost
     }
 
     /// How many devices there are.

@@ -49,7 +49,9 @@ impl Service {
     }
 
     /// How many times the program ran.
-    pub fn scans(&self) -> u64 {
+    pub fn scans(&self) -> u64
+        ensures { result ≡ self.now.side.scans }
+    {
         self.side.scans
     }
 }

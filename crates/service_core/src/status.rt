@@ -1,12 +1,14 @@
 //! How a service stands, for whoever looks after it.
 ghost use Rattle.std.specs.Prelude.{◌≡◌, ◌≤◌, IfNone, IfSome, Some, length, slice_get};
 ghost use Rattle.service_core.specs.declared.device.Device.{Device as Own};
+ghost use Rattle.service_core.specs.Rounds.{is_ready};
 ghost use Rattle.service_core.specs.Standing.{IsStatus, is_reached};
 ghost use Rattle.service_core.specs.Telling.{told_at};
 
 use crate::counts::Counts;
 use crate::note::Loss;
 use crate::output::OutputState;
+use crate::replies::Replies;
 use crate::service_state::Service;
 
 /// How a device stands.
@@ -20,6 +22,12 @@ pub struct DeviceStatus {
     pub is_lost: bool,
     /// Why it was lost last.
     pub last_loss: Option<Loss>,
+    /// How long its replies take.
+    pub replies: Replies,
+    /// Its outputs are planned each so many scans; 0 where they weren't planned twice yet.
+    pub each: u64,
+    /// So many scans ago its least recent block was told.
+    pub age: u64,
     /// How often it was asked and lost.
     pub counts: Counts,
 }
@@ -27,7 +35,7 @@ pub struct DeviceStatus {
 impl Service {
     /// How a device stands, by its number; None where the site has no such device.
     pub fn device_status(&self, device: usize) -> Option<DeviceStatus>
-        ensures stands { IfSome result (λ status. (own : Own) → slice_get self.now.side.devices.items device ≡ Some own → IsStatus self.now.cycle.core.value self.now.lines device own status) }
+        ensures stands { IfSome result (λ status. (own : Own) → slice_get self.now.side.devices.items device ≡ Some own → IsStatus self.now.cycle.core.value self.now.cycle.round.told self.now.lines device own status) }
         ensures none { IfNone result (length self.now.side.devices.items ≤ device) }
     {
         let found = self.side.devices.get(device)?;
@@ -36,8 +44,18 @@ impl Service {
             is_mapped: self.cycle.is_mapped(device),
             is_lost: found.is_lost,
             last_loss: found.last_loss,
+            replies: found.replies(),
+            each: found.each(),
+            age: self.cycle.round().scans_since(device),
             counts: found.counts,
         })
+    }
+
+    /// Whether each wanted block of a device was told since its outputs were planned last, or it has none.
+    pub fn is_read(&self, device: usize) -> bool
+        ensures { result ≡ is_ready self.now.cycle.round.told device }
+    {
+        self.cycle.round().is_ready(device)
     }
 
     /// Whether the connection over which a device is reached is up.

@@ -1,14 +1,12 @@
 //! What happens to a core and its round, step by step.
-ghost use Rattle.std.specs.Prelude.{◌≡◌, ◌<◌, ◌+◌, ◌==◌, ◌↔◌, ℕ, All, List, [], Option, length, map, set, slice_get, slice_set, IfSome, IsTrue, None, Some, false};
+ghost use Rattle.std.specs.Prelude.{◌≡◌, ◌<◌, ◌+◌, ℕ, List, [], Option, length, set, slice_get, slice_set, IfSome, IsTrue, None, Some, false, true};
 ghost use Rattle.site_model.specs.declared.device.SiteDevice.{SiteDevice as DeviceValue};
 ghost use Rattle.modbus_frame.specs.Message.{HasQuantity, IsRequest};
 ghost use Rattle.gateway.specs.declared.poller.cycle.Call.{Call as CallValue};
 ghost use Rattle.gateway.specs.event_core.Control.{after_wait};
 ghost use Rattle.gateway.specs.event_core.Restoring.{NothingSets, SetsAlone};
 ghost use Rattle.gateway.specs.event_core.SiteRun.{with_block};
-ghost use Rattle.service.specs.declared.fate.Fate.TheVariants.{Lost};
-ghost use Rattle.service.specs.declared.task.Task.{Task as TaskValue};
-ghost use Rattle.service.specs.Tasks.{IsDone};
+ghost use Rattle.service.specs.declared.fate.Fate.TheVariants.{Told as ToldFate};
 ghost use Rattle.service.specs.Searches.{HasStepQuantity, Sought as SoughtValue};
 ghost use Rattle.service_parts.specs.declared.wire.Aim.{Aim as AimValue};
 ghost use Rattle.service_parts.specs.declared.wire.Aim.TheVariants.{Block as BlockAim, Output as OutputAim};
@@ -17,20 +15,20 @@ ghost use Rattle.service_parts.specs.Requests.{IsOfRound};
 ghost use Rattle.service_parts.specs.Seeking.{IsFound, IsSought};
 ghost use Rattle.service_core.specs.declared.round.Turn.TheVariants.{Ask as AskTurn};
 ghost use Rattle.service_core.specs.Cycle.{ClientsLeadOn, EndsOwn, LeadsOn, stage_of};
-ghost use Rattle.service_core.specs.Forgetting.{first_but, forgotten, with_blocks};
-ghost use Rattle.service_core.specs.GivingUp.{AreNotAsked, GivesUp, HasRequests, dropped, gone_through, skipped};
+ghost use Rattle.service_core.specs.Forgetting.{first_but, forgotten, with_blocks, without_blocks};
+ghost use Rattle.service_core.specs.GivingUp.{GivesUp};
 ghost use Rattle.service_core.specs.LeftOut.{GivesNext};
-ghost use Rattle.service_core.specs.Maps.{has_map};
-ghost use Rattle.service_core.specs.Rounds.{IsSendable, event_told, requests_now};
-ghost use Rattle.service_core.specs.Stages.{Begins, Ends, OpensNext, ScansIf, TakesEvent};
+ghost use Rattle.service_core.specs.Rounds.{IsSendable};
+ghost use Rattle.service_core.specs.Stages.{Ends, OpensNext, ScansIf, Skips, TakesEvent, Tells};
 
 use crate::round::Turn;
 use crate::scan_cycle::ScanCycle;
 use crate::wish::Wish;
-use gateway::{Core, DEPTH, Event, Outcome};
+use gateway::{Core, DEPTH, Event, Outcome, event_by, read_of};
 use modbus_frame::{Frame, FrameReply, Request, Responder, request_pdu};
 use register_map::Map;
-use service::{Fate, Search, Step, is_write, refusal};
+use service::{Search, Step, is_write, refusal};
+use service_parts::Aim;
 use site_model::Want;
 
 impl ScanCycle {
@@ -40,6 +38,7 @@ impl ScanCycle {
         requires { ∥ IsFound self.old.core.value.site device map ∥₁ }
         ensures goes { LeadsOn self.old self.new }
         ensures learned { device < length self.old.core.value.site.devices → self.new.core.value ≡ record self.old.core.value { maps = set self.old.core.value.maps device map } }
+        ensures round { self.new.round ≡ self.old.round }
     {
         if device < self.devices() {
             self.core.learn(device, map);
@@ -47,29 +46,38 @@ impl ScanCycle {
     }
 
     /// What was known of a device is known no more: it has no map, and its blocks are lost.
-    #[tactic(auto, using(crate::proofs::Forgetting::none_so_far, crate::proofs::Forgetting::one_further))]
     pub fn forget(&mut self, device: usize)
         ensures forgotten { device < length self.old.core.value.site.devices → self.new.core.value ≡ forgotten device self.old.core.value }
         ensures goes { LeadsOn self.old self.new }
     {
         self.learn(device, None);
+        self.lose_blocks(device);
+    }
+
+    /// The wanted blocks of a device aren't known any more.
+    #[tactic(auto, using(crate::proofs::Forgetting::none_so_far, crate::proofs::Forgetting::one_further))]
+    pub fn lose_blocks(&mut self, device: usize)
+        ensures lost { self.new.core.value ≡ without_blocks device self.old.core.value }
+        ensures writes { self.new.round.writes ≡ self.old.round.writes }
+        ensures goes { LeadsOn self.old self.new }
+    {
         for i in 0..self.core.site().wants().len() {
-            self.forget_block(device, i);
+            self.lose_block(device, i);
         }
     }
 
-    /// The block of a want is lost, where the want is of this device, which has no map.
-    fn forget_block(&mut self, device: usize, i: usize)
-        ensures forgotten { has_map self.old.core.value device ≡ false → (before : List (Option (List ℕ)))
-            → self.old.core.value.standing.blocks ≡ first_but device i self.old.core.value.site.wants before
+    /// The block of a want is lost, where the want is of this device.
+    fn lose_block(&mut self, device: usize, i: usize)
+        ensures lost { (before : List (Option (List ℕ))) → self.old.core.value.standing.blocks ≡ first_but device i self.old.core.value.site.wants before
             → self.new.core.value ≡ with_blocks (first_but device (i + 1) self.old.core.value.site.wants before) self.old.core.value }
+        ensures writes { self.new.round.writes ≡ self.old.round.writes }
         ensures goes { LeadsOn self.old self.new }
     {
         let Some(want) = self.want_at(i) else {
             return;
         };
-        if want.device == device && !self.is_mapped(device) {
-            self.forget_want(want);
+        if want.device == device {
+            self.lose_want(i, want, false);
         }
     }
 
@@ -83,12 +91,37 @@ impl ScanCycle {
         }
     }
 
-    fn forget_want(&mut self, want: Want)
-        requires { has_map self.old.core.value want.device ≡ false }
+    /// The block of a want is lost: for the next plan of its device, or not.
+    fn lose_want(&mut self, i: usize, want: Want, is_new: bool)
+        requires wanted { slice_get self.old.core.value.site.wants i ≡ Some want }
         ensures lost { self.new.core.value ≡ with_blocks (with_block self.old.core.value.site.wants want None self.old.core.value.standing.blocks) self.old.core.value }
+        ensures writes { self.new.round.writes ≡ self.old.round.writes }
         ensures goes { LeadsOn self.old self.new }
     {
-        tell(&mut self.core, Some(Event::Lost(want)));
+        self.round.tell(i, is_new);
+        tell(&mut self.core, Event::Lost(want));
+    }
+
+    /// Blocks that were told too many scans ago aren't known any more.
+    pub fn expire(&mut self)
+        ensures writes { self.new.round.writes ≡ self.old.round.writes }
+        ensures goes { LeadsOn self.old self.new }
+    {
+        for i in 0..self.core.site().wants().len() {
+            self.expire_block(i);
+        }
+    }
+
+    fn expire_block(&mut self, i: usize)
+        ensures writes { self.new.round.writes ≡ self.old.round.writes }
+        ensures goes { LeadsOn self.old self.new }
+    {
+        if self.round.is_recent(i) {
+            return;
+        }
+        if let Some(want) = self.want_at(i) {
+            self.lose_want(i, want, false);
+        }
     }
 
     /// What comes next in the search for a device's map.
@@ -150,142 +183,133 @@ impl ScanCycle {
         }
     }
 
-    /// Begins the next round.
-    pub fn begin(&mut self)
-        ensures begins { Begins (stage_of self.old) (stage_of self.new) }
+    /// The next request for a wanted block of the device that wasn't told since its outputs were planned last. A block that
+    /// there is no request for is lost.
+    #[tactic(auto, using(service_parts::proofs::Rightful::of_round))]
+    pub fn next_read(&mut self, device: usize) -> Option<Wish>
         ensures goes { LeadsOn self.old self.new }
+        ensures asked { IfSome result (λ wish. IsOfRound self.new.core.value wish.aim device wish.request) }
+        ensures quantity { IfSome result (λ wish. HasQuantity wish.request) }
+        ensures writes { self.new.round.writes ≡ self.old.round.writes }
     {
-        self.round.begin(self.core.site());
-        self.lost = 0;
+        for _ in 0..self.core.site().wants().len() {
+            let Some(i) = self.round.untold(device) else {
+                return None;
+            };
+            if let Some(wish) = self.read_of(device, i) {
+                return Some(wish);
+            }
+            self.lack(i);
+        }
+        None
     }
 
-    /// The next request to the device, and what it is made for; wanted blocks that there is none for are lost.
-    #[tactic(auto, using(service_parts::proofs::Rightful::of_round, crate::proofs::LeftOut::lacks_nothing, crate::proofs::LeftOut::lacks_one, crate::proofs::LeftOut::is_next))]
-    pub fn next(&mut self, device: usize) -> Option<Wish>
+    /// The request for the wanted block of this number, where it is one of the device.
+    #[tactic(auto, using(service_parts::proofs::Rightful::of_round))]
+    fn read_of(&self, device: usize, i: usize) -> Option<Wish>
+        ensures asked { IfSome result (λ wish. IsOfRound self.now.core.value wish.aim device wish.request) }
+        ensures quantity { IfSome result (λ wish. HasQuantity wish.request) }
+    {
+        let want = self.want_at(i)?;
+        if want.device != device {
+            return None;
+        }
+        let call = read_of(self.core.site(), self.core.maps(), want)?;
+        Some(Wish {
+            aim: Aim::Block(i),
+            request: call.request,
+        })
+    }
+
+    /// There is no request for the wanted block of this number: it is lost.
+    fn lack(&mut self, i: usize)
+        ensures goes { LeadsOn self.old self.new }
+        ensures writes { self.new.round.writes ≡ self.old.round.writes }
+    {
+        if let Some(want) = self.want_at(i) {
+            self.lose_want(i, want, true);
+        }
+    }
+
+    /// The next write to the device, and what it is made for.
+    #[tactic(auto, using(service_parts::proofs::Rightful::of_round, crate::proofs::LeftOut::is_next))]
+    pub fn next_write(&mut self, device: usize) -> Option<Wish>
         ensures goes { LeadsOn self.old self.new }
         ensures asked { IfSome result (λ wish. IsOfRound self.new.core.value wish.aim device wish.request) }
         ensures quantity { IfSome result (λ wish. HasQuantity wish.request) }
         ensures next { GivesNext device result (stage_of self.old) (stage_of self.new) }
     {
-        for _ in 0..self.round.requests() {
-            match self.open(device) {
-                Turn::Ask(aim, call) => {
-                    return Some(Wish {
-                        aim,
-                        request: call.request,
-                    });
-                }
-                Turn::Lack(_) => {}
-                Turn::Rest => return None,
-            }
+        match self.open(device) {
+            Turn::Ask(aim, call) => Some(Wish {
+                aim,
+                request: call.request,
+            }),
+            Turn::Rest => None,
         }
-        None
     }
 
-    /// What comes next for the device. A wanted block that there is no request for is told as lost.
     fn open(&mut self, device: usize) -> Turn
         ensures opens { OpensNext device result (stage_of self.old) (stage_of self.new) }
         ensures goes { LeadsOn self.old self.new }
         ensures called { (aim : AimValue) (call : CallValue) → result ≡ AskTurn aim call → IsCallFor self.new.core.value aim device call }
         ensures quantity { IsSendable result }
     {
-        let turn = self.round.open(&self.core, device);
-        let event = told_by(&turn);
-        self.lost = lost_with(self.lost, &event);
-        tell(&mut self.core, event);
-        turn
+        self.round.open(&self.core, device)
     }
 
-    /// This became of the device's request that is under way; whether the words that came are no block of its model.
-    fn close(&mut self, device: usize, fate: Fate) -> bool
-        ensures { Ends device fate (stage_of self.old) (stage_of self.new) }
+    /// Takes the outcome of the request for the wanted block of this number; whether the words that came are no block of its
+    /// model.
+    pub fn close_block(&mut self, device: usize, want: usize, outcome: Outcome) -> bool
+        ensures { EndsOwn (BlockAim want) device outcome (stage_of self.old) (stage_of self.new) }
     {
-        let event = self.round.take(self.core.site(), device, fate);
+        match self.want_at(want) {
+            Some(own) => self.tell_block(want, own, outcome),
+            None => false,
+        }
+    }
+
+    fn tell_block(&mut self, i: usize, want: Want, outcome: Outcome) -> bool
+        requires wanted { slice_get self.old.core.value.site.wants i ≡ Some want }
+        ensures { Tells i (ToldFate outcome) true (stage_of self.old) (stage_of self.new) }
+    {
+        let event = event_by(want, outcome);
         let foreign = is_foreign(&event);
-        self.lost = lost_with(self.lost, &event);
+        self.round.tell(i, true);
         tell(&mut self.core, event);
         foreign
     }
 
-    /// Takes the outcome of the device's request for a wanted block, where that is still under way; whether the words that
-    /// came are no block of its model.
-    pub fn close_block(&mut self, device: usize, want: usize, outcome: Outcome) -> bool
-        ensures { EndsOwn (BlockAim want) device outcome (stage_of self.old) (stage_of self.new) }
-    {
-        if !self.round.is_reading(device, want) {
-            return false;
-        }
-        self.close(device, Fate::Told(outcome))
-    }
-
-    /// Takes the outcome of the device's request that writes an output, where that is still under way.
-    pub fn close_write(&mut self, device: usize, output: usize, outcome: Outcome)
-        ensures { EndsOwn (OutputAim output) device outcome (stage_of self.old) (stage_of self.new) }
+    /// The device answered its request that writes an output, where that is still under way.
+    pub fn close_write(&mut self, device: usize, output: usize, outcome: &Outcome)
+        ensures { EndsOwn (OutputAim output) device outcome.now (stage_of self.old) (stage_of self.new) }
     {
         if self.round.is_writing(device, output) {
-            self.close(device, Fate::Told(outcome));
+            self.drop_write(device);
         }
     }
 
-    /// The device's request that is under way is given up.
-    pub fn drop_request(&mut self, device: usize)
-        ensures ends { Ends device Lost (stage_of self.old) (stage_of self.new) }
+    /// The device's write that is under way is over.
+    pub fn drop_write(&mut self, device: usize)
+        ensures ends { Ends device (stage_of self.old) (stage_of self.new) }
         ensures goes { LeadsOn self.old self.new }
     {
-        self.close(device, Fate::Lost);
+        self.round.close(device);
     }
 
-    /// All that the round has for a device at its stage is given up: what is wanted of it is lost, or it is written nothing.
+    /// Nothing more is written to a device, and its wanted blocks aren't known any more.
     pub fn give_up(&mut self, device: usize)
-        ensures over { GivesUp (λ other. other == device) self.old self.new }
+        ensures over { GivesUp device (stage_of self.old) (stage_of self.new) }
         ensures goes { LeadsOn self.old self.new }
     {
-        self.drop_all(device);
-        self.skip_all(device);
+        self.skip_writes(device);
+        self.lose_blocks(device);
     }
 
-    /// What is under way for the device is dropped.
-    #[tactic(auto, using(crate::proofs::GivingUp::has_now, crate::proofs::GivingUp::one_further))]
-    fn drop_all(&mut self, device: usize)
-        ensures dropped { HasRequests (map (dropped device) (requests_now self.old.round)) (stage_of self.old) (stage_of self.new) }
+    pub fn skip_writes(&mut self, device: usize)
+        ensures skips { Skips device (stage_of self.old) (stage_of self.new) }
         ensures goes { LeadsOn self.old self.new }
     {
-        for i in 0..self.round.requests() {
-            self.drop_at(device, i);
-        }
-    }
-
-    fn drop_at(&mut self, device: usize, i: usize)
-        ensures dropped { (before : List TaskValue) → requests_now self.old.round ≡ gone_through (dropped device) i before
-            → HasRequests (gone_through (dropped device) (i + 1) before) (stage_of self.old) (stage_of self.new) }
-        ensures goes { LeadsOn self.old self.new }
-    {
-        if self.round.is_asked_at(i, device) {
-            self.drop_request(device);
-        }
-    }
-
-    /// What is still to be made for the device is left out.
-    #[tactic(auto, using(crate::proofs::GivingUp::has_now, crate::proofs::GivingUp::one_further))]
-    fn skip_all(&mut self, device: usize)
-        ensures skipped { AreNotAsked device (requests_now self.old.round)
-            → HasRequests (map (skipped device) (requests_now self.old.round)) (stage_of self.old) (stage_of self.new) }
-        ensures goes { LeadsOn self.old self.new }
-    {
-        for i in 0..self.round.requests() {
-            self.skip_at(device, i);
-        }
-    }
-
-    fn skip_at(&mut self, device: usize, i: usize)
-        ensures skipped { (before : List TaskValue) → AreNotAsked device before → requests_now self.old.round ≡ gone_through (skipped device) i before
-            → HasRequests (gone_through (skipped device) (i + 1) before) (stage_of self.old) (stage_of self.new) }
-        ensures goes { LeadsOn self.old self.new }
-    {
-        if self.round.is_due_at(i, device) {
-            self.open(device);
-            self.drop_request(device);
-        }
+        self.round.skip(device);
     }
 
     /// Sets a tag, as a client's write does, to a number in the unit of the tag's exponent; whether some client's write does
@@ -309,7 +333,7 @@ impl ScanCycle {
         ensures passed { self.new.core.value ≡ after_wait elapsed self.old.core.value }
         ensures goes { LeadsOn self.old self.new }
     {
-        tell(&mut self.core, Some(Event::Time(elapsed)));
+        tell(&mut self.core, Event::Time(elapsed));
     }
 
     /// The request by which a client sets a tag to this number, and nothing else.
@@ -332,12 +356,12 @@ impl ScanCycle {
         self.core.step(Event::Client(request_pdu(request)));
     }
 
-    /// Runs the program at this time, where each wanted block was told and it hasn't run in this round; whether it did.
+    /// Runs the program at this time, where each wanted block was told lately; whether it did.
     pub fn scan(&mut self, now: u64) -> bool
         ensures scans { ScansIf result now (stage_of self.old) (stage_of self.new) }
         ensures goes { LeadsOn self.old self.new }
     {
-        if self.may_scan() {
+        if self.round.are_recent() {
             self.round.scan(&mut self.core, now);
             true
         } else {
@@ -345,14 +369,7 @@ impl ScanCycle {
         }
     }
 
-    /// Whether the program hasn't run in this round, and each wanted block was told.
-    fn may_scan(&self) -> bool
-        ensures { IsTrue result ↔ ((self.now.round.scanned ≡ false) × All IsDone self.now.round.reads) }
-    {
-        !self.round.is_scanned() && self.round.is_read()
-    }
-
-    /// Whether the program ran, and nothing is left to be written.
+    /// Whether nothing is left to be written.
     pub fn is_complete(&self) -> bool {
         self.round.is_complete()
     }
@@ -383,38 +400,18 @@ fn take(search: &mut Search, outcome: &Outcome)
     }
 }
 
-/// What the core is told, where there is no request for a wanted block.
-fn told_by(turn: &Turn) -> Option<Event>
-    ensures { result ≡ event_told turn.now }
-{
-    match turn {
-        Turn::Lack(want) => Some(Event::Lost(*want)),
-        Turn::Ask(..) | Turn::Rest => None,
-    }
-}
-
-/// The core takes an event, where there is one.
-fn tell(core: &mut Core<DEPTH>, event: Option<Event>)
+/// The core takes an event.
+fn tell(core: &mut Core<DEPTH>, event: Event)
     ensures told { TakesEvent event core.old core.new }
     ensures site { core.new.site ≡ core.old.site }
 {
-    if let Some(event) = event {
-        core.step(event);
-    }
-}
-
-/// How many blocks are lost, with this event.
-fn lost_with(lost: usize, event: &Option<Event>) -> usize {
-    match event {
-        Some(Event::Lost(_)) => lost.saturating_add(1),
-        _ => lost,
-    }
+    core.step(event);
 }
 
 /// Whether words don't begin with their model's ID.
-fn is_foreign(event: &Option<Event>) -> bool {
+fn is_foreign(event: &Event) -> bool {
     match event {
-        Some(Event::Block(want, words)) => match words.as_slice() {
+        Event::Block(want, words) => match words.as_slice() {
             [first, ..] => *first != want.model,
             [] => true,
         },

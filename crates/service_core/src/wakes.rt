@@ -4,26 +4,20 @@ ghost use Rattle.service_parts.specs.declared.client_place.ClientPlace.{ClientPl
 ghost use Rattle.service_parts.specs.declared.line.Line.{Line as LineValue};
 ghost use Rattle.service_parts.specs.Places.{after};
 ghost use Rattle.service_parts.specs.Waking.{due_at};
-ghost use Rattle.service_core.specs.Phases.{is_reading};
 
 use crate::service_state::Service;
 use service_parts::ClientPlace;
 
 impl Service {
-    /// Not later than at this time a tick is wanted: the next round is due, what is read is waited for no longer, a wait or a dial ends, a dial is due, a device may
-    /// be asked again, or a client was silent for long. A time that is over asks for something at once: a connection is to be
+    /// Not later than at this time a tick is wanted: the program is to run, a wait or a dial ends, a dial is due, a device may be
+    /// asked again, or a client was silent for long. A time that is over asks for something at once: a connection is to be
     /// made, or to be closed.
     pub fn wakes_at(&self) -> u64
-        ensures round { result ≤ self.now.side.next_round }
-        ensures deadline { is_reading self.now.side.phase ≡ true → result ≤ self.now.side.deadline }
+        ensures scan { result ≤ self.now.side.next_scan }
         ensures links { (link : ℕ) (line : LineValue) → slice_get self.now.lines.lines.items link ≡ Some line → result ≤ due_at line }
         ensures clients { (place : ℕ) (c : Place) → slice_get self.now.places.items place ≡ Some c → (c.is_taken && not c.is_closing) ≡ true → result ≤ after c.last self.now.side.limits.idle }
     {
-        let mut at = self.side.next_round;
-        if self.side.is_reading() {
-            at = at.min(self.side.deadline);
-        }
-        at = self.lines.wakes_at(at);
+        let at = self.lines.wakes_at(self.side.next_scan);
         wakes_for_clients(&self.places, self.side.limits.idle, at)
     }
 }

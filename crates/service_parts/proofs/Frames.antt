@@ -11,15 +11,11 @@ use Rattle.gateway.specs.poller.LinkRun.{Asked as Request, frame_of}
 use Rattle.service.specs.declared.fate.Fate.{Fate}
 use Rattle.service_parts.specs.declared.line.Line.{Line}
 use Rattle.service_parts.specs.declared.wire.Asked.{Asked}
-use Rattle.service_parts.specs.Frames.{Begins, CourseBy, FramesGoOutWhole, GivesUp, Hears, HearingStep, IsCut, IsSending, IsStill, Keeps, Led, LinesGo, LinesGoBy, OthersGo, OwnStep, Sends, begins, gives_up, keeps, stays, goes}
-
-pub still_same : (asked : Option Asked) → IsStill asked asked
-still_same None = refl
-still_same (Some asked) = inl refl
+use Rattle.service_parts.specs.Frames.{Begins, CourseBy, FramesGoOutWhole, GivesUp, Hears, HearingStep, IsCut, IsSending, Keeps, Led, LinesGo, LinesGoBy, OthersGo, OwnStep, Sends, begins, gives_up, keeps, stays, goes}
 
 pub keeps_by : (old new : Line) → new.wire.asked ≡ old.wire.asked → new.wire.inquiry ≡ old.wire.inquiry → new.out.items ≡ old.out.items → (old.wire.is_bad ≡ true → new.wire.is_bad ≡ true) → Keeps old new
 keeps_by old new asked heard same bad = record {
-  still = subst (IsStill old.wire.asked) (sym asked) (still_same old.wire.asked);
+  still = asked;
   heard = heard;
   same = same;
   bad = bad;

@@ -1,5 +1,5 @@
 -- What is said of a client's place, call by call.
-use Rattle.std.proofs.Common.{◌≡◌, ℕ, zero, suc, ◌+◌, ◌-◌, ◌≤◌, Bool, List, [], ◌∷◌, ◌++◌, Option, None, Some, take, drop, refl, sym, ap, subst, ◌∙◌, arith, append_assoc, ◌<◌, length, map, get_or, add-one}
+use Rattle.std.proofs.Common.{◌≡◌, ℕ, zero, suc, ◌+◌, ◌-◌, ◌≤◌, Bool, List, [], ◌∷◌, ◌++◌, Option, None, Some, take, drop, refl, sym, ap, subst, ◌∙◌, arith, append_assoc, ◌<◌}
 use Rattle.std.specs.Prelude.{min, slice_get, slice_set, ◌^◌}
 use Rattle.std.proofs.lemmas.List.{append-nil, drop-drop, take-take}
 use Rattle.std.proofs.Math.Seq.{take-add}
@@ -115,17 +115,3 @@ nobody_at Does places now place same none = (
   (λ c is. let e = ap (λ (l : List ClientPlace). slice_get l place) same ∙ is in cc),
   (λ other away. ap (λ (l : List ClientPlace). slice_get l other) same),
 )
-
--- ---- all places, one after another
-
-mapped_next : {X : Type 0} (f : X → X) (xs : List X) (i : ℕ) (x y : X) → i < length xs → x ≡ get_or (map f (take i xs) ++ drop i xs) i x → y ≡ f x
-    → slice_set (map f (take i xs) ++ drop i xs) i y ≡ map f (take (suc i) xs) ++ drop (suc i) xs
-mapped_next f [] i x y h is new = absurd (omega arith)
-mapped_next f (a ∷ xs) zero x y h is new = ap (λ b. b ∷ xs) (new ∙ ap f is)
-mapped_next f (a ∷ xs) (suc i) x y h is new = ap (λ l. f a ∷ l) (mapped_next f xs i x y (omega arith) is new)
-
--- one more is mapped
-pub mapped_more : {X : Type 0} (f : X → X) (xs ys : List X) (i : ℕ) (x y : X) → i < length xs → ys ≡ map f (take i xs) ++ drop i xs → x ≡ get_or ys i x → y ≡ f x
-    → slice_set ys i y ≡ map f (take (i + 1) xs) ++ drop (i + 1) xs
-mapped_more f xs ys i x y h so_far is new =
-    ap (λ l. slice_set l i y) so_far ∙ mapped_next f xs i x y h (rw (← so_far) is) new ∙ ap (λ k. map f (take k xs) ++ drop k xs) (sym (add-one i))

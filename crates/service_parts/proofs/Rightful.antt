@@ -1,5 +1,5 @@
 -- What goes out is a request that may be asked, and it is the one that is noted.
-use Rattle.std.proofs.Common.{◌≡◌, ◌≢◌, ◌⊎◌, inl, inr, ℕ, Bool, true, false, not, ◌&&◌, eqb, List, [], ◌∷◌, ◌++◌, take, drop, length, set, All, get_or, Option, None, Some, slice_get, refl, sym, ap, subst, ◌∙◌, append_assoc}
+use Rattle.std.proofs.Common.{◌≡◌, ◌≢◌, ◌⊎◌, inl, inr, ℕ, Bool, true, false, not, ◌&&◌, eqb, List, [], ◌++◌, take, drop, length, set, All, get_or, Option, None, Some, slice_get, refl, sym, ap, subst, ◌∙◌, append_assoc}
 use Rattle.std.specs.Prelude.{IsTrue, min}
 use Rattle.std.proofs.Math.Logic.{∥∥₁_elim, ∥∥₁_prop}
 use Rattle.std.proofs.lemmas.Bool.Decides.{eqb_tells}
@@ -31,7 +31,7 @@ use Rattle.service_parts.specs.declared.wire.Wire.{Wire}
 use Rattle.service_parts.specs.Calls.{IsCallFor}
 use Rattle.service_parts.specs.Course.{Goes, GoesBy, GoesOn, IsOfClients, IsOfRounds, LeadsOnBy, Reached, stays, steps, learns}
 use Rattle.service_parts.specs.Course as course
-use Rattle.service_parts.specs.Frames.{Begins, GivesUp, Hears, IsCut, IsStill, Keeps, Sends, TakesWhere, left_under_way, outlived, past}
+use Rattle.service_parts.specs.Frames.{Begins, GivesUp, Hears, IsCut, Keeps, Sends, TakesWhere, left_under_way}
 use Rattle.service_parts.specs.Requests.{AreRightful, AreRightfulBy, IsFoundOn, IsMade, IsNoted, IsNotedIf, IsOfRound, IsRightful, IsRightfulLine, IsRightfulOn, MayBeAsked, MayGoOver}
 use Rattle.service_parts.specs.Seeking.{IsSought}
 use Rattle.service_parts.proofs.Frames.{set_other, set_there, unchanged}
@@ -93,16 +93,6 @@ still_waits old new bytes wait is takes = go old.reading.held.fault takes
         let open_still = subst (λ o. HearsFor o (with_bytes old.reading bytes) None new) is heard in
         (record { asked = wait.asked; may_drop = open_still.0 }, open_still.2, refl)
 
-past_past : (made_for : Aim) → past (past made_for) ≡ past made_for
-past_past aim.Map = refl
-past_past (aim.Block want) = refl
-past_past (aim.Output output) = refl
-past_past aim.Past = refl
-
-outlives : (was made_for : Aim) → (was ≡ made_for) ⊎ (was ≡ past made_for) → (past was ≡ made_for) ⊎ (past was ≡ past made_for)
-outlives was made_for (inl is) = inr (ap past is)
-outlives was made_for (inr is) = inr (ap past is ∙ past_past made_for)
-
 -- ---- one line, by the state of now
 
 module _ (now : Gateway) (stations : List Station) (found_on : List (Option ℕ)) (link number : ℕ) where
@@ -126,26 +116,19 @@ module _ (now : Gateway) (stations : List Station) (found_on : List (Option ℕ)
   kept_line : (old new : Line) → Keeps old new → IsRightfulLine now stations found_on link number old → IsRightfulLine now stations found_on link number new
   kept_line old new keeps right = record {
     waits = subst (λ l. IsRightful now stations found_on link number l) (sym keeps.same) right.waits;
-    noted = go old.wire.asked keeps.still right.noted;
+    noted = subst (λ o. IsNotedIf now stations found_on link number o new) (sym keeps.still) (go old.wire.asked right.noted);
   }
     where
-      with_aim : (asked after : Asked) → after.device ≡ asked.device → after.number ≡ asked.number → ((made_for : Aim) → (asked.aim ≡ made_for) ⊎ (asked.aim ≡ past made_for) → (after.aim ≡ made_for) ⊎ (after.aim ≡ past made_for))
-          → IsNoted now stations found_on link number asked old → IsNoted now stations found_on link number after new
-      with_aim asked after same_device same_number aims n = record {
-        made_for = n.made_for;
-        noted = aims n.made_for n.noted;
-        over = same_number ∙ n.over;
-        wait = n.wait;
-        waits = ap (λ (h : Hearing). h.wait) keeps.heard ∙ n.waits;
-        made = subst (λ d. IsMade now stations found_on link number n.made_for d n.wait.asked) (sym same_device) n.made;
-        gone = n.gone;
-        whole = ap (λ l. n.gone ++ l) keeps.same ∙ n.whole;
+      go : (o : Option Asked) → IsNotedIf now stations found_on link number o old → IsNotedIf now stations found_on link number o new
+      go None noted = tt
+      go (Some asked) noted = record {
+        over = noted.over;
+        wait = noted.wait;
+        waits = ap (λ (h : Hearing). h.wait) keeps.heard ∙ noted.waits;
+        made = noted.made;
+        gone = noted.gone;
+        whole = ap (λ l. noted.gone ++ l) keeps.same ∙ noted.whole;
       }
-
-      go : (o : Option Asked) → IsStill o new.wire.asked → IsNotedIf now stations found_on link number o old → IsNotedIf now stations found_on link number new.wire.asked new
-      go None still n = subst (λ o. IsNotedIf now stations found_on link number o new) (sym still) tt
-      go (Some asked) (inl same) n = subst (λ o. IsNotedIf now stations found_on link number o new) (sym same) (with_aim asked asked refl refl (λ made_for is. is) n)
-      go (Some asked) (inr same) n = subst (λ o. IsNotedIf now stations found_on link number o new) (sym same) (with_aim asked (outlived asked) refl refl (λ made_for is. outlives asked.aim made_for is) n)
 
   given_up_line : (old new : Line) → GivesUp old new → IsRightfulLine now stations found_on link number old → IsRightfulLine now stations found_on link number new
   given_up_line old new gives right = record {
@@ -162,8 +145,6 @@ module _ (now : Gateway) (stations : List Station) (found_on : List (Option ℕ)
       go : (o : Option Asked) → IsNotedIf now stations found_on link number o old → IsNotedIf now stations found_on link number o new
       go None noted = tt
       go (Some asked) noted = record {
-        made_for = noted.made_for;
-        noted = noted.noted;
         over = noted.over;
         wait = noted.wait;
         waits = ap (λ (w : Wire). w.inquiry.wait) sends.wire ∙ noted.waits;
@@ -182,12 +163,10 @@ module _ (now : Gateway) (stations : List Station) (found_on : List (Option ℕ)
     where
       goes_on : (asked : Asked) (w : Wait) → new.wire.inquiry.wait ≡ Some w → (noted : IsNoted now stations found_on link number asked old) → w.asked ≡ noted.wait.asked → IsNoted now stations found_on link number asked new
       goes_on asked w waits noted same = record {
-        made_for = noted.made_for;
-        noted = noted.noted;
         over = noted.over;
         wait = w;
         waits = waits;
-        made = subst (λ (r : FrameRequest). IsMade now stations found_on link number noted.made_for asked.device r) (sym same) noted.made;
+        made = subst (λ (r : FrameRequest). IsMade now stations found_on link number asked.aim asked.device r) (sym same) noted.made;
         gone = noted.gone;
         whole = ap (λ l. noted.gone ++ l) hears.same ∙ (noted.whole ∙ ap (λ (r : FrameRequest). frame_bytes (frame_of r)) (sym same));
       }
@@ -214,8 +193,6 @@ module _ (now : Gateway) (stations : List Station) (found_on : List (Option ℕ)
       record {
         waits = inr (record { device = begins.asked.device; made_for = begins.asked.aim; frame = begins.request; made = made; gone = []; whole = begins.frame });
         noted = subst (λ o. IsNotedIf now stations found_on link number o new) (sym begins.noted) (record {
-          made_for = begins.asked.aim;
-          noted = inl refl;
           over = over;
           wait = record { asked = begins.request; may_drop = most_dropped };
           waits = ap (λ (h : Hearing). h.wait) begins.under_way;
@@ -319,12 +296,10 @@ module _ (now : Gateway) (stations : List Station) (numbers : List ℕ) (found_o
       noted : (o : Option Asked) → IsNotedIf now stations found_on k other o line → IsNotedIf now stations (set found_on device (Some number)) k other o line
       noted None n = tt
       noted (Some asked) n = record {
-        made_for = n.made_for;
-        noted = n.noted;
         over = n.over;
         wait = n.wait;
         waits = n.waits;
-        made = made n.made_for asked.device n.wait.asked n.made;
+        made = made asked.aim asked.device n.wait.asked n.made;
         gone = n.gone;
         whole = n.whole;
       }
@@ -358,9 +333,7 @@ module _ (old new : Gateway) (stations : List Station) (found_on : List (Option 
 
   noted_since : (line : Line) (o : Option Asked) → IsNotedIf old stations found_on link number o line → ∥ IsNotedIf new stations found_on link number o line ∥₁
   noted_since line None n = ∣ tt ∣₁
-  noted_since line (Some asked) n = ∥∥₁_elim (made_since n.made_for asked.device n.wait.asked n.made) ∥∥₁_prop (λ made. ∣ record {
-    made_for = n.made_for;
-    noted = n.noted;
+  noted_since line (Some asked) n = ∥∥₁_elim (made_since asked.aim asked.device n.wait.asked n.made) ∥∥₁_prop (λ made. ∣ record {
     over = n.over;
     wait = n.wait;
     waits = n.waits;

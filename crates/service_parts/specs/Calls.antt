@@ -35,4 +35,3 @@ abbrev pub IsCallFor : Gateway → Aim → ℕ → Call → Type 0
 IsCallFor g (aim.Block want) device call = IsRead g want device call
 IsCallFor g (aim.Output output) device call = IsWrite g output device call
 IsCallFor g aim.Map device call = ⊥
-IsCallFor g aim.Past device call = ⊥

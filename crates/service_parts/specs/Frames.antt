@@ -7,24 +7,7 @@ use Rattle.gateway.specs.poller.LinkRun.{Asked as Request, frame_of}
 use Rattle.service.specs.declared.fate.Fate.{Fate}
 use Rattle.service.specs.Hearing.{Takes, Wire as Hearing, asking, fresh}
 use Rattle.service_parts.specs.declared.line.Line.{Line}
-use Rattle.service_parts.specs.declared.wire.Aim.{Aim}
-use Rattle.service_parts.specs.declared.wire.Aim.TheVariants as aim
 use Rattle.service_parts.specs.declared.wire.Asked.{Asked}
-
--- what a request is made for once its round is over
-abbrev pub past : Aim → Aim
-past aim.Map = aim.Map
-past (aim.Block want) = aim.Past
-past (aim.Output output) = aim.Past
-past aim.Past = aim.Past
-
-abbrev pub outlived : Asked → Asked
-outlived asked = record asked { aim = past asked.aim }
-
--- The same request is under way, or none is; its round may be over.
-abbrev pub IsStill : Option Asked → Option Asked → Type 0
-IsStill None new = new ≡ None
-IsStill (Some asked) new = (new ≡ Some asked) ⊎ (new ≡ Some (outlived asked))
 
 -- ---- one step
 
@@ -49,7 +32,7 @@ pub record GivesUp (old new : Line) : Type 0 where
 
 -- Nothing happens to the request that is under way.
 pub record Keeps (old new : Line) : Type 0 where
-  pub still : IsStill old.wire.asked new.wire.asked
+  pub still : new.wire.asked ≡ old.wire.asked
   pub heard : new.wire.inquiry ≡ old.wire.inquiry
   pub same : new.out.items ≡ old.out.items
   pub bad : old.wire.is_bad ≡ true → new.wire.is_bad ≡ true

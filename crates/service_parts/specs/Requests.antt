@@ -15,7 +15,6 @@ use Rattle.service_parts.specs.declared.wire.Aim.TheVariants as aim
 use Rattle.service_parts.specs.declared.wire.Asked.{Asked}
 use Rattle.service_parts.specs.Calls.{IsCallFor}
 use Rattle.service_parts.specs.Course.{GoesOn, Reached}
-use Rattle.service_parts.specs.Frames.{past}
 use Rattle.service_parts.specs.Seeking.{IsSought}
 
 -- It reads that wanted block of the device, or writes the set point of that output to it, by this state of the core.
@@ -54,14 +53,12 @@ abbrev pub IsRightful : Gateway → List Station → List (Option ℕ) → ℕ �
 IsRightful now stations found_on link number bytes = (bytes ≡ []) ⊎ IsRest now stations found_on link number bytes
 
 -- The request that is under way on a line is such a one, of the device, and for the wanted block or the output that it is
--- noted with, until its round is over. Its connection is that with this number, and what waits is the rest of its frame.
+-- noted with. Its connection is that with this number, and what waits is the rest of its frame.
 pub record IsNoted (now : Gateway) (stations : List Station) (found_on : List (Option ℕ)) (link number : ℕ) (asked : Asked) (line : Line) : Type 0 where
-  pub made_for : Aim
-  pub noted : (asked.aim ≡ made_for) ⊎ (asked.aim ≡ past made_for)
   pub over : asked.number ≡ number
   pub wait : Wait
   pub waits : line.wire.inquiry.wait ≡ Some wait
-  pub made : IsMade now stations found_on link number made_for asked.device wait.asked
+  pub made : IsMade now stations found_on link number asked.aim asked.device wait.asked
   pub gone : List ℕ
   pub whole : gone ++ line.out.items ≡ frame_bytes (frame_of wait.asked)
 

@@ -3,15 +3,17 @@
 /// Its times, in milliseconds, and its room.
 #[derive(Clone, Copy)]
 pub struct Limits {
-    /// From the start of a round to that of the next one.
+    /// From one scan to the next.
     pub period: u64,
     /// How long a device may take to answer.
     pub timeout: u64,
+    /// How long one that never answered is waited for on a connection where others answer.
+    pub first_wait: u64,
     /// The most clients.
     pub clients: usize,
     /// A client is closed of which no whole frame came for so long.
     pub idle: u64,
-    /// The longest wait before a device is asked, or a connection is made, again.
+    /// The longest wait before a connection is made again.
     pub back_off_most: u64,
     /// How long after a search that found no map the next one begins.
     pub search_again: u64,

@@ -120,7 +120,7 @@ impl Line {
         self.wire.come_up();
     }
 
-    /// It is down from now on, and isn't made again for a while.
+    /// It is down from now on. One that ended while nothing was under way is made again at once, any other after a while.
     pub fn go_down(&mut self, now: u64, limits: &Limits)
         ensures cut { IsCut self.new }
     {
@@ -176,13 +176,6 @@ impl Line {
         ensures { Keeps self.old self.new }
     {
         self.wire.missed();
-    }
-
-    /// A request of a round that is over ends nothing any more.
-    pub fn outlive(&mut self)
-        ensures { Keeps self.old self.new }
-    {
-        self.wire.outlive();
     }
 }
 

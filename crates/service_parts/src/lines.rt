@@ -177,7 +177,8 @@ impl Lines {
         }
     }
 
-    /// The connection of a link ended: nothing waits on it any more, and it isn't made again for a while.
+    /// The connection of a link ended: nothing waits on it any more. One that ended while nothing was under way is made again
+    /// at once, any other after a while.
     pub fn go_down(&mut self, link: usize, now: u64, limits: &Limits)
         ensures rightful { StayRightful self.old self.new }
         ensures links { self.new.links ≡ self.old.links }
@@ -225,7 +226,7 @@ fn lines_to(
     Ok(lines)
 }
 
-/// Which of so many devices are reached over a link.
+/// Which of so many devices are reached over a link, in the order in which they are asked.
 fn devices_on(
     alloc: Global,
     link: usize,
@@ -238,5 +239,17 @@ fn devices_on(
             found.push(device)?;
         }
     }
-    Ok(found)
+    spread(alloc, &found)
+}
+
+/// Devices in another order: neighbours aren't asked one after another, since those that don't answer mostly lie side by side.
+fn spread(alloc: Global, devices: &[usize]) -> Result<Vec<usize>, AllocError> {
+    let count = devices.len();
+    // a step that has no divisor in common with the count meets each place once
+    let step = if count % 37 == 0 { 41 } else { 37 };
+    let mut spread = Vec::new(alloc);
+    for i in 0..count {
+        spread.push(devices[i.saturating_mul(step) % count])?;
+    }
+    Ok(spread)
 }

@@ -83,14 +83,17 @@ impl Lines {
         }
     }
 
-    /// The number of a link's device.
+    /// The number of the device at a place of a link.
     pub fn device_at(&self, link: usize, i: usize) -> Option<usize> {
         self.wire(link)?.devices().get(i).copied()
     }
 
-    /// The number of the device from which on the next one of a link is asked.
-    pub fn turn(&self, link: usize) -> Option<usize> {
-        Some(self.wire(link)?.turn())
+    /// Whether a connection is up, its devices answered over it, and nothing is under way on it.
+    pub fn is_idle(&self, link: usize) -> bool {
+        match self.wire(link) {
+            Some(wire) => wire.is_idle(),
+            None => false,
+        }
     }
 }
 
@@ -168,18 +171,6 @@ impl Lines {
         }
     }
 
-    /// A request on a link that is of a round that is over ends nothing any more.
-    fn outlive(&mut self, link: usize)
-        ensures rightful { StayRightful self.old self.new }
-        ensures links { self.new.links ≡ self.old.links }
-        ensures found { self.new.found_on ≡ self.old.found_on }
-        ensures lines { LinesGo self.old.lines.items self.new.lines.items }
-    {
-        if let Some(line) = self.lines.get_mut(link) {
-            line.outlive();
-        }
-    }
-
     /// There may be something to ask over each link.
     pub fn stir_all(&mut self)
         ensures rightful { StayRightful self.old self.new }
@@ -189,18 +180,6 @@ impl Lines {
     {
         for link in 0..self.lines.len() {
             self.stir(link);
-        }
-    }
-
-    /// The requests that are under way are those of a round that is over.
-    pub fn outlive_all(&mut self)
-        ensures rightful { StayRightful self.old self.new }
-        ensures links { self.new.links ≡ self.old.links }
-        ensures found { self.new.found_on ≡ self.old.found_on }
-        ensures lines { LinesGo self.old.lines.items self.new.lines.items }
-    {
-        for link in 0..self.lines.len() {
-            self.outlive(link);
         }
     }
 }

@@ -4,7 +4,7 @@ ghost use Rattle.service.specs.Hearing.{asking, fresh};
 ghost use Rattle.modbus_frame.specs.Frame.{frame_bytes};
 ghost use Rattle.modbus_frame.specs.Message.{HasQuantity};
 ghost use Rattle.gateway.specs.poller.LinkRun.{frame_of};
-ghost use Rattle.service_parts.specs.Frames.{IsStill, TakesWhere, past};
+ghost use Rattle.service_parts.specs.Frames.{TakesWhere};
 ghost use Rattle.service_parts.specs.Waking.{IsToDial, IsToHangUp, due_of};
 
 use crate::limits::Limits;
@@ -22,8 +22,6 @@ pub enum Aim {
     Block(usize),
     /// The output of this number.
     Output(usize),
-    /// A round that is over.
-    Past,
 }
 
 /// The request that is under way.
@@ -45,14 +43,14 @@ pub struct Wire {
     id: u16,
     is_up: bool,
     is_bad: bool,
-    /// The numbers of its devices, the lowest first.
+    /// The numbers of its devices.
     devices: Vec<usize>,
     /// Before this time there is nothing to ask over it, unless something happens.
     rest_until: u64,
     /// So many requests in a row had no answer.
     silent: usize,
-    /// The number of the device from which on the next one is asked.
-    turn: usize,
+    /// Whether a device answered since it came up.
+    is_heard: bool,
     dial_at: u64,
     /// Until when the dial that is under way may take.
     dial_until: Option<u64>,
@@ -75,7 +73,7 @@ impl Wire {
             devices,
             rest_until: 0,
             silent: 0,
-            turn: 0,
+            is_heard: false,
             dial_at: 0,
             dial_until: None,
             wait: 0,
@@ -115,13 +113,14 @@ impl Wire {
         self.asked
     }
 
-    /// The numbers of its devices, the lowest first.
+    /// The numbers of its devices.
     pub fn devices(&self) -> &[usize] {
         &self.devices
     }
 
-    pub fn turn(&self) -> usize {
-        self.turn
+    /// Whether it is up and does nothing: its devices answered, and nothing is under way.
+    pub fn is_idle(&self) -> bool {
+        self.is_free() && self.is_heard
     }
 
     /// Whether something may be to be asked at this time.
@@ -197,20 +196,23 @@ impl Wire {
         self.dial_until = None;
         self.rest_until = 0;
         self.silent = 0;
+        self.is_heard = false;
     }
 
-    /// It is down from now on, and isn't made again for a while.
+    /// It is down from now on. One that ended while nothing was under way is made again at once, any other after a while.
     pub fn go_down(&mut self, now: u64, limits: &Limits)
         ensures ends { self.new.inquiry ≡ fresh }
         ensures none { self.new.asked ≡ None }
         ensures down { self.new.is_up ≡ false }
     {
+        if !self.is_idle() {
+            self.wait = longer(self.wait, limits.period.min(1000), limits.back_off_most);
+        }
         self.inquiry = Inquiry::new();
         self.asked = None;
         self.is_up = false;
         self.is_bad = false;
         self.dial_until = None;
-        self.wait = longer(self.wait, limits.period, limits.back_off_most);
         self.dial_at = now.saturating_add(self.wait);
     }
 
@@ -236,7 +238,6 @@ impl Wire {
         let id = self.id;
         self.id = id.wrapping_add(1);
         self.asked = Some(asked);
-        self.turn = asked.device.saturating_add(1);
         Some(self.inquiry.begin(id, unit, request))
     }
 
@@ -275,10 +276,11 @@ impl Wire {
 
     /// A device answered.
     pub fn heard(&mut self)
-        ensures { self.new ≡ record self.old { silent = 0; wait = 0 } }
+        ensures { self.new ≡ record self.old { silent = 0; wait = 0; is_heard = true } }
     {
         self.silent = 0;
         self.wait = 0;
+        self.is_heard = true;
     }
 
     /// A device didn't answer. After two silent requests in a row for each of its devices and one more, the connection
@@ -291,28 +293,5 @@ impl Wire {
         if self.silent >= self.devices.len().saturating_mul(2).saturating_add(1) {
             self.is_bad = true;
         }
-    }
-
-    /// A request of a round that is over ends nothing any more.
-    pub fn outlive(&mut self)
-        ensures still { IsStill self.old.asked self.new.asked }
-        ensures same { self.new ≡ record self.old { asked = self.new.asked } }
-    {
-        if let Some(asked) = self.asked {
-            self.asked = Some(Asked {
-                aim: past(asked.aim),
-                ..asked
-            });
-        }
-    }
-}
-
-/// What a request is made for once its round is over.
-fn past(aim: Aim) -> Aim
-    ensures { result ≡ past aim }
-{
-    match aim {
-        Aim::Map => Aim::Map,
-        _ => Aim::Past,
     }
 }

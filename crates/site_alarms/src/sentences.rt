@@ -53,7 +53,7 @@ fn lost_text(alloc: Global, name: &str, loss: Option<Loss>) -> Result<String, Al
         Some(Loss::Silent) => "it answers nothing in time",
         Some(Loss::Frame) => "what comes from it is no Modbus TCP",
         Some(Loss::Stale) => "it mixes up its answers",
-        Some(Loss::NoTime) => "others use up the time of the round",
+        Some(Loss::Gateway) => "its gateway says that it doesn't answer",
         None => "it gives nothing",
     };
     let text = format!(in alloc; "{name} is lost: {why}")?;

@@ -108,7 +108,7 @@ pub fn loss_word(loss: Loss) -> &'static str {
         Loss::Silent => "Silent",
         Loss::Frame => "Frame",
         Loss::Stale => "Stale",
-        Loss::NoTime => "NoTime",
+        Loss::Gateway => "Gateway",
     }
 }
 

@@ -3,13 +3,14 @@ use crate::journal::Journal;
 use crate::keeping::Keeping;
 use crate::kept_files::KeptFiles;
 use crate::looking::Lookout;
+use crate::paces::Paces;
 use crate::program_watch::{Looked, ProgramWatch};
 use crate::room::{Room, STANDARD_ERROR, STANDARD_OUTPUT};
 use crate::serving::{End, Serving};
 use crate::sockets::Sockets;
 use crate::state_lock::StateLock;
 use crate::status::status_text;
-use crate::telling::{tell, tell_changes, tell_scan, tell_taken};
+use crate::telling::{pace_line, tell, tell_changes, tell_scan, tell_taken};
 use crate::wall_clock::seconds_of_day;
 use service_core::{Note, Service};
 use service_texts::{Addresses, late_line, listening_line, program_refused_line};
@@ -35,6 +36,8 @@ pub(crate) struct Desk<'a, W: Write> {
     late: u64,
     /// What is wrong.
     lookout: Lookout,
+    /// Which devices don't keep up.
+    paces: Paces,
     /// Whether standard error takes a note on another program; None where there are none.
     notes: Option<Room>,
 }
@@ -75,6 +78,7 @@ impl<'a, W: Write> Desk<'a, W> {
             start: Instant::now(rt)?,
             late: 0,
             lookout: Lookout::new(alloc),
+            paces: Paces::new(alloc, addresses.stations.len())?,
             notes: noting(rt, alloc, is_noting),
         })
     }
@@ -121,6 +125,7 @@ impl<'a, W: Write> Desk<'a, W> {
         if self.tell_look(&*program, looked, files) && self.has_room() {
             program.explain(rt, &*service);
         }
+        self.hear(service, now)?;
         service.tick(now);
         let taken = self.sockets.take(rt, serving, service, &mut self.journal);
         // what was taken in may set values, and giving out says so
@@ -129,6 +134,14 @@ impl<'a, W: Write> Desk<'a, W> {
         let is_done = self.tell(serving, service, files);
         self.keep_status(rt, serving, &*program, service, files);
         Ok(is_done)
+    }
+
+    // Hears devices before waits end: what came while this program itself had no time isn't late.
+    fn hear(&mut self, service: &mut Service, now: u64) -> Result<(), End> {
+        match self.sockets.hear(service, now) {
+            Ok(()) => Ok(()),
+            Err(fault) => Err(End::by(&fault)),
+        }
     }
 
     // Whether standard error takes a note without a wait.
@@ -204,6 +217,18 @@ impl<'a, W: Write> Desk<'a, W> {
         match self.lookout.look(service, files, now) {
             Ok(changes) => tell_changes(self.alloc, changes, service.core(), &mut self.journal),
             Err(AllocError) => self.journal.tell(Err(AllocError)),
+        }
+        self.tell_paces(service);
+    }
+
+    // Tells which devices don't keep up with the program, or do again.
+    fn tell_paces(&mut self, service: &Service) {
+        let site = service.core().site();
+        for device in 0..site.devices().len() {
+            if let Some(rounds) = self.paces.see(device, service.device_status(device)) {
+                self.journal
+                    .tell(pace_line(self.alloc, site, device, rounds));
+            }
         }
     }
 

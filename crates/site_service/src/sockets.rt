@@ -88,7 +88,14 @@ impl Sockets {
         &self.clients
     }
 
-    /// Takes in clients who wait, hands over what came, and makes and closes connections to devices.
+    /// Hands over all that came from devices by now.
+    pub(crate) fn hear(&mut self, service: &mut Service, now: u64) -> io::Result<()> {
+        self.wait(0)?;
+        self.links.receive(service, now);
+        Ok(())
+    }
+
+    /// Takes in clients who wait, hands over what came from clients, and makes and closes connections to devices.
     pub(crate) fn take<R: Net + Processes<Started = SystemProcess>, W: Write>(
         &mut self,
         rt: &R,
@@ -99,8 +106,7 @@ impl Sockets {
         let now = journal.now();
         let registry = self.poll.registry();
         self.clients.take_in(registry, &mut self.door, serving.writers, service, journal);
-        self.links.receive(service, now);
-        // a scan may have begun with these bytes, and a client may write again what lapsed before it
+        // a scan may have been made, and a client may write again what lapsed before it
         self.clients.tell_lapsed(service.core(), journal);
         self.clients.receive(service, journal);
         self.links.hang_up(service, now);

@@ -86,6 +86,9 @@ fn put_status(
     put_truth(value, alloc, "mapped", status.is_mapped)?;
     put_truth(value, alloc, "lost", is_amiss(status))?;
     put_loss(value, alloc, status.last_loss)?;
+    put_number(value, alloc, "reply", status.replies.lately)?;
+    put_number(value, alloc, "each", status.each)?;
+    put_number(value, alloc, "age", status.age)?;
     put_number(value, alloc, "requests", status.counts.requests)?;
     put(value, alloc, "losses", losses_value(alloc, &status.counts)?)
 }
@@ -113,6 +116,6 @@ fn losses_value(alloc: Global, counts: &Counts) -> Result<Value, AllocError> {
     put_number(&mut losses, alloc, loss_word(Loss::Silent), counts.silent)?;
     put_number(&mut losses, alloc, loss_word(Loss::Frame), counts.frame)?;
     put_number(&mut losses, alloc, loss_word(Loss::Stale), counts.stale)?;
-    put_number(&mut losses, alloc, loss_word(Loss::NoTime), counts.no_time)?;
+    put_number(&mut losses, alloc, loss_word(Loss::Gateway), counts.gateway)?;
     Ok(Value::Object(losses))
 }

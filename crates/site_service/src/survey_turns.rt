@@ -1,4 +1,4 @@
-//! The turns of a survey: connections to devices alone, until each device has a map or hasn't, and then one scan.
+//! The turns of a survey: connections to devices alone, until each device is read or can't be, and then one scan.
 use crate::desk::milliseconds;
 use crate::links::Links;
 use crate::serving::End;
@@ -13,20 +13,21 @@ use std::net::Net;
 use std::process::{Processes, SystemProcess};
 use std::time::{Clock, Duration, Instant};
 
-/// From the start of a survey to its round at the latest, in milliseconds: the longest that connections and searches may
-/// take. For its reads a round has half of that. No device is tried a second time before.
+/// From the start of a survey to its scan at the latest, in milliseconds: the longest that connections, searches and reads may
+/// take. No device without a map is searched a second time before.
 const ROUND: u64 = 600_000;
 
-/// How long a survey waits: for a device's reply so many milliseconds, half of a round at most.
+/// How long a survey waits: for each reply of each device so many milliseconds.
 pub fn survey_limits(timeout: u64) -> Limits {
     Limits {
+        first_wait: timeout,
         search_again: ROUND,
         ..limits(ROUND, timeout, 0)
     }
 }
 
 /// Brings a survey, of which nothing was asked yet and whose limits are `survey_limits`, to the end of its scan: each device
-/// is connected and searched once, all side by side, and once each has a map or hasn't, each wanted block is read. `links`
+/// is connected, searched once and read, all side by side. `links`
 /// are the addresses of its connections. Nothing that a device does ends it. System: the clock or the wait for sockets failed;
 /// OutOfMemory: memory was refused at the start.
 pub fn survey_site<R: Net + Clock + Processes<Started = SystemProcess>>(
@@ -52,6 +53,9 @@ fn turns<R: Net + Clock + Processes<Started = SystemProcess>>(
 ) -> Result<(), End> {
     for _ in 0..u64::MAX {
         let now = round.now(rt)?;
+        if let Err(fault) = round.hear(service, now) {
+            return Err(End::by(&fault));
+        }
         if round.turn(rt, service, now) {
             return Ok(());
         }
@@ -72,8 +76,8 @@ struct SurveyRound {
     tokens: Tokens,
     links: Links,
     start: Instant,
-    /// By how many milliseconds the service's time is ahead of the clock: the round begins as soon as each device has a map or
-    /// hasn't.
+    /// By how many milliseconds the service's time is ahead of the clock: the scan comes as soon as each device is read, or can't
+    /// be.
     ahead: u64,
     /// Of each device, whether a search found that it has no map.
     unmapped: Vec<bool>,
@@ -107,6 +111,13 @@ impl SurveyRound {
         }
     }
 
+    /// Hears devices before waits end: what came while this program itself had no time isn't late.
+    fn hear(&mut self, service: &mut Service, now: u64) -> io::Result<()> {
+        self.poll(0)?;
+        self.links.receive(service, now);
+        Ok(())
+    }
+
     /// One turn; whether the scan is done.
     fn turn<R: Net + Processes<Started = SystemProcess>>(
         &mut self,
@@ -115,7 +126,6 @@ impl SurveyRound {
         now: u64,
     ) -> bool {
         service.tick(now);
-        self.links.receive(service, now);
         self.links.hang_up(service, now);
         self.links.dial(rt, self.poll.registry(), service, now);
         self.links.send(service);
@@ -147,7 +157,7 @@ impl SurveyRound {
         }
     }
 
-    /// Whether each device is lost, has a map, or has none.
+    /// Whether each device is lost, has no map, or is read.
     fn is_settled(&self, service: &Service) -> bool {
         for (device, unmapped) in self.unmapped.iter().enumerate() {
             if !*unmapped && !is_tried(service, device) {
@@ -164,6 +174,11 @@ impl SurveyRound {
         } else {
             service.wakes_at().saturating_sub(now)
         };
+        self.poll(most)
+    }
+
+    /// Waits until the system says that there is something to do, at most so many milliseconds.
+    fn poll(&mut self, most: u64) -> io::Result<()> {
         self.poll
             .poll(&mut self.events, Some(Duration::from_millis(most)))?;
         for event in self.events.iter() {
@@ -175,10 +190,10 @@ impl SurveyRound {
     }
 }
 
-/// Whether a device is lost or has a map.
+/// Whether a device is lost, or has a map and is read.
 fn is_tried(service: &Service, device: usize) -> bool {
     match service.device_status(device) {
-        Some(status) => status.is_lost || status.is_mapped,
+        Some(status) => status.is_lost || (status.is_mapped && service.is_read(device)),
         None => true,
     }
 }

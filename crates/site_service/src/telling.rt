@@ -110,6 +110,20 @@ fn lost(alloc: Global, site: &Site, device: usize, kind: &str) -> Result<String,
     lost_line(alloc, name.as_str(), kind)
 }
 
+/// `device NAME each N rounds`, or `device NAME each round`.
+pub(crate) fn pace_line(
+    alloc: Global,
+    site: &Site,
+    device: usize,
+    rounds: u64,
+) -> Result<String, AllocError> {
+    if rounds <= 1 {
+        return told(alloc, site, device, "each round");
+    }
+    let what = format!(in alloc; "each {rounds} rounds")?;
+    told(alloc, site, device, what.as_str())
+}
+
 // The name of a device, with control characters escaped: it may be any text, and can't pass for another line.
 fn shown_name(alloc: Global, site: &Site, device: usize) -> Result<String, AllocError> {
     escaped(alloc, device_name(site, device))

@@ -14,7 +14,6 @@ use Rattle.site_model.specs.Wants.{length_of}
 use Rattle.gateway.specs.declared.poller.cycle.Call.{Call}
 use Rattle.gateway.specs.event_core.Core.{Gateway}
 use Rattle.gateway.specs.poller.Cycle.{block_request, read_of}
-use Rattle.service.specs.declared.search.Step.TheVariants as step
 use Rattle.service_parts.specs.declared.limits.Station.{Station}
 use Rattle.service_parts.specs.declared.wire.Aim.{Aim}
 use Rattle.service_parts.specs.declared.wire.Aim.TheVariants as aim
@@ -67,7 +66,6 @@ of_call : (g : Gateway) (made_for : Aim) (device : ℕ) (call : Call) → g.site
 of_call g (aim.Block want) device call none is = of_read call g.site g.maps is.want is.read
 of_call g (aim.Output output) device call none is = none_there g.site.outs output is.sets.number none is.sets.output
 of_call g aim.Map device call none is = absurd is
-of_call g aim.Past device call none is = absurd is
 
 of_asked : (g : Gateway) (found_on : List (Option ℕ)) (number : ℕ) (made_for : Aim) (device : ℕ) (request : Request) → g.site.outs ≡ [] → MayBeAsked g found_on number made_for device request → IsRead request
 of_asked g found_on number made_for device request none (inl (round, found)) = of_call g made_for device (record { unit = round.unit; request = request }) none round.call

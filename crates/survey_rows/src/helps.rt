@@ -22,7 +22,7 @@ fn loss_help(loss: Loss) -> &'static str {
             "look whether its unit is right, and whether it answers with a longer --timeout"
         }
         Loss::Frame | Loss::Stale => "what answers there is no Modbus TCP server: look at its port",
-        Loss::NoTime =>
-            "others at its connection use up the time: take those out that don't answer",
+        Loss::Gateway =>
+            "its gateway answers for it: look at its cable and its supply, and whether its unit is right",
     }
 }

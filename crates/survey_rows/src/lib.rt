@@ -1,7 +1,7 @@
 //! The table of a survey: the site file as it is asked, and after its scan one row for each device, model that a device
-//! lacks, input, output and served point, with what is wrong and what to do. What is wrong is computed as for alarms
-//! (site_alarms), and what of an output's range can't be said as writes are judged (point_writer, served_ranges); of the
-//! words nothing is proved but that they end and are safe.
+//! lacks, input, output and served point, with what is wrong and what to do, and one for how often each device can be asked.
+//! What is wrong is computed as for alarms (site_alarms), and what of an output's range can't be said as writes are judged
+//! (point_writer, served_ranges); of the words nothing is proved except that they end and are safe.
 #![tactic(auto)]
 
 mod asked_text;
@@ -11,6 +11,7 @@ mod helps;
 mod identity;
 mod input_rows;
 mod output_rows;
+mod pace_rows;
 mod point_name;
 mod range_text;
 mod row;

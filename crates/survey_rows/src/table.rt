@@ -2,6 +2,7 @@
 use crate::device_rows::device_rows;
 use crate::input_rows::input_rows;
 use crate::output_rows::output_rows;
+use crate::pace_rows::pace_rows;
 use crate::row::Rows;
 use crate::seen::Wrongs;
 use crate::served_rows::served_rows;
@@ -25,6 +26,7 @@ pub fn table_of(alloc: Global, survey: &Survey<'_>) -> Result<Table, AllocError>
         wrong: 0,
     };
     table.push(&device_rows(alloc, survey, &wrongs)?)?;
+    table.push(&pace_rows(alloc, survey)?)?;
     table.push(&input_rows(alloc, survey, &wrongs)?)?;
     table.push(&output_rows(alloc, survey, &wrongs)?)?;
     table.push(&served_rows(alloc, survey, &wrongs)?)?;

@@ -89,7 +89,7 @@ impl Devices {
         None
     }
 
-    /// The block that the reply of a link's device has.
+    /// The block that the reply of a link's device has: the model's number, its length and its other registers.
     pub(crate) fn block_in(&self, link: usize, reply: &[u8]) -> Option<Event> {
         let frame = frame_in(reply)?;
         let [3, _, bytes @ ..] = frame.pdu.bytes() else {
@@ -97,7 +97,13 @@ impl Devices {
         };
         let registers = registers_in(self.alloc, bytes).ok()?;
         let device = self.device_at(link, frame.unit)?;
-        let model = registers.first().copied()?;
+        let [model, length, ..] = registers.as_slice() else {
+            return None;
+        };
+        if registers.len() != usize::from(*length) + 2 {
+            return None;
+        }
+        let model = *model;
         Some(Event::Block(Want { device, model }, Words::from_slice(&registers)?))
     }
 }

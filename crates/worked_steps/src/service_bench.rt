@@ -18,7 +18,7 @@ const SITE: &str = "site.toml";
 
 const PROGRAM: &str = "program.il";
 
-/// From the start of a round to that of the next one, and how long a device may take to answer, in milliseconds.
+/// From one scan to the next, and how long a device may take to answer, in milliseconds.
 const PERIOD: u64 = 1000;
 
 const TIMEOUT: u64 = 200;
@@ -36,7 +36,7 @@ pub(crate) struct ServiceBench {
     late: Vec<u8>,
     /// What came over each link and wasn't used yet.
     waiting: Vec<Vec<u8>>,
-    /// What happened by `serves` and `answer-link`.
+    /// What happened to its core, where no device was silent.
     course: Course,
 }
 
@@ -131,7 +131,11 @@ impl ServiceBench {
 
     fn tick(&mut self, page: &mut Page, now: u64) -> Shown<()> {
         self.now = now;
+        let scans = self.service.scans();
         self.service.tick(now);
+        if self.service.scans() > scans {
+            self.course.add_scan(now)?;
+        }
         self.tell_notes(page)
     }
 
@@ -182,9 +186,18 @@ impl ServiceBench {
             self.offer(link)?;
             return Ok(false);
         }
+        self.answer_next(link)?;
+        Ok(true)
+    }
+
+    /// The request that a link has to send is answered, and the block that comes is kept as an event.
+    fn answer_next(&mut self, link: usize) -> Shown<()> {
         let reply = self.reply(link)?;
         self.give(link, &reply)?;
-        Ok(true)
+        match self.devices.block_in(link, &reply) {
+            Some(block) => self.course.add(block),
+            None => Ok(()),
+        }
     }
 
     /// A link is dialled or hung up, where it is to be; whether it was.
@@ -230,21 +243,13 @@ impl ServiceBench {
         Ok(())
     }
 
-    /// The requests of a link are answered until there is none, and the events that this brings are kept.
+    /// The requests of a link are answered until there is none.
     fn answer_link(&mut self, link: usize) -> Shown<()> {
         for _ in 0..20 {
             if self.service.to_link(link).is_empty() {
                 break;
             }
-            let scans = self.service.scans();
-            let reply = self.reply(link)?;
-            self.give(link, &reply)?;
-            if let Some(block) = self.devices.block_in(link, &reply) {
-                self.course.add(block)?;
-            }
-            if self.service.scans() > scans {
-                self.course.add_scan(self.now)?;
-            }
+            self.answer_next(link)?;
         }
         Ok(())
     }

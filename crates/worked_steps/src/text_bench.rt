@@ -1,13 +1,13 @@
 //! What a service reads and writes as text, and what it is told.
-use crate::bytes::{needed, number};
+use crate::bytes::needed;
 use crate::fault::Shown;
 use crate::page::Page;
 use crate::sites::site;
 use crate::texts::Texts;
 use file_keys::TomlFile;
 use service_texts::{
-    AddressFault, Addresses, WriterFault, has_port, limits, may_write, read_places, setting_in,
-    state_text, tag_named, writers_of,
+    AddressFault, Addresses, WriterFault, has_port, may_write, read_places, setting_in, state_text,
+    tag_named, writers_of,
 };
 use std::alloc::Global;
 use std::net::IpAddr;
@@ -30,8 +30,6 @@ pub(crate) enum TextStep<'a> {
     Behind(&'a str, &'a str),
     /// Whether a client at an address may write, where these words say who may.
     MayWrite(&'a str, &'a [&'a str]),
-    /// How long an answer is waited for, by a period and the longest time.
-    Timeout(u64, u64),
 }
 
 impl<'a> TextStep<'a> {
@@ -46,10 +44,6 @@ impl<'a> TextStep<'a> {
             ("places", [site]) => Some(Self::Places(*site)),
             ("behind", [address, site]) => Some(Self::Behind(*address, *site)),
             ("may-write", [address, writers @ ..]) => Some(Self::MayWrite(*address, writers)),
-            ("timeout", [period, longest]) => Some(Self::Timeout(
-                number(period)?,
-                number(longest)?,
-            )),
             _ => None,
         }
     }
@@ -70,7 +64,6 @@ impl<'a> TextStep<'a> {
                 tell_addresses(page, &Addresses::behind(alloc, address, site.devices())?)
             }
             TextStep::MayWrite(address, writers) => tell_writer(alloc, page, address, writers),
-            TextStep::Timeout(period, longest) => page.tell(limits(period, longest, 1).timeout),
         }
     }
 }

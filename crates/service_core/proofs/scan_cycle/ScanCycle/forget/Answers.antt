@@ -1,8 +1,5 @@
-use Rattle.std.proofs.Common.{rules, ◌≡◌, length}
-use Rattle.service_core.proofs.Forgetting.{all_gone}
+use Rattle.service_core.proofs.Forgetting.{forgotten_so}
 use Rattle.service_core.proofs.scan_cycle.ScanCycle.forget.Goals as goal
 
 pub returns-clause-forgotten : goal.returns-clause-forgotten
-returns-clause-forgotten c within =
-    let all : c.loop-i.i ≡ length c.args.self.now.core.value.site.wants = search rules in
-    all_gone c.args.device c.loop-i.i c.args.self.now.core.value c.loop-i.self.core.value all (c.loop-i.invariant.1 within)
+returns-clause-forgotten c within = forgotten_so c.args.device c.args.self.now.core.value c.learn.new.self.core.value c.lose_blocks.new.self.core.value (c.learn.ensures.learned within) c.lose_blocks.ensures.lost

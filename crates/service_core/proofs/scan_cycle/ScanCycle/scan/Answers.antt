@@ -1,39 +1,35 @@
-use Rattle.std.proofs.Common.{rules, ◌≡◌, ◌∙◌, false, length, Some, All}
+use Rattle.std.proofs.Common.{rules, ◌∙◌, length, All}
 use Rattle.gateway.specs.declared.event_core.event.Event.TheVariants as event
 use Rattle.gateway.specs.declared.event_core.event.Answer.TheVariants as answer
-use Rattle.service.specs.Tasks.{IsDone}
 use Rattle.service_core.specs.Cycle.{stage_of}
-use Rattle.service_core.specs.Rounds.{since}
+use Rattle.service_core.specs.Rounds.{IsRecent, since}
 use Rattle.service_core.specs.Stages.{Scans}
-use Rattle.service_core.proofs.Courses.{goes_scans, reached_rounds, sought_for, taken_site, takes_from}
+use Rattle.service_core.proofs.Courses.{goes_scans, reached_rounds, round_for, sought_for, taken_site, takes_from}
+use Rattle.service_core.proofs.LastTold.{round_when_scanned}
 use Rattle.service_core.proofs.scan_cycle.ScanCycle.scan.Goals as goal
 
 pub invariant_of-self-clause-reached : goal.invariant_of-self-clause-reached
 invariant_of-self-clause-reached c =
-    let first : c.args.self.now.round.scanned ≡ false = search rules in
-    let read : All IsDone c.args.self.now.round.reads = search rules in
+    let recent : All IsRecent c.args.self.now.round.told = search rules in
     let ran = c.scan.ensures.scanned in
     let scans : Scans c.args.now (stage_of c.args.self.now) (record { core = c.scan.new.core; round = c.scan.new.self }) = record {
-      first = first;
-      read = read;
+      recent = recent;
       waited = ran.waited;
-      waits = takes_from _ _ (Some (event.Time (since c.args.self.now.round.at c.args.now))) _ c.deref_mut.ensures.value (answer.None, ran.waits);
+      waits = takes_from _ _ (event.Time (since c.args.self.now.round.at c.args.now)) _ c.deref_mut.ensures.value (answer.None, ran.waits);
       runs = (answer.Writes (length (ran.waited).site.outs), ran.runs);
       planned = c.scan.ensures.planned;
       same = c.scan.ensures.same;
     } in
     reached_rounds _ _ c.args.self.now.reached (goes_scans _ _ c.args.now scans)
 
-pub returns-then-may_scan : goal.returns-then-may_scan
-returns-then-may_scan c =
-    let first : c.args.self.now.round.scanned ≡ false = search rules in
-    let read : All IsDone c.args.self.now.round.reads = search rules in
+pub returns-then-are_recent : goal.returns-then-are_recent
+returns-then-are_recent c =
+    let recent : All IsRecent c.args.self.now.round.told = search rules in
     let ran = c.scan.ensures.scanned in
     let scans : Scans c.args.now (stage_of c.args.self.now) (record { core = c.scan.new.core; round = c.scan.new.self }) = record {
-      first = first;
-      read = read;
+      recent = recent;
       waited = ran.waited;
-      waits = takes_from _ _ (Some (event.Time (since c.args.self.now.round.at c.args.now))) _ c.deref_mut.ensures.value (answer.None, ran.waits);
+      waits = takes_from _ _ (event.Time (since c.args.self.now.round.at c.args.now)) _ c.deref_mut.ensures.value (answer.None, ran.waits);
       runs = (answer.Writes (length (ran.waited).site.outs), ran.runs);
       planned = c.scan.ensures.planned;
       same = c.scan.ensures.same;
@@ -43,7 +39,15 @@ returns-then-may_scan c =
 pub invariant_of-self-clause-sought : goal.invariant_of-self-clause-sought
 invariant_of-self-clause-sought c =
     let ran = c.scan.ensures.scanned in
-    let wait = Some (event.Time (since c.args.self.now.round.at c.args.now)) in
+    let wait = event.Time (since c.args.self.now.round.at c.args.now) in
     let waits = takes_from c.args.self.now.core.value _ wait ran.waited c.deref_mut.ensures.value (answer.None, ran.waits) in
-    let site = taken_site (Some event.Scan) ran.waited c.scan.new.core (answer.Writes (length (ran.waited).site.outs), ran.runs) ∙ taken_site wait c.args.self.now.core.value ran.waited waits in
+    let site = taken_site event.Scan ran.waited c.scan.new.core (answer.Writes (length (ran.waited).site.outs), ran.runs) ∙ taken_site wait c.args.self.now.core.value ran.waited waits in
     sought_for c.args.self.now.core.value c.scan.new.core c.args.self.now.searches.items site c.args.self.now.sought
+
+pub invariant_of-self-clause-fits : goal.invariant_of-self-clause-fits
+invariant_of-self-clause-fits c =
+    let ran = c.scan.ensures.scanned in
+    let wait = event.Time (since c.args.self.now.round.at c.args.now) in
+    let waits = takes_from c.args.self.now.core.value _ wait ran.waited c.deref_mut.ensures.value (answer.None, ran.waits) in
+    let site = taken_site event.Scan ran.waited c.scan.new.core (answer.Writes (length (ran.waited).site.outs), ran.runs) ∙ taken_site wait c.args.self.now.core.value ran.waited waits in
+    round_for c.args.self.now.core.value c.scan.new.core c.scan.new.self site (round_when_scanned c.args.self.now.core.value.site c.args.self.now.round c.scan.new.self c.args.now c.scan.ensures.same c.scan.ensures.sized c.args.self.now.fits)

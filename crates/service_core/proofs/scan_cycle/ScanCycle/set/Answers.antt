@@ -1,4 +1,4 @@
-use Rattle.std.proofs.Common.{refl, ◌∙◌, ap, Some}
+use Rattle.std.proofs.Common.{refl, ◌∙◌, ap}
 use Rattle.gateway.specs.event_core.Core.{Gateway}
 use Rattle.gateway.specs.declared.event_core.event.Event.TheVariants as event
 use Rattle.service_core.specs.Cycle.{stage_of}
@@ -12,7 +12,7 @@ invariant_of-self c =
     let same = c.deref_mut.ensures.value in
     let site = (step.same).site ∙ ap (λ (x : Gateway). x.site) same in
     let asks : Asks c.request_pdu.result (stage_of c.args.self.now) (record { core = c.step.new.self; round = c.args.self.now.round }) = record {
-      told = takes_from _ _ (Some (event.Client c.request_pdu.result)) _ same (c.step.result, (32, ((step.run, step.same), step.machine)));
+      told = takes_from _ _ (event.Client c.request_pdu.result) _ same (c.step.result, (32, ((step.run, step.same), step.machine)));
       round = refl;
     } in
     record {
@@ -25,7 +25,7 @@ pub returns-clause-goes : goal.returns-clause-goes
 returns-clause-goes c =
     let step = c.step.ensures in
     let asks : Asks c.request_pdu.result (stage_of c.args.self.now) (record { core = c.step.new.self; round = c.args.self.now.round }) = record {
-      told = takes_from _ _ (Some (event.Client c.request_pdu.result)) _ c.deref_mut.ensures.value (c.step.result, (32, ((step.run, step.same), step.machine)));
+      told = takes_from _ _ (event.Client c.request_pdu.result) _ c.deref_mut.ensures.value (c.step.result, (32, ((step.run, step.same), step.machine)));
       round = refl;
     } in
     goes_asks _ _ c.request_pdu.result asks

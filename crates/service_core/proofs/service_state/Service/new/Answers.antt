@@ -9,10 +9,10 @@ new-requires-2 c =
     let opened = is_new _ _ _ _ c.in_ok-core.ensures.opened in
     let fits = round_of _ _ _ _ _ c.in_ok-core.ensures.opened c.in_ok-parts.ensures.round in
     let sought = searches_of _ _ _ _ _ c.in_ok-core.ensures.opened c.in_ok-parts.ensures.searches in
-    search (rules, opened, fits, c.in_ok-parts.ensures.over, sought)
+    search (rules, opened, fits, c.in_ok-parts.ensures.untold, sought)
 
 pub returns-clause-first : goal.returns-clause-first
 returns-clause-first c =
     let opened = is_new _ _ _ _ c.in_ok-core.ensures.opened in
     let fits = round_of _ _ _ _ _ c.in_ok-core.ensures.opened c.in_ok-parts.ensures.round in
-    first_stage (stage_of c.in_ok-cycle.cycle) _ _ c.in_ok-cycle.ensures.core c.in_ok-cycle.ensures.round opened fits c.in_ok-parts.ensures.over
+    first_stage (stage_of c.in_ok-cycle.cycle) _ _ c.in_ok-cycle.ensures.core c.in_ok-cycle.ensures.round opened fits c.in_ok-parts.ensures.untold

@@ -2,7 +2,7 @@ use Rattle.service_core.proofs.Courses.{own_of_rounds, own_of_settles}
 use Rattle.service_core.proofs.service_state.Service.settle.Goals as goal
 
 pub returns-in-Some-clause-goes : goal.returns-in-Some-clause-goes
-returns-in-Some-clause-goes c = own_of_settles _ _ _ _ c.settle_asked.ensures.settles
+returns-in-Some-clause-goes c = own_of_settles c.args.fate c.in-Some.asked c.args.self.now.cycle c.settle_asked.new.self.cycle c.settle_asked.ensures.settles
 
 pub returns-in-None-clause-goes : goal.returns-in-None-clause-goes
 returns-in-None-clause-goes c = own_of_rounds _ _ c.go_on.ensures.goes

@@ -1,0 +1,15 @@
+use Rattle.std.proofs.Common.{refl}
+use Rattle.service_core.specs.Cycle.{stage_of}
+use Rattle.service_core.specs.Stages.{Ends}
+use Rattle.service_core.proofs.Courses.{goes_ends, reached_rounds}
+use Rattle.service_core.proofs.scan_cycle.ScanCycle.drop_write.Goals as goal
+
+pub invariant_of-self-clause-reached : goal.invariant_of-self-clause-reached
+invariant_of-self-clause-reached c =
+    let is : Ends c.args.device (stage_of c.args.self.now) (record { core = c.args.self.now.core.value; round = c.close.new.self }) = record { closes = c.close.ensures.closes; core = refl } in
+    reached_rounds _ _ c.args.self.now.reached (goes_ends _ _ c.args.device is)
+
+pub returns : goal.returns
+returns c =
+    let is : Ends c.args.device (stage_of c.args.self.now) (record { core = c.args.self.now.core.value; round = c.close.new.self }) = record { closes = c.close.ensures.closes; core = refl } in
+    record { ends = is; goes = goes_ends _ _ c.args.device is }

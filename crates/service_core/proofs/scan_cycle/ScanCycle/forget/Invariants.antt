@@ -1,7 +1,0 @@
-use Rattle.std.proofs.Common.{◌≡◌, ◌<◌, length}
-use Rattle.service_core.specs.Cycle.{LeadsOn}
-use Rattle.service_core.proofs.Forgetting.{so_far}
-use Rattle.service_core.proofs.scan_cycle.ScanCycle.forget.Given as goal
-
-abbrev pub invariant-loop-i : goal.invariant-loop-i
-invariant-loop-i l = LeadsOn l.fn.self l.self × (l.fn.device < length l.fn.self.core.value.site.devices → l.self.core.value ≡ so_far l.fn.device l.i l.fn.self.core.value)

@@ -1,0 +1,342 @@
+//! What becomes of requests: answers that come, and those that don't.
+ghost use Rattle.std.specs.Prelude.{◌≡◌, ◌<◌, ℕ, None, Some, slice_get, length, true, false};
+ghost use Rattle.service_parts.specs.declared.wire.Aim.TheVariants.{Output as OutputAim};
+ghost use Rattle.service.specs.declared.fate.Fate.TheVariants.{Told};
+ghost use Rattle.service_parts.specs.Frames.{LinesGo};
+ghost use Rattle.service_core.specs.declared.note.Loss.TheVariants.{Frame as frame, Silent as silent};
+ghost use Rattle.service_core.specs.Losing.{AreLost, AreLostWith, LostByFate, LostByHearing, LostByWait, LostByWaitAt, loss_by};
+ghost use Rattle.service_core.specs.Told.{Goes, LosesBy};
+ghost use Rattle.service_core.specs.Cycle.{Answers, AnswersIf, DevicesLeadOn, EndsOwn, LeadsOn, Settles, SettlesIf, is_answer, is_gateways, stage_of};
+ghost use Rattle.service_core.specs.Rewriting.{after_answer};
+ghost use Rattle.service_core.specs.Telling.{state_by, told_at};
+
+use crate::link_pace::Purpose;
+use crate::note::{Loss, Unwritten};
+use crate::output::OutputState;
+use crate::sent_writes::Taken;
+use crate::service_state::Service;
+use gateway::Outcome;
+use service::Fate;
+use service_parts::{Aim, Asked};
+
+impl Service {
+    /// This became of the request that was under way on a connection; then the service goes on.
+    pub(crate) fn settle(&mut self, link: usize, asked: Option<Asked>, fate: Fate)
+        ensures settles { SettlesIf asked fate self.old.cycle self.new.cycle }
+        ensures goes { DevicesLeadOn self.old.cycle self.new.cycle }
+        ensures links { self.new.lines.links ≡ self.old.lines.links }
+        ensures lines { LinesGo self.old.lines.lines.items self.new.lines.lines.items }
+        ensures places { self.new.places.items ≡ self.old.places.items }
+        ensures time { self.new.side.now ≡ self.old.side.now }
+        ensures stands { LosesBy (LostByHearing self.old.lines.links.stations.items link asked (Some fate)) self.old.side self.new.side }
+    {
+        match asked {
+            Some(asked) => self.settle_asked(link, asked, fate),
+            None => self.go_on(),
+        }
+    }
+
+    fn settle_asked(&mut self, link: usize, asked: Asked, fate: Fate)
+        ensures settles { Settles fate asked self.old.cycle self.new.cycle }
+        ensures links { self.new.lines.links ≡ self.old.lines.links }
+        ensures lines { LinesGo self.old.lines.lines.items self.new.lines.lines.items }
+        ensures places { self.new.places.items ≡ self.old.places.items }
+        ensures time { self.new.side.now ≡ self.old.side.now }
+        ensures stands { LosesBy (LostByFate self.old.lines.links.stations.items link asked fate) self.old.side self.new.side }
+    {
+        match fate {
+            Fate::Lost => self.lose_stream(link, asked),
+            Fate::Told(outcome) => self.settle_told(link, asked, outcome),
+        }
+    }
+
+    /// What came over a connection is no frame.
+    fn lose_stream(&mut self, link: usize, asked: Asked)
+        ensures links { self.new.lines.links ≡ self.old.lines.links }
+        ensures lines { LinesGo self.old.lines.lines.items self.new.lines.lines.items }
+        ensures goes { LeadsOn self.old.cycle self.new.cycle }
+        ensures places { self.new.places.items ≡ self.old.places.items }
+        ensures time { self.new.side.now ≡ self.old.side.now }
+        ensures stands { LosesBy (AreLost self.old.lines.links.stations.items link frame) self.old.side self.new.side }
+    {
+        self.side.lose_write(asked.aim);
+        self.lines.spoil(link);
+        self.lose_all(link, Loss::Frame);
+        self.go_on();
+    }
+
+    fn settle_told(&mut self, link: usize, asked: Asked, outcome: Outcome)
+        ensures settles { AnswersIf (is_answer outcome) asked outcome self.old.cycle self.new.cycle }
+        ensures links { self.new.lines.links ≡ self.old.lines.links }
+        ensures lines { LinesGo self.old.lines.lines.items self.new.lines.lines.items }
+        ensures places { self.new.places.items ≡ self.old.places.items }
+        ensures time { self.new.side.now ≡ self.old.side.now }
+        ensures stands { LosesBy (LostByFate self.old.lines.links.stations.items link asked (Told outcome)) self.old.side self.new.side }
+    {
+        if is_answer(&outcome) {
+            self.take_answer(link, asked, outcome);
+        } else {
+            self.lose_answer(link, asked, loss_by(&outcome));
+        }
+    }
+
+    /// What came is no answer of the device.
+    fn lose_answer(&mut self, link: usize, asked: Asked, loss: Loss)
+        ensures links { self.new.lines.links ≡ self.old.lines.links }
+        ensures lines { LinesGo self.old.lines.lines.items self.new.lines.lines.items }
+        ensures goes { LeadsOn self.old.cycle self.new.cycle }
+        ensures places { self.new.places.items ≡ self.old.places.items }
+        ensures time { self.new.side.now ≡ self.old.side.now }
+        ensures stands { LosesBy (AreLostWith self.old.lines.links.stations.items link asked.device loss) self.old.side self.new.side }
+    {
+        self.side.lose_write(asked.aim);
+        self.miss(link, asked.device, loss);
+        self.go_on();
+    }
+
+    fn take_answer(&mut self, link: usize, asked: Asked, outcome: Outcome)
+        ensures answers { Answers asked outcome self.old.cycle self.new.cycle }
+        ensures links { self.new.lines.links ≡ self.old.lines.links }
+        ensures lines { LinesGo self.old.lines.lines.items self.new.lines.lines.items }
+        ensures places { self.new.places.items ≡ self.old.places.items }
+        ensures time { self.new.side.now ≡ self.old.side.now }
+        ensures stands { Goes self.old.side self.new.side }
+    {
+        let is_mapped = self.cycle.is_mapped(asked.device);
+        self.lines.heard(link);
+        self.side.hear(asked.device, is_mapped);
+        self.note_reply(link, asked);
+        let foreign = self.take(asked, outcome);
+        self.forget_if(foreign, asked.device);
+        self.owe_search(link, asked.device);
+        self.go_on();
+    }
+
+    /// A device that is read leaves the next search its turn.
+    fn owe_search(&mut self, link: usize, device: usize)
+        ensures lines { self.new.lines ≡ self.old.lines }
+        ensures cycle { self.new.cycle ≡ self.old.cycle }
+        ensures places { self.new.places.items ≡ self.old.places.items }
+        ensures time { self.new.side.now ≡ self.old.side.now }
+        ensures stands { Goes self.old.side self.new.side }
+    {
+        if self.cycle.round().is_ready(device) {
+            self.side.owe(link, true);
+            let place = self.side.turn(link, Purpose::Read);
+            if self.lines.device_at(link, place) == Some(device) {
+                self.side
+                    .turned(link, Purpose::Read, place.saturating_add(1));
+            }
+        }
+    }
+
+    /// How long a device took to answer, where nothing before held its answer up.
+    fn note_reply(&mut self, link: usize, asked: Asked)
+        ensures lines { self.new.lines ≡ self.old.lines }
+        ensures cycle { self.new.cycle ≡ self.old.cycle }
+        ensures places { self.new.places.items ≡ self.old.places.items }
+        ensures time { self.new.side.now ≡ self.old.side.now }
+        ensures stands { Goes self.old.side self.new.side }
+    {
+        let after = self.side.now.saturating_sub(asked.since);
+        if !self.side.is_held_up(link) {
+            self.side.replied(asked.device, after);
+        }
+        self.side.note_write(asked.device, asked.aim, true);
+        self.side.hear_over(asked.device);
+        self.side.hear_link(link, asked.device, asked.since);
+    }
+
+    /// A device whose words are no block of the model that was asked for has other registers than its map says.
+    fn forget_if(&mut self, foreign: bool, device: usize)
+        ensures links { self.new.lines.links ≡ self.old.lines.links }
+        ensures lines { LinesGo self.old.lines.lines.items self.new.lines.lines.items }
+        ensures goes { LeadsOn self.old.cycle self.new.cycle }
+        ensures places { self.new.places.items ≡ self.old.places.items }
+        ensures time { self.new.side.now ≡ self.old.side.now }
+        ensures stands { Goes self.old.side self.new.side }
+    {
+        if foreign {
+            self.forget(device);
+            self.side.tell_again(device);
+        }
+    }
+
+    /// A device didn't answer, and is lost: it isn't asked for a while.
+    fn miss(&mut self, link: usize, device: usize, loss: Loss)
+        ensures links { self.new.lines.links ≡ self.old.lines.links }
+        ensures lines { LinesGo self.old.lines.lines.items self.new.lines.lines.items }
+        ensures goes { LeadsOn self.old.cycle self.new.cycle }
+        ensures places { self.new.places.items ≡ self.old.places.items }
+        ensures time { self.new.side.now ≡ self.old.side.now }
+        ensures others { (other : ℕ) → (other ≡ link → ⊥) → slice_get self.new.lines.lines.items other ≡ slice_get self.old.lines.lines.items other }
+        ensures stands { LosesBy (AreLostWith self.old.lines.links.stations.items link device loss) self.old.side self.new.side }
+    {
+        self.side.miss(device);
+        self.lines.missed(link);
+        self.cycle.seek_anew(device, self.lines.number_for(device));
+        self.lose(device, loss);
+        if self.lines.is_bad(link) {
+            self.lose_all(link, loss);
+        }
+    }
+
+    /// The outcome ends the request; whether the words that came are no block of its model.
+    fn take(&mut self, asked: Asked, outcome: Outcome) -> bool
+        ensures ends { EndsOwn asked.aim asked.device outcome (stage_of self.old.cycle) (stage_of self.new.cycle) }
+        ensures links { self.new.lines.links ≡ self.old.lines.links }
+        ensures lines { LinesGo self.old.lines.lines.items self.new.lines.lines.items }
+        ensures places { self.new.places.items ≡ self.old.places.items }
+        ensures time { self.new.side.now ≡ self.old.side.now }
+        ensures stands { Goes self.old.side self.new.side }
+    {
+        match asked.aim {
+            Aim::Map => {
+                self.cycle.answered(asked.device, asked.number, &outcome);
+                false
+            }
+            Aim::Block(want) => self.cycle.close_block(asked.device, want, outcome),
+            Aim::Output(output) => {
+                self.take_write(asked, output, outcome);
+                false
+            }
+        }
+    }
+
+    fn take_write(&mut self, asked: Asked, output: usize, outcome: Outcome)
+        ensures taken { self.new.sent.taken.items ≡ after_answer (state_by outcome) output asked.number self.old.side.now self.old.sent.taken.items }
+        ensures writes { self.new.sent.writes ≡ self.old.sent.writes }
+        ensures told { output < length self.old.side.outputs.items → told_at self.new.side.outputs.items output ≡ Some (state_by outcome) }
+        ensures ends { EndsOwn (OutputAim output) asked.device outcome (stage_of self.old.cycle) (stage_of self.new.cycle) }
+        ensures links { self.new.lines.links ≡ self.old.lines.links }
+        ensures lines { LinesGo self.old.lines.lines.items self.new.lines.lines.items }
+        ensures places { self.new.places.items ≡ self.old.places.items }
+        ensures time { self.new.side.now ≡ self.old.side.now }
+        ensures stands { Goes self.old.side self.new.side }
+    {
+        let state = state_by(&outcome);
+        self.note_answer(state, output, asked.number);
+        self.side.wrote(state == OutputState::Written);
+        self.side.settle_output(output, state);
+        self.cycle.close_write(asked.device, output, &outcome);
+    }
+
+    /// Whether the device has what went out for an output last, by its answer over the connection with this number.
+    fn note_answer(&mut self, state: OutputState, output: usize, number: u64)
+        ensures taken { self.new.sent.taken.items ≡ after_answer state output number self.old.side.now self.old.sent.taken.items }
+        ensures writes { self.new.sent.writes ≡ self.old.sent.writes }
+        ensures same { self.new ≡ record self.old { sent = self.new.sent } }
+    {
+        if state == OutputState::Written {
+            let at = self.side.now;
+            self.sent.take(output, Taken { number, at });
+        }
+    }
+
+    /// The time of each request that is over ends its wait.
+    pub(crate) fn end_waits(&mut self)
+        ensures links { self.new.lines.links ≡ self.old.lines.links }
+        ensures lines { LinesGo self.old.lines.lines.items self.new.lines.lines.items }
+        ensures goes { LeadsOn self.old.cycle self.new.cycle }
+        ensures places { self.new.places.items ≡ self.old.places.items }
+        ensures time { self.new.side.now ≡ self.old.side.now }
+        ensures stands { LosesBy (LostByWait self.old.lines.links.stations.items self.old.lines.lines.items self.old.side.now) self.old.side self.new.side }
+    {
+        for link in 0..self.lines.count() {
+            self.end_wait(link);
+        }
+    }
+
+    fn end_wait(&mut self, link: usize)
+        ensures links { self.new.lines.links ≡ self.old.lines.links }
+        ensures lines { LinesGo self.old.lines.lines.items self.new.lines.lines.items }
+        ensures goes { LeadsOn self.old.cycle self.new.cycle }
+        ensures places { self.new.places.items ≡ self.old.places.items }
+        ensures time { self.new.side.now ≡ self.old.side.now }
+        ensures others { (other : ℕ) → (other ≡ link → ⊥) → slice_get self.new.lines.lines.items other ≡ slice_get self.old.lines.lines.items other }
+        ensures stands { LosesBy (LostByWaitAt self.old.lines.links.stations.items self.old.lines.lines.items self.old.side.now link) self.old.side self.new.side }
+    {
+        if let Some(asked) = self.lines.overdue(link, self.side.now) {
+            self.give_up(link, asked);
+        }
+    }
+
+    fn give_up(&mut self, link: usize, asked: Asked)
+        ensures links { self.new.lines.links ≡ self.old.lines.links }
+        ensures lines { LinesGo self.old.lines.lines.items self.new.lines.lines.items }
+        ensures goes { LeadsOn self.old.cycle self.new.cycle }
+        ensures places { self.new.places.items ≡ self.old.places.items }
+        ensures time { self.new.side.now ≡ self.old.side.now }
+        ensures others { (other : ℕ) → (other ≡ link → ⊥) → slice_get self.new.lines.lines.items other ≡ slice_get self.old.lines.lines.items other }
+        ensures stands { LosesBy (AreLostWith self.old.lines.links.stations.items link asked.device silent) self.old.side self.new.side }
+    {
+        self.lines.give_up(link);
+        self.side.miss_link(link, asked.since);
+        self.side.lose_write(asked.aim);
+        self.side.note_write(asked.device, asked.aim, false);
+        if self.side.had_time(asked.since) || !self.side.is_good(asked.device) {
+            self.miss(link, asked.device, Loss::Silent);
+        } else {
+            self.doubt(link, asked.device);
+        }
+        if self.lines.is_bad(link) {
+            self.lose_all(link, Loss::Silent);
+        }
+    }
+
+    /// A device didn't answer in the time that it mostly takes: it is asked later whether it does. What is known of it stays known.
+    fn doubt(&mut self, link: usize, device: usize)
+        ensures links { self.new.lines.links ≡ self.old.lines.links }
+        ensures lines { LinesGo self.old.lines.lines.items self.new.lines.lines.items }
+        ensures goes { LeadsOn self.old.cycle self.new.cycle }
+        ensures places { self.new.places.items ≡ self.old.places.items }
+        ensures time { self.new.side.now ≡ self.old.side.now }
+        ensures others { (other : ℕ) → (other ≡ link → ⊥) → slice_get self.new.lines.lines.items other ≡ slice_get self.old.lines.lines.items other }
+        ensures stands { Goes self.old.side self.new.side }
+    {
+        self.side.miss(device);
+        self.lines.missed(link);
+        self.cycle.drop_write(device);
+    }
+}
+
+/// Whether it is an answer of the device: after too many frames that answer something else there is none, and a gateway may say
+/// that there is none.
+fn is_answer(outcome: &Outcome) -> bool
+    ensures { result ≡ is_answer outcome.now }
+{
+    match outcome {
+        Outcome::Stale => false,
+        Outcome::Exception(exception) => !is_gateways(exception.0),
+        Outcome::Words(_) | Outcome::Wrote | Outcome::Mismatch => true,
+    }
+}
+
+/// Whether a gateway says by this code that the unit behind it can't be reached, or doesn't answer.
+fn is_gateways(code: u8) -> bool
+    ensures { result ≡ is_gateways code }
+{
+    code == 10 || code == 11
+}
+
+/// Why a device is lost that answered so.
+fn loss_by(outcome: &Outcome) -> Loss
+    ensures { result ≡ loss_by outcome.now }
+{
+    match outcome {
+        Outcome::Exception(_) => Loss::Gateway,
+        Outcome::Words(_) | Outcome::Wrote | Outcome::Mismatch | Outcome::Stale => Loss::Stale,
+    }
+}
+
+/// What became of an output whose write was answered so.
+fn state_by(outcome: &Outcome) -> OutputState
+    ensures { result ≡ state_by outcome.now }
+{
+    match outcome {
+        Outcome::Wrote => OutputState::Written,
+        Outcome::Words(_) | Outcome::Exception(_) | Outcome::Mismatch | Outcome::Stale => {
+            OutputState::Unwritten(Unwritten::Refused)
+        }
+    }
+}
