@@ -14,7 +14,9 @@ use Rattle.service_core.specs.declared.note.Note.TheVariants as note
 use Rattle.service_core.specs.declared.output.Output.{Output}
 use Rattle.service_core.specs.declared.output.OutputState.{OutputState}
 use Rattle.service_core.specs.declared.output.OutputState.TheVariants as state
-use Rattle.service_core.specs.Noting.{Finds, HearsFrom, Loses, heard_by, lost_by, told, told_if}
+use Rattle.service_core.specs.declared.refusals.Refusal.{Refusal}
+use Rattle.service_core.specs.Noting.{Finds, HearsFrom, Loses, Refuses, heard_by, lost_by, refusing, told, told_if}
+use Rattle.service_core.specs.Refusing.{is_more}
 use Rattle.service_core.specs.Telling.{told_at}
 use Rattle.service_core.specs.Losing.{IsLost}
 use Rattle.service_core.specs.Told.{Course, Goes, Losses, LosesBy, StatesAreByNotes, Tells, TellsNothing, allows, goes, happened, lost_after, lost_at, lost_then, note_of, state_after, state_at, state_then, stays, tells}
@@ -81,15 +83,29 @@ module _ {X : Type 0} {Y : Type 0} (f : X → Y) (default : Y) where
 -- ---- devices
 
 module _ (old new : DeviceSide) (device : ℕ) (own : Device) (at : slice_get old.devices.items device ≡ Some own) where
+  -- whether it is lost stays
+  still_lost : (next : Device) → new.devices.items ≡ set old.devices.items device next → next.is_lost ≡ own.is_lost → (k : ℕ) → lost_at new k ≡ lost_at old k
+  still_lost next devices same k = ap (λ l. option_map_or (λ (d : Device). d.is_lost) (slice_get l k) false) devices
+      ∙ (put_there (λ (d : Device). d.is_lost) false old.devices.items device k own next at
+      ∙ (ap (λ b. if k == device then b else lost_at old k) same ∙ put_same (λ (d : Device). d.is_lost) false old.devices.items device k own at))
+
   -- of a device something else changes
   pub device_goes : (next : Device) → new.devices.items ≡ set old.devices.items device next → next.is_lost ≡ own.is_lost → new.outputs ≡ old.outputs → new.notes.items.items ≡ old.notes.items.items → Goes old new
   device_goes next devices same outputs notes = silent_step old new (record {
     notes = notes;
-    devices = λ k. ap (λ l. option_map_or (λ (d : Device). d.is_lost) (slice_get l k) false) devices
-        ∙ (put_there (λ (d : Device). d.is_lost) false old.devices.items device k own next at
-        ∙ (ap (λ b. if k == device then b else lost_at old k) same ∙ put_same (λ (d : Device). d.is_lost) false old.devices.items device k own at));
+    devices = still_lost next devices same;
     outputs = λ k. ap (λ o. told_at o.items k) outputs;
   })
+
+  -- it refused to read registers, which is told or not
+  pub refused_goes : (refusal : Refusal) (is_told : Bool) → new.devices.items ≡ set old.devices.items device (refusing refusal own) → new.outputs ≡ old.outputs
+      → new.notes.items.items ≡ told_if is_told (note.Refused device refusal) old.notes → Goes old new
+  refused_goes refusal true devices outputs notes = told_step (note.Refused device refusal) old new (λ may. refl) (record {
+    notes = notes;
+    devices = still_lost (refusing refusal own) devices refl;
+    outputs = λ k. ap (λ o. told_at o.items k) outputs;
+  })
+  refused_goes refusal false devices outputs notes = device_goes (refusing refusal own) devices refl outputs notes
 
   -- it is told that it is lost from now on, or isn't any more
   noted_so : (n : Note) (is_lost : Bool) (next : Device) → ((k : ℕ) (was : Bool) → lost_then n k was ≡ (if k == device then is_lost else was)) → ((k : ℕ) (was : Option OutputState) → state_then n k was ≡ was)
@@ -149,6 +165,16 @@ pub hears_so : (old new : DeviceSide) (device : ℕ) (found : Device) (is_mapped
 hears_so old new device found is_mapped own at there is devices notes = subst (λ (x : Device). HearsFrom device is_mapped x old new) (same_of (sym at ∙ there)) (record {
   stands = devices;
   tells = notes ∙ ap (λ b. told_if b (note.Back device) old.notes) (sym is);
+})
+  where
+    same_of : {a b : Device} → Some a ≡ Some b → a ≡ b
+    same_of e = cc
+
+pub refuses_so : (old new : DeviceSide) (device : ℕ) (found : Device) (refusal : Refusal) (own : Device) → slice_get old.devices.items device ≡ Some found → slice_get old.devices.items device ≡ Some own → is_more refusal found.refusals ≡ false
+    → new.devices.items ≡ set old.devices.items device (refusing refusal found) → new.notes.items.items ≡ old.notes.items.items → Refuses device refusal own old new
+refuses_so old new device found refusal own at there is devices notes = subst (λ (x : Device). Refuses device refusal x old new) (same_of (sym at ∙ there)) (record {
+  stands = devices;
+  tells = notes ∙ ap (λ b. told_if b (note.Refused device refusal) old.notes) (sym is);
 })
   where
     same_of : {a b : Device} → Some a ≡ Some b → a ≡ b

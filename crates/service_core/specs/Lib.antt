@@ -8,6 +8,7 @@ pub mod LeftOut
 pub mod Losing
 pub mod Maps
 pub mod Noting
+pub mod Refusing
 pub mod Rewriting
 pub mod Rounds
 pub mod Running

@@ -6,7 +6,9 @@ use Rattle.service_core.specs.declared.note.Loss.{Loss}
 use Rattle.service_core.specs.declared.note.Note.{Note}
 use Rattle.service_core.specs.declared.note.Note.TheVariants as note
 use Rattle.service_core.specs.declared.notes.Notes.{Notes}
+use Rattle.service_core.specs.declared.refusals.Refusal.{Refusal}
 use Rattle.service_core.specs.Counting.{lost_once_more}
+use Rattle.service_core.specs.Refusing.{is_more, with_refusal}
 
 -- ---- the notes that weren't taken yet
 
@@ -47,3 +49,12 @@ heard_by is_mapped own = record own { misses = 0; is_behind = own.is_behind || (
 pub record HearsFrom (device : ℕ) (is_mapped : Bool) (own : Device) (old new : DeviceSide) : Type 0 where
   pub stands : new.devices.items ≡ set old.devices.items device (heard_by is_mapped own)
   pub tells : new.notes.items.items ≡ told_if (own.is_lost && is_mapped) (note.Back device) old.notes
+
+-- it refused this
+abbrev pub refusing : Refusal → Device → Device
+refusing refusal own = record own { refusals = with_refusal refusal own.refusals }
+
+-- This device refused this; it is told where it is one more.
+pub record Refuses (device : ℕ) (refusal : Refusal) (own : Device) (old new : DeviceSide) : Type 0 where
+  pub stands : new.devices.items ≡ set old.devices.items device (refusing refusal own)
+  pub tells : new.notes.items.items ≡ told_if (is_more refusal own.refusals) (note.Refused device refusal) old.notes

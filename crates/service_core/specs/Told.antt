@@ -29,6 +29,7 @@ lost_then (note.Lost which cause) device was = if device == which then true else
 lost_then (note.Found which) device was = if device == which then false else was
 lost_then (note.Back which) device was = if device == which then false else was
 lost_then (note.NoMap which) device was = was
+lost_then (note.Refused which refusal) device was = was
 lost_then (note.Scanned report) device was = was
 lost_then (note.Late by) device was = was
 lost_then (note.Unwritten which cause) device was = was
@@ -42,6 +43,7 @@ state_then (note.Found which) output was = was
 state_then (note.NoMap which) output was = was
 state_then (note.Lost which cause) output was = was
 state_then (note.Back which) output was = was
+state_then (note.Refused which refusal) output was = was
 state_then (note.Scanned report) output was = was
 state_then (note.Late by) output was = was
 
@@ -75,6 +77,7 @@ allows may (note.Lost device why) = may device why
 allows may (note.Found device) = true
 allows may (note.Back device) = true
 allows may (note.NoMap device) = true
+allows may (note.Refused device refusal) = true
 allows may (note.Scanned report) = true
 allows may (note.Late by) = true
 allows may (note.Unwritten output cause) = true

@@ -4,6 +4,10 @@ ghost use Rattle.service_parts.specs.declared.wire.Aim.TheVariants.{Output as Ou
 ghost use Rattle.service.specs.declared.fate.Fate.TheVariants.{Told};
 ghost use Rattle.service_parts.specs.Frames.{LinesGo};
 ghost use Rattle.service_core.specs.declared.note.Loss.TheVariants.{Frame as frame, Silent as silent};
+ghost use Rattle.service_core.specs.declared.device.Device.{Device as DeviceValue};
+ghost use Rattle.service_core.specs.declared.refusals.Refusal.{Refusal as RefusalValue};
+ghost use Rattle.service_core.specs.Noting.{Refuses};
+ghost use Rattle.service_core.specs.Refusing.{refusal_by};
 ghost use Rattle.service_core.specs.Losing.{AreLost, AreLostWith, LostByFate, LostByHearing, LostByWait, LostByWaitAt, loss_by};
 ghost use Rattle.service_core.specs.Told.{Goes, LosesBy};
 ghost use Rattle.service_core.specs.Cycle.{Answers, AnswersIf, DevicesLeadOn, EndsOwn, LeadsOn, Settles, SettlesIf, is_answer, is_gateways, stage_of};
@@ -13,6 +17,7 @@ ghost use Rattle.service_core.specs.Telling.{state_by, told_at};
 use crate::link_pace::Purpose;
 use crate::note::{Loss, Unwritten};
 use crate::output::OutputState;
+use crate::refusals::refusal_by;
 use crate::sent_writes::Taken;
 use crate::service_state::Service;
 use gateway::Outcome;
@@ -106,6 +111,7 @@ impl Service {
         self.lines.heard(link);
         self.side.hear(asked.device, is_mapped);
         self.note_reply(link, asked);
+        self.note_refusal(asked, &outcome);
         let foreign = self.take(asked, outcome);
         self.forget_if(foreign, asked.device);
         self.owe_search(link, asked.device);
@@ -145,6 +151,22 @@ impl Service {
         self.side.note_write(asked.device, asked.aim, true);
         self.side.hear_over(asked.device);
         self.side.hear_link(link, asked.device, asked.since);
+    }
+
+    /// A device that answered a read with an exception refuses it.
+    fn note_refusal(&mut self, asked: Asked, outcome: &Outcome)
+        ensures refuses { (refusal : RefusalValue) (own : DeviceValue) → refusal_by asked.aim asked.address outcome.now ≡ Some refusal → slice_get self.old.side.devices.items asked.device ≡ Some own
+            → Refuses asked.device refusal own self.old.side self.new.side }
+        ensures answers { refusal_by asked.aim asked.address outcome.now ≡ None → self.new.side ≡ self.old.side }
+        ensures lines { self.new.lines ≡ self.old.lines }
+        ensures cycle { self.new.cycle ≡ self.old.cycle }
+        ensures places { self.new.places.items ≡ self.old.places.items }
+        ensures time { self.new.side.now ≡ self.old.side.now }
+        ensures stands { Goes self.old.side self.new.side }
+    {
+        if let Some(refusal) = refusal_by(asked, outcome) {
+            self.side.refuse(asked.device, refusal);
+        }
     }
 
     /// A device whose words are no block of the model that was asked for has other registers than its map says.

@@ -1,6 +1,6 @@
 //! What is asked of devices next.
 ghost use Rattle.std.specs.Prelude.{◌≡◌, ℕ, Some, slice_get};
-ghost use Rattle.modbus_frame.specs.Message.{HasQuantity};
+ghost use Rattle.modbus_frame.specs.Message.{HasQuantity, address_of};
 ghost use Rattle.service_core.specs.Told.{Goes};
 ghost use Rattle.service_core.specs.Cycle.{LeadsOn};
 ghost use Rattle.service_core.specs.Rewriting.{sent_for};
@@ -12,7 +12,7 @@ use crate::service_state::Service;
 use crate::wish::Wish;
 use modbus_frame::Request;
 use register_map::Map;
-use service_parts::{Aim, Asked};
+use service_parts::{Aim, Asked, first_register};
 
 impl Service {
     /// Begins requests on all connections that are free.
@@ -194,6 +194,7 @@ impl Service {
         let asked = Asked {
             device,
             aim: wish.aim,
+            address: first_register(&wish.request),
             number,
             since: self.side.now,
             until: self.side.now.saturating_add(wait),
@@ -210,6 +211,7 @@ impl Service {
     fn start(&mut self, link: usize, asked: Asked, request: Request)
         requires quantity { HasQuantity request }
         requires number { slice_get self.old.lines.links.numbers.items link ≡ Some asked.number }
+        requires address { asked.address ≡ address_of request }
         requires asked { MayGoOver self.old.cycle.core.value self.old.lines.links.numbers.items self.old.lines.found_on.items link asked.aim asked.device request }
         ensures sent { self.new.sent ≡ self.old.sent }
         ensures links { self.new.lines.links ≡ self.old.lines.links }

@@ -1,10 +1,12 @@
 //! What is known of a device, apart from its map.
 ghost use Rattle.std.specs.Prelude.{◌≡◌, ◌&&◌, ◌||◌, false, not, true};
 ghost use Rattle.service_core.specs.Counting.{after_reply, scanned_by};
-ghost use Rattle.service_core.specs.Noting.{heard_by, lost_by};
+ghost use Rattle.service_core.specs.Noting.{heard_by, lost_by, refusing};
+ghost use Rattle.service_core.specs.Refusing.{is_more};
 
 use crate::counts::Counts;
 use crate::note::Loss;
+use crate::refusals::{Refusal, Refusals};
 use crate::replies::Replies;
 use service_parts::Limits;
 
@@ -33,6 +35,8 @@ pub struct Device {
     is_write_missed: bool,
     /// Whether its map was found before, and it is still told of.
     is_told: bool,
+    /// What it refused.
+    refusals: Refusals,
     pub is_lost: bool,
     /// Why it was lost last.
     pub last_loss: Option<Loss>,
@@ -55,6 +59,7 @@ impl Device {
             is_heard: false,
             is_write_missed: false,
             is_told: false,
+            refusals: Refusals::new(),
             is_lost: false,
             last_loss: None,
             counts: Counts::new(),
@@ -183,6 +188,14 @@ impl Device {
             self.each = self.scans;
             self.scans = 0;
         }
+    }
+
+    /// It refused to read registers; whether that is to be told.
+    pub fn refuse(&mut self, refusal: Refusal) -> bool
+        ensures refused { self.new ≡ refusing refusal self.old }
+        ensures told { result ≡ is_more refusal self.old.refusals }
+    {
+        self.refusals.add(refusal)
     }
 
     /// It is lost; whether it wasn't before.

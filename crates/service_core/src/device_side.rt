@@ -2,7 +2,7 @@
 ghost use Rattle.std.specs.Prelude.{◌≡◌, ◌≤◌, ◌<◌, ℕ, Bool, IsTrue, Option, Some, true, length, max, slice_get};
 ghost use Rattle.service_core.specs.declared.device.Device.{Device as DeviceValue};
 ghost use Rattle.service_core.specs.Counting.{asked_once_more, counts_at};
-ghost use Rattle.service_core.specs.Noting.{Finds, HearsFrom, Loses};
+ghost use Rattle.service_core.specs.Noting.{Finds, HearsFrom, Loses, Refuses};
 ghost use Rattle.service_core.specs.Telling.{told_at};
 ghost use Rattle.service_core.specs.declared.output.OutputState.{OutputState as StateValue};
 ghost use Rattle.service_core.specs.Losing.{IsLost};
@@ -13,6 +13,7 @@ use crate::link_pace::LinkPace;
 use crate::note::{Loss, Note, Unwritten};
 use crate::notes::Notes;
 use crate::output::{Output, OutputState};
+use crate::refusals::Refusal;
 use crate::round::Round;
 use gateway::{Core, DEPTH, Report};
 use point_writer::{NoWrite, Write};
@@ -176,6 +177,19 @@ impl DeviceSide {
         if let Some(found) = self.devices.get_mut(device) {
             if found.heard(is_mapped) {
                 self.notes.add(Note::Back(device));
+            }
+        }
+    }
+
+    /// A device refused to read registers; it is told where it is one more.
+    pub(crate) fn refuse(&mut self, device: usize, refusal: Refusal)
+        ensures refuses { (own : DeviceValue) → slice_get self.old.devices.items device ≡ Some own → Refuses device refusal own self.old self.new }
+        ensures now { self.new.now ≡ self.old.now }
+        ensures stands { Goes self.old self.new }
+    {
+        if let Some(found) = self.devices.get_mut(device) {
+            if found.refuse(refusal) {
+                self.notes.add(Note::Refused(device, refusal));
             }
         }
     }

@@ -19,6 +19,7 @@ mod note;
 mod notes;
 mod output;
 mod pacing;
+mod refusals;
 mod replies;
 mod restoring;
 mod round;
@@ -40,5 +41,6 @@ pub use note::{Loss, Note, Unwritten};
 // how it stands
 pub use counts::Counts;
 pub use output::OutputState;
+pub use refusals::Refusal;
 pub use replies::Replies;
 pub use status::DeviceStatus;

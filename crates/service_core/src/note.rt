@@ -1,4 +1,5 @@
 //! What a service tells of what happened.
+use crate::refusals::Refusal;
 use gateway::Report;
 use point_writer::NoWrite;
 
@@ -13,6 +14,8 @@ pub enum Note {
     Lost(usize, Loss),
     /// A lost device that kept its map answered.
     Back(usize),
+    /// A device refused to read registers; each refusal is told once, and eight of a device at most.
+    Refused(usize, Refusal),
     /// What a scan planned is written, or the next one comes.
     Scanned(Report),
     /// A scan came so many milliseconds after its time.

@@ -9,6 +9,7 @@ use Rattle.std.proofs.lemmas.Option.{slice_get_within, get_or_from_slice_get}
 use Rattle.std.proofs.Math.Seq.{drop-nil}
 use Rattle.modbus_frame.specs.declared.message.Request.{Request}
 use Rattle.modbus_frame.specs.Frame.{frame_bytes}
+use Rattle.modbus_frame.specs.Message.{address_of}
 use Rattle.scan_vm.specs.Machine.{Running}
 use Rattle.site_model.proofs.Entries.{set-cases}
 use Rattle.verifier.specs.Verified.{HasLinks}
@@ -126,6 +127,7 @@ module _ (now : Gateway) (stations : List Station) (found_on : List (Option ℕ)
         wait = noted.wait;
         waits = ap (λ (h : Hearing). h.wait) keeps.heard ∙ noted.waits;
         made = noted.made;
+        address = noted.address;
         gone = noted.gone;
         whole = ap (λ l. noted.gone ++ l) keeps.same ∙ noted.whole;
       }
@@ -149,6 +151,7 @@ module _ (now : Gateway) (stations : List Station) (found_on : List (Option ℕ)
         wait = noted.wait;
         waits = ap (λ (w : Wire). w.inquiry.wait) sends.wire ∙ noted.waits;
         made = noted.made;
+        address = noted.address;
         gone = noted.gone ++ take (min n (length old.out.items)) old.out.items;
         whole = ap (λ l. (noted.gone ++ take (min n (length old.out.items)) old.out.items) ++ l) sends.left
             ∙ (append_assoc noted.gone (take (min n (length old.out.items)) old.out.items) (drop (min n (length old.out.items)) old.out.items)
@@ -167,6 +170,7 @@ module _ (now : Gateway) (stations : List Station) (found_on : List (Option ℕ)
         wait = w;
         waits = waits;
         made = subst (λ (r : FrameRequest). IsMade now stations found_on link number asked.aim asked.device r) (sym same) noted.made;
+        address = noted.address ∙ ap (λ (r : FrameRequest). address_of r.request) (sym same);
         gone = noted.gone;
         whole = ap (λ l. noted.gone ++ l) hears.same ∙ (noted.whole ∙ ap (λ (r : FrameRequest). frame_bytes (frame_of r)) (sym same));
       }
@@ -181,8 +185,9 @@ module _ (now : Gateway) (stations : List Station) (found_on : List (Option ℕ)
       go None (Some asked) false takes noted = goes_on asked noted.wait (ap (λ (h : Hearing). h.wait) takes.1 ∙ noted.waits) noted refl
 
   begun_line : (old new : Line) (begins : Begins old new) → begins.asked.number ≡ number → slice_get stations begins.asked.device ≡ Some (record { link = link; unit = begins.request.unit })
-      → Reached now → MayBeAsked now found_on number begins.asked.aim begins.asked.device begins.request.request → IsRightfulLine now stations found_on link number new
-  begun_line old new begins over station reached asked =
+      → Reached now → MayBeAsked now found_on number begins.asked.aim begins.asked.device begins.request.request
+      → begins.asked.address ≡ address_of begins.request.request → IsRightfulLine now stations found_on link number new
+  begun_line old new begins over station reached asked address =
       let made : IsMade now stations found_on link number begins.asked.aim begins.asked.device begins.request = record {
         station = station;
         core = now;
@@ -197,6 +202,7 @@ module _ (now : Gateway) (stations : List Station) (found_on : List (Option ℕ)
           wait = record { asked = begins.request; may_drop = most_dropped };
           waits = ap (λ (h : Hearing). h.wait) begins.under_way;
           made = made;
+          address = address;
           gone = [];
           whole = begins.frame;
         });
@@ -241,12 +247,13 @@ module _ (now : Gateway) (stations : List Station) (numbers : List ℕ) (found_o
   -- a request begins that may be asked over the connection that the link has now
   pub with_begun : (link unit : ℕ) (asked : Asked) (request : Request) (old new : Line) → AreRightful now stations numbers found_on lines → ∥ Reached now ∥₁
       → slice_get numbers link ≡ Some asked.number → slice_get stations asked.device ≡ Some (record { link = link; unit = unit }) → MayGoOver now numbers found_on link asked.aim asked.device request
-      → ((begins : Begins old new) × (begins.asked ≡ asked) × (begins.request.unit ≡ unit) × (begins.request.request ≡ request)) → AreRightful now stations numbers found_on (set lines link new)
-  with_begun link unit asked request old new before reached numbered station may (begins, is, at_unit, own) = with_line link new before (λ number has.
+      → asked.address ≡ address_of request → ((begins : Begins old new) × (begins.asked ≡ asked) × (begins.request.unit ≡ unit) × (begins.request.request ≡ request)) → AreRightful now stations numbers found_on (set lines link new)
+  with_begun link unit asked request old new before reached numbered station may address (begins, is, at_unit, own) = with_line link new before (λ number has.
       let same : asked.number ≡ number = same_number numbered has in
       ∥∥₁_elim reached ∥∥₁_prop (λ r. ∥∥₁_elim (may number has) ∥∥₁_prop (λ m. ∣ begun_line now stations found_on link number old new begins (ap (λ (x : Asked). x.number) is ∙ same)
       (subst (λ (x : Asked). slice_get stations x.device ≡ Some (record { link = link; unit = begins.request.unit })) (sym is) (station ∙ ap (λ u. Some (record { link = link; unit = u })) (sym at_unit)))
-      r (subst (λ (x : Asked). MayBeAsked now found_on number x.aim x.device begins.request.request) (sym is) (subst (λ q. MayBeAsked now found_on number asked.aim asked.device q) (sym own) m)) ∣₁)))
+      r (subst (λ (x : Asked). MayBeAsked now found_on number x.aim x.device begins.request.request) (sym is) (subst (λ q. MayBeAsked now found_on number asked.aim asked.device q) (sym own) m))
+      (ap (λ (x : Asked). x.address) is ∙ (address ∙ ap address_of (sym own))) ∣₁)))
 
   -- ---- a new connection, on which nothing waits
 
@@ -300,6 +307,7 @@ module _ (now : Gateway) (stations : List Station) (numbers : List ℕ) (found_o
         wait = n.wait;
         waits = n.waits;
         made = made asked.aim asked.device n.wait.asked n.made;
+        address = n.address;
         gone = n.gone;
         whole = n.whole;
       }
@@ -338,6 +346,7 @@ module _ (old new : Gateway) (stations : List Station) (found_on : List (Option 
     wait = n.wait;
     waits = n.waits;
     made = made;
+    address = n.address;
     gone = n.gone;
     whole = n.whole;
   } ∣₁)
@@ -365,10 +374,10 @@ right_behind_clients old new lines goes before = right_by IsOfClients old new li
 
 pub with_begun_if : (now : Gateway) (stations : List Station) (numbers : List ℕ) (found_on : List (Option ℕ)) (lines : List Line) (link unit : ℕ) (asked : Asked) (request : Request) (old new : Line) (did : Bool)
     → AreRightful now stations numbers found_on lines → ∥ Reached now ∥₁ → slice_get numbers link ≡ Some asked.number → slice_get stations asked.device ≡ Some (record { link = link; unit = unit })
-    → MayGoOver now numbers found_on link asked.aim asked.device request → slice_get lines link ≡ Some old
+    → MayGoOver now numbers found_on link asked.aim asked.device request → asked.address ≡ address_of request → slice_get lines link ≡ Some old
     → (IsTrue did → (begins : Begins old new) × (begins.asked ≡ asked) × (begins.request.unit ≡ unit) × (begins.request.request ≡ request)) → (did ≡ false → new ≡ old)
     → AreRightful now stations numbers found_on (set lines link new)
-with_begun_if now stations numbers found_on lines link unit asked request old new true before reached numbered station may is begun none =
-    with_begun now stations numbers found_on lines link unit asked request old new before reached numbered station may (begun refl)
-with_begun_if now stations numbers found_on lines link unit asked request old new false before reached numbered station may is begun none =
+with_begun_if now stations numbers found_on lines link unit asked request old new true before reached numbered station may address is begun none =
+    with_begun now stations numbers found_on lines link unit asked request old new before reached numbered station may address (begun refl)
+with_begun_if now stations numbers found_on lines link unit asked request old new false before reached numbered station may address is begun none =
     subst (λ (l : List Line). AreRightful now stations numbers found_on l) (sym (unchanged lines link old new is (none refl))) before

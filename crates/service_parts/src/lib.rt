@@ -17,7 +17,7 @@ mod wire;
 pub use limits::{Limits, Station};
 // the links to devices
 pub use lines::Lines;
-pub use wire::{Aim, Asked, Wire};
+pub use wire::{Aim, Asked, Wire, first_register};
 // clients
 pub use client_place::ClientPlace;
 pub use client_places::{close_idle, place_for};

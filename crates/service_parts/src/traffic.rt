@@ -1,6 +1,6 @@
 //! Requests to devices, and what comes of them.
 ghost use Rattle.std.specs.Prelude.{◌≡◌, ◌≤◌, ℕ, IsTrue, None, Some, [], slice_get, take};
-ghost use Rattle.modbus_frame.specs.Message.{HasQuantity};
+ghost use Rattle.modbus_frame.specs.Message.{HasQuantity, address_of};
 ghost use Rattle.gateway.specs.event_core.Core.{Gateway};
 ghost use Rattle.service_parts.specs.declared.line.Line.{Line as LineValue};
 ghost use Rattle.service_parts.specs.Course.{Reached};
@@ -38,6 +38,7 @@ impl Lines {
     pub fn begin(&mut self, link: usize, asked: Asked, request: Request)
         requires quantity { HasQuantity request }
         requires number { slice_get self.old.links.numbers.items link ≡ Some asked.number }
+        requires address { asked.address ≡ address_of request }
         ensures rightful { (now : Gateway) → ∥ Reached now ∥₁ → MayGoOver now self.old.links.numbers.items self.old.found_on.items link asked.aim asked.device request
             → AreRightfulBy now self.old → AreRightfulBy now self.new }
         ensures links { self.new.links ≡ self.old.links }

@@ -2,7 +2,7 @@
 ghost use Rattle.std.specs.Prelude.{◌≡◌, ◌↔◌, IsTrue, IfSome, IsSome, None, Some, is_none, is_some, true, false, take, not, ◌&&◌};
 ghost use Rattle.service.specs.Hearing.{asking, fresh};
 ghost use Rattle.modbus_frame.specs.Frame.{frame_bytes};
-ghost use Rattle.modbus_frame.specs.Message.{HasQuantity};
+ghost use Rattle.modbus_frame.specs.Message.{HasQuantity, address_of};
 ghost use Rattle.gateway.specs.poller.LinkRun.{frame_of};
 ghost use Rattle.service_parts.specs.Frames.{TakesWhere};
 ghost use Rattle.service_parts.specs.Waking.{IsToDial, IsToHangUp, due_of};
@@ -29,10 +29,23 @@ pub enum Aim {
 pub struct Asked {
     pub device: usize,
     pub aim: Aim,
+    /// The address of the first register that it is about.
+    pub address: u16,
     /// The number of the connection over which it is asked.
     pub number: u64,
     pub since: u64,
     pub until: u64,
+}
+
+/// The address of the first register that a request is about.
+pub fn first_register(request: &Request) -> u16
+    ensures { result ≡ address_of request.now }
+{
+    match request {
+        Request::Read { addr, .. }
+        | Request::WriteOne { addr, .. }
+        | Request::WriteMany { addr, .. } => *addr,
+    }
 }
 
 /// A connection to devices, up or down, with the request that is under way on it.

@@ -3,7 +3,7 @@ use crate::journal::Journal;
 use escaped_text::escaped;
 use gateway::{Core, DEPTH, Report};
 use register_map::Map;
-use service_core::Note;
+use service_core::{Note, Refusal};
 use service_texts::{device_line, lost_line, program_taken_line, unwritten_line, written_line};
 use site_alarms::{
     Changes, begun_line, device_name, is_lacking, lacks_text, loss_word, output_name, over_line,
@@ -16,6 +16,9 @@ use std::io::Write;
 
 /// The kind of loss of a device that has no map.
 const NO_MAP: &str = "NoMap";
+
+/// The function by which registers are read (Modbus Application Protocol V1.1b3, section 6.3).
+const READ: u8 = 3;
 
 /// Tells what happened to a device or an output.
 pub(crate) fn tell<W: Write>(
@@ -79,6 +82,7 @@ fn line_of(alloc: Global, note: &Note, core: &Core<DEPTH>) -> Option<Result<Stri
         Note::NoMap(device) => Some(lost(alloc, site, *device, NO_MAP)),
         Note::Lost(device, loss) => Some(lost(alloc, site, *device, loss_word(*loss))),
         Note::Back(device) => Some(told(alloc, site, *device, "back")),
+        Note::Refused(device, refusal) => Some(refused_line(alloc, site, *device, *refusal)),
         Note::Unwritten(output, cause) => Some(unwritten_line(
             alloc,
             output_name(site, *output),
@@ -121,6 +125,18 @@ pub(crate) fn pace_line(
         return told(alloc, site, device, "each round");
     }
     let what = format!(in alloc; "each {rounds} rounds")?;
+    told(alloc, site, device, what.as_str())
+}
+
+// `device NAME refuses 3 ADDRESS CODE`.
+fn refused_line(
+    alloc: Global,
+    site: &Site,
+    device: usize,
+    refusal: Refusal,
+) -> Result<String, AllocError> {
+    let (address, code) = (refusal.address, refusal.code);
+    let what = format!(in alloc; "refuses {READ} {address} {code}")?;
     told(alloc, site, device, what.as_str())
 }
 
