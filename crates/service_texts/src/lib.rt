@@ -9,6 +9,7 @@ mod lines;
 mod reaching;
 mod retain_pace;
 mod retaining;
+mod sleeping;
 mod state_lines;
 mod waiting;
 mod write_record;
@@ -18,6 +19,8 @@ mod writers;
 pub use addresses::{Addresses, has_port};
 pub use device_places::{AddressFault, DevicePlace, read_places};
 pub use reaching::{Devices, DevicesFault, addresses_of, devices_of, plant_addresses};
+// which devices sleep
+pub use sleeping::{SleepFault, sleeping_hours};
 // which clients may write
 pub use writers::{Writer, WriterFault, may_write, writers_of};
 // how long is waited

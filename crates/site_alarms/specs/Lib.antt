@@ -4,3 +4,4 @@ pub mod Finding
 pub mod Hiding
 pub mod Lines
 pub mod Meeting
+pub mod Sleeping

@@ -16,6 +16,7 @@ mod places;
 mod points;
 mod sentences;
 mod served;
+mod sleeping;
 mod standing;
 mod words;
 mod wrong;
@@ -25,6 +26,8 @@ pub use alarm::{Alarm, Hidden, Subject};
 pub use devices::{is_amiss, is_lacking};
 pub use met::{Met, met_at, met_of};
 pub use wrong::{Seen, missing_now, wrong_now};
+// what follows from the sleep of devices
+pub use sleeping::{Sleep, leave_out_sleepers};
 // since when
 pub use standing::{Standing, Watch};
 // what changed
