@@ -9,6 +9,7 @@ when a unit is written is when the request comes there. Few are tried side by si
 import json
 import re
 import signal
+import struct
 import sys
 import time
 from functools import partial
@@ -24,6 +25,17 @@ SLACK = 0.5
 # each unit is read twice, since its outputs need the factors of their model, and has one of these, or all
 OUTPUTS = (("lim", "WMaxLimPct", "INT", 100, "50"), ("win", "WMaxLimPct_WinTms", "INT", 300, "7"), ("ena", "WMaxLim_Ena", "BOOL", 1, "TRUE"))
 FOUND = "found 1 103 123"
+SUM = """
+[[served]]
+model = 103
+point = "W"
+sum = ["w1", "w2"]
+
+[[served]]
+model = 103
+point = "W_SF"
+value = 0
+"""
 
 
 class Roof(OwnDevice):
@@ -73,21 +85,33 @@ class Roof(OwnDevice):
         return until(lambda: all(len(self.times[n]) >= times for n in self.living()), True, seconds)
 
 
-class Site:
-    """A service over roofs, each at its own address."""
+class Refusing(Roof):
+    """One unit that answers which models it has, and refuses those that begin at these registers."""
 
-    def __init__(self, program, folder, roofs, outputs=1, more=()):
+    def __init__(self, refused):
+        self.refused = refused
+        super().__init__()
+
+    def reply(self, unit, pdu):
+        address, count = struct.unpack(">HH", pdu[1:5])
+        return bytes([0x83, 4]) if pdu[0] == 3 and address in self.refused and count > 2 else super().reply(unit, pdu)
+
+
+class Site:
+    """A service over roofs, each at its own address. Devices may have more keys, by their numbers, and clients be served more."""
+
+    def __init__(self, program, folder, roofs, outputs=1, more=(), keys={}, served=""):
         text, code, names, number = GATEWAY, "", [], 0
         for roof in roofs:
             for unit in roof.times:
                 number += 1
-                text += DEVICE.format(n=number) + f'remote_unit = {unit}\naddress = "{roof.address()}"\n' + TAG.format(name=f"w{number}", n=number, **WATTS)
+                text += DEVICE.format(n=number) + f'remote_unit = {unit}\naddress = "{roof.address()}"\n' + keys.get(number, "") + TAG.format(name=f"w{number}", n=number, **WATTS)
                 for name, point, kind, high, value in OUTPUTS[:outputs]:
                     tag = {"access": "out", "model": 123, "point": point, "kind": kind, "exponent": 0, "low": 0, "high": high}
                     text += TAG.format(name=f"{name}{number}", n=number, **tag)
                     names.append(f"  {name}{number} : {kind};\n")
                     code += f"  LD {value}\n  ST {name}{number}\n"
-        self.roofs, self.path = roofs, put(folder, "roofs.toml", text)
+        self.roofs, self.path = roofs, put(folder, "roofs.toml", text + served)
         program_path = put(folder, "roofs.il", "PROGRAM roofs\nVAR_EXTERNAL\n" + "".join(names) + "END_VAR\n" + code + "END_PROGRAM\n")
         self.began = time.monotonic()
         self.status_path = f"{folder}/status"
@@ -307,6 +331,44 @@ def play_gone(counts, program, folder):
     site.end()
 
 
+def play_night(counts, program, folder):
+    """A device that sleeps at night is gone, and then one that doesn't; what is missing of the first is no alarm."""
+    what, roof = "a device sleeps", Roof(2)
+    site = Site(program, folder, [roof], keys={1: "sleeps = 8\n"}, served=SUM)
+    roof.are_written()
+    until(lambda: [it.get("asleep") for it in site.status()["devices"]], [False, None])
+    roof.dead = {1}
+    counts.note(f"{what}: that is told", site.service.has(r"\S+ device inv1 asleep"), site.service.lines)
+    until(lambda: site.status()["devices"][0]["asleep"], True)
+    stand = site.status()
+    counts.note(f"{what}: it stands as lost, and nothing is wrong", stand["devices"][0]["lost"] and stand["alarms"] == [], stand["alarms"])
+    counts.note(f"{what}: no line says that its input or the sum is missing", site.told("missing") + site.told("hidden") == [], site.service.lines)
+    roof.dead = {1, 2}
+    until(lambda: len(site.status()["alarms"]), 3)
+    alarms = sorted(it["name"] for it in site.status()["alarms"])
+    counts.note(f"{what}: the other one's loss is wrong", alarms == ["inv2", "lim2", "w2"], site.status()["alarms"])
+    written, roof.dead = len(roof.times[1]), set()
+    until(lambda: len(roof.times[1]) > written + 1, True, 35)
+    until(lambda: site.status()["alarms"], [])
+    counts.note(f"{what}: it is written again", len(roof.times[1]) > written, site.service.lines)
+    lines = [it for it in site.told("device") if "inv1" in it]
+    counts.note(f"{what}: so say the lines", lines == ["device inv1 " + it for it in (FOUND, "lost Silent", "asleep", "back")], lines)
+    counts.note(f"{what}: it is awake", [it.get("asleep") for it in site.status()["devices"]] == [False, None], site.status()["devices"])
+    site.end()
+
+
+def play_refused(counts, program, folder):
+    """A device answers a model's registers with an exception: that is told once."""
+    what, roof = "a model is refused", Refusing({40070})
+    site = Site(program, folder, [roof])
+    counts.note(f"{what}: that is told", site.service.has(r"\S+ device inv1 refuses 3 40070 4"), site.service.lines)
+    time.sleep(within(4))
+    lines = site.told("refuses")
+    counts.note(f"{what}: once", len(lines) == 1, lines)
+    counts.note(f"{what}: its input is missing, and it isn't lost", site.told("missing") != [] and site.told("lost") == [], site.service.lines)
+    site.end()
+
+
 def play_stopped(counts, program, folder):
     """The service itself gets no time for longer than an answer may take: what came meanwhile is heard before it is called late."""
     what, roof = "the service is stopped for 2 s, five times", Roof(1, 0.3)
@@ -334,6 +396,8 @@ PLAYS = (
     partial(play_alone, delay=0.3),
     play_pace,
     play_each,
+    play_night,
+    play_refused,
     play_idle,
     play_lag,
     play_told,

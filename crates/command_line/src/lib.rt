@@ -33,6 +33,7 @@ mod set_lines;
 mod set_player;
 mod short_lapses;
 mod shown;
+mod sleepers;
 mod socket;
 mod source;
 mod sources;

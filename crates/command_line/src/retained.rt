@@ -126,7 +126,7 @@ fn warn_of_name(rt: &(impl Eprint + AllocGlobal), notes: &Notes<'_>, name: &Name
 }
 
 /// Prints `PATH: warning: ` and two texts.
-fn warn(rt: &(impl Eprint + AllocGlobal), notes: &Notes<'_>, what: &str, end: &str) {
+pub(crate) fn warn(rt: &(impl Eprint + AllocGlobal), notes: &Notes<'_>, what: &str, end: &str) {
     let alloc = rt.alloc();
     if let Ok(path) = escaped(alloc, notes.site_path) {
         if let Ok(line) = format!(in alloc; "{path}: warning: {what}{end}\n") {

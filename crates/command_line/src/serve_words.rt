@@ -253,7 +253,7 @@ fn most_clients(matches: &ArgMatches<'_>) -> usize {
     matches.get_one("clients").unwrap_or(32)
 }
 
-/// What the service is to do after this start, by these words.
+/// What the service is to do after this start, by these words; no device sleeps.
 pub(crate) fn serving_of<'a>(
     matches: &ArgMatches<'_>,
     words: &'a ServiceWords<'_>,
@@ -264,6 +264,7 @@ pub(crate) fn serving_of<'a>(
         times: words.times,
         listen: words.listen,
         clients: most_clients(matches),
+        sleeps: &[],
         writers: words.writers.as_slice(),
         scans: matches.get_one("scans"),
         is_verbose: matches.get_flag("verbose"),

@@ -42,7 +42,7 @@ pub(crate) fn tell_unreachable<R: Print + Eprint + AllocGlobal, W: Write>(
     }
 }
 
-fn device_fault(
+pub(crate) fn device_fault(
     alloc: Global,
     site: &Site,
     device: usize,

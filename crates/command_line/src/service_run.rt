@@ -7,6 +7,7 @@ use crate::second_process::{start_plant, tell_no_port};
 use crate::service_places::tell_unreachable;
 use crate::short_lapses::warn_of_short_lapses;
 use crate::shown::warn_on_site;
+use crate::sleepers::tell_no_hours;
 use commands::{Accepted, Outcome, accept, no_core, tell_no_memory, write_lines};
 use gateway::CoreFault;
 use modbus_frame::LinkFault;
@@ -14,7 +15,7 @@ use point_types::Name;
 use refusal_notes::Notes;
 use served_site::service_of;
 use service_core::{Limits, Service};
-use service_texts::{Addresses, Devices, addresses_of, plant_addresses};
+use service_texts::{Addresses, Devices, addresses_of, plant_addresses, sleeping_hours};
 use site_service::{End, Keeping, OneProgram, Serving, serve_site};
 use std::alloc::{AllocError, Global};
 use std::fs::File;
@@ -88,6 +89,10 @@ fn serve_accepted<
         Ok(retained) => retained,
         Err(fault) => return tell_unretained(rt, alloc, fault, out),
     };
+    let hours = match sleeping_hours(alloc, run.notes.site) {
+        Ok(hours) => hours,
+        Err(fault) => return tell_no_hours(rt, alloc, &given.site, fault, out),
+    };
     match prepared(rt, alloc, run, &given, &retained, out) {
         Ok(addresses) => match service_of(
             alloc,
@@ -99,6 +104,10 @@ fn serve_accepted<
         ) {
             Ok(mut service) => {
                 let run = ServiceRun {
+                    serving: Serving {
+                        sleeps: hours.as_slice(),
+                        ..run.serving
+                    },
                     keeping: retained.keeping(&run.keeping),
                     names: retained.names.as_slice(),
                     ..*run

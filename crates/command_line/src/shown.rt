@@ -1,20 +1,22 @@
-//! Warnings beside an acceptance: what clients may not be shown, which places of devices `serve` would refuse, and which
-//! variables can't be kept.
+//! Warnings beside an acceptance: what clients may not be shown, what of devices `serve` would refuse, and which variables can't
+//! be kept.
 use crate::retained::warn_of_retained;
+use crate::sleepers::warn_of_hours;
 use crate::unreached::warn_of_places;
 use commands::Accepted;
 use refusal_notes::Notes;
 use served_notes::shown_warnings;
 use site_model::Site;
 
-/// Warns on standard error of a device's place in an accepted site that `serve` would refuse, of `retain`, and of what clients
-/// may not be shown. Where the warnings can't be printed, or memory for them is refused, nothing comes of it.
+/// Warns on standard error of a device's place in an accepted site that `serve` would refuse, of `retain` and `sleeps`, and of
+/// what clients may not be shown. Where the warnings can't be printed, or memory for them is refused, nothing comes of it.
 pub(crate) fn warn_beside(rt: &(impl Eprint + AllocGlobal), notes: &Notes<'_>, given: &Accepted) {
     if notes.quiet {
         return;
     }
     warn_of_places(rt, notes, &given.site);
     warn_of_retained(rt, notes, given);
+    warn_of_hours(rt, notes, &given.site);
     warn_on_site(rt, notes, &given.site);
 }
 

@@ -17,6 +17,7 @@ const DEVICE: &[&str] = &[
     "rewrite",
     "address",
     "remote_unit",
+    "sleeps",
 ];
 
 const TAG: &[&str] = &[

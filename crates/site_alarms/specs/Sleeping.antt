@@ -1,5 +1,5 @@
 -- Devices that sleep at night, and what isn't wrong since they do. No standard says it; it is this project's.
-use Rattle.std.specs.Prelude.{ℕ, ◌*◌, ◌-◌, Bool, true, false, not, nat_lt, List, Option, Some, None, option_and_then, slice_get}
+use Rattle.std.specs.Prelude.{ℕ, ◌*◌, ◌-◌, Bool, true, false, not, ◌&&◌, nat_lt, List, Option, Some, None, option_and_then, slice_get, if◌then◌else◌}
 use Rattle.std.specs.List.{flat_map}
 use Rattle.std.specs.Option.{option_map_or}
 use Rattle.site_model.specs.declared.site.Site.{Site}
@@ -9,6 +9,8 @@ use Rattle.site_alarms.specs.declared.alarm.Alarm.TheVariants as alarm
 use Rattle.site_alarms.specs.declared.alarm.Hidden.{Hidden}
 use Rattle.site_alarms.specs.declared.alarm.Hidden.TheVariants as hidden
 use Rattle.site_alarms.specs.declared.sleeping.Sleep.{Sleep}
+use Rattle.site_alarms.specs.declared.sleeping.Slept.{Slept}
+use Rattle.site_alarms.specs.declared.sleeping.Slept.TheVariants as slept
 use Rattle.site_alarms.specs.Alarms.{one_if}
 
 -- ---- which devices sleep
@@ -19,20 +21,28 @@ gone_since false now since = None
 gone_since true now None = Some now
 gone_since true now (Some since) = Some since
 
-abbrev pub seen : Bool → ℕ → Sleep → Sleep
-seen is_gone now s = record s { since = gone_since is_gone now s.since }
-
 abbrev pub is_gone_within : ℕ → ℕ → ℕ → Bool
 is_gone_within hours since now = nat_lt (now - since) (hours * 3600)
 
-abbrev pub is_asleep_by : ℕ → Option ℕ → Option ℕ → Bool
-is_asleep_by now (Some hours) (Some since) = is_gone_within hours since now
-is_asleep_by now (Some hours) None = false
-is_asleep_by now None since = false
+-- it sleeps where it is gone, for less than its hours
+abbrev pub is_asleep : Option ℕ → Option ℕ → ℕ → Bool
+is_asleep (Some hours) (Some since) now = is_gone_within hours since now
+is_asleep (Some hours) None now = false
+is_asleep None since now = false
 
--- it is gone, for less than its hours
-abbrev pub is_asleep : ℕ → Sleep → Bool
-is_asleep now s = is_asleep_by now s.hours s.since
+-- by whether it is gone now
+abbrev pub seen : Bool → ℕ → Sleep → Sleep
+seen is_gone now s = record {
+  hours = s.hours;
+  since = gone_since is_gone now s.since;
+  is_asleep = is_asleep s.hours (gone_since is_gone now s.since) now;
+}
+
+-- What is told: that it sleeps from now on, or that it is gone and doesn't sleep any more.
+abbrev pub news : (is_gone was_asleep is_asleep : Bool) → Option Slept
+news is_gone was_asleep sleeps =
+    if sleeps && not was_asleep then Some slept.Asleep
+    else (if is_gone && was_asleep && not sleeps then Some slept.Overdue else None)
 
 -- ---- what isn't wrong since they sleep
 

@@ -27,7 +27,7 @@ pub use devices::{is_amiss, is_lacking};
 pub use met::{Met, met_at, met_of};
 pub use wrong::{Seen, missing_now, wrong_now};
 // what follows from the sleep of devices
-pub use sleeping::{Sleep, leave_out_sleepers};
+pub use sleeping::{Sleep, Slept, leave_out_sleepers};
 // since when
 pub use standing::{Standing, Watch};
 // what changed

@@ -1,42 +1,81 @@
 //! Devices that sleep at night, and what is missing since they do.
-ghost use Rattle.std.specs.Prelude.{◌≡◌, ◌++◌, None, OnOk, slice_get};
-ghost use Rattle.site_alarms.specs.Sleeping.{awake, device_hidden, device_of, device_of_output, device_of_tag, gone_since, is_asleep, is_gone_within, is_of_sleeper, of_awake, seen, sleeps_at};
+ghost use Rattle.std.specs.Prelude.{◌≡◌, ◌++◌, None, OnOk, false, option_map};
+ghost use Rattle.site_alarms.specs.Sleeping.{awake, device_hidden, device_of, device_of_output, device_of_tag, gone_since, is_asleep, is_gone_within, is_of_sleeper, news, of_awake, seen, sleeps_at};
 
 use crate::alarm::{Alarm, Hidden};
 use point_types::Items;
 use site_model::Site;
 use std::alloc::AllocError;
 
-/// For how long a device may be gone in its sleep, and since when it is gone. Times are in seconds of whoever looks.
+/// How a device sleeps: for how long it may be gone, and since when it is. Times are in seconds of whoever looks.
 #[derive(Clone, Copy)]
 pub struct Sleep {
     hours: Option<u8>,
     since: Option<u64>,
+    is_asleep: bool,
+}
+
+/// What there is to tell of the sleep of a device.
+#[derive(Clone, Copy, Debug, PartialEq, Eq)]
+pub enum Slept {
+    /// It sleeps from now on: it is gone.
+    Asleep,
+    /// It has been gone for its hours: it is missing from now on.
+    Overdue,
 }
 
 impl Sleep {
     /// Of a device that may be gone for so many hours, or doesn't sleep, and isn't gone.
     pub fn new(hours: Option<u8>) -> Sleep
-        ensures { result ≡ record { hours = hours; since = None } }
+        ensures { result ≡ record { hours = hours; since = None; is_asleep = false } }
     {
-        Sleep { hours, since: None }
-    }
-
-    /// Now it is gone, which is that it is lost or has no map, or it isn't.
-    pub fn see(&mut self, is_gone: bool, now: u64)
-        ensures { self.new ≡ seen is_gone now self.old }
-    {
-        self.since = gone_since(is_gone, now, self.since);
-    }
-
-    /// Whether it sleeps: it is gone, for less than its hours.
-    pub fn is_asleep(&self, now: u64) -> bool
-        ensures { result ≡ is_asleep now self.now }
-    {
-        match (self.hours, self.since) {
-            (Some(hours), Some(since)) => is_gone_within(hours, since, now),
-            _ => false,
+        Sleep {
+            hours,
+            since: None,
+            is_asleep: false,
         }
+    }
+
+    /// Now it is gone, which is that it is lost or has no map, or it isn't; what there is to tell.
+    pub fn see(&mut self, is_gone: bool, now: u64) -> Option<Slept>
+        ensures seen { self.new ≡ seen is_gone now self.old }
+        ensures told { result ≡ news is_gone self.old.is_asleep self.new.is_asleep }
+    {
+        let was_asleep = self.is_asleep;
+        self.since = gone_since(is_gone, now, self.since);
+        self.is_asleep = is_asleep(self.hours, self.since, now);
+        news(is_gone, was_asleep, self.is_asleep)
+    }
+
+    /// Whether it sleeps: it is gone, for less than its hours. None where it never does.
+    pub fn is_asleep(&self) -> Option<bool>
+        ensures { result ≡ option_map (λ hours. self.now.is_asleep) self.now.hours }
+    {
+        match self.hours {
+            Some(_) => Some(self.is_asleep),
+            None => None,
+        }
+    }
+}
+
+fn is_asleep(hours: Option<u8>, since: Option<u64>, now: u64) -> bool
+    ensures { result ≡ is_asleep hours since now }
+{
+    match (hours, since) {
+        (Some(hours), Some(since)) => is_gone_within(hours, since, now),
+        _ => false,
+    }
+}
+
+fn news(is_gone: bool, was_asleep: bool, is_asleep: bool) -> Option<Slept>
+    ensures { result ≡ news is_gone was_asleep is_asleep }
+{
+    if is_asleep && !was_asleep {
+        Some(Slept::Asleep)
+    } else if is_gone && was_asleep && !is_asleep {
+        Some(Slept::Overdue)
+    } else {
+        None
     }
 }
 

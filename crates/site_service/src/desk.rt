@@ -3,17 +3,17 @@ use crate::journal::Journal;
 use crate::keeping::Keeping;
 use crate::kept_files::KeptFiles;
 use crate::looking::Lookout;
-use crate::paces::Paces;
 use crate::program_watch::{Looked, ProgramWatch};
 use crate::room::{Room, STANDARD_ERROR, STANDARD_OUTPUT};
 use crate::serving::{End, Serving};
 use crate::sockets::Sockets;
 use crate::state_lock::StateLock;
 use crate::status::status_text;
-use crate::telling::{pace_line, tell, tell_changes, tell_scan, tell_taken};
+use crate::telling::{pace_line, sleep_line, tell, tell_changes, tell_scan, tell_taken};
 use crate::wall_clock::seconds_of_day;
 use service_core::{Note, Service};
 use service_texts::{Addresses, late_line, listening_line, program_refused_line};
+use site_model::Site;
 use start_texts::Start;
 use std::alloc::{AllocError, Global};
 use std::io;
@@ -36,8 +36,6 @@ pub(crate) struct Desk<'a, W: Write> {
     late: u64,
     /// What is wrong.
     lookout: Lookout,
-    /// Which devices don't keep up.
-    paces: Paces,
     /// Whether standard error takes a note on another program; None where there are none.
     notes: Option<Room>,
 }
@@ -77,8 +75,7 @@ impl<'a, W: Write> Desk<'a, W> {
             journal,
             start: Instant::now(rt)?,
             late: 0,
-            lookout: Lookout::new(alloc),
-            paces: Paces::new(alloc, addresses.stations.len())?,
+            lookout: Lookout::new(alloc, addresses.stations.len(), serving.sleeps)?,
             notes: noting(rt, alloc, is_noting),
         })
     }
@@ -218,14 +215,17 @@ impl<'a, W: Write> Desk<'a, W> {
             Ok(changes) => tell_changes(self.alloc, changes, service.core(), &mut self.journal),
             Err(AllocError) => self.journal.tell(Err(AllocError)),
         }
-        self.tell_paces(service);
+        self.tell_devices(service.core().site());
     }
 
-    // Tells which devices don't keep up with the program, or do again.
-    fn tell_paces(&mut self, service: &Service) {
-        let site = service.core().site();
+    // Tells which devices sleep, and which don't keep up with the program, or do again.
+    fn tell_devices(&mut self, site: &Site) {
         for device in 0..site.devices().len() {
-            if let Some(rounds) = self.paces.see(device, service.device_status(device)) {
+            if let Some(slept) = self.lookout.news_of_sleep(device) {
+                self.journal
+                    .tell(sleep_line(self.alloc, site, device, slept));
+            }
+            if let Some(rounds) = self.lookout.news_of_pace(device) {
                 self.journal
                     .tell(pace_line(self.alloc, site, device, rounds));
             }

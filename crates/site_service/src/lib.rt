@@ -17,6 +17,7 @@ mod link_state;
 mod links;
 mod looking;
 mod members;
+mod nights;
 mod paces;
 mod plant_client;
 mod plant_door;

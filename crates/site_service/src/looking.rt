@@ -1,9 +1,11 @@
 //! What is looked at to see what is wrong.
 use crate::kept_files::KeptFiles;
+use crate::nights::Nights;
+use crate::paces::Paces;
 use crate::program_watch::Refusal;
 use point_types::Items;
 use service_core::{DeviceStatus, OutputState, Service};
-use site_alarms::{Alarm, Changes, Seen, Standing, Watch, wrong_now};
+use site_alarms::{Alarm, Changes, Seen, Slept, Standing, Watch, leave_out_sleepers, wrong_now};
 use std::alloc::{AllocError, Global};
 
 /// How long a round that began late is an alarm, in milliseconds.
@@ -17,7 +19,12 @@ pub(crate) struct Lookout {
     /// list is longer than any before.
     devices: Items<DeviceStatus>,
     outputs: Items<Option<OutputState>>,
+    wrong: Items<Alarm>,
     alarms: Items<Alarm>,
+    /// Which devices sleep.
+    nights: Nights,
+    /// Which devices don't keep up.
+    paces: Paces,
     /// Whether that is what was wrong after the last scan: memory for it may be refused.
     is_of_now: bool,
     /// When a round began late last, in milliseconds since the start.
@@ -27,17 +34,24 @@ pub(crate) struct Lookout {
 }
 
 impl Lookout {
-    /// Nothing was looked at yet.
-    pub(crate) fn new(alloc: Global) -> Lookout {
-        Lookout {
+    /// Nothing was looked at yet of so many devices, which may be gone for so many hours in their sleep.
+    pub(crate) fn new(
+        alloc: Global,
+        devices: usize,
+        hours: &[Option<u8>],
+    ) -> Result<Lookout, AllocError> {
+        Ok(Lookout {
             watch: Watch::new(alloc),
             devices: Items::new(alloc),
             outputs: Items::new(alloc),
+            wrong: Items::new(alloc),
             alarms: Items::new(alloc),
+            nights: Nights::new(alloc, devices, hours)?,
+            paces: Paces::new(alloc, devices)?,
             is_of_now: true,
             late_at: None,
             refusal: None,
-        }
+        })
     }
 
     /// A round began late.
@@ -85,6 +99,7 @@ impl Lookout {
         now: u64,
     ) -> Result<(), AllocError> {
         self.see_devices(service)?;
+        self.nights.see(self.devices.as_slice(), now / 1000);
         self.see_outputs(service)?;
         let seen = Seen {
             devices: self.devices.as_slice(),
@@ -93,7 +108,13 @@ impl Lookout {
             is_unkept: files.is_unkept(),
             is_refused: self.refusal.is_some(),
         };
-        wrong_now(&mut self.alarms, service.core(), &seen)?;
+        wrong_now(&mut self.wrong, service.core(), &seen)?;
+        leave_out_sleepers(
+            &mut self.alarms,
+            self.wrong.as_slice(),
+            service.core().site(),
+            self.nights.asleep(),
+        )?;
         self.watch.see(self.alarms.as_slice(), now / 1000)
     }
 
@@ -115,6 +136,22 @@ impl Lookout {
             self.outputs.push(service.output_state(output))?;
         }
         Ok(())
+    }
+
+    /// What is told of a device's sleep after the last scan, where that changed.
+    pub(crate) fn news_of_sleep(&self, device: usize) -> Option<Slept> {
+        self.nights.news(device)
+    }
+
+    /// Whether a device sleeps, or None where it never does.
+    pub(crate) fn is_asleep(&self, device: usize) -> Option<bool> {
+        self.nights.is_asleep(device)
+    }
+
+    /// In which of so many rounds a device is read and written, where that is to be told after the last scan.
+    pub(crate) fn news_of_pace(&mut self, device: usize) -> Option<u64> {
+        let status = self.devices.as_slice().get(device).copied();
+        self.paces.see(device, status)
     }
 
     /// What was wrong after the last scan; AllocError where memory for it was refused.

@@ -17,6 +17,8 @@ pub struct Serving<'a> {
     pub listen: SocketAddr,
     /// The most clients at once.
     pub clients: usize,
+    /// For how many hours each device may be gone in its sleep, in their order.
+    pub sleeps: &'a [Option<u8>],
     /// The clients that may write.
     pub writers: &'a [Writer],
     /// How many scans; none for ever.

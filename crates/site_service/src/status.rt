@@ -36,7 +36,7 @@ pub(crate) fn status_text(
     put_number(&mut status, alloc, "seconds", seconds)?;
     put_number(&mut status, alloc, "scans", service.scans())?;
     put_number(&mut status, alloc, "late", late)?;
-    put_site(&mut status, alloc, service, addresses)?;
+    put_site(&mut status, alloc, service, addresses, lookout)?;
     put_list(
         &mut status,
         alloc,
@@ -64,13 +64,14 @@ fn put_site(
     alloc: Global,
     service: &Service,
     addresses: &Addresses,
+    lookout: &Lookout,
 ) -> Result<(), AllocError> {
     let core = service.core();
     put_list(
         status,
         alloc,
         "devices",
-        devices_value(alloc, service, addresses)?,
+        devices_value(alloc, service, addresses, lookout)?,
     )?;
     put(status, alloc, "tags", tags_value(alloc, core)?)?;
     put(status, alloc, "outputs", outputs_value(alloc, service)?)?;

@@ -1,4 +1,5 @@
 //! How the devices of a service stand, as JSON.
+use crate::looking::Lookout;
 use crate::members::{put_list, put_number, put_text, put_truth};
 use gateway::{Core, DEPTH};
 use serde_json::{Map, Value, put};
@@ -12,10 +13,11 @@ pub(crate) fn devices_value(
     alloc: Global,
     service: &Service,
     addresses: &Addresses,
+    lookout: &Lookout,
 ) -> Result<Vec<Value>, AllocError> {
     let mut values = Vec::new(alloc);
     for device in 0..service.core().site().devices().len() {
-        values.push(device_value(alloc, service, addresses, device)?)?;
+        values.push(device_value(alloc, service, addresses, lookout, device)?)?;
     }
     Ok(values)
 }
@@ -24,6 +26,7 @@ fn device_value(
     alloc: Global,
     service: &Service,
     addresses: &Addresses,
+    lookout: &Lookout,
     device: usize,
 ) -> Result<Value, AllocError> {
     let mut value = Map::new(alloc);
@@ -42,6 +45,9 @@ fn device_value(
     )?;
     if let Some(status) = service.device_status(device) {
         put_status(&mut value, alloc, &status)?;
+    }
+    if let Some(is_asleep) = lookout.is_asleep(device) {
+        put_truth(&mut value, alloc, "asleep", is_asleep)?;
     }
     Ok(Value::Object(value))
 }

@@ -6,8 +6,8 @@ use register_map::Map;
 use service_core::{Note, Refusal};
 use service_texts::{device_line, lost_line, program_taken_line, unwritten_line, written_line};
 use site_alarms::{
-    Changes, begun_line, device_name, is_lacking, lacks_text, loss_word, output_name, over_line,
-    push_models, unwritten_word,
+    Changes, Slept, begun_line, device_name, is_lacking, lacks_text, loss_word, output_name,
+    over_line, push_models, unwritten_word,
 };
 use site_model::{Site, Want};
 use start_texts::Start;
@@ -112,6 +112,20 @@ fn told(alloc: Global, site: &Site, device: usize, what: &str) -> Result<String,
 fn lost(alloc: Global, site: &Site, device: usize, kind: &str) -> Result<String, AllocError> {
     let name = shown_name(alloc, site, device)?;
     lost_line(alloc, name.as_str(), kind)
+}
+
+/// `device NAME asleep`, or `device NAME overdue`.
+pub(crate) fn sleep_line(
+    alloc: Global,
+    site: &Site,
+    device: usize,
+    slept: Slept,
+) -> Result<String, AllocError> {
+    let what = match slept {
+        Slept::Asleep => "asleep",
+        Slept::Overdue => "overdue",
+    };
+    told(alloc, site, device, what)
 }
 
 /// `device NAME each N rounds`, or `device NAME each round`.
