@@ -1,11 +1,13 @@
 -- How a device stands. No standard says what of it is told; it is this project's.
-use Rattle.std.specs.Prelude.{◌≡◌, ℕ, Bool, false, List, slice_get}
+use Rattle.std.specs.Prelude.{◌≡◌, ℕ, Bool, false, List, [], slice_get}
 use Rattle.std.specs.Option.{option_map_or}
 use Rattle.gateway.specs.event_core.Core.{Gateway}
 use Rattle.service_parts.specs.declared.lines.Lines.{Lines}
 use Rattle.service_parts.specs.declared.limits.Station.{Station}
 use Rattle.service_parts.specs.Waking.{is_up_at}
 use Rattle.service_core.specs.declared.device.Device.{Device}
+use Rattle.service_core.specs.declared.device_side.DeviceSide.{DeviceSide}
+use Rattle.service_core.specs.declared.refusals.Refusal.{Refusal}
 use Rattle.service_core.specs.declared.last_told.LastTold.{LastTold}
 use Rattle.service_core.specs.Maps.{has_map}
 use Rattle.service_core.specs.Rounds.{age_of}
@@ -14,6 +16,10 @@ use Rattle.service_core.specs.declared.status.DeviceStatus.{DeviceStatus}
 -- whether the connection over which a device is reached is up
 abbrev pub is_reached : Lines → ℕ → Bool
 is_reached lines device = option_map_or (λ (at : Station). is_up_at lines.lines.items at.link) (slice_get lines.links.stations.items device) false
+
+-- what a device refused to be read
+abbrev pub refusals_at : DeviceSide → ℕ → List Refusal
+refusals_at side device = option_map_or (λ (own : Device). own.refusals) (slice_get side.devices.items device) []
 
 -- It tells what is kept of the device, whether its connection is up, whether there is a map of it, and how old what it told is.
 pub record IsStatus (core : Gateway) (told : List LastTold) (lines : Lines) (device : ℕ) (own : Device) (status : DeviceStatus) : Type 0 where

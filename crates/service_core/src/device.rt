@@ -198,6 +198,13 @@ impl Device {
         self.refusals.add(refusal)
     }
 
+    /// What it refused to be read.
+    pub fn refusals(&self) -> &[Refusal]
+        ensures { result.now ≡ self.now.refusals }
+    {
+        self.refusals.known()
+    }
+
     /// It is lost; whether it wasn't before.
     pub fn lose(&mut self, loss: Loss) -> bool
         ensures lost { self.new ≡ lost_by loss self.old }

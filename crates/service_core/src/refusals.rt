@@ -54,6 +54,13 @@ impl Refusals {
         true
     }
 
+    /// What is known, in order.
+    pub fn known(&self) -> &[Refusal]
+        ensures { result.now ≡ self.now }
+    {
+        &self.known
+    }
+
     fn is_known(&self, refusal: Refusal) -> bool
         ensures { result ≡ is_known refusal self.now }
     {

@@ -2,12 +2,13 @@
 ghost use Rattle.std.specs.Prelude.{◌≡◌, ◌≤◌, IfNone, IfSome, Some, length, slice_get};
 ghost use Rattle.service_core.specs.declared.device.Device.{Device as Own};
 ghost use Rattle.service_core.specs.Rounds.{is_ready};
-ghost use Rattle.service_core.specs.Standing.{IsStatus, is_reached};
+ghost use Rattle.service_core.specs.Standing.{IsStatus, is_reached, refusals_at};
 ghost use Rattle.service_core.specs.Telling.{told_at};
 
 use crate::counts::Counts;
 use crate::note::Loss;
 use crate::output::OutputState;
+use crate::refusals::Refusal;
 use crate::replies::Replies;
 use crate::service_state::Service;
 
@@ -49,6 +50,16 @@ impl Service {
             age: self.cycle.round().scans_since(device),
             counts: found.counts,
         })
+    }
+
+    /// What a device refused to be read, in the order in which that was told; nothing where the site has no such device.
+    pub fn refusals(&self, device: usize) -> &[Refusal]
+        ensures { result.now ≡ refusals_at self.now.side device }
+    {
+        match self.side.devices.get(device) {
+            Some(found) => found.refusals(),
+            None => &[],
+        }
     }
 
     /// Whether each wanted block of a device was told since its outputs were planned last, or it has none.

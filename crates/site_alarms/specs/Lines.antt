@@ -1,6 +1,7 @@
 -- The lines that tell what is missing. No standard says what is printed; these lines are this project's.
 use Rattle.std.specs.Prelude.{ℕ, List, ◌++◌, codes}
 use Rattle.std.specs.Fmt.{decimal}
+use Rattle.service_core.specs.declared.refusals.Refusal.{Refusal}
 
 -- input NAME missing CAUSE, where CAUSE is a word and may have after it what was met
 abbrev pub missing_line : (name cause : List ℕ) → List ℕ
@@ -21,3 +22,7 @@ shown_line point = codes "served " ++ point ++ codes " shown"
 -- NAME lacks ID, which stands after the word device
 abbrev pub lacks_text : ℕ → List ℕ
 lacks_text model = codes "lacks " ++ decimal model
+
+-- NAME refuses 3 ADDRESS CODE, which stands after the word device
+abbrev pub refuses_text : Refusal → List ℕ
+refuses_text r = codes "refuses 3 " ++ decimal r.address ++ codes " " ++ decimal r.code

@@ -33,7 +33,7 @@ pub use standing::{Standing, Watch};
 // what changed
 pub use changes::Changes;
 // in words
-pub use lines::{begun_line, lacks_text, missing_text, over_line};
+pub use lines::{begun_line, lacks_text, missing_text, over_line, refuses_text};
 pub use mending::mend;
 pub use names::{device_name, output_name, tag_name};
 pub use sentences::{push_models, sentence, why_hidden, why_missing};

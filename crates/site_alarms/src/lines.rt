@@ -8,6 +8,7 @@ use crate::names::tag_name;
 use crate::words::{cause_text, missing_word, point_text};
 use gateway::{Core, DEPTH};
 use point_types::Cause;
+use service_core::Refusal;
 use site_model::SiteTag;
 use std::alloc::{AllocError, Global};
 
@@ -128,5 +129,15 @@ pub fn lacks_text(alloc: Global, model: u16) -> Result<String, AllocError>
     ensures { IfOk result (λ text. string_bytes text ≡ told.lacks_text model) }
 {
     let text = format!(in alloc; "lacks {model}")?;
+    Ok(text)
+}
+
+/// `refuses 3 ADDRESS CODE`, of a device: the function by which registers are read (Modbus Application Protocol V1.1b3, section
+/// 6.3), the address of the first of them, and the exception code (section 7).
+pub fn refuses_text(alloc: Global, refusal: Refusal) -> Result<String, AllocError>
+    ensures { IfOk result (λ text. string_bytes text ≡ told.refuses_text refusal) }
+{
+    let (address, code) = (refusal.address, refusal.code);
+    let text = format!(in alloc; "refuses 3 {address} {code}")?;
     Ok(text)
 }

@@ -3,7 +3,7 @@ use crate::looking::Lookout;
 use crate::members::{put_list, put_number, put_text, put_truth};
 use gateway::{Core, DEPTH};
 use serde_json::{Map, Value, put};
-use service_core::{Counts, DeviceStatus, Loss, Service};
+use service_core::{Counts, DeviceStatus, Loss, Refusal, Service};
 use service_texts::Addresses;
 use site_alarms::{device_name, is_amiss, loss_word};
 use std::alloc::{AllocError, Global};
@@ -46,6 +46,12 @@ fn device_value(
     if let Some(status) = service.device_status(device) {
         put_status(&mut value, alloc, &status)?;
     }
+    put_list(
+        &mut value,
+        alloc,
+        "refused",
+        refused_value(alloc, service.refusals(device))?,
+    )?;
     if let Some(is_asleep) = lookout.is_asleep(device) {
         put_truth(&mut value, alloc, "asleep", is_asleep)?;
     }
@@ -124,4 +130,16 @@ fn losses_value(alloc: Global, counts: &Counts) -> Result<Value, AllocError> {
     put_number(&mut losses, alloc, loss_word(Loss::Stale), counts.stale)?;
     put_number(&mut losses, alloc, loss_word(Loss::Gateway), counts.gateway)?;
     Ok(Value::Object(losses))
+}
+
+/// The reads that a device refused.
+fn refused_value(alloc: Global, refusals: &[Refusal]) -> Result<Vec<Value>, AllocError> {
+    let mut values = Vec::new(alloc);
+    for refusal in refusals {
+        let mut value = Map::new(alloc);
+        put_number(&mut value, alloc, "address", u64::from(refusal.address))?;
+        put_number(&mut value, alloc, "code", u64::from(refusal.code))?;
+        values.push(Value::Object(value))?;
+    }
+    Ok(values)
 }

@@ -17,9 +17,6 @@ use std::io::Write;
 /// The kind of loss of a device that has no map.
 const NO_MAP: &str = "NoMap";
 
-/// The function by which registers are read (Modbus Application Protocol V1.1b3, section 6.3).
-const READ: u8 = 3;
-
 /// Tells what happened to a device or an output.
 pub(crate) fn tell<W: Write>(
     alloc: Global,
@@ -149,8 +146,7 @@ fn refused_line(
     device: usize,
     refusal: Refusal,
 ) -> Result<String, AllocError> {
-    let (address, code) = (refusal.address, refusal.code);
-    let what = format!(in alloc; "refuses {READ} {address} {code}")?;
+    let what = refuses_text(alloc, refusal)?;
     told(alloc, site, device, what.as_str())
 }
 

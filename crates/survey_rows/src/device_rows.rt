@@ -6,7 +6,9 @@ use crate::seen::Wrongs;
 use crate::survey::Survey;
 use escaped_text::{escaped, push_escaped};
 use gateway::{Core, DEPTH};
-use site_alarms::{Alarm, Subject, cause_text, device_name, is_lacking, lacks_text, push_models};
+use site_alarms::{
+    Alarm, Subject, cause_text, device_name, is_lacking, lacks_text, push_models, refuses_text,
+};
 use site_model::Want;
 use std::alloc::{AllocError, Global};
 
@@ -23,6 +25,7 @@ pub(crate) fn device_rows(
         let said = device_text(alloc, survey, device, wrong)?;
         rows.push(subject, said, wrong.is_some())?;
         push_lacking(alloc, &mut rows, survey, device)?;
+        push_refused(alloc, &mut rows, survey, device)?;
     }
     Ok(rows)
 }
@@ -116,4 +119,18 @@ fn lacking_text(alloc: Global, core: &Core<DEPTH>, want: Want) -> Result<String,
     }
     text.push_str("; give its tags one of these, or look for another setting or firmware")?;
     Ok(text)
+}
+
+/// Appends a row for each read that a device refused; what is missing by it has a row of its own.
+fn push_refused(
+    alloc: Global,
+    rows: &mut Rows,
+    survey: &Survey<'_>,
+    device: usize,
+) -> Result<(), AllocError> {
+    for refusal in survey.service.refusals(device) {
+        let subject = device_subject(alloc, survey, device)?;
+        rows.push(subject, refuses_text(alloc, *refusal)?, false)?;
+    }
+    Ok(())
 }
