@@ -7,16 +7,17 @@ use Rattle.std.proofs.lemmas.Bool.{eqb-true}
 use Rattle.std.proofs.lemmas.Bool.Decides.{eqb_tells}
 use Rattle.std.proofs.lemmas.List.{append-nil, take-append-drop}
 use Rattle.modbus_frame.specs.Frame.{frame_bytes}
-use Rattle.gateway.specs.poller.LinkRun.{Asked as Request, frame_of}
+use Rattle.gateway.specs.poller.LinkRun.{Asked as Request, frame_of, next_id}
 use Rattle.service.specs.declared.fate.Fate.{Fate}
 use Rattle.service_parts.specs.declared.line.Line.{Line}
 use Rattle.service_parts.specs.declared.wire.Asked.{Asked}
-use Rattle.service_parts.specs.Frames.{Begins, CourseBy, FramesGoOutWhole, GivesUp, Hears, HearingStep, IsCut, IsSending, Keeps, Led, LinesGo, LinesGoBy, OthersGo, OwnStep, Sends, begins, gives_up, keeps, stays, goes}
+use Rattle.service_parts.specs.Frames.{AreNumbered, Begins, CourseBy, FramesGoOutWhole, GivesUp, Hears, HearingStep, IsCut, IsSending, Keeps, Led, LinesGo, LinesGoBy, OthersGo, OwnStep, Sends, begins, gives_up, keeps, stays, goes}
 
-pub keeps_by : (old new : Line) → new.wire.asked ≡ old.wire.asked → new.wire.inquiry ≡ old.wire.inquiry → new.out.items ≡ old.out.items → (old.wire.is_bad ≡ true → new.wire.is_bad ≡ true) → Keeps old new
-keeps_by old new asked heard same bad = record {
+pub keeps_by : (old new : Line) → new.wire.asked ≡ old.wire.asked → new.wire.inquiry ≡ old.wire.inquiry → new.wire.id ≡ old.wire.id → new.out.items ≡ old.out.items → (old.wire.is_bad ≡ true → new.wire.is_bad ≡ true) → Keeps old new
+keeps_by old new asked heard next same bad = record {
   still = asked;
   heard = heard;
+  next = next;
   same = same;
   bad = bad;
 }
@@ -83,26 +84,33 @@ joined : (requests : List Request) (r : Request) → flat_map (λ (x : Request).
 joined [] r = append-nil (frame_bytes (frame_of r))
 joined (q ∷ requests) r = ap (λ l. frame_bytes (frame_of q) ++ l) (joined requests r) ∙ sym (append_assoc (frame_bytes (frame_of q)) (flat_map (λ (x : Request). frame_bytes (frame_of x)) requests) (frame_bytes (frame_of r)))
 
-same_out : (requests : List Request) (gone : List ℕ) (old new : Line) → new.out.items ≡ old.out.items → IsSending requests gone old → (more : List Request) × IsSending (requests ++ more) gone new
-same_out requests gone old new same sending = ([], ap (λ l. gone ++ l) same ∙ (sending ∙ ap (λ (l : List Request). flat_map (λ (x : Request). frame_bytes (frame_of x)) l) (sym (append-nil requests))))
+abbrev SendsMore : List Request → List ℕ → Line → Line → Type 0
+SendsMore requests gone old new = (more : List Request) × IsSending (requests ++ more) gone new × AreNumbered old.wire.id more new.wire.id
 
-one_step : (requests : List Request) (gone : List ℕ) (old new : Line) → HearingStep old new → IsSending requests gone old → (more : List Request) × IsSending (requests ++ more) gone new
+same_out : (requests : List Request) (gone : List ℕ) (old new : Line) → new.out.items ≡ old.out.items → new.wire.id ≡ old.wire.id → IsSending requests gone old → SendsMore requests gone old new
+same_out requests gone old new same next sending = ([], ap (λ l. gone ++ l) same ∙ (sending ∙ ap (λ (l : List Request). flat_map (λ (x : Request). frame_bytes (frame_of x)) l) (sym (append-nil requests))), next)
+
+one_step : (requests : List Request) (gone : List ℕ) (old new : Line) → HearingStep old new → IsSending requests gone old → SendsMore requests gone old new
 one_step requests gone old new (inl (begins step)) sending =
     let all : gone ≡ flat_map (λ (x : Request). frame_bytes (frame_of x)) requests = sym (append-nil gone) ∙ (ap (λ l. gone ++ l) (sym step.quiet) ∙ sending) in
-    (step.request ∷ [], ap (λ l. gone ++ l) step.frame ∙ (ap (λ l. l ++ frame_bytes (frame_of step.request)) all ∙ sym (joined requests step.request)))
-one_step requests gone old new (inl (gives_up step)) sending = same_out requests gone old new step.same sending
-one_step requests gone old new (inl (keeps step)) sending = same_out requests gone old new step.same sending
-one_step requests gone old new (inr (bytes, fate, step)) sending = same_out requests gone old new step.same sending
+    (step.request ∷ [], ap (λ l. gone ++ l) step.frame ∙ (ap (λ l. l ++ frame_bytes (frame_of step.request)) all ∙ sym (joined requests step.request)), (step.numbered, step.next))
+one_step requests gone old new (inl (gives_up step)) sending = same_out requests gone old new step.same step.next sending
+one_step requests gone old new (inl (keeps step)) sending = same_out requests gone old new step.same step.next sending
+one_step requests gone old new (inr (bytes, fate, step)) sending = same_out requests gone old new step.same step.next sending
 
 and_more : (requests more others : List Request) (gone : List ℕ) (new : Line) → IsSending ((requests ++ more) ++ others) gone new → IsSending (requests ++ (more ++ others)) gone new
 and_more requests more others gone new sending = sending ∙ ap (λ (l : List Request). flat_map (λ (x : Request). frame_bytes (frame_of x)) l) (append_assoc requests more others)
 
-course_sends : (requests : List Request) (gone : List ℕ) (old new : Line) → CourseBy HearingStep old new → IsSending requests gone old → (more : List Request) × IsSending (requests ++ more) gone new
-course_sends requests gone old new (stays line) sending = same_out requests gone old old refl sending
+numbered_on : (id middle next : ℕ) (more others : List Request) → AreNumbered id more middle → AreNumbered middle others next → AreNumbered id (more ++ others) next
+numbered_on id middle next [] others is rest = subst (λ n. AreNumbered n others next) is rest
+numbered_on id middle next (r ∷ more) others (own, is) rest = (own, numbered_on (next_id id) middle next more others is rest)
+
+course_sends : (requests : List Request) (gone : List ℕ) (old new : Line) → CourseBy HearingStep old new → IsSending requests gone old → SendsMore requests gone old new
+course_sends requests gone old new (stays line) sending = same_out requests gone old old refl refl sending
 course_sends requests gone old new (goes {middle = middle} course line step) sending =
     let first = course_sends requests gone old middle course sending in
     let then_ = one_step (requests ++ first.0) gone middle new step first.1 in
-    (first.0 ++ then_.0, and_more requests first.0 then_.0 gone new then_.1)
+    (first.0 ++ then_.0, and_more requests first.0 then_.0 gone new then_.1, numbered_on old.wire.id middle.wire.id new.wire.id first.0 then_.0 first.2 then_.2)
 
 goes_out : (requests : List Request) (gone : List ℕ) (n : ℕ) (old new : Line) → Sends n old new → IsSending requests gone old → IsSending requests (gone ++ take (min n (length old.out.items)) old.out.items) new
 goes_out requests gone n old new sends sending =

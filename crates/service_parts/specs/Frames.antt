@@ -1,9 +1,9 @@
 -- What goes out over a connection to devices, frame by frame: a request begins where none is under way, and its whole frame
 -- is to be written (MODBUS Messaging on TCP/IP Implementation Guide, sections 3.1.3 and 4.4.1).
-use Rattle.std.specs.Prelude.{◌≡◌, ◌⊎◌, ◌&&◌, not, ℕ, Bool, true, false, List, [], ◌++◌, drop, take, min, length, Option, None, Some, slice_get}
+use Rattle.std.specs.Prelude.{◌≡◌, ◌⊎◌, ◌&&◌, not, ℕ, Bool, true, false, List, [], ◌∷◌, ◌++◌, drop, take, min, length, Option, None, Some, slice_get}
 use Rattle.std.specs.List.{flat_map}
 use Rattle.modbus_frame.specs.Frame.{frame_bytes}
-use Rattle.gateway.specs.poller.LinkRun.{Asked as Request, frame_of}
+use Rattle.gateway.specs.poller.LinkRun.{Asked as Request, frame_of, next_id}
 use Rattle.service.specs.declared.fate.Fate.{Fate}
 use Rattle.service.specs.Hearing.{Takes, Wire as Hearing, asking, fresh}
 use Rattle.service_parts.specs.declared.line.Line.{Line}
@@ -11,7 +11,8 @@ use Rattle.service_parts.specs.declared.wire.Asked.{Asked}
 
 -- ---- one step
 
--- A request begins over a connection that is well, where none is under way and nothing waits: its frame is to be written.
+-- A request begins over a connection that is well, where none is under way and nothing waits: its frame is to be written. Its
+-- transaction has the next number.
 pub record Begins (old new : Line) : Type 0 where
   pub up : old.wire.is_up ≡ true
   pub well : old.wire.is_bad ≡ false
@@ -19,6 +20,8 @@ pub record Begins (old new : Line) : Type 0 where
   pub quiet : old.out.items ≡ []
   pub asked : Asked
   pub request : Request
+  pub numbered : request.id ≡ old.wire.id
+  pub next : new.wire.id ≡ next_id old.wire.id
   pub noted : new.wire.asked ≡ Some asked
   pub under_way : new.wire.inquiry ≡ asking old.wire.inquiry request
   pub frame : new.out.items ≡ frame_bytes (frame_of request)
@@ -26,6 +29,7 @@ pub record Begins (old new : Line) : Type 0 where
 -- The request that is under way is given up. Over a connection on which a part of a frame waits nothing more begins.
 pub record GivesUp (old new : Line) : Type 0 where
   pub over : new.wire.asked ≡ None
+  pub next : new.wire.id ≡ old.wire.id
   pub same : new.out.items ≡ old.out.items
   pub bad : old.wire.is_bad ≡ true → new.wire.is_bad ≡ true
   pub spoils : (old.out.items ≡ [] → ⊥) → new.wire.is_bad ≡ true
@@ -34,6 +38,7 @@ pub record GivesUp (old new : Line) : Type 0 where
 pub record Keeps (old new : Line) : Type 0 where
   pub still : new.wire.asked ≡ old.wire.asked
   pub heard : new.wire.inquiry ≡ old.wire.inquiry
+  pub next : new.wire.id ≡ old.wire.id
   pub same : new.out.items ≡ old.out.items
   pub bad : old.wire.is_bad ≡ true → new.wire.is_bad ≡ true
 
@@ -51,6 +56,7 @@ TakesWhere false old bytes fate new = (fate ≡ None) × (new ≡ old)
 pub record Hears (bytes : List ℕ) (fate : Option Fate) (old new : Line) : Type 0 where
   pub takes : TakesWhere (old.wire.is_up && not old.wire.is_bad) old.wire.inquiry bytes fate new.wire.inquiry
   pub asked : new.wire.asked ≡ left_under_way fate old.wire.asked
+  pub next : new.wire.id ≡ old.wire.id
   pub same : new.out.items ≡ old.out.items
   pub bad : new.wire.is_bad ≡ old.wire.is_bad
 
@@ -112,12 +118,17 @@ OthersGo at old new = (link : ℕ) → (link ≡ at → ⊥) → LinesGoBy OwnSt
 abbrev pub IsSending : List Request → List ℕ → Line → Type 0
 IsSending requests gone line = gone ++ line.out.items ≡ flat_map (λ (r : Request). frame_bytes (frame_of r)) requests
 
--- What goes out over a connection are whole frames, one after another: each begins once the one before was written whole, and
--- the request that it spells is over. Over a stream that a cut frame spoilt nothing more begins.
+-- Their transactions have the numbers from the one on, one after another, and the other is the next: after 65535 comes 0.
+abbrev pub AreNumbered : ℕ → List Request → ℕ → Type 0
+AreNumbered id [] next = next ≡ id
+AreNumbered id (r ∷ requests) next = (r.id ≡ id) × AreNumbered (next_id id) requests next
+
+-- What goes out over a connection are whole frames, one after another, of transactions with numbers one after another: each begins
+-- once the one before was written whole, and the request that it spells is over. Over a stream that a cut frame spoilt nothing more begins.
 pub record FramesGoOutWhole : Type 0 where
   pub anew : (line : Line) → IsCut line → IsSending [] [] line
   pub goes_on : (requests : List Request) (gone : List ℕ) (old new : Line) → CourseBy HearingStep old new → IsSending requests gone old
-      → (more : List Request) × IsSending (requests ++ more) gone new
+      → (more : List Request) × IsSending (requests ++ more) gone new × AreNumbered old.wire.id more new.wire.id
   pub goes_out : (requests : List Request) (gone : List ℕ) (n : ℕ) (old new : Line) → Sends n old new → IsSending requests gone old
       → IsSending requests (gone ++ take (min n (length old.out.items)) old.out.items) new
   pub one_at_a_time : (old new : Line) → Begins old new → (old.wire.asked ≡ None) × (old.out.items ≡ [])

@@ -3,7 +3,7 @@ ghost use Rattle.std.specs.Prelude.{◌≡◌, ◌↔◌, IsTrue, IfSome, IsSome
 ghost use Rattle.service.specs.Hearing.{asking, fresh};
 ghost use Rattle.modbus_frame.specs.Frame.{frame_bytes};
 ghost use Rattle.modbus_frame.specs.Message.{HasQuantity, address_of};
-ghost use Rattle.gateway.specs.poller.LinkRun.{frame_of};
+ghost use Rattle.gateway.specs.poller.LinkRun.{frame_of, next_id};
 ghost use Rattle.service_parts.specs.Frames.{TakesWhere};
 ghost use Rattle.service_parts.specs.Waking.{IsToDial, IsToHangUp, due_of};
 
@@ -243,6 +243,7 @@ impl Wire {
         ensures free { is_some result ≡ (self.old.is_up && not self.old.is_bad && is_none self.old.asked) }
         ensures frame { IfSome result (λ bytes. bytes.items ≡ frame_bytes (frame_of (record { id = self.old.id; unit = unit; request = request }))) }
         ensures asked { IfSome result (λ _. self.new.asked ≡ Some asked) }
+        ensures next { IfSome result (λ _. self.new.id ≡ next_id self.old.id) }
         ensures asks { IfSome result (λ _. self.new.inquiry ≡ asking self.old.inquiry (record { id = self.old.id; unit = unit; request = request })) }
     {
         if !self.is_free() {
@@ -277,6 +278,7 @@ impl Wire {
     /// The request is given up. A part of its frame that wasn't written spoils the stream.
     pub fn give_up(&mut self, is_sent: bool)
         ensures over { self.new.asked ≡ None }
+        ensures next { self.new.id ≡ self.old.id }
         ensures bad { self.old.is_bad ≡ true → self.new.is_bad ≡ true }
         ensures spoils { is_sent ≡ false → self.new.is_bad ≡ true }
     {

@@ -7,7 +7,7 @@ use service_core::{Note, Refusal};
 use service_texts::{device_line, lost_line, program_taken_line, unwritten_line, written_line};
 use site_alarms::{
     Changes, Slept, begun_line, device_name, is_lacking, lacks_text, loss_word, output_name,
-    over_line, push_models, unwritten_word,
+    over_line, push_models, refuses_text, unwritten_word,
 };
 use site_model::{Site, Want};
 use start_texts::Start;

@@ -13,6 +13,8 @@ returns-in-Some-clause-begins c is =
         quiet = none_waits c.args.self.now.out.items free.3;
         asked = c.args.asked;
         request = record { id = c.args.self.now.wire.id; unit = c.args.unit; request = c.args.request };
+        numbered = refl;
+        next = began.next;
         noted = began.asked;
         under_way = began.asks;
         frame = began.frame;
