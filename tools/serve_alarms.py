@@ -130,7 +130,7 @@ def play_alarms(counts, program, folder):
     counts.note("all is well again", until(named, [], 15) == [], (named(), service.lines[-8:]))
     counts.note("so say the lines", service.has(r"\S+ input w1 present") and service.has(r"\S+ output lim1 written"), service.lines[-8:])
     found = [line.split(" ", 1)[1] for line in service.lines if " device inv3 " in line]
-    counts.note("a map that is found late", found == ["device inv3 lost NoMap", "device inv3 found 1 103 123"], found)
+    counts.note("a map that is found late", found == ["device inv3 " + it for it in ("refuses 3 50000 2", "refuses 3 0 2", "lost NoMap", "found 1 103 123")], found)
     counts.note("its device isn't lost any more", stands(status, 2) == ("up", True, False, None), text_of(status))
     service.end()
     for it in devices:
