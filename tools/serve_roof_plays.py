@@ -366,6 +366,11 @@ def play_refused(counts, program, folder):
     lines = site.told("refuses")
     counts.note(f"{what}: once", len(lines) == 1, lines)
     counts.note(f"{what}: its input is missing, and it isn't lost", site.told("missing") != [] and site.told("lost") == [], site.service.lines)
+    refused = site.status()["devices"][0]["refused"]
+    counts.note(f"{what}: so says the status file", refused == [{"address": 40070, "code": 4}], refused)
+    site.service.end()
+    ran = survey(program, site.path)
+    counts.note(f"{what}: and a survey", "device inv1 refuses 3 40070 4\n" in re.sub(" +", " ", ran.stdout), ran)
     site.end()
 
 
