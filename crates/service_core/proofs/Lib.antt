@@ -20,3 +20,4 @@ pub mod ByNotes
 pub mod Losing
 pub mod Forgetting
 pub mod LeftOut
+pub mod Timing

@@ -15,6 +15,7 @@ pub mod Running
 pub mod Stages
 pub mod Standing
 pub mod Telling
+pub mod Timing
 pub mod Told
 pub mod Whole
 pub mod WrittenOnce

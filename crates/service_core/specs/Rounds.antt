@@ -56,6 +56,10 @@ most_scans = 10
 abbrev pub IsRecent : LastTold → Type 0
 IsRecent t = t.scans < most_scans
 
+-- those before this place are
+abbrev pub AreRecentTo : ℕ → List LastTold → Type 0
+AreRecentTo i told = (k : ℕ) (t : LastTold) → k < i → slice_get told k ≡ Some t → IsRecent t
+
 abbrev pub IsUntold : LastTold → Type 0
 IsUntold t = t.is_new ≡ false
 

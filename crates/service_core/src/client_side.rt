@@ -5,6 +5,7 @@ ghost use Rattle.service_core.specs.Cycle.{ClientsLeadOn};
 ghost use Rattle.service_parts.specs.declared.client_place.ClientPlace.{ClientPlace as Place};
 ghost use Rattle.service_parts.specs.Clients.{DoesAt, Hears, IsDeaf, IsDone, IsOpen, OthersStay, Sends, ready_of};
 ghost use Rattle.service_parts.specs.Places.{given_place};
+ghost use Rattle.service_core.specs.Timing.{StaysAt, TurnsTo};
 
 use crate::scan_cycle::ScanCycle;
 use crate::service_state::Service;
@@ -19,7 +20,7 @@ impl Service {
         ensures links { self.new.lines.links ≡ self.old.lines.links }
         ensures lines { self.new.lines ≡ self.old.lines }
         ensures core { self.new.cycle.core.value ≡ self.old.cycle.core.value }
-        ensures time { self.new.side.now ≡ max self.old.side.now now }
+        ensures time { TurnsTo now self.old self.new }
         ensures stands { Goes self.old.side self.new.side }
         ensures given { result ≡ given_place self.new.side.now self.old.places.items }
         ensures refused { IfNone result (self.new.places.items ≡ self.old.places.items) }
@@ -39,7 +40,7 @@ impl Service {
         ensures lines { self.new.lines ≡ self.old.lines }
         ensures core { self.new.cycle.core.value ≡ self.old.cycle.core.value }
         ensures gone { DoesAt (λ c d. d.is_taken ≡ false) self.old.places.items place self.new.places.items }
-        ensures time { self.new.side.now ≡ self.old.side.now }
+        ensures time { StaysAt self.old self.new }
         ensures stands { Goes self.old.side self.new.side }
     {
         if let Some(client) = self.places.get_mut(place) {
@@ -53,7 +54,7 @@ impl Service {
         ensures links { self.new.lines.links ≡ self.old.lines.links }
         ensures lines { self.new.lines ≡ self.old.lines }
         ensures goes { ClientsLeadOn self.old.cycle self.new.cycle }
-        ensures time { self.new.side.now ≡ max self.old.side.now now }
+        ensures time { TurnsTo now self.old self.new }
         ensures stands { Goes self.old.side self.new.side }
         ensures used { result ≤ length bytes.now }
         ensures takes { (c : Place) → slice_get self.old.places.items place ≡ Some c → (IsDeaf c → ⊥) → ready_of c ≡ [] → 0 < length bytes.now → 0 < result }
@@ -98,7 +99,7 @@ impl Service {
         ensures lines { self.new.lines ≡ self.old.lines }
         ensures core { self.new.cycle.core.value ≡ self.old.cycle.core.value }
         ensures sends { DoesAt (λ c d. Sends c n d) self.old.places.items place self.new.places.items }
-        ensures time { self.new.side.now ≡ self.old.side.now }
+        ensures time { StaysAt self.old self.new }
         ensures stands { Goes self.old.side self.new.side }
     {
         if let Some(client) = self.places.get_mut(place) {

@@ -11,6 +11,7 @@ ghost use Rattle.service_core.specs.Told.{Goes, LosesBy};
 ghost use Rattle.service_core.specs.Connections.{GoesAfterSent, GoesFromCut, Hears};
 ghost use Rattle.service_core.specs.Cycle.{DevicesLeadOn, LeadsOn};
 ghost use Rattle.service_core.specs.Rewriting.{is_of};
+ghost use Rattle.service_core.specs.Timing.{StaysAt, TurnsTo};
 
 use crate::note::Loss;
 use crate::service_state::Service;
@@ -29,7 +30,7 @@ impl Service {
         ensures lines { LinesGo self.old.lines.lines.items self.new.lines.lines.items }
         ensures core { self.new.cycle.core.value ≡ self.old.cycle.core.value }
         ensures places { self.new.places.items ≡ self.old.places.items }
-        ensures time { self.new.side.now ≡ max self.old.side.now now }
+        ensures time { TurnsTo now self.old self.new }
         ensures stands { Goes self.old.side self.new.side }
     {
         self.side.turn_to(now);
@@ -46,7 +47,7 @@ impl Service {
         ensures next { (number : ℕ) → slice_get self.old.lines.links.numbers.items link ≡ Some number → number + 1 < 2 ^ 64
             → self.new.lines.links.numbers.items ≡ set self.old.lines.links.numbers.items link (number + 1) }
         ensures places { self.new.places.items ≡ self.old.places.items }
-        ensures time { self.new.side.now ≡ max self.old.side.now now }
+        ensures time { TurnsTo now self.old self.new }
         ensures stands { Goes self.old.side self.new.side }
     {
         self.side.turn_to(now);
@@ -61,7 +62,7 @@ impl Service {
         ensures lines { LinesGo self.old.lines.lines.items self.new.lines.lines.items }
         ensures goes { LeadsOn self.old.cycle self.new.cycle }
         ensures places { self.new.places.items ≡ self.old.places.items }
-        ensures time { self.new.side.now ≡ self.old.side.now }
+        ensures time { StaysAt self.old self.new }
         ensures stands { Goes self.old.side self.new.side }
     {
         self.forget_all(link);
@@ -75,7 +76,7 @@ impl Service {
         ensures lines { LinesGo self.old.lines.lines.items self.new.lines.lines.items }
         ensures goes { LeadsOn self.old.cycle self.new.cycle }
         ensures places { self.new.places.items ≡ self.old.places.items }
-        ensures time { self.new.side.now ≡ self.old.side.now }
+        ensures time { StaysAt self.old self.new }
         ensures stands { Goes self.old.side self.new.side }
     {
         for device in 0..self.cycle.devices() {
@@ -93,7 +94,7 @@ impl Service {
         ensures ends { (line : LineValue) → slice_get self.old.lines.lines.items link ≡ Some line → GoesFromCut link self.new.lines.lines.items }
         ensures goes { LeadsOn self.old.cycle self.new.cycle }
         ensures places { self.new.places.items ≡ self.old.places.items }
-        ensures time { self.new.side.now ≡ max self.old.side.now now }
+        ensures time { TurnsTo now self.old self.new }
         ensures stands { LosesBy (AreLost self.old.lines.links.stations.items link down) self.old.side self.new.side }
     {
         self.side.turn_to(now);
@@ -109,7 +110,7 @@ impl Service {
         ensures lines { LinesGo self.old.lines.lines.items self.new.lines.lines.items }
         ensures goes { LeadsOn self.old.cycle self.new.cycle }
         ensures places { self.new.places.items ≡ self.old.places.items }
-        ensures time { self.new.side.now ≡ self.old.side.now }
+        ensures time { StaysAt self.old self.new }
         ensures same { self.new.lines ≡ self.old.lines }
         ensures stands { LosesBy (AreLost self.old.lines.links.stations.items link down) self.old.side self.new.side }
     {
@@ -133,7 +134,7 @@ impl Service {
         ensures others { OthersGo link self.old.lines.lines.items self.new.lines.lines.items }
         ensures goes { DevicesLeadOn self.old.cycle self.new.cycle }
         ensures places { self.new.places.items ≡ self.old.places.items }
-        ensures time { self.new.side.now ≡ max self.old.side.now now }
+        ensures time { TurnsTo now self.old self.new }
         ensures stands { slice_get self.old.lines.lines.items link ≡ None → Goes self.old.side self.new.side }
     {
         self.side.turn_to(now);
@@ -146,7 +147,7 @@ impl Service {
         ensures others { OthersGo link self.old.lines.lines.items self.new.lines.lines.items }
         ensures goes { DevicesLeadOn self.old.cycle self.new.cycle }
         ensures places { self.new.places.items ≡ self.old.places.items }
-        ensures time { self.new.side.now ≡ self.old.side.now }
+        ensures time { StaysAt self.old self.new }
         ensures stands { slice_get self.old.lines.lines.items link ≡ None → Goes self.old.side self.new.side }
     {
         let asked = self.lines.asked(link);
@@ -175,7 +176,7 @@ impl Service {
         ensures others { OthersGo link self.old.lines.lines.items self.new.lines.lines.items }
         ensures goes { DevicesLeadOn self.old.cycle self.new.cycle }
         ensures places { self.new.places.items ≡ self.old.places.items }
-        ensures time { self.new.side.now ≡ self.old.side.now }
+        ensures time { StaysAt self.old self.new }
         ensures stands { slice_get self.old.lines.lines.items link ≡ None → Goes self.old.side self.new.side }
     {
         self.lines.sent(link, n);
@@ -194,7 +195,7 @@ impl Service {
         ensures lines { LinesGo self.old.lines.lines.items self.new.lines.lines.items }
         ensures goes { LeadsOn self.old.cycle self.new.cycle }
         ensures places { self.new.places.items ≡ self.old.places.items }
-        ensures time { self.new.side.now ≡ self.old.side.now }
+        ensures time { StaysAt self.old self.new }
         ensures forgotten { (i : ℕ) → is_of device (known_at self.old.sent.writes.items i) ≡ true → known_at self.new.sent.taken.items i ≡ None }
         ensures writes { self.new.sent.writes ≡ self.old.sent.writes }
         ensures stands { Goes self.old.side self.new.side }
@@ -212,7 +213,7 @@ impl Service {
         ensures lines { LinesGo self.old.lines.lines.items self.new.lines.lines.items }
         ensures goes { LeadsOn self.old.cycle self.new.cycle }
         ensures places { self.new.places.items ≡ self.old.places.items }
-        ensures time { self.new.side.now ≡ self.old.side.now }
+        ensures time { StaysAt self.old self.new }
         ensures same { self.new.lines ≡ self.old.lines }
         ensures stands { LosesBy (AreLost self.old.lines.links.stations.items link loss) self.old.side self.new.side }
     {
@@ -229,7 +230,7 @@ impl Service {
         ensures lines { LinesGo self.old.lines.lines.items self.new.lines.lines.items }
         ensures goes { LeadsOn self.old.cycle self.new.cycle }
         ensures places { self.new.places.items ≡ self.old.places.items }
-        ensures time { self.new.side.now ≡ self.old.side.now }
+        ensures time { StaysAt self.old self.new }
         ensures same { self.new.lines ≡ self.old.lines }
         ensures forgotten { (i : ℕ) → is_of device (known_at self.old.sent.writes.items i) ≡ true → known_at self.new.sent.taken.items i ≡ None }
         ensures writes { self.new.sent.writes ≡ self.old.sent.writes }

@@ -1,5 +1,5 @@
 //! The devices' side of a service, apart from its core and its connections: devices, outputs, and the times of scans.
-ghost use Rattle.std.specs.Prelude.{◌≡◌, ◌≤◌, ◌<◌, ℕ, Bool, IsTrue, Option, Some, true, length, max, slice_get};
+ghost use Rattle.std.specs.Prelude.{◌≡◌, ◌≤◌, ◌<◌, ℕ, Bool, IsTrue, Option, Some, true, length, max, slice_get, nat_le};
 ghost use Rattle.service_core.specs.declared.device.Device.{Device as DeviceValue};
 ghost use Rattle.service_core.specs.Counting.{asked_once_more, counts_at};
 ghost use Rattle.service_core.specs.Noting.{Finds, HearsFrom, Loses, Refuses};
@@ -7,6 +7,7 @@ ghost use Rattle.service_core.specs.Telling.{told_at};
 ghost use Rattle.service_core.specs.declared.output.OutputState.{OutputState as StateValue};
 ghost use Rattle.service_core.specs.Losing.{IsLost};
 ghost use Rattle.service_core.specs.Told.{Goes, LosesBy, Losses, allows, lost_then, note_of, state_then};
+ghost use Rattle.service_core.specs.Timing.{CountsScan, KeepsTime, PlansScan, not_over, planned_from, scan_after, so_much_later};
 
 use crate::device::Device;
 use crate::link_pace::LinkPace;
@@ -73,7 +74,7 @@ impl DeviceSide {
 impl DeviceSide {
     /// A device is searched from now on.
     pub(crate) fn seek(&mut self, device: usize)
-        ensures now { self.new.now ≡ self.old.now }
+        ensures time { KeepsTime self.old self.new }
         ensures stands { Goes self.old self.new }
     {
         self.seek_at(device, self.now);
@@ -81,7 +82,7 @@ impl DeviceSide {
     }
 
     fn begin_anew(&mut self, device: usize)
-        ensures now { self.new.now ≡ self.old.now }
+        ensures time { KeepsTime self.old self.new }
         ensures stands { Goes self.old self.new }
     {
         if let Some(found) = self.devices.get_mut(device) {
@@ -91,7 +92,7 @@ impl DeviceSide {
 
     /// A device has other registers than its map said: its next map is told.
     pub(crate) fn tell_again(&mut self, device: usize)
-        ensures now { self.new.now ≡ self.old.now }
+        ensures time { KeepsTime self.old self.new }
         ensures stands { Goes self.old self.new }
     {
         if let Some(found) = self.devices.get_mut(device) {
@@ -101,7 +102,7 @@ impl DeviceSide {
 
     fn seek_at(&mut self, device: usize, at: u64)
         ensures counts { counts_at self.new device ≡ counts_at self.old device }
-        ensures now { self.new.now ≡ self.old.now }
+        ensures time { KeepsTime self.old self.new }
         ensures stands { Goes self.old self.new }
     {
         if let Some(found) = self.devices.get_mut(device) {
@@ -115,7 +116,7 @@ impl DeviceSide {
         requires allowed { (may : Losses) → allows may note ≡ true }
         requires device { (device : ℕ) (was : Bool) → lost_then note device was ≡ was }
         requires output { (output : ℕ) (was : Option StateValue) → state_then note output was ≡ was }
-        ensures now { self.new.now ≡ self.old.now }
+        ensures time { KeepsTime self.old self.new }
         ensures stands { Goes self.old self.new }
     {
         self.notes.add(note);
@@ -124,7 +125,7 @@ impl DeviceSide {
     /// A device's map is found.
     pub(crate) fn find(&mut self, device: usize)
         ensures finds { (own : DeviceValue) → slice_get self.old.devices.items device ≡ Some own → Finds device own self.old self.new }
-        ensures now { self.new.now ≡ self.old.now }
+        ensures time { KeepsTime self.old self.new }
         ensures stands { Goes self.old self.new }
     {
         if let Some(found) = self.devices.get_mut(device) {
@@ -136,7 +137,7 @@ impl DeviceSide {
 
     /// A search found no map: the next one begins later.
     pub(crate) fn find_none(&mut self, device: usize)
-        ensures now { self.new.now ≡ self.old.now }
+        ensures time { KeepsTime self.old self.new }
         ensures stands { Goes self.old self.new }
     {
         let again = self.now.saturating_add(self.limits.search_again);
@@ -147,7 +148,7 @@ impl DeviceSide {
     /// A request to a device is counted.
     pub(crate) fn count_request(&mut self, device: usize)
         ensures counts { (own : DeviceValue) → slice_get self.old.devices.items device ≡ Some own → counts_at self.new device ≡ Some (asked_once_more own.counts) }
-        ensures now { self.new.now ≡ self.old.now }
+        ensures time { KeepsTime self.old self.new }
         ensures stands { Goes self.old self.new }
     {
         if let Some(found) = self.devices.get_mut(device) {
@@ -158,7 +159,7 @@ impl DeviceSide {
     /// A device is lost; it is told where it wasn't before.
     pub(crate) fn lose(&mut self, device: usize, loss: Loss)
         ensures loses { (own : DeviceValue) → slice_get self.old.devices.items device ≡ Some own → Loses device loss own self.old self.new }
-        ensures now { self.new.now ≡ self.old.now }
+        ensures time { KeepsTime self.old self.new }
         ensures stands { LosesBy (IsLost device loss) self.old self.new }
     {
         if let Some(found) = self.devices.get_mut(device) {
@@ -171,7 +172,7 @@ impl DeviceSide {
     /// A device answered, one that has a map or not.
     pub(crate) fn hear(&mut self, device: usize, is_mapped: bool)
         ensures hears { (own : DeviceValue) → slice_get self.old.devices.items device ≡ Some own → HearsFrom device is_mapped own self.old self.new }
-        ensures now { self.new.now ≡ self.old.now }
+        ensures time { KeepsTime self.old self.new }
         ensures stands { Goes self.old self.new }
     {
         if let Some(found) = self.devices.get_mut(device) {
@@ -184,7 +185,7 @@ impl DeviceSide {
     /// A device refused to read registers; it is told where it is one more.
     pub(crate) fn refuse(&mut self, device: usize, refusal: Refusal)
         ensures refuses { (own : DeviceValue) → slice_get self.old.devices.items device ≡ Some own → Refuses device refusal own self.old self.new }
-        ensures now { self.new.now ≡ self.old.now }
+        ensures time { KeepsTime self.old self.new }
         ensures stands { Goes self.old self.new }
     {
         if let Some(found) = self.devices.get_mut(device) {
@@ -197,7 +198,7 @@ impl DeviceSide {
     /// An answer of a device came over the connection that there is.
     pub(crate) fn hear_over(&mut self, device: usize)
         ensures counts { counts_at self.new device ≡ counts_at self.old device }
-        ensures now { self.new.now ≡ self.old.now }
+        ensures time { KeepsTime self.old self.new }
         ensures stands { Goes self.old self.new }
     {
         if let Some(found) = self.devices.get_mut(device) {
@@ -208,7 +209,7 @@ impl DeviceSide {
     /// A device answered after so many milliseconds.
     pub(crate) fn replied(&mut self, device: usize, after: u64)
         ensures counts { counts_at self.new device ≡ counts_at self.old device }
-        ensures now { self.new.now ≡ self.old.now }
+        ensures time { KeepsTime self.old self.new }
         ensures stands { Goes self.old self.new }
     {
         if let Some(found) = self.devices.get_mut(device) {
@@ -219,7 +220,7 @@ impl DeviceSide {
     /// A request to a device had an answer, or none.
     pub(crate) fn note_write(&mut self, device: usize, aim: Aim, is_answered: bool)
         ensures counts { counts_at self.new device ≡ counts_at self.old device }
-        ensures now { self.new.now ≡ self.old.now }
+        ensures time { KeepsTime self.old self.new }
         ensures stands { Goes self.old self.new }
     {
         if let Aim::Output(_) = aim {
@@ -232,7 +233,7 @@ impl DeviceSide {
     /// A device didn't answer: it isn't asked for a while.
     pub(crate) fn miss(&mut self, device: usize)
         ensures counts { counts_at self.new device ≡ counts_at self.old device }
-        ensures now { self.new.now ≡ self.old.now }
+        ensures time { KeepsTime self.old self.new }
         ensures stands { Goes self.old self.new }
     {
         if let Some(found) = self.devices.get_mut(device) {
@@ -243,7 +244,7 @@ impl DeviceSide {
     /// A scan plans the outputs of a device, or passes it over.
     pub(crate) fn scan_device(&mut self, device: usize, is_planned: bool)
         ensures counts { counts_at self.new device ≡ counts_at self.old device }
-        ensures now { self.new.now ≡ self.old.now }
+        ensures time { KeepsTime self.old self.new }
         ensures stands { Goes self.old self.new }
     {
         if let Some(found) = self.devices.get_mut(device) {
@@ -255,14 +256,14 @@ impl DeviceSide {
 impl DeviceSide {
     /// Whether the program is to run.
     pub(crate) fn is_due(&self) -> bool
-        ensures { IsTrue result → self.entry.now.next_scan ≤ self.entry.now.now }
+        ensures { result ≡ nat_le self.entry.now.next_scan self.entry.now.now }
     {
-        self.now >= self.next_scan
+        self.next_scan <= self.now
     }
 
     /// The program runs now: when it runs next. A scan that comes late is told, and the next one comes a period after it.
     pub(crate) fn plan_scan(&mut self)
-        ensures now { self.new.now ≡ self.old.now }
+        ensures time { PlansScan self.old self.new }
         ensures stands { Goes self.old self.new }
     {
         self.begin_writing();
@@ -272,7 +273,7 @@ impl DeviceSide {
 
     #[tactic(auto, using(crate::proofs::ByNotes::same_goes))]
     fn begin_writing(&mut self)
-        ensures now { self.new.now ≡ self.old.now }
+        ensures time { KeepsTime self.old self.new }
         ensures stands { Goes self.old self.new }
     {
         self.is_writing = true;
@@ -282,36 +283,24 @@ impl DeviceSide {
 
     #[tactic(auto, using(crate::proofs::ByNotes::same_goes))]
     fn set_times(&mut self)
-        ensures now { self.new.now ≡ self.old.now }
+        ensures time { PlansScan self.old self.new }
         ensures stands { Goes self.old self.new }
     {
-        self.next_scan = self.next_scan.saturating_add(self.limits.period);
-        if self.next_scan <= self.now {
-            self.next_scan = self.now.saturating_add(self.limits.period.max(1));
-        }
+        self.next_scan = scan_after(self.limits.period, self.now, self.next_scan);
     }
 
     fn tell_late(&mut self)
-        ensures now { self.new.now ≡ self.old.now }
+        ensures time { KeepsTime self.old self.new }
         ensures stands { Goes self.old self.new }
     {
         if self.now > self.next_scan.saturating_add(self.limits.period) {
             self.tell(Note::Late(self.now.saturating_sub(self.next_scan)));
-            self.begin_at_once();
         }
-    }
-
-    #[tactic(auto, using(crate::proofs::ByNotes::same_goes))]
-    fn begin_at_once(&mut self)
-        ensures now { self.new.now ≡ self.old.now }
-        ensures stands { Goes self.old self.new }
-    {
-        self.next_scan = self.now;
     }
 
     /// The program ran, and this is planned for each output.
     pub(crate) fn count_scan(&mut self, core: &Core<DEPTH>, round: &Round)
-        ensures now { self.new.now ≡ self.old.now }
+        ensures time { CountsScan self.old self.new }
         ensures stands { Goes self.old self.new }
     {
         self.count();
@@ -322,7 +311,7 @@ impl DeviceSide {
 
     #[tactic(auto, using(crate::proofs::ByNotes::same_goes))]
     fn count(&mut self)
-        ensures now { self.new.now ≡ self.old.now }
+        ensures time { CountsScan self.old self.new }
         ensures stands { Goes self.old self.new }
     {
         self.scans = self.scans.saturating_add(1);
@@ -330,7 +319,7 @@ impl DeviceSide {
 
     /// An output's write is waited for from now on, where one is to be made; where there is no set point for it, it isn't written.
     fn plan_output(&mut self, output: usize, plan: &Result<Write, NoWrite>, is_open: bool)
-        ensures now { self.new.now ≡ self.old.now }
+        ensures time { KeepsTime self.old self.new }
         ensures stands { Goes self.old self.new }
     {
         match plan {
@@ -343,7 +332,7 @@ impl DeviceSide {
     }
 
     fn await_write(&mut self, output: usize, is_open: bool)
-        ensures now { self.new.now ≡ self.old.now }
+        ensures time { KeepsTime self.old self.new }
         ensures stands { Goes self.old self.new }
     {
         if let Some(found) = self.outputs.get_mut(output) {
@@ -354,7 +343,7 @@ impl DeviceSide {
     /// This became of an output; it is told where it is new.
     pub(crate) fn settle_output(&mut self, output: usize, state: OutputState)
         ensures state { output < length self.old.outputs.items → told_at self.new.outputs.items output ≡ Some state }
-        ensures now { self.new.now ≡ self.old.now }
+        ensures time { KeepsTime self.old self.new }
         ensures stands { Goes self.old self.new }
     {
         if let Some(found) = self.outputs.get_mut(output) {
@@ -379,7 +368,7 @@ impl DeviceSide {
     /// A request had no answer: where it wrote, that came to nothing.
     #[tactic(auto, using(crate::proofs::ByNotes::same_goes))]
     pub(crate) fn lose_write(&mut self, aim: Aim)
-        ensures now { self.new.now ≡ self.old.now }
+        ensures time { KeepsTime self.old self.new }
         ensures stands { Goes self.old self.new }
     {
         if let Aim::Output(_) = aim {
@@ -389,7 +378,7 @@ impl DeviceSide {
 
     /// What the last scan planned is over: what was to be written and isn't any more wasn't done.
     pub(crate) fn finish(&mut self, report: Report, round: &Round)
-        ensures now { self.new.now ≡ self.old.now }
+        ensures time { KeepsTime self.old self.new }
         ensures stands { Goes self.old self.new }
     {
         self.end_writing();
@@ -404,7 +393,7 @@ impl DeviceSide {
 
     #[tactic(auto, using(crate::proofs::ByNotes::same_goes))]
     fn end_writing(&mut self)
-        ensures now { self.new.now ≡ self.old.now }
+        ensures time { KeepsTime self.old self.new }
         ensures stands { Goes self.old self.new }
     {
         self.is_writing = false;
@@ -425,5 +414,38 @@ fn note_of(output: usize, state: OutputState) -> Note
     match state {
         OutputState::Written => Note::Written(output),
         OutputState::Unwritten(cause) => Note::Unwritten(output, cause),
+    }
+}
+
+/// The scan that was to be at a time is now: when the next one is to be.
+fn scan_after(period: u64, now: u64, at: u64) -> u64
+    ensures { result ≡ scan_after period now at }
+{
+    not_over(
+        period,
+        now,
+        planned_from(period, now, at).saturating_add(period),
+    )
+}
+
+/// From when on the next scan is planned: one that comes more than a period after its time isn't made up for.
+fn planned_from(period: u64, now: u64, at: u64) -> u64
+    ensures { result ≡ planned_from period now at }
+{
+    if at.saturating_add(period) < now {
+        now
+    } else {
+        at
+    }
+}
+
+/// A time that isn't over yet, or else a period from now on.
+fn not_over(period: u64, now: u64, at: u64) -> u64
+    ensures { result ≡ not_over period now at }
+{
+    if at <= now {
+        now.saturating_add(period.max(1))
+    } else {
+        at
     }
 }

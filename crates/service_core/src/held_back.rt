@@ -8,6 +8,7 @@ ghost use Rattle.service_core.specs.LeftOut.{GivesDue, held_by};
 ghost use Rattle.service_core.specs.Stages.{Ends};
 ghost use Rattle.service_core.specs.Rewriting.{held_output, kept_for};
 ghost use Rattle.service_parts.specs.Requests.{IsOfRound};
+ghost use Rattle.service_core.specs.Timing.{StaysAt};
 
 use crate::output::OutputState;
 use crate::sent_writes::Intended;
@@ -28,7 +29,7 @@ impl Service {
         ensures sent { self.new.sent ≡ self.old.sent }
         ensures goes { LeadsOn self.old.cycle self.new.cycle }
         ensures places { self.new.places.items ≡ self.old.places.items }
-        ensures time { self.new.side.now ≡ self.old.side.now }
+        ensures time { StaysAt self.old self.new }
         ensures stands { Goes self.old.side self.new.side }
     {
         for _ in 0..self.cycle.round().outputs() {
@@ -80,7 +81,7 @@ impl Service {
         ensures sent { self.new.sent ≡ self.old.sent }
         ensures goes { LeadsOn self.old.cycle self.new.cycle }
         ensures places { self.new.places.items ≡ self.old.places.items }
-        ensures time { self.new.side.now ≡ self.old.side.now }
+        ensures time { StaysAt self.old self.new }
         ensures stands { Goes self.old.side self.new.side }
     {
         self.cycle.drop_write(device);

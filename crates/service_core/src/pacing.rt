@@ -1,6 +1,7 @@
 //! How the devices of a link are asked: whose turn it is, how long an answer is waited for, and what there is time for.
 ghost use Rattle.std.specs.Prelude.{◌≡◌};
 ghost use Rattle.service_core.specs.Told.{Goes};
+ghost use Rattle.service_core.specs.Timing.{KeepsTime};
 
 use crate::device_side::DeviceSide;
 use crate::link_pace::{LinkPace, Purpose};
@@ -127,7 +128,7 @@ impl DeviceSide {
 
     /// The device at this place of a link was asked.
     pub(crate) fn turned(&mut self, link: usize, purpose: Purpose, place: usize)
-        ensures now { self.new.now ≡ self.old.now }
+        ensures time { KeepsTime self.old self.new }
         ensures stands { Goes self.old self.new }
     {
         let pace = self.pace(link).turned(purpose, place);
@@ -136,7 +137,7 @@ impl DeviceSide {
 
     /// A request to a device begins over a link beside those that the scans need, which may take so long.
     pub(crate) fn spare(&mut self, link: usize, device: usize, wait: u64)
-        ensures now { self.new.now ≡ self.old.now }
+        ensures time { KeepsTime self.old self.new }
         ensures stands { Goes self.old self.new }
     {
         let mut pace = self.pace(link);
@@ -156,7 +157,7 @@ impl DeviceSide {
 
     /// A link has a new connection.
     pub(crate) fn begin_link(&mut self, link: usize)
-        ensures now { self.new.now ≡ self.old.now }
+        ensures time { KeepsTime self.old self.new }
         ensures stands { Goes self.old self.new }
     {
         let pace = self.pace(link).begun();
@@ -165,7 +166,7 @@ impl DeviceSide {
 
     /// A device answered over a link what it was asked at this time.
     pub(crate) fn hear_link(&mut self, link: usize, device: usize, since: u64)
-        ensures now { self.new.now ≡ self.old.now }
+        ensures time { KeepsTime self.old self.new }
         ensures stands { Goes self.old self.new }
     {
         let usual = self.reply_of(device).saturating_mul(2).max(50);
@@ -175,7 +176,7 @@ impl DeviceSide {
 
     /// A request that began at this time had no answer over a link.
     pub(crate) fn miss_link(&mut self, link: usize, since: u64)
-        ensures now { self.new.now ≡ self.old.now }
+        ensures time { KeepsTime self.old self.new }
         ensures stands { Goes self.old self.new }
     {
         let pace = self.pace(link).missed(since, self.now, self.limits.period);
@@ -184,7 +185,7 @@ impl DeviceSide {
 
     /// A device of a link is read, or a search over it is over: whether the next search goes on before others are read.
     pub(crate) fn owe(&mut self, link: usize, is_owed: bool)
-        ensures now { self.new.now ≡ self.old.now }
+        ensures time { KeepsTime self.old self.new }
         ensures stands { Goes self.old self.new }
     {
         let mut pace = self.pace(link);
@@ -194,7 +195,7 @@ impl DeviceSide {
 
     #[tactic(auto, using(crate::proofs::ByNotes::same_goes))]
     fn set_pace(&mut self, link: usize, pace: LinkPace)
-        ensures now { self.new.now ≡ self.old.now }
+        ensures time { KeepsTime self.old self.new }
         ensures stands { Goes self.old self.new }
     {
         if let Some(own) = self.links.get_mut(link) {

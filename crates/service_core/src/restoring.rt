@@ -4,6 +4,7 @@ ghost use Rattle.gateway.specs.event_core.Control.{after_wait};
 ghost use Rattle.gateway.specs.event_core.Restoring.{NothingSets};
 ghost use Rattle.service_core.specs.Told.{Goes};
 ghost use Rattle.service_core.specs.Cycle.{ClientsLeadOn, LeadsOn};
+ghost use Rattle.service_core.specs.Timing.{StaysAt};
 
 use crate::service_state::Service;
 
@@ -22,7 +23,7 @@ impl Service {
             } }
         ensures refused { result ≡ false → (self.new.cycle.core.value ≡ self.old.cycle.core.value) × NothingSets self.old.cycle.core.value.site tag number }
         ensures places { self.new.places.items ≡ self.old.places.items }
-        ensures time { self.new.side.now ≡ self.old.side.now }
+        ensures time { StaysAt self.old self.new }
         ensures stands { Goes self.old.side self.new.side }
     {
         self.cycle.restore(tag, number)
@@ -35,7 +36,7 @@ impl Service {
         ensures goes { LeadsOn self.old.cycle self.new.cycle }
         ensures passed { self.new.cycle.core.value ≡ after_wait elapsed self.old.cycle.core.value }
         ensures places { self.new.places.items ≡ self.old.places.items }
-        ensures time { self.new.side.now ≡ self.old.side.now }
+        ensures time { StaysAt self.old self.new }
         ensures stands { Goes self.old.side self.new.side }
     {
         self.cycle.pass(elapsed);

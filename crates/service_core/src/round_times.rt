@@ -1,10 +1,12 @@
 //! Scans, by the time.
-ghost use Rattle.std.specs.Prelude.{◌≡◌, map, max};
+ghost use Rattle.std.specs.Prelude.{◌≡◌, All, map, max};
 ghost use Rattle.service_core.specs.Losing.{LostByWait};
 ghost use Rattle.service_core.specs.Told.{Goes, LosesBy};
 ghost use Rattle.service_core.specs.Cycle.{LeadsOn};
 ghost use Rattle.service_parts.specs.Frames.{LinesGo};
 ghost use Rattle.service_parts.specs.Places.{closed_if_idle};
+ghost use Rattle.service_core.specs.Timing.{RunsNow, ScansNow, StaysAt, Ticks};
+ghost use Rattle.service_core.specs.Rounds.{IsRecent};
 
 use crate::service_state::Service;
 use gateway::Report;
@@ -12,12 +14,13 @@ use service_parts::close_idle;
 
 impl Service {
     /// The time is this: ends waits, runs the program where that is due. It is to be called after each wait.
+    #[tactic(auto, using(crate::proofs::Timing::ticks_ran, crate::proofs::Timing::ticks_rested))]
     pub fn tick(&mut self, now: u64)
         ensures links { self.new.lines.links ≡ self.old.lines.links }
         ensures lines { LinesGo self.old.lines.lines.items self.new.lines.lines.items }
         ensures goes { LeadsOn self.old.cycle self.new.cycle }
         ensures places { self.new.places.items ≡ map (closed_if_idle (max self.old.side.now now) self.old.side.limits.idle) self.old.places.items }
-        ensures time { self.new.side.now ≡ max self.old.side.now now }
+        ensures time { Ticks now self.old self.new }
         ensures stands { LosesBy (LostByWait self.old.lines.links.stations.items self.old.lines.lines.items (max self.old.side.now now)) self.old.side self.new.side }
     {
         self.side.turn_to(now);
@@ -35,7 +38,7 @@ impl Service {
         ensures lines { LinesGo self.old.lines.lines.items self.new.lines.lines.items }
         ensures goes { LeadsOn self.old.cycle self.new.cycle }
         ensures places { self.new.places.items ≡ self.old.places.items }
-        ensures time { self.new.side.now ≡ self.old.side.now }
+        ensures time { StaysAt self.old self.new }
         ensures stands { Goes self.old.side self.new.side }
     {
         self.ask_all();
@@ -50,7 +53,7 @@ impl Service {
         ensures lines { LinesGo self.old.lines.lines.items self.new.lines.lines.items }
         ensures goes { LeadsOn self.old.cycle self.new.cycle }
         ensures places { self.new.places.items ≡ self.old.places.items }
-        ensures time { self.new.side.now ≡ self.old.side.now }
+        ensures time { StaysAt self.old self.new }
         ensures stands { Goes self.old.side self.new.side }
     {
         if self.side.is_writing {
@@ -75,7 +78,7 @@ impl Service {
         ensures lines { LinesGo self.old.lines.lines.items self.new.lines.lines.items }
         ensures goes { LeadsOn self.old.cycle self.new.cycle }
         ensures places { self.new.places.items ≡ self.old.places.items }
-        ensures time { self.new.side.now ≡ self.old.side.now }
+        ensures time { ScansNow self.old self.new }
         ensures stands { Goes self.old.side self.new.side }
     {
         self.finish();
@@ -88,11 +91,12 @@ impl Service {
 
     /// Blocks that were told too many scans ago aren't known any more.
     fn expire(&mut self)
+        ensures recent { All IsRecent self.new.cycle.round.told }
         ensures links { self.new.lines.links ≡ self.old.lines.links }
         ensures lines { LinesGo self.old.lines.lines.items self.new.lines.lines.items }
         ensures goes { LeadsOn self.old.cycle self.new.cycle }
         ensures places { self.new.places.items ≡ self.old.places.items }
-        ensures time { self.new.side.now ≡ self.old.side.now }
+        ensures time { StaysAt self.old self.new }
         ensures stands { Goes self.old.side self.new.side }
     {
         self.cycle.expire();
@@ -100,11 +104,12 @@ impl Service {
 
     /// Runs the program.
     fn run(&mut self)
+        requires recent { All IsRecent self.old.cycle.round.told }
         ensures links { self.new.lines.links ≡ self.old.lines.links }
         ensures lines { LinesGo self.old.lines.lines.items self.new.lines.lines.items }
         ensures goes { LeadsOn self.old.cycle self.new.cycle }
         ensures places { self.new.places.items ≡ self.old.places.items }
-        ensures time { self.new.side.now ≡ self.old.side.now }
+        ensures time { RunsNow self.old self.new }
         ensures stands { Goes self.old.side self.new.side }
     {
         if !self.cycle.scan(self.side.now) {
@@ -119,7 +124,7 @@ impl Service {
         ensures lines { LinesGo self.old.lines.lines.items self.new.lines.lines.items }
         ensures goes { LeadsOn self.old.cycle self.new.cycle }
         ensures places { self.new.places.items ≡ self.old.places.items }
-        ensures time { self.new.side.now ≡ self.old.side.now }
+        ensures time { StaysAt self.old self.new }
         ensures stands { Goes self.old.side self.new.side }
     {
         for device in 0..self.cycle.devices() {

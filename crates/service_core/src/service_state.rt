@@ -1,12 +1,10 @@
 //! A service of a gateway.
 ghost use Rattle.std.specs.Prelude.{◌≡◌};
 ghost use Rattle.service_core.specs.Cycle.{stage_of};
-ghost use Rattle.service_core.specs.Noting.{TakesOldest};
 ghost use Rattle.service_core.specs.Stages.{IsReached};
 ghost use Rattle.service_parts.specs.Requests.{AreRightfulBy};
 
 use crate::device_side::DeviceSide;
-use crate::note::Note;
 use crate::scan_cycle::ScanCycle;
 use crate::sent_writes::SentWrites;
 use gateway::{Core, DEPTH};
@@ -25,20 +23,6 @@ pub struct Service {
 }
 
 impl Service {
-    /// What happened, the oldest first, each once.
-    pub fn next_note(&mut self) -> Option<Note>
-        ensures oldest { TakesOldest self.old.side.notes.items.items result self.new.side.notes.items.items }
-        ensures links { self.new.lines.links ≡ self.old.lines.links }
-        ensures lines { self.new.lines ≡ self.old.lines }
-        ensures core { self.new.cycle.core.value ≡ self.old.cycle.core.value }
-        ensures places { self.new.places.items ≡ self.old.places.items }
-        ensures time { self.new.side.now ≡ self.old.side.now }
-        ensures devices { self.new.side.devices ≡ self.old.side.devices }
-        ensures outputs { self.new.side.outputs ≡ self.old.side.outputs }
-    {
-        self.side.notes.next()
-    }
-
     /// The core. Rounds and clients alone brought it to where it stands, step by step, whatever came from clients, devices and
     /// the clock.
     pub fn core(&self) -> &Core<DEPTH>

@@ -1,12 +1,14 @@
 //! How a service stands, for whoever looks after it.
 ghost use Rattle.std.specs.Prelude.{◌≡◌, ◌≤◌, IfNone, IfSome, Some, length, slice_get};
 ghost use Rattle.service_core.specs.declared.device.Device.{Device as Own};
+ghost use Rattle.service_core.specs.Noting.{TakesOldest};
 ghost use Rattle.service_core.specs.Rounds.{is_ready};
 ghost use Rattle.service_core.specs.Standing.{IsStatus, is_reached, refusals_at};
 ghost use Rattle.service_core.specs.Telling.{told_at};
+ghost use Rattle.service_core.specs.Timing.{StaysAt};
 
 use crate::counts::Counts;
-use crate::note::Loss;
+use crate::note::{Loss, Note};
 use crate::output::OutputState;
 use crate::refusals::Refusal;
 use crate::replies::Replies;
@@ -34,6 +36,20 @@ pub struct DeviceStatus {
 }
 
 impl Service {
+    /// What happened, the oldest first, each once.
+    pub fn next_note(&mut self) -> Option<Note>
+        ensures oldest { TakesOldest self.old.side.notes.items.items result self.new.side.notes.items.items }
+        ensures links { self.new.lines.links ≡ self.old.lines.links }
+        ensures lines { self.new.lines ≡ self.old.lines }
+        ensures core { self.new.cycle.core.value ≡ self.old.cycle.core.value }
+        ensures places { self.new.places.items ≡ self.old.places.items }
+        ensures time { StaysAt self.old self.new }
+        ensures devices { self.new.side.devices ≡ self.old.side.devices }
+        ensures outputs { self.new.side.outputs ≡ self.old.side.outputs }
+    {
+        self.side.notes.next()
+    }
+
     /// How a device stands, by its number; None where the site has no such device.
     pub fn device_status(&self, device: usize) -> Option<DeviceStatus>
         ensures stands { IfSome result (λ status. (own : Own) → slice_get self.now.side.devices.items device ≡ Some own → IsStatus self.now.cycle.core.value self.now.cycle.round.told self.now.lines device own status) }

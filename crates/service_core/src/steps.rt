@@ -1,5 +1,5 @@
 //! What happens to a core and its round, step by step.
-ghost use Rattle.std.specs.Prelude.{◌≡◌, ◌<◌, ◌+◌, ℕ, List, [], Option, length, set, slice_get, slice_set, IfSome, IsTrue, None, Some, false, true};
+ghost use Rattle.std.specs.Prelude.{◌≡◌, ◌<◌, ◌+◌, ℕ, All, List, [], Option, length, set, slice_get, slice_set, IfSome, IsTrue, None, Some, false, true};
 ghost use Rattle.site_model.specs.declared.device.SiteDevice.{SiteDevice as DeviceValue};
 ghost use Rattle.modbus_frame.specs.Message.{HasQuantity, IsRequest};
 ghost use Rattle.gateway.specs.declared.poller.cycle.Call.{Call as CallValue};
@@ -18,7 +18,7 @@ ghost use Rattle.service_core.specs.Cycle.{ClientsLeadOn, EndsOwn, LeadsOn, stag
 ghost use Rattle.service_core.specs.Forgetting.{first_but, forgotten, with_blocks, without_blocks};
 ghost use Rattle.service_core.specs.GivingUp.{GivesUp};
 ghost use Rattle.service_core.specs.LeftOut.{GivesNext};
-ghost use Rattle.service_core.specs.Rounds.{IsSendable};
+ghost use Rattle.service_core.specs.Rounds.{AreRecentTo, IsRecent, IsSendable, told_at};
 ghost use Rattle.service_core.specs.Stages.{Ends, OpensNext, ScansIf, Skips, TakesEvent, Tells};
 
 use crate::round::Turn;
@@ -47,6 +47,7 @@ impl ScanCycle {
 
     /// What was known of a device is known no more: it has no map, and its blocks are lost.
     pub fn forget(&mut self, device: usize)
+        ensures at { self.new.round.at ≡ self.old.round.at }
         ensures forgotten { device < length self.old.core.value.site.devices → self.new.core.value ≡ forgotten device self.old.core.value }
         ensures goes { LeadsOn self.old self.new }
     {
@@ -59,6 +60,7 @@ impl ScanCycle {
     pub fn lose_blocks(&mut self, device: usize)
         ensures lost { self.new.core.value ≡ without_blocks device self.old.core.value }
         ensures writes { self.new.round.writes ≡ self.old.round.writes }
+        ensures at { self.new.round.at ≡ self.old.round.at }
         ensures goes { LeadsOn self.old self.new }
     {
         for i in 0..self.core.site().wants().len() {
@@ -71,6 +73,7 @@ impl ScanCycle {
         ensures lost { (before : List (Option (List ℕ))) → self.old.core.value.standing.blocks ≡ first_but device i self.old.core.value.site.wants before
             → self.new.core.value ≡ with_blocks (first_but device (i + 1) self.old.core.value.site.wants before) self.old.core.value }
         ensures writes { self.new.round.writes ≡ self.old.round.writes }
+        ensures at { self.new.round.at ≡ self.old.round.at }
         ensures goes { LeadsOn self.old self.new }
     {
         let Some(want) = self.want_at(i) else {
@@ -95,7 +98,7 @@ impl ScanCycle {
     fn lose_want(&mut self, i: usize, want: Want, is_new: bool)
         requires wanted { slice_get self.old.core.value.site.wants i ≡ Some want }
         ensures lost { self.new.core.value ≡ with_blocks (with_block self.old.core.value.site.wants want None self.old.core.value.standing.blocks) self.old.core.value }
-        ensures writes { self.new.round.writes ≡ self.old.round.writes }
+        ensures round { self.new.round ≡ record self.old.round { told = told_at i is_new self.old.round.told } }
         ensures goes { LeadsOn self.old self.new }
     {
         self.round.tell(i, is_new);
@@ -104,7 +107,9 @@ impl ScanCycle {
 
     /// Blocks that were told too many scans ago aren't known any more.
     pub fn expire(&mut self)
+        ensures recent { All IsRecent self.new.round.told }
         ensures writes { self.new.round.writes ≡ self.old.round.writes }
+        ensures at { self.new.round.at ≡ self.old.round.at }
         ensures goes { LeadsOn self.old self.new }
     {
         for i in 0..self.core.site().wants().len() {
@@ -113,7 +118,10 @@ impl ScanCycle {
     }
 
     fn expire_block(&mut self, i: usize)
+        ensures recent { AreRecentTo i self.old.round.told → AreRecentTo (i + 1) self.new.round.told }
+        ensures count { length self.new.round.told ≡ length self.old.round.told }
         ensures writes { self.new.round.writes ≡ self.old.round.writes }
+        ensures at { self.new.round.at ≡ self.old.round.at }
         ensures goes { LeadsOn self.old self.new }
     {
         if self.round.is_recent(i) {
@@ -150,6 +158,7 @@ impl ScanCycle {
 
     /// From now on the device's map is searched from the start, over the connection with this number.
     pub fn seek_anew(&mut self, device: usize, number: u64)
+        ensures at { self.new.round.at ≡ self.old.round.at }
         ensures goes { LeadsOn self.old self.new }
         ensures begins { (own : DeviceValue) (search : SoughtValue) → slice_get self.old.core.value.site.devices device ≡ Some own → slice_get self.old.searches.items device ≡ Some search
             → slice_get self.new.searches.items device ≡ Some (record { base = own.base; answers = [] }) }
@@ -160,6 +169,7 @@ impl ScanCycle {
     }
 
     fn begin_search(&mut self, device: usize)
+        ensures at { self.new.round.at ≡ self.old.round.at }
         ensures goes { LeadsOn self.old self.new }
         ensures begins { (own : DeviceValue) (search : SoughtValue) → slice_get self.old.core.value.site.devices device ≡ Some own → slice_get self.old.searches.items device ≡ Some search
             → slice_get self.new.searches.items device ≡ Some (record { base = own.base; answers = [] }) }
@@ -191,6 +201,7 @@ impl ScanCycle {
         ensures asked { IfSome result (λ wish. IsOfRound self.new.core.value wish.aim device wish.request) }
         ensures quantity { IfSome result (λ wish. HasQuantity wish.request) }
         ensures writes { self.new.round.writes ≡ self.old.round.writes }
+        ensures at { self.new.round.at ≡ self.old.round.at }
     {
         for _ in 0..self.core.site().wants().len() {
             let Some(i) = self.round.untold(device) else {
@@ -225,6 +236,7 @@ impl ScanCycle {
     fn lack(&mut self, i: usize)
         ensures goes { LeadsOn self.old self.new }
         ensures writes { self.new.round.writes ≡ self.old.round.writes }
+        ensures at { self.new.round.at ≡ self.old.round.at }
     {
         if let Some(want) = self.want_at(i) {
             self.lose_want(i, want, true);
@@ -234,6 +246,7 @@ impl ScanCycle {
     /// The next write to the device, and what it is made for.
     #[tactic(auto, using(service_parts::proofs::Rightful::of_round, crate::proofs::LeftOut::is_next))]
     pub fn next_write(&mut self, device: usize) -> Option<Wish>
+        ensures at { self.new.round.at ≡ self.old.round.at }
         ensures goes { LeadsOn self.old self.new }
         ensures asked { IfSome result (λ wish. IsOfRound self.new.core.value wish.aim device wish.request) }
         ensures quantity { IfSome result (λ wish. HasQuantity wish.request) }
@@ -249,6 +262,7 @@ impl ScanCycle {
     }
 
     fn open(&mut self, device: usize) -> Turn
+        ensures at { self.new.round.at ≡ self.old.round.at }
         ensures opens { OpensNext device result (stage_of self.old) (stage_of self.new) }
         ensures goes { LeadsOn self.old self.new }
         ensures called { (aim : AimValue) (call : CallValue) → result ≡ AskTurn aim call → IsCallFor self.new.core.value aim device call }
@@ -260,7 +274,8 @@ impl ScanCycle {
     /// Takes the outcome of the request for the wanted block of this number; whether the words that came are no block of its
     /// model.
     pub fn close_block(&mut self, device: usize, want: usize, outcome: Outcome) -> bool
-        ensures { EndsOwn (BlockAim want) device outcome (stage_of self.old) (stage_of self.new) }
+        ensures at { self.new.round.at ≡ self.old.round.at }
+        ensures ends { EndsOwn (BlockAim want) device outcome (stage_of self.old) (stage_of self.new) }
     {
         match self.want_at(want) {
             Some(own) => self.tell_block(want, own, outcome),
@@ -270,7 +285,8 @@ impl ScanCycle {
 
     fn tell_block(&mut self, i: usize, want: Want, outcome: Outcome) -> bool
         requires wanted { slice_get self.old.core.value.site.wants i ≡ Some want }
-        ensures { Tells i (ToldFate outcome) true (stage_of self.old) (stage_of self.new) }
+        ensures at { self.new.round.at ≡ self.old.round.at }
+        ensures tells { Tells i (ToldFate outcome) true (stage_of self.old) (stage_of self.new) }
     {
         let event = event_by(want, outcome);
         let foreign = is_foreign(&event);
@@ -281,7 +297,8 @@ impl ScanCycle {
 
     /// The device answered its request that writes an output, where that is still under way.
     pub fn close_write(&mut self, device: usize, output: usize, outcome: &Outcome)
-        ensures { EndsOwn (OutputAim output) device outcome.now (stage_of self.old) (stage_of self.new) }
+        ensures at { self.new.round.at ≡ self.old.round.at }
+        ensures ends { EndsOwn (OutputAim output) device outcome.now (stage_of self.old) (stage_of self.new) }
     {
         if self.round.is_writing(device, output) {
             self.drop_write(device);
@@ -290,6 +307,7 @@ impl ScanCycle {
 
     /// The device's write that is under way is over.
     pub fn drop_write(&mut self, device: usize)
+        ensures at { self.new.round.at ≡ self.old.round.at }
         ensures ends { Ends device (stage_of self.old) (stage_of self.new) }
         ensures goes { LeadsOn self.old self.new }
     {
@@ -298,6 +316,7 @@ impl ScanCycle {
 
     /// Nothing more is written to a device, and its wanted blocks aren't known any more.
     pub fn give_up(&mut self, device: usize)
+        ensures at { self.new.round.at ≡ self.old.round.at }
         ensures over { GivesUp device (stage_of self.old) (stage_of self.new) }
         ensures goes { LeadsOn self.old self.new }
     {
@@ -306,6 +325,7 @@ impl ScanCycle {
     }
 
     pub fn skip_writes(&mut self, device: usize)
+        ensures at { self.new.round.at ≡ self.old.round.at }
         ensures skips { Skips device (stage_of self.old) (stage_of self.new) }
         ensures goes { LeadsOn self.old self.new }
     {
@@ -315,6 +335,7 @@ impl ScanCycle {
     /// Sets a tag, as a client's write does, to a number in the unit of the tag's exponent; whether some client's write does
     /// so. Where none does nothing changes.
     pub fn restore(&mut self, tag: usize, number: i64) -> bool
+        ensures at { self.new.round.at ≡ self.old.round.at }
         ensures goes { ClientsLeadOn self.old self.new }
         ensures sets { IsTrue result → self.new.core.value.standing ≡ record self.old.core.value.standing { sets = slice_set self.old.core.value.standing.sets tag (Some number); ages = slice_set self.old.core.value.standing.ages tag (Some 0) } }
         ensures refused { result ≡ false → (self.new.core.value ≡ self.old.core.value) × NothingSets self.old.core.value.site tag number }
@@ -330,6 +351,7 @@ impl ScanCycle {
 
     /// So many milliseconds went by, beside those that scans tell: what clients set is older by them.
     pub fn pass(&mut self, elapsed: u32)
+        ensures at { self.new.round.at ≡ self.old.round.at }
         ensures passed { self.new.core.value ≡ after_wait elapsed self.old.core.value }
         ensures goes { LeadsOn self.old self.new }
     {
@@ -350,6 +372,7 @@ impl ScanCycle {
     fn set(&mut self, request: &Request, tag: usize, number: i64)
         requires request { IsRequest request.now }
         requires alone { SetsAlone self.old.core.value.site tag number request.now }
+        ensures at { self.new.round.at ≡ self.old.round.at }
         ensures goes { ClientsLeadOn self.old self.new }
         ensures sets { self.new.core.value.standing ≡ record self.old.core.value.standing { sets = slice_set self.old.core.value.standing.sets tag (Some number); ages = slice_set self.old.core.value.standing.ages tag (Some 0) } }
     {

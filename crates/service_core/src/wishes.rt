@@ -7,6 +7,7 @@ ghost use Rattle.service_core.specs.Cycle.{LeadsOn};
 ghost use Rattle.service_parts.specs.Frames.{LinesGo};
 ghost use Rattle.service_parts.specs.Requests.{MayGoOver};
 ghost use Rattle.service_parts.specs.Seeking.{IsSought};
+ghost use Rattle.service_core.specs.Timing.{StaysAt};
 
 use crate::link_pace::Purpose;
 use crate::service_state::Service;
@@ -23,7 +24,7 @@ impl Service {
         ensures lines { LinesGo self.old.lines.lines.items self.new.lines.lines.items }
         ensures goes { LeadsOn self.old.cycle self.new.cycle }
         ensures places { self.new.places.items ≡ self.old.places.items }
-        ensures time { self.new.side.now ≡ self.old.side.now }
+        ensures time { StaysAt self.old self.new }
         ensures stands { Goes self.old.side self.new.side }
     {
         match purpose {
@@ -54,7 +55,7 @@ impl Service {
         ensures lines { LinesGo self.old.lines.lines.items self.new.lines.lines.items }
         ensures goes { LeadsOn self.old.cycle self.new.cycle }
         ensures places { self.new.places.items ≡ self.old.places.items }
-        ensures time { self.new.side.now ≡ self.old.side.now }
+        ensures time { StaysAt self.old self.new }
         ensures stands { Goes self.old.side self.new.side }
     {
         if !self.is_served(link, device) || !self.cycle.round().has_writes(device) {
@@ -76,7 +77,7 @@ impl Service {
         ensures lines { LinesGo self.old.lines.lines.items self.new.lines.lines.items }
         ensures goes { LeadsOn self.old.cycle self.new.cycle }
         ensures places { self.new.places.items ≡ self.old.places.items }
-        ensures time { self.new.side.now ≡ self.old.side.now }
+        ensures time { StaysAt self.old self.new }
         ensures stands { Goes self.old.side self.new.side }
     {
         if !self.is_served(link, device) || !self.side.is_read_now(device) {
@@ -96,7 +97,7 @@ impl Service {
         ensures lines { LinesGo self.old.lines.lines.items self.new.lines.lines.items }
         ensures goes { LeadsOn self.old.cycle self.new.cycle }
         ensures places { self.new.places.items ≡ self.old.places.items }
-        ensures time { self.new.side.now ≡ self.old.side.now }
+        ensures time { StaysAt self.old self.new }
         ensures stands { Goes self.old.side self.new.side }
     {
         if self.side.is_sought(device)
@@ -117,7 +118,7 @@ impl Service {
         ensures lines { LinesGo self.old.lines.lines.items self.new.lines.lines.items }
         ensures goes { LeadsOn self.old.cycle self.new.cycle }
         ensures places { self.new.places.items ≡ self.old.places.items }
-        ensures time { self.new.side.now ≡ self.old.side.now }
+        ensures time { StaysAt self.old self.new }
         ensures stands { Goes self.old.side self.new.side }
     {
         if !self.side.is_sought(device) {
@@ -141,7 +142,7 @@ impl Service {
         ensures lines { LinesGo self.old.lines.lines.items self.new.lines.lines.items }
         ensures goes { LeadsOn self.old.cycle self.new.cycle }
         ensures places { self.new.places.items ≡ self.old.places.items }
-        ensures time { self.new.side.now ≡ self.old.side.now }
+        ensures time { StaysAt self.old self.new }
         ensures stands { Goes self.old.side self.new.side }
     {
         if self.cycle.is_mapped(device) || !self.side.is_sought(device) {
@@ -170,7 +171,7 @@ impl Service {
         ensures lines { LinesGo self.old.lines.lines.items self.new.lines.lines.items }
         ensures goes { LeadsOn self.old.cycle self.new.cycle }
         ensures places { self.new.places.items ≡ self.old.places.items }
-        ensures time { self.new.side.now ≡ self.old.side.now }
+        ensures time { StaysAt self.old self.new }
         ensures stands { Goes self.old.side self.new.side }
     {
         if self.side.is_good(device)
@@ -191,7 +192,7 @@ impl Service {
         ensures lines { LinesGo self.old.lines.lines.items self.new.lines.lines.items }
         ensures goes { LeadsOn self.old.cycle self.new.cycle }
         ensures places { self.new.places.items ≡ self.old.places.items }
-        ensures time { self.new.side.now ≡ self.old.side.now }
+        ensures time { StaysAt self.old self.new }
         ensures stands { Goes self.old.side self.new.side }
     {
         if !self.side.is_good(device) && self.may_search(link, device) {
@@ -214,7 +215,7 @@ impl Service {
         ensures lines { LinesGo self.old.lines.lines.items self.new.lines.lines.items }
         ensures goes { LeadsOn self.old.cycle self.new.cycle }
         ensures places { self.new.places.items ≡ self.old.places.items }
-        ensures time { self.new.side.now ≡ self.old.side.now }
+        ensures time { StaysAt self.old self.new }
         ensures stands { Goes self.old.side self.new.side }
     {
         self.seek_anew(device);
@@ -226,7 +227,7 @@ impl Service {
         ensures lines { LinesGo self.old.lines.lines.items self.new.lines.lines.items }
         ensures goes { LeadsOn self.old.cycle self.new.cycle }
         ensures places { self.new.places.items ≡ self.old.places.items }
-        ensures time { self.new.side.now ≡ self.old.side.now }
+        ensures time { StaysAt self.old self.new }
         ensures stands { Goes self.old.side self.new.side }
     {
         self.cycle.seek_anew(device, self.lines.number_for(device));
@@ -299,7 +300,7 @@ impl Service {
         ensures lines { LinesGo self.old.lines.lines.items self.new.lines.lines.items }
         ensures goes { LeadsOn self.old.cycle self.new.cycle }
         ensures places { self.new.places.items ≡ self.old.places.items }
-        ensures time { self.new.side.now ≡ self.old.side.now }
+        ensures time { StaysAt self.old self.new }
         ensures stands { Goes self.old.side self.new.side }
     {
         match self.cycle.seek(device)? {
@@ -328,7 +329,7 @@ impl Service {
         ensures lines { LinesGo self.old.lines.lines.items self.new.lines.lines.items }
         ensures goes { LeadsOn self.old.cycle self.new.cycle }
         ensures places { self.new.places.items ≡ self.old.places.items }
-        ensures time { self.new.side.now ≡ self.old.side.now }
+        ensures time { StaysAt self.old self.new }
         ensures stands { Goes self.old.side self.new.side }
     {
         let Some(number) = self.lines.number_of(link) else {
@@ -352,7 +353,7 @@ impl Service {
         ensures lines { LinesGo self.old.lines.lines.items self.new.lines.lines.items }
         ensures goes { LeadsOn self.old.cycle self.new.cycle }
         ensures places { self.new.places.items ≡ self.old.places.items }
-        ensures time { self.new.side.now ≡ self.old.side.now }
+        ensures time { StaysAt self.old self.new }
         ensures stands { Goes self.old.side self.new.side }
     {
         self.cycle.learn(device, Some(map));
@@ -365,7 +366,7 @@ impl Service {
         ensures lines { LinesGo self.old.lines.lines.items self.new.lines.lines.items }
         ensures goes { LeadsOn self.old.cycle self.new.cycle }
         ensures places { self.new.places.items ≡ self.old.places.items }
-        ensures time { self.new.side.now ≡ self.old.side.now }
+        ensures time { StaysAt self.old self.new }
         ensures stands { Goes self.old.side self.new.side }
     {
         self.cycle.seek_anew(device, self.lines.number_for(device));

@@ -1,6 +1,6 @@
-use Rattle.std.proofs.Common.{◌≡◌}
+use Rattle.service_core.specs.Timing.{CountsScan}
 use Rattle.service_core.specs.Told.{Goes}
 use Rattle.service_core.proofs.device_side.DeviceSide.count_scan.Given as goal
 
 abbrev pub invariant-loop-output : goal.invariant-loop-output
-invariant-loop-output l = (l.self.now ≡ l.fn.self.now) × (Goes l.fn.self l.self)
+invariant-loop-output l = CountsScan l.fn.self l.self × (Goes l.fn.self l.self)

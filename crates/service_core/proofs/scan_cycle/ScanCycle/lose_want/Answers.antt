@@ -1,7 +1,6 @@
-use Rattle.std.proofs.Common.{rules, ◌≡◌, ap}
+use Rattle.std.proofs.Common.{rules, ◌≡◌}
 use Rattle.service.specs.declared.fate.Fate.TheVariants.{Lost}
 use Rattle.service_core.specs.Cycle.{stage_of}
-use Rattle.service_core.specs.Rounds.{Progress}
 use Rattle.service_core.specs.Stages.{Tells}
 use Rattle.service_core.proofs.Courses.{goes_loses, reached_rounds, round_for, sought_for}
 use Rattle.service_core.proofs.Forgetting.{lost_alone}
@@ -18,7 +17,7 @@ returns c =
     let told : Tells c.args.i Lost c.args.is_new (stage_of c.args.self.now) (record { core = c.tell-2.new.core; round = c.tell.new.self }) = search rules in
     record {
       lost = lost_alone c.args.self.now.core.value c.tell-2.new.core c.args.want told.told;
-      writes = ap (λ (p : Progress). p.writes) c.tell.ensures;
+      round = c.tell.ensures;
       goes = goes_loses _ _ c.args.i c.args.is_new told;
     }
 

@@ -3,6 +3,7 @@ use Rattle.service_core.specs.Cycle.{stage_of}
 use Rattle.service_core.specs.Stages.{OpensNext}
 use Rattle.service_core.proofs.Calls.{opened_call}
 use Rattle.service_core.proofs.Courses.{goes_opens, reached_rounds}
+use Rattle.service_core.proofs.Timing.{opens_at}
 use Rattle.service_core.proofs.scan_cycle.ScanCycle.open.Goals as goal
 
 pub invariant_of-self-clause-reached : goal.invariant_of-self-clause-reached
@@ -19,3 +20,8 @@ pub returns-clause-called : goal.returns-clause-called
 returns-clause-called c aim call is =
     let opens : OpensNext c.args.device c.open.result (stage_of c.args.self.now) (record { core = c.args.self.now.core.value; round = c.open.new.self }) = search rules in
     opened_call c.args.self.now.core.value c.args.device c.args.self.now.round c.open.result c.open.new.self aim call c.args.self.now.fits opens.opens is
+
+pub returns-clause-at : goal.returns-clause-at
+returns-clause-at c =
+    let opens : OpensNext c.args.device c.open.result (stage_of c.args.self.now) (record { core = c.args.self.now.core.value; round = c.open.new.self }) = search rules in
+    opens_at c.args.self.now.core.value c.args.device c.args.self.now.round c.open.result c.open.new.self opens.opens

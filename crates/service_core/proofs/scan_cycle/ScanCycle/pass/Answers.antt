@@ -1,4 +1,4 @@
-use Rattle.std.proofs.Common.{rules, ◌≡◌}
+use Rattle.std.proofs.Common.{refl, rules, ◌≡◌}
 use Rattle.service_core.specs.Cycle.{stage_of}
 use Rattle.service_core.specs.Stages.{Waits}
 use Rattle.service_core.proofs.Courses.{goes_waits, reached_rounds, sought_for}
@@ -14,6 +14,7 @@ pub returns : goal.returns
 returns c =
     let waits : Waits c.args.elapsed (stage_of c.args.self.now) (record { core = c.tell.new.core; round = c.args.self.now.round }) = search rules in
     record {
+      at = refl;
       passed = time_alone c.args.self.now.core.value c.tell.new.core c.args.elapsed waits.told;
       goes = goes_waits _ _ c.args.elapsed waits;
     }

@@ -6,6 +6,9 @@ use Rattle.service_parts.specs.declared.client_place.ClientPlace.{ClientPlace}
 use Rattle.service_parts.specs.Clients.{IsDeaf, ready_of}
 use Rattle.service_core.specs.Cycle.{ClientsLeadOn, stage_of}
 use Rattle.service_core.proofs.Courses.{clients_chain, clients_guarded, hears_from, right_clients}
+use Rattle.service_core.specs.declared.scan_cycle.ScanCycle.{ScanCycle}
+use Rattle.service_core.specs.Rounds.{Progress}
+use Rattle.service_core.proofs.Timing.{chain_at}
 use Rattle.service_core.proofs.service_state.Service.from_client.Goals as goal
 
 pub returns-in-Some-clause-hears : goal.returns-in-Some-clause-hears
@@ -48,3 +51,12 @@ returns-in-Some-clause-deaf c =
     let at : slice_get places c.args.place ≡ Some c.in-Some.client.now = slice_get_read places _ c.args.place c.in-Some.client.now refl within c.in-Some.ensures.value in
     done_at (λ (old new : ClientPlace). IsDeaf old → (new ≡ old) × (c.take.new.responder.core.value ≡ c.args.self.now.cycle.core.value)) places places c.args.place c.in-Some.client.now c.take.new.self refl at
     (λ deaf. ((c.take.ensures.deaf deaf).0, ap (λ x. x.core.value) (c.take.ensures.deaf deaf).1 ∙ ap (λ x. x.core.value) c.turn_to-in-Some.ensures))
+
+pub returns-in-Some-clause-time : goal.returns-in-Some-clause-time
+returns-in-Some-clause-time c = record {
+  now = search rules;
+  next = search rules;
+  scans = search rules;
+  limits = search rules;
+  at = chain_at _ (λ s. s.round.at) (λ s frame bytes goes_on t answers. ap (λ (p : Progress). p.at) answers.1) _ _ _ (c.take.ensures.chain).1 ∙ ap (λ (s : ScanCycle). s.round.at) c.turn_to-in-Some.ensures;
+}

@@ -16,7 +16,7 @@ loop-preserved c = (
   search rules,
   search rules,
   search rules,
-  left_one c.args.device c.args.number c.args.self.now.sent c.loop.self.sent c.args.self.now.side.now c.loop.self.side.now (stage_of c.args.self.now.cycle) (stage_of c.loop.self.cycle) (stage_of c.next_write.new.self) (stage_of c.hold_back.new.self.cycle) c.in-Some.wish c.in-Some-held_output.output c.loop.invariant.6 (c.in-Some.ensures).next c.loop.invariant.1 c.loop.invariant.4 (sym c.held_output.ensures ∙ c.in-Some-held_output.is) c.hold_back.ensures.ends,
+  left_one c.args.device c.args.number c.args.self.now.sent c.loop.self.sent c.args.self.now.side.now c.loop.self.side.now (stage_of c.args.self.now.cycle) (stage_of c.loop.self.cycle) (stage_of c.next_write.new.self) (stage_of c.hold_back.new.self.cycle) c.in-Some.wish c.in-Some-held_output.output c.loop.invariant.6 (c.in-Some.ensures).next c.loop.invariant.1 c.loop.invariant.4.side.now (sym c.held_output.ensures ∙ c.in-Some-held_output.is) c.hold_back.ensures.ends,
 )
 
 pub returns-clause-left_out : goal.returns-clause-left_out

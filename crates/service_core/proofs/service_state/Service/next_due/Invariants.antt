@@ -2,6 +2,7 @@ use Rattle.std.proofs.Common.{◌≡◌}
 use Rattle.service_core.specs.Cycle.{LeadsOn, stage_of}
 use Rattle.service_core.specs.LeftOut.{LeavesOut, held_by}
 use Rattle.service_core.specs.Told.{Goes}
+use Rattle.service_core.specs.Timing.{StaysAt}
 use Rattle.service_core.proofs.service_state.Service.next_due.Given as goal
 
 abbrev pub invariant-loop : goal.invariant-loop
@@ -10,6 +11,6 @@ invariant-loop l =
     × (l.self.sent ≡ l.initial.self.sent)
     × LeadsOn l.initial.self.cycle l.self.cycle
     × (l.self.places.items ≡ l.initial.self.places.items)
-    × (l.self.side.now ≡ l.initial.self.side.now)
+    × StaysAt l.initial.self l.self
     × Goes l.initial.self.side l.self.side
     × LeavesOut l.fn.device (held_by l.initial.self.sent l.fn.device l.fn.number l.initial.self.side.now) (stage_of l.initial.self.cycle) (stage_of l.self.cycle)

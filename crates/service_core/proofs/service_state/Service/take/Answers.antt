@@ -5,5 +5,5 @@ use Rattle.service_core.proofs.service_state.Service.take.Goals as goal
 
 pub invariant_of-self-in-Block : goal.invariant_of-self-in-Block
 invariant_of-self-in-Block c =
-    let led = own_of_ends (aim.Block c.in-Block.want) c.args.asked.device c.args.outcome (stage_of c.args.self.now.cycle) (stage_of c.close_block.new.self) c.close_block.ensures in
+    let led = own_of_ends (aim.Block c.in-Block.want) c.args.asked.device c.args.outcome (stage_of c.args.self.now.cycle) (stage_of c.close_block.new.self) c.close_block.ensures.ends in
     record { rightful = right_own _ _ c.args.self.now.lines led c.args.self.now.rightful }
