@@ -11,8 +11,8 @@ use Rattle.gateway.specs.event_core.Core.{Gateway}
 use Rattle.gateway.specs.poller.Cycle.{write_of}
 use Rattle.service_parts.specs.Calls.{IsCallFor}
 use Rattle.service_parts.specs.declared.limits.Station.{Station}
-use Rattle.service_parts.specs.declared.wire.Aim.{Aim}
-use Rattle.service_parts.specs.declared.wire.Aim.TheVariants as aim
+use Rattle.service_parts.specs.declared.asked.Aim.{Aim}
+use Rattle.service_parts.specs.declared.asked.Aim.TheVariants as aim
 use Rattle.service_parts.specs.Course.{AreRuns}
 use Rattle.service_parts.specs.Requests.{IsRest, IsRightful, MayBeAsked}
 use Rattle.service_core.proofs.Runs.{courses_are_site_runs, runs_site}

@@ -20,7 +20,7 @@ use Rattle.service.specs.declared.fate.Fate.{Fate}
 use Rattle.service.specs.declared.fate.Fate.TheVariants as fate
 use Rattle.service_core.specs.Rounds.{event_of, since}
 use Rattle.service_core.specs.Stages as stages
-use Rattle.service_core.specs.Stages.{Adopts, IsReached, RoundStep, RunStep, Scans, Stage, TakesEvent, Tells}
+use Rattle.service_core.specs.Stages.{Adopts, IsReached, RoundStep, RunStep, Scans, Stage, TakesEvent, Tells, TimeStep}
 use Rattle.service_core.proofs.Blocks.{scans_are_of_what_was_told}
 use Rattle.commands.specs.Accepted.{Accepts, most_deferred}
 use Rattle.commands.proofs.MeaningLemmas.{IsKept, begun_kept, from_ranges, left_variables, step_meant, stored_ranged}
@@ -57,14 +57,17 @@ module _ (site : Site) (p : Program) (a : Acceptance) (right : DoesWhatItMeans p
   round_keeps s t (stages.opens device next is) keeps = subst Keeps (sym is.core) keeps
   round_keeps s t (stages.ends device is) keeps = subst Keeps (sym is.core) keeps
   round_keeps s t (stages.skips device is) keeps = subst (λ (x : Stage). Keeps x.core) (sym is) keeps
-  round_keeps s t (stages.scans now is) keeps = event_keeps event.Scan is.waited t.core is.runs (event_keeps (event.Time (since s.round.at now)) s.core is.waited is.waits keeps)
   round_keeps s t (stages.learns device found is) keeps = subst (λ (x : Stage). Keeps x.core) (sym is.same) (record { site_is = keeps.site_is; program_is = keeps.program_is; kept = keeps.kept })
-  round_keeps s t (stages.waits ms is) keeps = event_keeps (event.Time ms) s.core t.core is.told keeps
+
+  time_keeps : (s t : Stage) → TimeStep s t → Keeps s.core → Keeps t.core
+  time_keeps s t (stages.scans now is) keeps = event_keeps event.Scan is.waited t.core is.runs (event_keeps (event.Time (since s.round.at now)) s.core is.waited is.waits keeps)
+  time_keeps s t (stages.waits ms is) keeps = event_keeps (event.Time ms) s.core t.core is.told keeps
 
   run_keeps : (s t : Stage) → RunStep s t → Keeps s.core → Keeps t.core
   run_keeps s t (inl (inl step)) keeps = round_keeps s t step keeps
   run_keeps s t (inl (inr (i, o, is))) keeps = told_keeps i (fate.Told o) true s t is keeps
-  run_keeps s t (inr (pdu, is)) keeps = event_keeps (event.Client pdu) s.core t.core is.told keeps
+  run_keeps s t (inr (inl (pdu, is))) keeps = event_keeps (event.Client pdu) s.core t.core is.told keeps
+  run_keeps s t (inr (inr step)) keeps = time_keeps s t step keeps
 
   -- the variables that begin with what is kept of them, or else with their start values
   begun_within : (kept : List (Option ℤ)) → AreVariables a.image.vars (first_numbers a.image.vars kept)

@@ -3,6 +3,7 @@ ghost use Rattle.std.specs.Prelude.{◌≡◌, IfErr, IfOk, OnOk, length, replic
 ghost use Rattle.verifier.specs.Verified.{HasLinks};
 ghost use Rattle.gateway.specs.declared.event_core.fault.CoreFault.TheVariants.{Foreign};
 ghost use Rattle.service_core.specs.Cycle.{stage_of};
+ghost use Rattle.service_core.specs.Timing.{Starts};
 ghost use Rattle.served_site.specs.Serving.{IsStart};
 
 use commands::Accepted;
@@ -27,8 +28,7 @@ pub fn service_of(
     ensures matched { OnOk result (HasLinks given.site.tags given.verified.links) }
     ensures stations { IfOk result (λ service. service.lines.links.stations.items ≡ stations.now) }
     ensures numbers { IfOk result (λ service. service.lines.links.numbers.items ≡ replicate links 0) }
-    ensures limits { IfOk result (λ service. service.side.limits ≡ limits) }
-    ensures time { IfOk result (λ service. service.side.now ≡ 0) }
+    ensures starts { IfOk result (λ service. Starts 0 limits service.side) }
     ensures places { IfOk result (λ service. length service.places.items ≡ limits.clients) }
     ensures foreign { IfErr result (λ e. e ≡ Foreign → HasLinks given.site.tags given.verified.links → ⊥) }
 {

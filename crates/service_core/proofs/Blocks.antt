@@ -20,7 +20,7 @@ use Rattle.service_core.specs.declared.last_told.LastTold.{LastTold}
 use Rattle.service_core.specs.declared.round.Turn.{Turn}
 use Rattle.service_core.specs.Rounds.{AsksWrite, ClosesWrite, OpensWrite, Progress, device_told, device_wanted, event_of, most_scans, older, told_at, told_now, used}
 use Rattle.service_core.specs.Stages as stages
-use Rattle.service_core.specs.Stages.{Adopts, AnyStep, CourseBy, IsFirst, IsReached, RoundStep, Scans, Stage, TakesEvent, Tells}
+use Rattle.service_core.specs.Stages.{Adopts, AnyStep, CourseBy, IsFirst, IsReached, RoundStep, Scans, Stage, TakesEvent, Tells, TimeStep}
 use Rattle.service_core.specs.Blocks as blocks
 use Rattle.service_core.specs.Blocks.{Entry, IsOfWhatWasTold, ScansAreOfWhatWasTold, Telling, block_by, last_of, scans_since}
 use Rattle.service_core.proofs.Courses.{taken_site}
@@ -229,13 +229,15 @@ round_logged first s t (stages.loses i is_new is) before = record { log = _; cou
 round_logged first s t (stages.opens device next is) before = record { log = before.log; course = blocks.opens before.course device next t is; holds = same_so before.log s t is.core (opens_told s.core device _ s.round next t.round is.opens) before.holds }
 round_logged first s t (stages.ends device is) before = record { log = before.log; course = blocks.ends before.course device t is; holds = same_so before.log s t is.core (closes_told _ s.round t.round is.closes) before.holds }
 round_logged first s t (stages.skips device is) before = record { log = before.log; course = blocks.skips before.course device t is; holds = same_so before.log s t (ap (λ (x : Stage). x.core) is) (ap (λ (x : Stage). x.round.told) is) before.holds }
-round_logged first s t (stages.scans now is) before = record { log = _; course = blocks.scans before.course now t is; holds = scan_so before.log s t now is before.holds }
 round_logged first s t (stages.learns device found is) before = record {
   log = before.log;
   course = blocks.learns before.course device found t is;
   holds = stays_so before.log s t (ap (λ (x : Stage). x.core.site) is.same) (ap (λ (x : Stage). x.core.standing.blocks) is.same) (ap (λ (x : Stage). x.round.told) is.same) before.holds;
 }
-round_logged first s t (stages.waits ms is) before = record {
+
+time_logged : (first s t : Stage) → TimeStep s t → Logged first s → Logged first t
+time_logged first s t (stages.scans now is) before = record { log = _; course = blocks.scans before.course now t is; holds = scan_so before.log s t now is before.holds }
+time_logged first s t (stages.waits ms is) before = record {
   log = before.log;
   course = blocks.waits before.course ms t is;
   holds = stays_so before.log s t (taken_site (event.Time ms) s.core t.core is.told) (waited_blocks s.core t.core ms is.told) (ap (λ (p : Progress). p.told) is.round) before.holds;
@@ -244,7 +246,8 @@ round_logged first s t (stages.waits ms is) before = record {
 any_logged : (first s t : Stage) → AnyStep s t → Logged first s → Logged first t
 any_logged first s t (inl (inl (inl step))) before = round_logged first s t step before
 any_logged first s t (inl (inl (inr (i, o, is)))) before = record { log = _; course = blocks.tells before.course i (fate.Told o) true t is; holds = told_so before.log s t i (fate.Told o) true is before.holds }
-any_logged first s t (inl (inr (pdu, is))) before = record {
+any_logged first s t (inl (inr (inr step))) before = time_logged first s t step before
+any_logged first s t (inl (inr (inl (pdu, is)))) before = record {
   log = before.log;
   course = blocks.asks before.course pdu t is;
   holds = stays_so before.log s t (taken_site (event.Client pdu) s.core t.core is.told) (asked_blocks s.core t.core pdu is.told) (ap (λ (p : Progress). p.told) is.round) before.holds;

@@ -19,15 +19,18 @@ use Rattle.service_core.specs.Noting.{Finds, HearsFrom, Loses, Refuses, heard_by
 use Rattle.service_core.specs.Refusing.{is_more}
 use Rattle.service_core.specs.Telling.{told_at}
 use Rattle.service_core.specs.Losing.{IsLost}
-use Rattle.service_core.specs.Told.{Course, Goes, Losses, LosesBy, StatesAreByNotes, Tells, TellsNothing, allows, goes, happened, lost_after, lost_at, lost_then, note_of, state_after, state_at, state_then, stays, tells}
+use Rattle.service_core.specs.Told.{Allowed, Course, Goes, IsWrittenBy, LosesBy, StatesAreByNotes, Tells, TellsNothing, WritesBy, allows, goes, happened, lost_after, lost_at, lost_then, note_of, state_after, state_at, state_then, stays, tells}
 
 -- ---- one step
 
-told_step : (n : Note) (old new : DeviceSide) → ((may : Losses) → allows may n ≡ true) → Tells n old new → Goes old new
+told_step : (n : Note) (old new : DeviceSide) → ((may : Allowed) → allows may n ≡ true) → Tells n old new → Goes old new
 told_step n old new allowed step may from before = ∥∥₁_elim before ∥∥₁_prop (λ course. ∣ tells course n new (allowed may) step ∣₁)
 
 lost_step : (device : ℕ) (loss : Loss) (old new : DeviceSide) → Tells (note.Lost device loss) old new → LosesBy (IsLost device loss) old new
 lost_step device loss old new step may has from before = ∥∥₁_elim before ∥∥₁_prop (λ course. ∣ tells course (note.Lost device loss) new (has device loss (refl, refl)) step ∣₁)
+
+by_step : (n : Note) (old new : DeviceSide) (Is : ℕ → Type 0) → ((may : Allowed) → ((output : ℕ) → Is output → may.written output ≡ true) → allows may n ≡ true) → Tells n old new → WritesBy Is old new
+by_step n old new Is allowed step may has from before = ∥∥₁_elim before ∥∥₁_prop (λ course. ∣ tells course n new (allowed may has) step ∣₁)
 
 silent_step : (old new : DeviceSide) → TellsNothing old new → Goes old new
 silent_step old new step may from before = ∥∥₁_elim before ∥∥₁_prop (λ course. ∣ goes course new step ∣₁)
@@ -230,16 +233,16 @@ output_goes old new output own at next outputs same devices notes = silent_step 
 
 -- this became of it, which is told
 pub settled_goes : (old new : DeviceSide) (output : ℕ) (own : Output) → slice_get old.outputs.items output ≡ Some own → (next : Output) (s : OutputState) → new.outputs.items ≡ set old.outputs.items output next → next.told ≡ Some s
-    → new.devices ≡ old.devices → {n : Note} → new.notes.items.items ≡ told n old.notes → n ≡ note_of output s → Goes old new
-settled_goes old new output own at next s outputs is devices {n = n} notes named = told_step (note_of output s) old new (free s) (record {
+    → new.devices ≡ old.devices → {n : Note} → new.notes.items.items ≡ told n old.notes → n ≡ note_of output s → WritesBy (IsWrittenBy output s) old new
+settled_goes old new output own at next s outputs is devices {n = n} notes named = by_step (note_of output s) old new (IsWrittenBy output s) (free s) (record {
   notes = notes ∙ ap (λ m. told m old.notes) named;
   devices = λ k. ap (λ d. option_map_or (λ (x : Device). x.is_lost) (slice_get d.items k) false) devices ∙ sym (no_loss s k (lost_at old k));
   outputs = λ k. ap (λ l. told_at l k) outputs ∙ (told_set old.outputs.items output k own next at ∙ (ap (λ t. if k == output then t else state_at old k) is ∙ sym (says s k (state_at old k))));
 })
   where
-    free : (x : OutputState) (may : Losses) → allows may (note_of output x) ≡ true
-    free state.Written may = refl
-    free (state.Unwritten cause) may = refl
+    free : (x : OutputState) (may : Allowed) → ((k : ℕ) → IsWrittenBy output x k → may.written k ≡ true) → allows may (note_of output x) ≡ true
+    free state.Written may has = has output refl
+    free (state.Unwritten cause) may has = refl
 
     no_loss : (x : OutputState) (k : ℕ) (was : Bool) → lost_then (note_of output x) k was ≡ was
     no_loss state.Written k was = refl
@@ -250,7 +253,7 @@ settled_goes old new output own at next s outputs is devices {n = n} notes named
     says (state.Unwritten cause) k was = refl
 
 -- a note that says nothing of a device's loss or of an output
-pub other_goes : (n : Note) (old new : DeviceSide) → ((may : Losses) → allows may n ≡ true) → ((k : ℕ) (was : Bool) → lost_then n k was ≡ was) → ((k : ℕ) (was : Option OutputState) → state_then n k was ≡ was) → new.devices ≡ old.devices → new.outputs ≡ old.outputs
+pub other_goes : (n : Note) (old new : DeviceSide) → ((may : Allowed) → allows may n ≡ true) → ((k : ℕ) (was : Bool) → lost_then n k was ≡ was) → ((k : ℕ) (was : Option OutputState) → state_then n k was ≡ was) → new.devices ≡ old.devices → new.outputs ≡ old.outputs
     → new.notes.items.items ≡ told n old.notes → Goes old new
 other_goes n old new allowed lost_same state_same devices outputs notes = told_step n old new allowed (record {
   notes = notes;
@@ -260,12 +263,12 @@ other_goes n old new allowed lost_same state_same devices outputs notes = told_s
 
 -- ---- over all calls
 
-lost_so : (may : Losses) (old new : DeviceSide) (course : Course may old new) (device : ℕ) → lost_at new device ≡ lost_after (happened course) device (lost_at old device)
+lost_so : (may : Allowed) (old new : DeviceSide) (course : Course may old new) (device : ℕ) → lost_at new device ≡ lost_after (happened course) device (lost_at old device)
 lost_so may old new (stays side) device = refl
 lost_so may old new (tells {middle = middle} course n side allowed step) device = step.devices device ∙ ap (λ was. lost_then n device was) (lost_so may old middle course device)
 lost_so may old new (goes {middle = middle} course side step) device = step.devices device ∙ lost_so may old middle course device
 
-state_so : (may : Losses) (old new : DeviceSide) (course : Course may old new) (output : ℕ) → state_at new output ≡ state_after (happened course) output (state_at old output)
+state_so : (may : Allowed) (old new : DeviceSide) (course : Course may old new) (output : ℕ) → state_at new output ≡ state_after (happened course) output (state_at old output)
 state_so may old new (stays side) output = refl
 state_so may old new (tells {middle = middle} course n side allowed step) output = step.outputs output ∙ ap (λ was. state_then n output was) (state_so may old middle course output)
 state_so may old new (goes {middle = middle} course side step) output = step.outputs output ∙ state_so may old middle course output
@@ -274,10 +277,10 @@ both : (a b : Bool) → a ≡ true → b ≡ true → (a && b) ≡ true
 both true b is other = other
 both false b is other = absurd (cc)
 
-losses_so : (may : Losses) (old new : DeviceSide) (course : Course may old new) → list_all (allows may) (happened course) ≡ true
-losses_so may old new (stays side) = refl
-losses_so may old new (tells {middle = middle} course n side allowed step) = both (allows may n) (list_all (allows may) (happened course)) allowed (losses_so may old middle course)
-losses_so may old new (goes {middle = middle} course side step) = losses_so may old middle course
+allowed_so : (may : Allowed) (old new : DeviceSide) (course : Course may old new) → list_all (allows may) (happened course) ≡ true
+allowed_so may old new (stays side) = refl
+allowed_so may old new (tells {middle = middle} course n side allowed step) = both (allows may n) (list_all (allows may) (happened course)) allowed (allowed_so may old middle course)
+allowed_so may old new (goes {middle = middle} course side step) = allowed_so may old middle course
 
 pub states_are_by_notes : StatesAreByNotes
-states_are_by_notes = record { devices = lost_so; outputs = state_so; losses = losses_so }
+states_are_by_notes = record { devices = lost_so; outputs = state_so; allowed = allowed_so }

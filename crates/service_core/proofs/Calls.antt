@@ -13,8 +13,8 @@ use Rattle.service.specs.Tasks.{is_asked, is_due, next_place}
 use Rattle.service_parts.specs.Calls.{write_to}
 use Rattle.service_core.specs.Rounds.{AsksWrite, IsRoundFor, Opens, OpensWrite, Progress}
 use Rattle.service_core.proofs.Marks.{at_place, next_is_due, some_task}
-use Rattle.service_parts.specs.declared.wire.Aim.{Aim}
-use Rattle.service_parts.specs.declared.wire.Aim.TheVariants as aim
+use Rattle.service_parts.specs.declared.asked.Aim.{Aim}
+use Rattle.service_parts.specs.declared.asked.Aim.TheVariants as aim
 use Rattle.service_parts.specs.Calls.{IsCallFor}
 
 -- what a round asks for, and by which call

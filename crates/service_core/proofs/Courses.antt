@@ -22,9 +22,9 @@ use Rattle.service.specs.Guarding.{AnswersUnless, Guards, is_write}
 use Rattle.service.specs.Sessions.{IsChain, Turn}
 use Rattle.service_parts.specs.declared.client_place.ClientPlace.{ClientPlace}
 use Rattle.service_parts.specs.Clients.{Hears}
-use Rattle.service_parts.specs.declared.wire.Aim.{Aim}
-use Rattle.service_parts.specs.declared.wire.Aim.TheVariants as aim
-use Rattle.service_parts.specs.declared.wire.Asked.{Asked}
+use Rattle.service_parts.specs.declared.asked.Aim.{Aim}
+use Rattle.service_parts.specs.declared.asked.Aim.TheVariants as aim
+use Rattle.service_parts.specs.declared.asked.Asked.{Asked}
 use Rattle.service_parts.specs.Course as core
 use Rattle.service_parts.specs.Course.{Goes, GoesBy, GoesOn, IsAny, IsNew, IsOfClients, IsOfRounds, Reached}
 use Rattle.service.specs.Searches.{Sought}
@@ -36,7 +36,7 @@ use Rattle.service_core.specs.declared.round.Turn as Turns
 use Rattle.service_core.specs.declared.scan_cycle.ScanCycle.{ScanCycle}
 use Rattle.service_core.specs.Cycle.{Answers, AnswersIf, DevicesLeadOn, EndsOwn, Settles, is_answer, stage_of}
 use Rattle.service_core.specs.Rounds.{IsRoundFor, IsUntold, Progress, event_of, since}
-use Rattle.service_core.specs.Stages.{Adopts, AnyStep, Asks, ClientStep, CourseBy, Ends, IsFirst, IsReached, LeadsOnBy, OpensNext, OwnStep, RoundStep, RunStep, Scans, Skips, Stage, TakesEvent, Tells, Waits, loses, opens, ends, skips, scans, learns, waits, stays, goes}
+use Rattle.service_core.specs.Stages.{Adopts, AnyStep, Asks, ClientStep, CourseBy, Ends, IsFirst, IsReached, LeadsOnBy, OpensNext, OwnStep, RoundStep, RunStep, RunsIf, RunsOnce, Scans, Skips, Stage, TakesEvent, Tells, TimeStep, Waits, loses, opens, ends, skips, scans, learns, waits, stays, goes}
 use Rattle.service_core.proofs.Told.{of_fate}
 
 -- ---- one step
@@ -65,12 +65,14 @@ module _ (Kinds : Event → Type 0) (all : (e : Event) → IsOfRounds e → Kind
   round_core f s t (opens device turn is) before = same_core Kinds f s.core t.core is.core before
   round_core f s t (ends device is) before = same_core Kinds f s.core t.core is.core before
   round_core f s t (skips device is) before = same_core Kinds f s.core t.core (ap (λ (x : Stage). x.core) is) before
-  round_core f s t (scans now is) before =
+  round_core f s t (learns device found is) before = subst (λ (x : Stage). GoesBy Kinds f x.core) (sym is.same) (core.learns before device found is.own)
+
+  time_core : (f : Gateway) (s t : Stage) → TimeStep s t → GoesBy Kinds f s.core → GoesBy Kinds f t.core
+  time_core f s t (scans now is) before =
       let wait = event.Time (since s.round.at now) in
       let waited = moved Kinds f s.core is.waited wait (all wait tt) is.waits before in
       moved Kinds f is.waited t.core event.Scan (all event.Scan tt) is.runs waited
-  round_core f s t (learns device found is) before = subst (λ (x : Stage). GoesBy Kinds f x.core) (sym is.same) (core.learns before device found is.own)
-  round_core f s t (waits ms is) before = moved Kinds f s.core t.core (event.Time ms) (all (event.Time ms) tt) is.told before
+  time_core f s t (waits ms is) before = moved Kinds f s.core t.core (event.Time ms) (all (event.Time ms) tt) is.told before
 
   own_core : (f : Gateway) (s t : Stage) → OwnStep s t → GoesBy Kinds f s.core → GoesBy Kinds f t.core
   own_core f s t (inl step) before = round_core f s t step before
@@ -81,7 +83,8 @@ client_core Kinds kind f s t (pdu, is) before = moved Kinds f s.core t.core (eve
 
 run_core : (f : Gateway) (s t : Stage) → RunStep s t → Goes f s.core → Goes f t.core
 run_core f s t (inl step) before = own_core IsAny (λ e is. tt) f s t step before
-run_core f s t (inr step) before = client_core IsAny (λ pdu. tt) f s t step before
+run_core f s t (inr (inl step)) before = client_core IsAny (λ pdu. tt) f s t step before
+run_core f s t (inr (inr step)) before = time_core IsAny (λ e is. tt) f s t step before
 
 any_core : (f : Gateway) (s t : Stage) → AnyStep s t → GoesOn f s.core → GoesOn f t.core
 any_core f s t (inl step) before = goes_further f s.core t.core before (run_core s.core s t step (core.stays s.core))
@@ -113,6 +116,15 @@ core_reached s reached = ∥∥₁_elim reached ∥∥₁_prop (λ r. ∣ record
 pub right_rounds : (s t : Stage) (lines : Lines) → LeadsOnBy RoundStep s t → AreRightfulBy s.core lines → AreRightfulBy t.core lines
 right_rounds s t lines led before = right_on s.core t.core lines (leads_core RoundStep IsOfRounds (round_core IsOfRounds of_rounds) s t led) before
 
+pub right_time : (s t : Stage) (lines : Lines) → TimeStep s t → AreRightfulBy s.core lines → AreRightfulBy t.core lines
+right_time s t lines step before = right_on s.core t.core lines (leads_core TimeStep IsOfRounds (time_core IsOfRounds of_rounds) s t (one_step TimeStep s t step)) before
+
+pub right_scan : (s t : Stage) (now : ℕ) (lines : Lines) → Scans now s t → AreRightfulBy s.core lines → AreRightfulBy t.core lines
+right_scan s t now lines is before = right_time s t lines (scans now is) before
+
+pub right_wait : (s t : Stage) (ms : ℕ) (lines : Lines) → Waits ms s t → AreRightfulBy s.core lines → AreRightfulBy t.core lines
+right_wait s t ms lines is before = right_time s t lines (waits ms is) before
+
 pub right_own : (s t : Stage) (lines : Lines) → LeadsOnBy OwnStep s t → AreRightfulBy s.core lines → AreRightfulBy t.core lines
 right_own s t lines led before = right_on s.core t.core lines (leads_core OwnStep IsOfRounds (own_core IsOfRounds of_rounds) s t led) before
 
@@ -142,7 +154,16 @@ pub reached_own : (s t : Stage) → ∥ IsReached s ∥₁ → LeadsOnBy OwnStep
 reached_own s t reached led = reached_by OwnStep (λ x y step. inl (inl step)) s t reached led
 
 pub reached_clients : (s t : Stage) → ∥ IsReached s ∥₁ → LeadsOnBy ClientStep s t → ∥ IsReached t ∥₁
-reached_clients s t reached led = reached_by ClientStep (λ x y step. inl (inr step)) s t reached led
+reached_clients s t reached led = reached_by ClientStep (λ x y step. inl (inr (inl step))) s t reached led
+
+reached_time : (s t : Stage) → ∥ IsReached s ∥₁ → TimeStep s t → ∥ IsReached t ∥₁
+reached_time s t reached step = reached_by TimeStep (λ x y one. inl (inr (inr one))) s t reached (one_step TimeStep s t step)
+
+pub reached_scan : (s t : Stage) (now : ℕ) → ∥ IsReached s ∥₁ → Scans now s t → ∥ IsReached t ∥₁
+reached_scan s t now reached is = reached_time s t reached (scans now is)
+
+pub reached_wait : (s t : Stage) (ms : ℕ) → ∥ IsReached s ∥₁ → Waits ms s t → ∥ IsReached t ∥₁
+reached_wait s t ms reached is = reached_time s t reached (waits ms is)
 
 pub same_stage : (s t : Stage) → t.core ≡ s.core → t.round ≡ s.round → t ≡ s
 same_stage s t core_same round_same = ap (λ (g : Gateway). record { core = g; round = t.round }) core_same ∙ ap (λ (p : Progress). record { core = s.core; round = p }) round_same
@@ -261,11 +282,24 @@ goes_skips s t device is = one_step RoundStep s t (skips device is)
 pub goes_loses : (s t : Stage) (i : ℕ) (is_new : Bool) → Tells i fate.Lost is_new s t → LeadsOnBy RoundStep s t
 goes_loses s t i is_new is = one_step RoundStep s t (loses i is_new is)
 
-pub goes_scans : (s t : Stage) (now : ℕ) → Scans now s t → LeadsOnBy RoundStep s t
-goes_scans s t now is = one_step RoundStep s t (scans now is)
+-- ---- one run of the program, amid other steps
 
-pub goes_waits : (s t : Stage) (ms : ℕ) → Waits ms s t → LeadsOnBy RoundStep s t
-goes_waits s t ms is = one_step RoundStep s t (waits ms is)
+pub runs_once : (now : ℕ) (s a b t : Stage) → LeadsOnBy RoundStep s a → Scans now a b → LeadsOnBy RoundStep b t → RunsOnce now s t
+runs_once now s a b t first is then_on = record { before = a; first = first; scanned = b; scans = is; then_on = then_on }
+
+pub runs_where : (due : Bool) (now : ℕ) (s a t : Stage) → due ≡ true → LeadsOnBy RoundStep s a → RunsOnce now a t → RunsIf due now s t
+runs_where true now s a t is first once = record {
+  before = once.before;
+  first = λ from course. once.first from (first from course);
+  scanned = once.scanned;
+  scans = once.scans;
+  then_on = once.then_on;
+}
+runs_where false now s a t is first once = absurd (cc)
+
+pub rests_where : (due : Bool) (now : ℕ) (s t : Stage) → due ≡ false → LeadsOnBy RoundStep s t → RunsIf due now s t
+rests_where false now s t is led = led
+rests_where true now s t is led = absurd (cc)
 
 pub goes_asks : (s t : Stage) (pdu : List ℕ) → Asks pdu s t → LeadsOnBy ClientStep s t
 goes_asks s t pdu is = one_step ClientStep s t (pdu, is)

@@ -5,8 +5,8 @@ use Rattle.modbus_frame.specs.declared.message.Request.{Request}
 use Rattle.site_model.specs.declared.device.SiteDevice.{SiteDevice}
 use Rattle.site_model.specs.Readings.{known_at}
 use Rattle.gateway.specs.declared.poller.cycle.Call.{Call}
-use Rattle.service_parts.specs.declared.wire.Aim.{Aim}
-use Rattle.service_parts.specs.declared.wire.Aim.TheVariants as aim
+use Rattle.service_parts.specs.declared.asked.Aim.{Aim}
+use Rattle.service_parts.specs.declared.asked.Aim.TheVariants as aim
 use Rattle.service_core.specs.declared.round.Turn.TheVariants as turn
 use Rattle.service_core.specs.declared.sent_writes.SentWrite.{SentWrite}
 use Rattle.service_core.specs.declared.sent_writes.SentWrites.{SentWrites}

@@ -21,3 +21,5 @@ pub mod Losing
 pub mod Forgetting
 pub mod LeftOut
 pub mod Timing
+pub mod Having
+pub mod Waking

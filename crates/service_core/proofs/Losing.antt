@@ -15,6 +15,6 @@ pub waited_before : (stations now_stations : List Station) (lines now_lines : Li
     → IsWaitedOut now_stations now_lines now_now link device → IsWaitedOut stations lines now link device
 waited_before stations now_stations lines now_lines now now_now link device same at time is = record {
   asked = is.asked;
-  overdue = ap (λ (o : Option Line). option_and_then (if_over now) (option_and_then (λ (l : Line). l.wire.asked) o)) (sym at) ∙ subst (λ (t : ℕ). overdue_at now_lines t link ≡ Some is.asked) time is.overdue;
+  overdue = ap (λ (o : Option Line). option_and_then (if_over now) (option_and_then (λ (l : Line). l.asked) o)) (sym at) ∙ subst (λ (t : ℕ). overdue_at now_lines t link ≡ Some is.asked) time is.overdue;
   own = subst (λ (s : List Station). IsOneOf s link is.asked.device device) same is.own;
 }

@@ -4,9 +4,9 @@ use Rattle.gateway.specs.declared.poller.outcome.Outcome.{Outcome}
 use Rattle.gateway.specs.declared.poller.outcome.Outcome.TheVariants as outcome
 use Rattle.service.specs.declared.fate.Fate.{Fate}
 use Rattle.service.specs.declared.fate.Fate.TheVariants as fate
-use Rattle.service_parts.specs.declared.wire.Aim.{Aim}
-use Rattle.service_parts.specs.declared.wire.Aim.TheVariants as aim
-use Rattle.service_parts.specs.declared.wire.Asked.{Asked}
+use Rattle.service_parts.specs.declared.asked.Aim.{Aim}
+use Rattle.service_parts.specs.declared.asked.Aim.TheVariants as aim
+use Rattle.service_parts.specs.declared.asked.Asked.{Asked}
 use Rattle.service_core.specs.declared.scan_cycle.ScanCycle.{ScanCycle}
 use Rattle.service_core.specs.Rounds.{IsUnderWay}
 use Rattle.service_core.specs.Stages.{ClientStep, Ends, LeadsOnBy, OwnStep, RoundStep, Stage, Tells}

@@ -4,7 +4,7 @@ use Rattle.std.specs.Prelude.{◌≡◌, ◌⊎◌, ℕ, Option, None, Some, sli
 use Rattle.modbus_frame.specs.declared.message.Request.{Request}
 use Rattle.site_model.specs.declared.device.SiteDevice.{SiteDevice}
 use Rattle.gateway.specs.declared.poller.cycle.Call.{Call}
-use Rattle.service_parts.specs.declared.wire.Aim.{Aim}
+use Rattle.service_parts.specs.declared.asked.Aim.{Aim}
 use Rattle.service_core.specs.declared.round.Turn.TheVariants as turn
 use Rattle.service_core.specs.declared.wish.Wish.{Wish}
 use Rattle.service_core.specs.declared.sent_writes.SentWrites.{SentWrites}

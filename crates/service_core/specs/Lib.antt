@@ -3,6 +3,7 @@ pub mod Connections
 pub mod Counting
 pub mod Cycle
 pub mod Forgetting
+pub mod Having
 pub mod GivingUp
 pub mod LeftOut
 pub mod Losing
@@ -13,9 +14,11 @@ pub mod Rewriting
 pub mod Rounds
 pub mod Running
 pub mod Stages
+pub mod Staying
 pub mod Standing
 pub mod Telling
 pub mod Timing
 pub mod Told
+pub mod Waking
 pub mod Whole
 pub mod WrittenOnce

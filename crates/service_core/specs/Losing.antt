@@ -6,7 +6,7 @@ use Rattle.service.specs.declared.fate.Fate.{Fate}
 use Rattle.service.specs.declared.fate.Fate.TheVariants as fate
 use Rattle.service_parts.specs.declared.limits.Station.{Station}
 use Rattle.service_parts.specs.declared.line.Line.{Line}
-use Rattle.service_parts.specs.declared.wire.Asked.{Asked}
+use Rattle.service_parts.specs.declared.asked.Asked.{Asked}
 use Rattle.service_parts.specs.Overdue.{IsAt, overdue_at}
 use Rattle.service_core.specs.declared.note.Loss.{Loss}
 use Rattle.service_core.specs.declared.note.Loss.TheVariants as loss

@@ -1,11 +1,11 @@
 -- What is told of reads that a device refuses (Modbus Application Protocol V1.1b3, section 7). No standard says what is told; it is
 -- this project's.
-use Rattle.std.specs.Prelude.{◌≡◌, ℕ, ◌==◌, ◌&&◌, Bool, not, nat_lt, List, [], ◌∷◌, ◌++◌, length, set, Option, None, Some, if◌then◌else◌}
+use Rattle.std.specs.Prelude.{ℕ, ◌==◌, ◌&&◌, Bool, not, nat_lt, List, [], ◌∷◌, ◌++◌, length, Option, None, Some, if◌then◌else◌}
 use Rattle.std.specs.List.{list_any}
 use Rattle.gateway.specs.declared.poller.outcome.Outcome.{Outcome}
 use Rattle.gateway.specs.declared.poller.outcome.Outcome.TheVariants as outcome
-use Rattle.service_parts.specs.declared.wire.Aim.{Aim}
-use Rattle.service_parts.specs.declared.wire.Aim.TheVariants as aim
+use Rattle.service_parts.specs.declared.asked.Aim.{Aim}
+use Rattle.service_parts.specs.declared.asked.Aim.TheVariants as aim
 use Rattle.service_core.specs.declared.refusals.Refusal.{Refusal}
 
 -- ---- what a device refuses that answers so

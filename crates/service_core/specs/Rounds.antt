@@ -20,7 +20,7 @@ use Rattle.gateway.specs.poller.Cycle.{event_by}
 use Rattle.service.specs.declared.fate.Fate.{Fate}
 use Rattle.service.specs.declared.fate.Fate.TheVariants as fate
 use Rattle.service.specs.Tasks.{given_up, is_asked, next_place, with_mark}
-use Rattle.service_parts.specs.declared.wire.Aim.TheVariants as aim
+use Rattle.service_parts.specs.declared.asked.Aim.TheVariants as aim
 use Rattle.service_parts.specs.Calls.{write_to}
 use Rattle.service_core.specs.declared.last_told.LastTold.{LastTold}
 use Rattle.service_core.specs.declared.round.Turn.{Turn}

@@ -62,11 +62,6 @@ pub record Scans (now : ℕ) (old new : Stage) : Type 0 where
   pub planned : ArePlanned new.core old.round.told old.round.writes new.round.writes
   pub same : new.round ≡ record { told = after_scan old.round.told; writes = new.round.writes; at = now }
 
--- It runs, where this says so. Else it isn't due, and nothing happens.
-abbrev pub ScansIf : Bool → ℕ → Stage → Stage → Type 0
-ScansIf true now old new = Scans now old new
-ScansIf false now old new = (new ≡ old) × (All IsRecent old.round.told → ⊥)
-
 -- A search found the device's map, or it is forgotten.
 pub record Learns (device : ℕ) (found : Option Layout) (old new : Stage) : Type 0 where
   pub own : IsFound old.core.site device found
@@ -90,16 +85,19 @@ pub record Adopts (machine : Running) (old new : Stage) : Type 0 where
 
 -- ---- kinds of steps
 
--- By the time, and by what is still to be written. A wanted block may be lost, and a write that is under way may be over, at any
--- time.
+-- By what is still to be written, and by devices that don't answer: the program doesn't run, and no time goes by. A wanted block
+-- may be lost, and a write that is under way may be over, at any time.
 pub data RoundStep (s t : Stage) : Type 0 where
   loses : (i : ℕ) (is_new : Bool) → Tells i fate.Lost is_new s t → RoundStep s t
   opens : (device : ℕ) (turn : Turn) → OpensNext device turn s t → RoundStep s t
   ends : (device : ℕ) → Ends device s t → RoundStep s t
   skips : (device : ℕ) → Skips device s t → RoundStep s t
-  scans : (now : ℕ) → Scans now s t → RoundStep s t
   learns : (device : ℕ) (found : Option Layout) → Learns device found s t → RoundStep s t
-  waits : (ms : ℕ) → Waits ms s t → RoundStep s t
+
+-- By the time: the program runs, or time goes by beside its scans.
+pub data TimeStep (s t : Stage) : Type 0 where
+  scans : (now : ℕ) → Scans now s t → TimeStep s t
+  waits : (ms : ℕ) → Waits ms s t → TimeStep s t
 
 -- By what a device answers to a request for a wanted block.
 abbrev pub DeviceStep : Stage → Stage → Type 0
@@ -114,9 +112,9 @@ ClientStep s t = (pdu : List ℕ) × Asks pdu s t
 abbrev pub OwnStep : Stage → Stage → Type 0
 OwnStep s t = RoundStep s t ⊎ DeviceStep s t
 
--- By these and by what clients ask: the program stays the one that runs.
+-- By these, by what clients ask and by the time: the program stays the one that runs.
 abbrev pub RunStep : Stage → Stage → Type 0
-RunStep s t = OwnStep s t ⊎ ClientStep s t
+RunStep s t = OwnStep s t ⊎ (ClientStep s t ⊎ TimeStep s t)
 
 -- By another program.
 abbrev pub AdoptStep : Stage → Stage → Type 0
@@ -133,6 +131,19 @@ pub data CourseBy (Step : Stage → Stage → Type 0) : Stage → Stage → Type
 -- Whatever led to the one stage leads to the other: such steps alone lie between.
 abbrev pub LeadsOnBy : (Step : Stage → Stage → Type 0) → Stage → Stage → Type 0
 LeadsOnBy Step old new = (from : Stage) → ∥ CourseBy Step from old ∥₁ → ∥ CourseBy Step from new ∥₁
+
+-- The program runs once, at this time; before and after it are steps of a round alone.
+pub record RunsOnce (now : ℕ) (old new : Stage) : Type 0 where
+  pub before : Stage
+  pub first : LeadsOnBy RoundStep old before
+  pub scanned : Stage
+  pub scans : Scans now before scanned
+  pub then_on : LeadsOnBy RoundStep scanned new
+
+-- It does, where this says so. Else it doesn't run.
+abbrev pub RunsIf : Bool → ℕ → Stage → Stage → Type 0
+RunsIf true now old new = RunsOnce now old new
+RunsIf false now old new = LeadsOnBy RoundStep old new
 
 -- A core on which nothing happened, before its first scan: no wanted block was told yet.
 pub record IsFirst (s : Stage) : Type 0 where

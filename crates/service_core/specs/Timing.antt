@@ -1,5 +1,6 @@
 -- When the program runs, by the service's time (IEC 61131-3 edition 2, 2.7.2: a task's INTERVAL). What is late is this project's.
-use Rattle.std.specs.Prelude.{◌≡◌, ℕ, ◌+◌, ◌-◌, ◌^◌, max, min, nat_le, nat_lt, if◌then◌else◌}
+use Rattle.std.specs.Prelude.{◌≡◌, ℕ, [], ◌+◌, ◌-◌, ◌^◌, max, min, nat_le, nat_lt, if◌then◌else◌}
+use Rattle.service_parts.specs.declared.limits.Limits.{Limits}
 use Rattle.service_core.specs.declared.device_side.DeviceSide.{DeviceSide}
 use Rattle.service_core.specs.declared.service_state.Service.{Service}
 use Rattle.service_core.specs.Counting.{one_more}
@@ -23,6 +24,14 @@ abbrev pub scan_after : (period now at : ℕ) → ℕ
 scan_after period now at = not_over period now (so_much_later (planned_from period now at) period)
 
 -- ---- devices and times
+
+-- It begins at this time: nothing happened so far, and the first scan is a period from now.
+pub record Starts (now : ℕ) (limits : Limits) (side : DeviceSide) : Type 0 where
+  pub time : side.now ≡ now
+  pub limited : side.limits ≡ limits
+  pub next : side.next_scan ≡ so_much_later now limits.period
+  pub scans : side.scans ≡ 0
+  pub none : side.notes.items.items ≡ []
 
 -- The time stays, no scan is counted, and the next one stays when it is.
 pub record KeepsTime (old new : DeviceSide) : Type 0 where

@@ -68,12 +68,13 @@ pub record TellsNothing (old new : DeviceSide) : Type 0 where
 
 -- ---- one step after another
 
--- which losses may be told, by the number of the device
-abbrev pub Losses : Type 0
-Losses = ℕ → Loss → Bool
+-- which losses may be told, by the number of the device, and which outputs may be told as written
+pub record Allowed : Type 0 where
+  pub lost : ℕ → Loss → Bool
+  pub written : ℕ → Bool
 
-abbrev pub allows : Losses → Note → Bool
-allows may (note.Lost device why) = may device why
+abbrev pub allows : Allowed → Note → Bool
+allows may (note.Lost device why) = may.lost device why
 allows may (note.Found device) = true
 allows may (note.Back device) = true
 allows may (note.NoMap device) = true
@@ -81,29 +82,42 @@ allows may (note.Refused device refusal) = true
 allows may (note.Scanned report) = true
 allows may (note.Late by) = true
 allows may (note.Unwritten output cause) = true
-allows may (note.Written output) = true
+allows may (note.Written output) = may.written output
 
--- From the one to the other by such steps, on which only these losses are told.
-pub data Course (may : Losses) : DeviceSide → DeviceSide → Type 0 where
+-- From the one to the other by such steps, on which of losses and of written outputs only these are told.
+pub data Course (may : Allowed) : DeviceSide → DeviceSide → Type 0 where
   stays : (side : DeviceSide) → Course may side side
   tells : {old middle : DeviceSide} → Course may old middle → (n : Note) (new : DeviceSide) → allows may n ≡ true → Tells n middle new → Course may old new
   goes : {old middle : DeviceSide} → Course may old middle → (new : DeviceSide) → TellsNothing middle new → Course may old new
 
 -- whatever such steps led to the one, they lead to the other
-abbrev pub GoesBy : Losses → DeviceSide → DeviceSide → Type 0
+abbrev pub GoesBy : Allowed → DeviceSide → DeviceSide → Type 0
 GoesBy may old new = (from : DeviceSide) → ∥ Course may from old ∥₁ → ∥ Course may from new ∥₁
 
--- the same, and no loss is told on the way
+-- the same, and neither a loss nor a written output is told on the way
 abbrev pub Goes : DeviceSide → DeviceSide → Type 0
-Goes old new = (may : Losses) → GoesBy may old new
+Goes old new = (may : Allowed) → GoesBy may old new
 
--- The same, and a loss is told on the way only where this says why: wherever all losses may be told of which it does, those
--- suffice.
+-- A loss is told on the way only where this says why: wherever all losses may be told of which it does, those suffice.
 abbrev pub LosesBy : (ℕ → Loss → Type 0) → DeviceSide → DeviceSide → Type 0
-LosesBy Why old new = (may : Losses) → ((device : ℕ) (why : Loss) → Why device why → may device why ≡ true) → GoesBy may old new
+LosesBy Why old new = (may : Allowed) → ((device : ℕ) (why : Loss) → Why device why → may.lost device why ≡ true) → GoesBy may old new
+
+-- An output is told as written on the way only where this says that it is.
+abbrev pub WritesBy : (ℕ → Type 0) → DeviceSide → DeviceSide → Type 0
+WritesBy Is old new = (may : Allowed) → ((output : ℕ) → Is output → may.written output ≡ true) → GoesBy may old new
+
+-- both so
+abbrev pub TellsBy : (ℕ → Loss → Type 0) → (ℕ → Type 0) → DeviceSide → DeviceSide → Type 0
+TellsBy Why Is old new =
+    (may : Allowed) → ((device : ℕ) (why : Loss) → Why device why → may.lost device why ≡ true) → ((output : ℕ) → Is output → may.written output ≡ true) → GoesBy may old new
+
+-- this became of this output: that it is written
+abbrev pub IsWrittenBy : ℕ → OutputState → ℕ → Type 0
+IsWrittenBy which state.Written output = output ≡ which
+IsWrittenBy which (state.Unwritten cause) output = ⊥
 
 -- what was told on the way, the last one first
-abbrev pub happened : {may : Losses} {old new : DeviceSide} → Course may old new → List Note
+abbrev pub happened : {may : Allowed} {old new : DeviceSide} → Course may old new → List Note
 happened (stays side) = []
 happened (tells course n new allowed step) = n ∷ happened course
 happened (goes course new step) = happened course
@@ -116,9 +130,9 @@ abbrev pub state_after : List Note → ℕ → Option OutputState → Option Out
 state_after [] output was = was
 state_after (n ∷ earlier) output was = state_then n output (state_after earlier output was)
 
--- Over all calls a device is lost, and an output is written or isn't, just by what was told of it; and only losses were told
--- that a call may tell.
+-- Over all calls a device is lost, and an output is written or isn't, just by what was told of it; and of losses and of written
+-- outputs only those were told that a call may tell.
 pub record StatesAreByNotes : Type 0 where
-  pub devices : (may : Losses) (old new : DeviceSide) (course : Course may old new) (device : ℕ) → lost_at new device ≡ lost_after (happened course) device (lost_at old device)
-  pub outputs : (may : Losses) (old new : DeviceSide) (course : Course may old new) (output : ℕ) → state_at new output ≡ state_after (happened course) output (state_at old output)
-  pub losses : (may : Losses) (old new : DeviceSide) (course : Course may old new) → list_all (allows may) (happened course) ≡ true
+  pub devices : (may : Allowed) (old new : DeviceSide) (course : Course may old new) (device : ℕ) → lost_at new device ≡ lost_after (happened course) device (lost_at old device)
+  pub outputs : (may : Allowed) (old new : DeviceSide) (course : Course may old new) (output : ℕ) → state_at new output ≡ state_after (happened course) output (state_at old output)
+  pub allowed : (may : Allowed) (old new : DeviceSide) (course : Course may old new) → list_all (allows may) (happened course) ≡ true

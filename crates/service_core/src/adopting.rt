@@ -5,7 +5,7 @@ ghost use Rattle.gateway.specs.declared.event_core.fault.CoreFault.TheVariants.{
 ghost use Rattle.service_core.specs.Cycle.{stage_of};
 ghost use Rattle.service_core.specs.Stages.{Adopts};
 ghost use Rattle.service_core.specs.Told.{Goes};
-ghost use Rattle.service_core.specs.Timing.{StaysAt};
+ghost use Rattle.service_core.specs.Staying.{Stays};
 
 use crate::scan_cycle::ScanCycle;
 use crate::service_state::Service;
@@ -40,10 +40,8 @@ impl Service {
         ensures over { self.new.cycle.over ≡ self.old.cycle.over }
         ensures side { self.new.side ≡ self.old.side }
         ensures sent { self.new.sent ≡ self.old.sent }
-        ensures links { self.new.lines.links ≡ self.old.lines.links }
+        ensures rest { Stays self.old self.new }
         ensures lines { self.new.lines ≡ self.old.lines }
-        ensures places { self.new.places.items ≡ self.old.places.items }
-        ensures time { StaysAt self.old self.new }
         ensures stands { Goes self.old.side self.new.side }
         ensures foreign { IfErr result (λ e. e ≡ Foreign → HasLinks self.old.cycle.core.value.site.tags machine.accepted.links → ⊥) }
         ensures memory { IfErr result (λ e. e ≡ OutOfMemory → HasLinks self.old.cycle.core.value.site.tags machine.accepted.links) }

@@ -1,6 +1,6 @@
 //! What becomes of requests: answers that come, and those that don't.
 ghost use Rattle.std.specs.Prelude.{◌≡◌, ◌<◌, ℕ, None, Some, slice_get, length, true, false};
-ghost use Rattle.service_parts.specs.declared.wire.Aim.TheVariants.{Output as OutputAim};
+ghost use Rattle.service_parts.specs.declared.asked.Aim.TheVariants.{Output as OutputAim};
 ghost use Rattle.service.specs.declared.fate.Fate.TheVariants.{Told};
 ghost use Rattle.service_parts.specs.Frames.{LinesGo};
 ghost use Rattle.service_core.specs.declared.note.Loss.TheVariants.{Frame as frame, Silent as silent};
@@ -9,11 +9,13 @@ ghost use Rattle.service_core.specs.declared.refusals.Refusal.{Refusal as Refusa
 ghost use Rattle.service_core.specs.Noting.{Refuses};
 ghost use Rattle.service_core.specs.Refusing.{refusal_by};
 ghost use Rattle.service_core.specs.Losing.{AreLost, AreLostWith, LostByFate, LostByHearing, LostByWait, LostByWaitAt, loss_by};
-ghost use Rattle.service_core.specs.Told.{Goes, LosesBy};
+ghost use Rattle.service_core.specs.Told.{Goes, IsWrittenBy, LosesBy, TellsBy, WritesBy};
 ghost use Rattle.service_core.specs.Cycle.{Answers, AnswersIf, DevicesLeadOn, EndsOwn, LeadsOn, Settles, SettlesIf, is_answer, is_gateways, stage_of};
 ghost use Rattle.service_core.specs.Rewriting.{after_answer};
 ghost use Rattle.service_core.specs.Telling.{state_by, told_at};
 ghost use Rattle.service_core.specs.Timing.{StaysAt};
+ghost use Rattle.service_core.specs.Having.{HasMoreBy, HasNoMore, IsHadBy, IsTaken, TellsHad, taken_at, taken_by, taken_if};
+ghost use Rattle.service_core.specs.Staying.{Stays};
 
 use crate::link_pace::Purpose;
 use crate::note::{Loss, Unwritten};
@@ -30,11 +32,10 @@ impl Service {
     pub(crate) fn settle(&mut self, link: usize, asked: Option<Asked>, fate: Fate)
         ensures settles { SettlesIf asked fate self.old.cycle self.new.cycle }
         ensures goes { DevicesLeadOn self.old.cycle self.new.cycle }
-        ensures links { self.new.lines.links ≡ self.old.lines.links }
+        ensures rest { Stays self.old self.new }
         ensures lines { LinesGo self.old.lines.lines.items self.new.lines.lines.items }
-        ensures places { self.new.places.items ≡ self.old.places.items }
-        ensures time { StaysAt self.old self.new }
-        ensures stands { LosesBy (LostByHearing self.old.lines.links.stations.items link asked (Some fate)) self.old.side self.new.side }
+        ensures sent { HasMoreBy (taken_if asked (Some fate) self.old.side.now) self.old.sent self.new.sent }
+        ensures stands { TellsBy (LostByHearing self.old.lines.links.stations.items link asked (Some fate)) (IsHadBy (taken_if asked (Some fate) self.old.side.now) self.old.sent) self.old.side self.new.side }
     {
         match asked {
             Some(asked) => self.settle_asked(link, asked, fate),
@@ -44,11 +45,10 @@ impl Service {
 
     fn settle_asked(&mut self, link: usize, asked: Asked, fate: Fate)
         ensures settles { Settles fate asked self.old.cycle self.new.cycle }
-        ensures links { self.new.lines.links ≡ self.old.lines.links }
+        ensures rest { Stays self.old self.new }
         ensures lines { LinesGo self.old.lines.lines.items self.new.lines.lines.items }
-        ensures places { self.new.places.items ≡ self.old.places.items }
-        ensures time { StaysAt self.old self.new }
-        ensures stands { LosesBy (LostByFate self.old.lines.links.stations.items link asked fate) self.old.side self.new.side }
+        ensures sent { HasMoreBy (taken_at fate asked self.old.side.now) self.old.sent self.new.sent }
+        ensures stands { TellsBy (LostByFate self.old.lines.links.stations.items link asked fate) (IsHadBy (taken_at fate asked self.old.side.now) self.old.sent) self.old.side self.new.side }
     {
         match fate {
             Fate::Lost => self.lose_stream(link, asked),
@@ -58,12 +58,11 @@ impl Service {
 
     /// What came over a connection is no frame.
     fn lose_stream(&mut self, link: usize, asked: Asked)
-        ensures links { self.new.lines.links ≡ self.old.lines.links }
+        ensures rest { Stays self.old self.new }
         ensures lines { LinesGo self.old.lines.lines.items self.new.lines.lines.items }
         ensures goes { LeadsOn self.old.cycle self.new.cycle }
-        ensures places { self.new.places.items ≡ self.old.places.items }
-        ensures time { StaysAt self.old self.new }
-        ensures stands { LosesBy (AreLost self.old.lines.links.stations.items link frame) self.old.side self.new.side }
+        ensures sent { HasNoMore self.old.sent self.new.sent }
+        ensures stands { TellsHad (AreLost self.old.lines.links.stations.items link frame) self.old.sent self.old.side self.new.side }
     {
         self.side.lose_write(asked.aim);
         self.lines.spoil(link);
@@ -73,11 +72,10 @@ impl Service {
 
     fn settle_told(&mut self, link: usize, asked: Asked, outcome: Outcome)
         ensures settles { AnswersIf (is_answer outcome) asked outcome self.old.cycle self.new.cycle }
-        ensures links { self.new.lines.links ≡ self.old.lines.links }
+        ensures rest { Stays self.old self.new }
         ensures lines { LinesGo self.old.lines.lines.items self.new.lines.lines.items }
-        ensures places { self.new.places.items ≡ self.old.places.items }
-        ensures time { StaysAt self.old self.new }
-        ensures stands { LosesBy (LostByFate self.old.lines.links.stations.items link asked (Told outcome)) self.old.side self.new.side }
+        ensures sent { HasMoreBy (taken_by outcome asked self.old.side.now) self.old.sent self.new.sent }
+        ensures stands { TellsBy (LostByFate self.old.lines.links.stations.items link asked (Told outcome)) (IsHadBy (taken_by outcome asked self.old.side.now) self.old.sent) self.old.side self.new.side }
     {
         if is_answer(&outcome) {
             self.take_answer(link, asked, outcome);
@@ -88,12 +86,11 @@ impl Service {
 
     /// What came is no answer of the device.
     fn lose_answer(&mut self, link: usize, asked: Asked, loss: Loss)
-        ensures links { self.new.lines.links ≡ self.old.lines.links }
+        ensures rest { Stays self.old self.new }
         ensures lines { LinesGo self.old.lines.lines.items self.new.lines.lines.items }
         ensures goes { LeadsOn self.old.cycle self.new.cycle }
-        ensures places { self.new.places.items ≡ self.old.places.items }
-        ensures time { StaysAt self.old self.new }
-        ensures stands { LosesBy (AreLostWith self.old.lines.links.stations.items link asked.device loss) self.old.side self.new.side }
+        ensures sent { HasNoMore self.old.sent self.new.sent }
+        ensures stands { TellsHad (AreLostWith self.old.lines.links.stations.items link asked.device loss) self.old.sent self.old.side self.new.side }
     {
         self.side.lose_write(asked.aim);
         self.miss(link, asked.device, loss);
@@ -102,11 +99,10 @@ impl Service {
 
     fn take_answer(&mut self, link: usize, asked: Asked, outcome: Outcome)
         ensures answers { Answers asked outcome self.old.cycle self.new.cycle }
-        ensures links { self.new.lines.links ≡ self.old.lines.links }
+        ensures rest { Stays self.old self.new }
         ensures lines { LinesGo self.old.lines.lines.items self.new.lines.lines.items }
-        ensures places { self.new.places.items ≡ self.old.places.items }
-        ensures time { StaysAt self.old self.new }
-        ensures stands { Goes self.old.side self.new.side }
+        ensures sent { HasMoreBy (taken_by outcome asked self.old.side.now) self.old.sent self.new.sent }
+        ensures stands { WritesBy (IsHadBy (taken_by outcome asked self.old.side.now) self.old.sent) self.old.side self.new.side }
     {
         let is_mapped = self.cycle.is_mapped(asked.device);
         self.lines.heard(link);
@@ -123,6 +119,7 @@ impl Service {
     fn owe_search(&mut self, link: usize, device: usize)
         ensures lines { self.new.lines ≡ self.old.lines }
         ensures cycle { self.new.cycle ≡ self.old.cycle }
+        ensures sent { self.new.sent ≡ self.old.sent }
         ensures places { self.new.places.items ≡ self.old.places.items }
         ensures time { StaysAt self.old self.new }
         ensures stands { Goes self.old.side self.new.side }
@@ -141,6 +138,7 @@ impl Service {
     fn note_reply(&mut self, link: usize, asked: Asked)
         ensures lines { self.new.lines ≡ self.old.lines }
         ensures cycle { self.new.cycle ≡ self.old.cycle }
+        ensures sent { self.new.sent ≡ self.old.sent }
         ensures places { self.new.places.items ≡ self.old.places.items }
         ensures time { StaysAt self.old self.new }
         ensures stands { Goes self.old.side self.new.side }
@@ -161,6 +159,7 @@ impl Service {
         ensures answers { refusal_by asked.aim asked.address outcome.now ≡ None → self.new.side ≡ self.old.side }
         ensures lines { self.new.lines ≡ self.old.lines }
         ensures cycle { self.new.cycle ≡ self.old.cycle }
+        ensures sent { self.new.sent ≡ self.old.sent }
         ensures places { self.new.places.items ≡ self.old.places.items }
         ensures time { StaysAt self.old self.new }
         ensures stands { Goes self.old.side self.new.side }
@@ -172,11 +171,10 @@ impl Service {
 
     /// A device whose words are no block of the model that was asked for has other registers than its map says.
     fn forget_if(&mut self, foreign: bool, device: usize)
-        ensures links { self.new.lines.links ≡ self.old.lines.links }
+        ensures rest { Stays self.old self.new }
         ensures lines { LinesGo self.old.lines.lines.items self.new.lines.lines.items }
         ensures goes { LeadsOn self.old.cycle self.new.cycle }
-        ensures places { self.new.places.items ≡ self.old.places.items }
-        ensures time { StaysAt self.old self.new }
+        ensures sent { HasNoMore self.old.sent self.new.sent }
         ensures stands { Goes self.old.side self.new.side }
     {
         if foreign {
@@ -187,11 +185,10 @@ impl Service {
 
     /// A device didn't answer, and is lost: it isn't asked for a while.
     fn miss(&mut self, link: usize, device: usize, loss: Loss)
-        ensures links { self.new.lines.links ≡ self.old.lines.links }
+        ensures rest { Stays self.old self.new }
         ensures lines { LinesGo self.old.lines.lines.items self.new.lines.lines.items }
         ensures goes { LeadsOn self.old.cycle self.new.cycle }
-        ensures places { self.new.places.items ≡ self.old.places.items }
-        ensures time { StaysAt self.old self.new }
+        ensures sent { HasNoMore self.old.sent self.new.sent }
         ensures others { (other : ℕ) → (other ≡ link → ⊥) → slice_get self.new.lines.lines.items other ≡ slice_get self.old.lines.lines.items other }
         ensures stands { LosesBy (AreLostWith self.old.lines.links.stations.items link device loss) self.old.side self.new.side }
     {
@@ -205,13 +202,13 @@ impl Service {
     }
 
     /// The outcome ends the request; whether the words that came are no block of its model.
+    #[tactic(auto, using(crate::proofs::Having::had_by))]
     fn take(&mut self, asked: Asked, outcome: Outcome) -> bool
         ensures ends { EndsOwn asked.aim asked.device outcome (stage_of self.old.cycle) (stage_of self.new.cycle) }
-        ensures links { self.new.lines.links ≡ self.old.lines.links }
+        ensures rest { Stays self.old self.new }
         ensures lines { LinesGo self.old.lines.lines.items self.new.lines.lines.items }
-        ensures places { self.new.places.items ≡ self.old.places.items }
-        ensures time { StaysAt self.old self.new }
-        ensures stands { Goes self.old.side self.new.side }
+        ensures sent { HasMoreBy (taken_by outcome asked self.old.side.now) self.old.sent self.new.sent }
+        ensures stands { WritesBy (IsTaken (taken_by outcome asked self.old.side.now)) self.old.side self.new.side }
     {
         match asked.aim {
             Aim::Map => {
@@ -231,11 +228,9 @@ impl Service {
         ensures writes { self.new.sent.writes ≡ self.old.sent.writes }
         ensures told { output < length self.old.side.outputs.items → told_at self.new.side.outputs.items output ≡ Some (state_by outcome) }
         ensures ends { EndsOwn (OutputAim output) asked.device outcome (stage_of self.old.cycle) (stage_of self.new.cycle) }
-        ensures links { self.new.lines.links ≡ self.old.lines.links }
+        ensures rest { Stays self.old self.new }
         ensures lines { LinesGo self.old.lines.lines.items self.new.lines.lines.items }
-        ensures places { self.new.places.items ≡ self.old.places.items }
-        ensures time { StaysAt self.old self.new }
-        ensures stands { Goes self.old.side self.new.side }
+        ensures stands { WritesBy (IsWrittenBy output (state_by outcome)) self.old.side self.new.side }
     {
         let state = state_by(&outcome);
         self.note_answer(state, output, asked.number);
@@ -258,11 +253,10 @@ impl Service {
 
     /// The time of each request that is over ends its wait.
     pub(crate) fn end_waits(&mut self)
-        ensures links { self.new.lines.links ≡ self.old.lines.links }
+        ensures rest { Stays self.old self.new }
         ensures lines { LinesGo self.old.lines.lines.items self.new.lines.lines.items }
         ensures goes { LeadsOn self.old.cycle self.new.cycle }
-        ensures places { self.new.places.items ≡ self.old.places.items }
-        ensures time { StaysAt self.old self.new }
+        ensures sent { HasNoMore self.old.sent self.new.sent }
         ensures stands { LosesBy (LostByWait self.old.lines.links.stations.items self.old.lines.lines.items self.old.side.now) self.old.side self.new.side }
     {
         for link in 0..self.lines.count() {
@@ -271,11 +265,10 @@ impl Service {
     }
 
     fn end_wait(&mut self, link: usize)
-        ensures links { self.new.lines.links ≡ self.old.lines.links }
+        ensures rest { Stays self.old self.new }
         ensures lines { LinesGo self.old.lines.lines.items self.new.lines.lines.items }
         ensures goes { LeadsOn self.old.cycle self.new.cycle }
-        ensures places { self.new.places.items ≡ self.old.places.items }
-        ensures time { StaysAt self.old self.new }
+        ensures sent { HasNoMore self.old.sent self.new.sent }
         ensures others { (other : ℕ) → (other ≡ link → ⊥) → slice_get self.new.lines.lines.items other ≡ slice_get self.old.lines.lines.items other }
         ensures stands { LosesBy (LostByWaitAt self.old.lines.links.stations.items self.old.lines.lines.items self.old.side.now link) self.old.side self.new.side }
     {
@@ -285,11 +278,10 @@ impl Service {
     }
 
     fn give_up(&mut self, link: usize, asked: Asked)
-        ensures links { self.new.lines.links ≡ self.old.lines.links }
+        ensures rest { Stays self.old self.new }
         ensures lines { LinesGo self.old.lines.lines.items self.new.lines.lines.items }
         ensures goes { LeadsOn self.old.cycle self.new.cycle }
-        ensures places { self.new.places.items ≡ self.old.places.items }
-        ensures time { StaysAt self.old self.new }
+        ensures sent { HasNoMore self.old.sent self.new.sent }
         ensures others { (other : ℕ) → (other ≡ link → ⊥) → slice_get self.new.lines.lines.items other ≡ slice_get self.old.lines.lines.items other }
         ensures stands { LosesBy (AreLostWith self.old.lines.links.stations.items link asked.device silent) self.old.side self.new.side }
     {
@@ -309,11 +301,10 @@ impl Service {
 
     /// A device didn't answer in the time that it mostly takes: it is asked later whether it does. What is known of it stays known.
     fn doubt(&mut self, link: usize, device: usize)
-        ensures links { self.new.lines.links ≡ self.old.lines.links }
+        ensures rest { Stays self.old self.new }
         ensures lines { LinesGo self.old.lines.lines.items self.new.lines.lines.items }
         ensures goes { LeadsOn self.old.cycle self.new.cycle }
-        ensures places { self.new.places.items ≡ self.old.places.items }
-        ensures time { StaysAt self.old self.new }
+        ensures sent { HasNoMore self.old.sent self.new.sent }
         ensures others { (other : ℕ) → (other ≡ link → ⊥) → slice_get self.new.lines.lines.items other ≡ slice_get self.old.lines.lines.items other }
         ensures stands { Goes self.old.side self.new.side }
     {

@@ -2,11 +2,12 @@
 ghost use Rattle.std.specs.Prelude.{◌≡◌, ℕ, Some, slice_get};
 ghost use Rattle.modbus_frame.specs.Message.{HasQuantity, address_of};
 ghost use Rattle.service_core.specs.Told.{Goes};
-ghost use Rattle.service_core.specs.Cycle.{LeadsOn};
 ghost use Rattle.service_core.specs.Rewriting.{sent_for};
-ghost use Rattle.service_parts.specs.Frames.{LinesGo};
 ghost use Rattle.service_parts.specs.Requests.{MayGoOver};
-ghost use Rattle.service_core.specs.Timing.{StaysAt};
+ghost use Rattle.service_core.specs.Staying.{Stays};
+ghost use Rattle.service_core.specs.Having.{HasNoMore, WritesHad};
+ghost use Rattle.service_parts.specs.Frames.{LinesGo};
+ghost use Rattle.service_core.specs.Cycle.{LeadsOn};
 
 use crate::link_pace::Purpose;
 use crate::service_state::Service;
@@ -18,12 +19,11 @@ use service_parts::{Aim, Asked, first_register};
 impl Service {
     /// Begins requests on all connections that are free.
     pub(crate) fn ask_all(&mut self)
-        ensures links { self.new.lines.links ≡ self.old.lines.links }
+        ensures rest { Stays self.old self.new }
         ensures lines { LinesGo self.old.lines.lines.items self.new.lines.lines.items }
         ensures goes { LeadsOn self.old.cycle self.new.cycle }
-        ensures places { self.new.places.items ≡ self.old.places.items }
-        ensures time { StaysAt self.old self.new }
-        ensures stands { Goes self.old.side self.new.side }
+        ensures sent { HasNoMore self.old.sent self.new.sent }
+        ensures stands { WritesHad self.old.sent self.old.side self.new.side }
     {
         for link in 0..self.lines.count() {
             self.ask(link);
@@ -32,12 +32,11 @@ impl Service {
 
     /// Begins requests on a connection until one is under way, or none is left to begin.
     fn ask(&mut self, link: usize)
-        ensures links { self.new.lines.links ≡ self.old.lines.links }
+        ensures rest { Stays self.old self.new }
         ensures lines { LinesGo self.old.lines.lines.items self.new.lines.lines.items }
         ensures goes { LeadsOn self.old.cycle self.new.cycle }
-        ensures places { self.new.places.items ≡ self.old.places.items }
-        ensures time { StaysAt self.old self.new }
-        ensures stands { Goes self.old.side self.new.side }
+        ensures sent { HasNoMore self.old.sent self.new.sent }
+        ensures stands { WritesHad self.old.sent self.old.side self.new.side }
     {
         for _ in 0..self.cycle.devices().saturating_add(64) {
             if !self.may_ask(link) {
@@ -51,33 +50,60 @@ impl Service {
         }
     }
 
-    /// Asks what comes next over a connection; whether there is something. Writes come first, then reads, then what is searched;
-    /// after a request without an answer the device that answered last: it tells whether the others are still reached.
+    /// Asks what comes next over a connection; whether there is something.
     fn ask_next(&mut self, link: usize) -> bool
-        ensures links { self.new.lines.links ≡ self.old.lines.links }
+        ensures rest { Stays self.old self.new }
         ensures lines { LinesGo self.old.lines.lines.items self.new.lines.lines.items }
         ensures goes { LeadsOn self.old.cycle self.new.cycle }
-        ensures places { self.new.places.items ≡ self.old.places.items }
-        ensures time { StaysAt self.old self.new }
-        ensures stands { Goes self.old.side self.new.side }
+        ensures sent { HasNoMore self.old.sent self.new.sent }
+        ensures stands { WritesHad self.old.sent self.old.side self.new.side }
     {
-        self.ask_sign(link)
-            || self.ask_for(link, Purpose::Write)
-            || self.ask_for(link, Purpose::Doubt)
-            || self.ask_for(link, Purpose::GoOn)
+        self.ask_before_reads(link)
             || self.ask_for(link, Purpose::Read)
-            || self.ask_for(link, Purpose::Search)
-            || self.ask_for(link, Purpose::Probe)
+            || self.ask_in_spare_time(link)
+    }
+
+    /// The same of what is asked in the time that reads leave: searches, then devices that didn't answer.
+    fn ask_in_spare_time(&mut self, link: usize) -> bool
+        ensures rest { Stays self.old self.new }
+        ensures lines { LinesGo self.old.lines.lines.items self.new.lines.lines.items }
+        ensures goes { LeadsOn self.old.cycle self.new.cycle }
+        ensures sent { HasNoMore self.old.sent self.new.sent }
+        ensures stands { WritesHad self.old.sent self.old.side self.new.side }
+    {
+        self.ask_for(link, Purpose::Search) || self.ask_for(link, Purpose::Probe)
+    }
+
+    /// The same of what is asked before reads: after a request without an answer the device that answered last, since it tells
+    /// whether the others are still reached; then writes, and searches that come first.
+    fn ask_before_reads(&mut self, link: usize) -> bool
+        ensures rest { Stays self.old self.new }
+        ensures lines { LinesGo self.old.lines.lines.items self.new.lines.lines.items }
+        ensures goes { LeadsOn self.old.cycle self.new.cycle }
+        ensures sent { HasNoMore self.old.sent self.new.sent }
+        ensures stands { WritesHad self.old.sent self.old.side self.new.side }
+    {
+        self.ask_sign(link) || self.ask_for(link, Purpose::Write) || self.ask_search_first(link)
+    }
+
+    /// The same of searches that come before reads: of a device that is in doubt, or one that goes on.
+    fn ask_search_first(&mut self, link: usize) -> bool
+        ensures rest { Stays self.old self.new }
+        ensures lines { LinesGo self.old.lines.lines.items self.new.lines.lines.items }
+        ensures goes { LeadsOn self.old.cycle self.new.cycle }
+        ensures sent { HasNoMore self.old.sent self.new.sent }
+        ensures stands { WritesHad self.old.sent self.old.side self.new.side }
+    {
+        self.ask_for(link, Purpose::Doubt) || self.ask_for(link, Purpose::GoOn)
     }
 
     /// Asks the device that answered last over a connection, where the last request had no answer; whether it does.
     fn ask_sign(&mut self, link: usize) -> bool
-        ensures links { self.new.lines.links ≡ self.old.lines.links }
+        ensures rest { Stays self.old self.new }
         ensures lines { LinesGo self.old.lines.lines.items self.new.lines.lines.items }
         ensures goes { LeadsOn self.old.cycle self.new.cycle }
-        ensures places { self.new.places.items ≡ self.old.places.items }
-        ensures time { StaysAt self.old self.new }
-        ensures stands { Goes self.old.side self.new.side }
+        ensures sent { HasNoMore self.old.sent self.new.sent }
+        ensures stands { WritesHad self.old.sent self.old.side self.new.side }
     {
         let Some(device) = self.side.sign_of(link) else {
             return false;
@@ -92,11 +118,10 @@ impl Service {
 
     /// Asks a device for the first registers of its map, whatever is known of it.
     fn ask_again(&mut self, link: usize, device: usize) -> bool
-        ensures links { self.new.lines.links ≡ self.old.lines.links }
+        ensures rest { Stays self.old self.new }
         ensures lines { LinesGo self.old.lines.lines.items self.new.lines.lines.items }
         ensures goes { LeadsOn self.old.cycle self.new.cycle }
-        ensures places { self.new.places.items ≡ self.old.places.items }
-        ensures time { StaysAt self.old self.new }
+        ensures sent { HasNoMore self.old.sent self.new.sent }
         ensures stands { Goes self.old.side self.new.side }
     {
         match self.wish_anew(link, device) {
@@ -126,12 +151,11 @@ impl Service {
 
     /// Asks the device whose turn it is, or the next one that there is something to ask of; whether there is one.
     fn ask_for(&mut self, link: usize, purpose: Purpose) -> bool
-        ensures links { self.new.lines.links ≡ self.old.lines.links }
+        ensures rest { Stays self.old self.new }
         ensures lines { LinesGo self.old.lines.lines.items self.new.lines.lines.items }
         ensures goes { LeadsOn self.old.cycle self.new.cycle }
-        ensures places { self.new.places.items ≡ self.old.places.items }
-        ensures time { StaysAt self.old self.new }
-        ensures stands { Goes self.old.side self.new.side }
+        ensures sent { HasNoMore self.old.sent self.new.sent }
+        ensures stands { WritesHad self.old.sent self.old.side self.new.side }
     {
         let turn = self.side.turn(link, purpose);
         self.ask_between(link, purpose, turn, usize::MAX)
@@ -140,12 +164,11 @@ impl Service {
 
     /// The same among the devices at these places of the connection.
     fn ask_between(&mut self, link: usize, purpose: Purpose, first: usize, end: usize) -> bool
-        ensures links { self.new.lines.links ≡ self.old.lines.links }
+        ensures rest { Stays self.old self.new }
         ensures lines { LinesGo self.old.lines.lines.items self.new.lines.lines.items }
         ensures goes { LeadsOn self.old.cycle self.new.cycle }
-        ensures places { self.new.places.items ≡ self.old.places.items }
-        ensures time { StaysAt self.old self.new }
-        ensures stands { Goes self.old.side self.new.side }
+        ensures sent { HasNoMore self.old.sent self.new.sent }
+        ensures stands { WritesHad self.old.sent self.old.side self.new.side }
     {
         for i in first..end.min(self.lines.devices_on(link)) {
             if let Some(device) = self.lines.device_at(link, i) {
@@ -160,12 +183,11 @@ impl Service {
     }
 
     fn ask_device(&mut self, link: usize, device: usize, purpose: Purpose) -> bool
-        ensures links { self.new.lines.links ≡ self.old.lines.links }
+        ensures rest { Stays self.old self.new }
         ensures lines { LinesGo self.old.lines.lines.items self.new.lines.lines.items }
         ensures goes { LeadsOn self.old.cycle self.new.cycle }
-        ensures places { self.new.places.items ≡ self.old.places.items }
-        ensures time { StaysAt self.old self.new }
-        ensures stands { Goes self.old.side self.new.side }
+        ensures sent { HasNoMore self.old.sent self.new.sent }
+        ensures stands { WritesHad self.old.sent self.old.side self.new.side }
     {
         match self.wish_of(link, device, purpose) {
             Some(wish) => {
@@ -181,11 +203,10 @@ impl Service {
         requires asked { MayGoOver self.old.cycle.core.value self.old.lines.links.numbers.items self.old.lines.found_on.items link wish.aim device wish.request }
         ensures sent { (number : ℕ) → slice_get self.old.lines.links.numbers.items link ≡ Some number → sent_for wish.aim device wish.request self.old.sent.writes.items self.old.sent.taken.items
             ≡ (self.new.sent.writes.items, self.new.sent.taken.items) }
-        ensures links { self.new.lines.links ≡ self.old.lines.links }
+        ensures rest { Stays self.old self.new }
         ensures lines { LinesGo self.old.lines.lines.items self.new.lines.lines.items }
         ensures goes { LeadsOn self.old.cycle self.new.cycle }
-        ensures places { self.new.places.items ≡ self.old.places.items }
-        ensures time { StaysAt self.old self.new }
+        ensures no_more { HasNoMore self.old.sent self.new.sent }
         ensures stands { Goes self.old.side self.new.side }
     {
         let Some(number) = self.lines.number_of(link) else {
@@ -215,11 +236,10 @@ impl Service {
         requires address { asked.address ≡ address_of request }
         requires asked { MayGoOver self.old.cycle.core.value self.old.lines.links.numbers.items self.old.lines.found_on.items link asked.aim asked.device request }
         ensures sent { self.new.sent ≡ self.old.sent }
-        ensures links { self.new.lines.links ≡ self.old.lines.links }
+        ensures rest { Stays self.old self.new }
         ensures lines { LinesGo self.old.lines.lines.items self.new.lines.lines.items }
         ensures goes { LeadsOn self.old.cycle self.new.cycle }
-        ensures places { self.new.places.items ≡ self.old.places.items }
-        ensures time { StaysAt self.old self.new }
+        ensures no_more { HasNoMore self.old.sent self.new.sent }
         ensures stands { Goes self.old.side self.new.side }
     {
         self.lines.begin(link, asked, request);

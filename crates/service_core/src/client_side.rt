@@ -1,5 +1,5 @@
 //! The clients' side.
-ghost use Rattle.std.specs.Prelude.{◌≡◌, ◌≤◌, ◌<◌, ◌↔◌, [], length, max, take, slice_get, Some, IfNone, IfSome, IsTrue, false};
+ghost use Rattle.std.specs.Prelude.{◌≡◌, ◌≤◌, ◌<◌, ◌↔◌, [], length, take, slice_get, Some, IfNone, IfSome, IsTrue, false};
 ghost use Rattle.service_core.specs.Told.{Goes};
 ghost use Rattle.service_core.specs.Cycle.{ClientsLeadOn};
 ghost use Rattle.service_parts.specs.declared.client_place.ClientPlace.{ClientPlace as Place};
@@ -20,6 +20,7 @@ impl Service {
         ensures links { self.new.lines.links ≡ self.old.lines.links }
         ensures lines { self.new.lines ≡ self.old.lines }
         ensures core { self.new.cycle.core.value ≡ self.old.cycle.core.value }
+        ensures sent { self.new.sent ≡ self.old.sent }
         ensures time { TurnsTo now self.old self.new }
         ensures stands { Goes self.old.side self.new.side }
         ensures given { result ≡ given_place self.new.side.now self.old.places.items }
@@ -40,6 +41,7 @@ impl Service {
         ensures lines { self.new.lines ≡ self.old.lines }
         ensures core { self.new.cycle.core.value ≡ self.old.cycle.core.value }
         ensures gone { DoesAt (λ c d. d.is_taken ≡ false) self.old.places.items place self.new.places.items }
+        ensures sent { self.new.sent ≡ self.old.sent }
         ensures time { StaysAt self.old self.new }
         ensures stands { Goes self.old.side self.new.side }
     {
@@ -54,6 +56,7 @@ impl Service {
         ensures links { self.new.lines.links ≡ self.old.lines.links }
         ensures lines { self.new.lines ≡ self.old.lines }
         ensures goes { ClientsLeadOn self.old.cycle self.new.cycle }
+        ensures sent { self.new.sent ≡ self.old.sent }
         ensures time { TurnsTo now self.old self.new }
         ensures stands { Goes self.old.side self.new.side }
         ensures used { result ≤ length bytes.now }
@@ -99,6 +102,7 @@ impl Service {
         ensures lines { self.new.lines ≡ self.old.lines }
         ensures core { self.new.cycle.core.value ≡ self.old.cycle.core.value }
         ensures sends { DoesAt (λ c d. Sends c n d) self.old.places.items place self.new.places.items }
+        ensures sent { self.new.sent ≡ self.old.sent }
         ensures time { StaysAt self.old self.new }
         ensures stands { Goes self.old.side self.new.side }
     {

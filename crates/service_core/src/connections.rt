@@ -1,5 +1,5 @@
 //! Connections to devices, and what comes over them.
-ghost use Rattle.std.specs.Prelude.{◌≡◌, ◌+◌, ◌<◌, ◌^◌, ◌↔◌, ℕ, IsTrue, None, Some, max, set, slice_get, take, true};
+ghost use Rattle.std.specs.Prelude.{◌≡◌, ◌+◌, ◌<◌, ◌^◌, ◌↔◌, ℕ, IsTrue, None, Some, set, slice_get, take, true};
 ghost use Rattle.site_model.specs.Readings.{known_at};
 ghost use Rattle.service_parts.specs.declared.line.Line.{Line as LineValue};
 ghost use Rattle.service_parts.specs.Frames.{LinesGo, OthersGo};
@@ -11,7 +11,9 @@ ghost use Rattle.service_core.specs.Told.{Goes, LosesBy};
 ghost use Rattle.service_core.specs.Connections.{GoesAfterSent, GoesFromCut, Hears};
 ghost use Rattle.service_core.specs.Cycle.{DevicesLeadOn, LeadsOn};
 ghost use Rattle.service_core.specs.Rewriting.{is_of};
-ghost use Rattle.service_core.specs.Timing.{StaysAt, TurnsTo};
+ghost use Rattle.service_core.specs.Timing.{TurnsTo};
+ghost use Rattle.service_core.specs.Having.{HasNoMore, TellsHad, WritesHad};
+ghost use Rattle.service_core.specs.Staying.{Stays};
 
 use crate::note::Loss;
 use crate::service_state::Service;
@@ -19,7 +21,7 @@ use crate::service_state::Service;
 impl Service {
     /// Whether a connection is to be made: it is down, no dial is under way, and its back-off is over.
     pub fn wants_dial(&self, link: usize) -> bool
-        ensures { (line : LineValue) → slice_get self.now.lines.lines.items link ≡ Some line → IsTrue result ↔ IsToDial self.now.side.now line.wire }
+        ensures { (line : LineValue) → slice_get self.now.lines.lines.items link ≡ Some line → IsTrue result ↔ IsToDial self.now.side.now line }
     {
         self.lines.wants_dial(link, self.side.now)
     }
@@ -29,6 +31,7 @@ impl Service {
         ensures links { self.new.lines.links ≡ self.old.lines.links }
         ensures lines { LinesGo self.old.lines.lines.items self.new.lines.lines.items }
         ensures core { self.new.cycle.core.value ≡ self.old.cycle.core.value }
+        ensures sent { self.new.sent ≡ self.old.sent }
         ensures places { self.new.places.items ≡ self.old.places.items }
         ensures time { TurnsTo now self.old self.new }
         ensures stands { Goes self.old.side self.new.side }
@@ -46,9 +49,10 @@ impl Service {
             → GoesFromCut link self.new.lines.lines.items }
         ensures next { (number : ℕ) → slice_get self.old.lines.links.numbers.items link ≡ Some number → number + 1 < 2 ^ 64
             → self.new.lines.links.numbers.items ≡ set self.old.lines.links.numbers.items link (number + 1) }
+        ensures sent { HasNoMore self.old.sent self.new.sent }
         ensures places { self.new.places.items ≡ self.old.places.items }
         ensures time { TurnsTo now self.old self.new }
-        ensures stands { Goes self.old.side self.new.side }
+        ensures stands { WritesHad self.old.sent self.old.side self.new.side }
     {
         self.side.turn_to(now);
         if self.lines.come_up(link) {
@@ -58,12 +62,11 @@ impl Service {
 
     /// A link has a new connection: what was known of its devices isn't known any more.
     fn begin_anew(&mut self, link: usize)
-        ensures links { self.new.lines.links ≡ self.old.lines.links }
+        ensures rest { Stays self.old self.new }
         ensures lines { LinesGo self.old.lines.lines.items self.new.lines.lines.items }
         ensures goes { LeadsOn self.old.cycle self.new.cycle }
-        ensures places { self.new.places.items ≡ self.old.places.items }
-        ensures time { StaysAt self.old self.new }
-        ensures stands { Goes self.old.side self.new.side }
+        ensures sent { HasNoMore self.old.sent self.new.sent }
+        ensures stands { WritesHad self.old.sent self.old.side self.new.side }
     {
         self.forget_all(link);
         self.side.begin_link(link);
@@ -72,11 +75,10 @@ impl Service {
 
     fn forget_all(&mut self, link: usize)
         ensures noted { self.new.lines.found_on ≡ self.old.lines.found_on }
-        ensures links { self.new.lines.links ≡ self.old.lines.links }
+        ensures rest { Stays self.old self.new }
         ensures lines { LinesGo self.old.lines.lines.items self.new.lines.lines.items }
         ensures goes { LeadsOn self.old.cycle self.new.cycle }
-        ensures places { self.new.places.items ≡ self.old.places.items }
-        ensures time { StaysAt self.old self.new }
+        ensures sent { HasNoMore self.old.sent self.new.sent }
         ensures stands { Goes self.old.side self.new.side }
     {
         for device in 0..self.cycle.devices() {
@@ -93,9 +95,10 @@ impl Service {
         ensures others { OthersGo link self.old.lines.lines.items self.new.lines.lines.items }
         ensures ends { (line : LineValue) → slice_get self.old.lines.lines.items link ≡ Some line → GoesFromCut link self.new.lines.lines.items }
         ensures goes { LeadsOn self.old.cycle self.new.cycle }
+        ensures sent { HasNoMore self.old.sent self.new.sent }
         ensures places { self.new.places.items ≡ self.old.places.items }
         ensures time { TurnsTo now self.old self.new }
-        ensures stands { LosesBy (AreLost self.old.lines.links.stations.items link down) self.old.side self.new.side }
+        ensures stands { TellsHad (AreLost self.old.lines.links.stations.items link down) self.old.sent self.old.side self.new.side }
     {
         self.side.turn_to(now);
         let is_idle = self.lines.is_idle(link);
@@ -106,11 +109,10 @@ impl Service {
 
     /// All devices of a connection are lost, unless it ended while nothing was under way.
     fn lose_unless(&mut self, is_idle: bool, link: usize)
-        ensures links { self.new.lines.links ≡ self.old.lines.links }
+        ensures rest { Stays self.old self.new }
         ensures lines { LinesGo self.old.lines.lines.items self.new.lines.lines.items }
         ensures goes { LeadsOn self.old.cycle self.new.cycle }
-        ensures places { self.new.places.items ≡ self.old.places.items }
-        ensures time { StaysAt self.old self.new }
+        ensures sent { HasNoMore self.old.sent self.new.sent }
         ensures same { self.new.lines ≡ self.old.lines }
         ensures stands { LosesBy (AreLost self.old.lines.links.stations.items link down) self.old.side self.new.side }
     {
@@ -121,7 +123,7 @@ impl Service {
 
     /// Whether a connection is to be closed, or its dial to be given up, and told as down.
     pub fn wants_hang_up(&self, link: usize) -> bool
-        ensures { (line : LineValue) → slice_get self.now.lines.lines.items link ≡ Some line → IsTrue result ↔ IsToHangUp self.now.side.now line.wire }
+        ensures { (line : LineValue) → slice_get self.now.lines.lines.items link ≡ Some line → IsTrue result ↔ IsToHangUp self.now.side.now line }
     {
         self.lines.wants_hang_up(link, self.side.now)
     }
@@ -129,26 +131,26 @@ impl Service {
     /// Bytes of a connection; how many of them were used. The rest is to be given again. Of what they answer the core is told
     /// as of the request that is under way there, and of no other.
     pub fn from_link(&mut self, link: usize, bytes: &[u8], now: u64) -> usize
-        ensures hears { (line : LineValue) → slice_get self.old.lines.lines.items link ≡ Some line → Hears self.old.lines.links.stations.items link line (take result bytes.now) self.old.cycle self.new.cycle self.old.side self.new.side self.new.lines.lines.items }
+        ensures hears { (line : LineValue) → slice_get self.old.lines.lines.items link ≡ Some line → Hears link line (take result bytes.now) self.old self.new }
         ensures links { self.new.lines.links ≡ self.old.lines.links }
         ensures others { OthersGo link self.old.lines.lines.items self.new.lines.lines.items }
         ensures goes { DevicesLeadOn self.old.cycle self.new.cycle }
+        ensures sent { slice_get self.old.lines.lines.items link ≡ None → HasNoMore self.old.sent self.new.sent }
         ensures places { self.new.places.items ≡ self.old.places.items }
         ensures time { TurnsTo now self.old self.new }
-        ensures stands { slice_get self.old.lines.lines.items link ≡ None → Goes self.old.side self.new.side }
+        ensures stands { slice_get self.old.lines.lines.items link ≡ None → WritesHad self.old.sent self.old.side self.new.side }
     {
         self.side.turn_to(now);
         self.hear(link, bytes)
     }
 
     fn hear(&mut self, link: usize, bytes: &[u8]) -> usize
-        ensures hears { (line : LineValue) → slice_get self.old.lines.lines.items link ≡ Some line → Hears self.old.lines.links.stations.items link line (take result bytes.now) self.old.cycle self.new.cycle self.old.side self.new.side self.new.lines.lines.items }
-        ensures links { self.new.lines.links ≡ self.old.lines.links }
+        ensures hears { (line : LineValue) → slice_get self.old.lines.lines.items link ≡ Some line → Hears link line (take result bytes.now) self.old self.new }
+        ensures rest { Stays self.old self.new }
         ensures others { OthersGo link self.old.lines.lines.items self.new.lines.lines.items }
         ensures goes { DevicesLeadOn self.old.cycle self.new.cycle }
-        ensures places { self.new.places.items ≡ self.old.places.items }
-        ensures time { StaysAt self.old self.new }
-        ensures stands { slice_get self.old.lines.lines.items link ≡ None → Goes self.old.side self.new.side }
+        ensures sent { slice_get self.old.lines.lines.items link ≡ None → HasNoMore self.old.sent self.new.sent }
+        ensures stands { slice_get self.old.lines.lines.items link ≡ None → WritesHad self.old.sent self.old.side self.new.side }
     {
         let asked = self.lines.asked(link);
         let (used, fate) = self.lines.take(link, bytes);
@@ -171,13 +173,12 @@ impl Service {
     /// So many bytes are written to a connection, and the rest of them waits. Once a request is written whole, what came
     /// before is looked at.
     pub fn sent_to_link(&mut self, link: usize, n: usize)
-        ensures sends { (line : LineValue) → slice_get self.old.lines.lines.items link ≡ Some line → GoesAfterSent self.old.lines.links.stations.items link n line self.old.cycle self.new.cycle self.old.side self.new.side self.new.lines.lines.items }
-        ensures links { self.new.lines.links ≡ self.old.lines.links }
+        ensures sends { (line : LineValue) → slice_get self.old.lines.lines.items link ≡ Some line → GoesAfterSent link n line self.old self.new }
+        ensures rest { Stays self.old self.new }
         ensures others { OthersGo link self.old.lines.lines.items self.new.lines.lines.items }
         ensures goes { DevicesLeadOn self.old.cycle self.new.cycle }
-        ensures places { self.new.places.items ≡ self.old.places.items }
-        ensures time { StaysAt self.old self.new }
-        ensures stands { slice_get self.old.lines.lines.items link ≡ None → Goes self.old.side self.new.side }
+        ensures sent { slice_get self.old.lines.lines.items link ≡ None → HasNoMore self.old.sent self.new.sent }
+        ensures stands { slice_get self.old.lines.lines.items link ≡ None → WritesHad self.old.sent self.old.side self.new.side }
     {
         self.lines.sent(link, n);
         if self.lines.is_asked(link) {
@@ -191,11 +192,10 @@ impl Service {
     /// A device's map is forgotten, and it is searched from now on.
     pub(crate) fn forget(&mut self, device: usize)
         ensures noted { self.new.lines.found_on ≡ self.old.lines.found_on }
-        ensures links { self.new.lines.links ≡ self.old.lines.links }
+        ensures rest { Stays self.old self.new }
         ensures lines { LinesGo self.old.lines.lines.items self.new.lines.lines.items }
         ensures goes { LeadsOn self.old.cycle self.new.cycle }
-        ensures places { self.new.places.items ≡ self.old.places.items }
-        ensures time { StaysAt self.old self.new }
+        ensures sent { HasNoMore self.old.sent self.new.sent }
         ensures forgotten { (i : ℕ) → is_of device (known_at self.old.sent.writes.items i) ≡ true → known_at self.new.sent.taken.items i ≡ None }
         ensures writes { self.new.sent.writes ≡ self.old.sent.writes }
         ensures stands { Goes self.old.side self.new.side }
@@ -209,11 +209,10 @@ impl Service {
 
     /// All devices of a connection are lost.
     pub(crate) fn lose_all(&mut self, link: usize, loss: Loss)
-        ensures links { self.new.lines.links ≡ self.old.lines.links }
+        ensures rest { Stays self.old self.new }
         ensures lines { LinesGo self.old.lines.lines.items self.new.lines.lines.items }
         ensures goes { LeadsOn self.old.cycle self.new.cycle }
-        ensures places { self.new.places.items ≡ self.old.places.items }
-        ensures time { StaysAt self.old self.new }
+        ensures sent { HasNoMore self.old.sent self.new.sent }
         ensures same { self.new.lines ≡ self.old.lines }
         ensures stands { LosesBy (AreLost self.old.lines.links.stations.items link loss) self.old.side self.new.side }
     {
@@ -226,11 +225,10 @@ impl Service {
 
     /// A device is lost: nothing more is written to it, and nothing is known of it any more.
     pub(crate) fn lose(&mut self, device: usize, loss: Loss)
-        ensures links { self.new.lines.links ≡ self.old.lines.links }
+        ensures rest { Stays self.old self.new }
         ensures lines { LinesGo self.old.lines.lines.items self.new.lines.lines.items }
         ensures goes { LeadsOn self.old.cycle self.new.cycle }
-        ensures places { self.new.places.items ≡ self.old.places.items }
-        ensures time { StaysAt self.old self.new }
+        ensures sent { HasNoMore self.old.sent self.new.sent }
         ensures same { self.new.lines ≡ self.old.lines }
         ensures forgotten { (i : ℕ) → is_of device (known_at self.old.sent.writes.items i) ≡ true → known_at self.new.sent.taken.items i ≡ None }
         ensures writes { self.new.sent.writes ≡ self.old.sent.writes }

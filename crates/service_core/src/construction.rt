@@ -7,8 +7,10 @@ ghost use Rattle.gateway.specs.event_core.SiteRun.{none_of};
 ghost use Rattle.service_parts.specs.Requests.{AreRightfulBy};
 ghost use Rattle.service_parts.specs.Seeking.{AreOf};
 ghost use Rattle.service_core.specs.Cycle.{stage_of};
+ghost use Rattle.service_core.specs.Having.{HasNothing};
 ghost use Rattle.service_core.specs.Rounds.{IsRoundFor, IsUntold};
 ghost use Rattle.service_core.specs.Stages.{IsFirst};
+ghost use Rattle.service_core.specs.Timing.{Starts};
 
 use crate::device::Device;
 use crate::device_side::DeviceSide;
@@ -46,8 +48,8 @@ impl Service {
         ensures matched { OnOk result (HasLinks site.tags machine.accepted.links) }
         ensures stations { IfOk result (λ service. service.lines.links.stations.items ≡ stations.now) }
         ensures numbers { IfOk result (λ service. service.lines.links.numbers.items ≡ replicate links 0) }
-        ensures limits { IfOk result (λ service. service.side.limits ≡ limits) }
-        ensures time { IfOk result (λ service. service.side.now ≡ now) }
+        ensures starts { IfOk result (λ service. Starts now limits service.side) }
+        ensures nothing { IfOk result (λ service. HasNothing service.sent) }
         ensures places { IfOk result (λ service. length service.places.items ≡ limits.clients) }
         ensures foreign { IfErr result (λ e. e ≡ Foreign → HasLinks site.tags machine.accepted.links → ⊥) }
     {
@@ -90,8 +92,8 @@ fn parts_of(
     ensures rightful { IfOk result (λ parts. (now : Gateway) → AreRightfulBy now parts.peers.lines) }
     ensures stations { IfOk result (λ parts. parts.peers.lines.links.stations.items ≡ stations.now) }
     ensures numbers { IfOk result (λ parts. parts.peers.lines.links.numbers.items ≡ replicate links 0) }
-    ensures limits { IfOk result (λ parts. parts.peers.side.limits ≡ limits) }
-    ensures time { IfOk result (λ parts. parts.peers.side.now ≡ now) }
+    ensures starts { IfOk result (λ parts. Starts now limits parts.peers.side) }
+    ensures nothing { IfOk result (λ parts. HasNothing parts.sent) }
     ensures places { IfOk result (λ parts. length parts.peers.places.items ≡ limits.clients) }
 {
     let maps = no_maps(alloc, site.devices())?;
@@ -130,8 +132,7 @@ fn peers_of(
     ensures rightful { IfOk result (λ peers. (now : Gateway) → AreRightfulBy now peers.lines) }
     ensures stations { IfOk result (λ peers. peers.lines.links.stations.items ≡ stations.now) }
     ensures numbers { IfOk result (λ peers. peers.lines.links.numbers.items ≡ replicate links 0) }
-    ensures limits { IfOk result (λ peers. peers.side.limits ≡ limits) }
-    ensures time { IfOk result (λ peers. peers.side.now ≡ now) }
+    ensures starts { IfOk result (λ peers. Starts now limits peers.side) }
     ensures places { IfOk result (λ peers. length peers.places.items ≡ limits.clients) }
 {
     let lines = Lines::new(alloc, links, stations, site.devices().len())?;
@@ -152,8 +153,7 @@ fn device_side(
     limits: Limits,
     now: u64,
 ) -> Result<DeviceSide, AllocError>
-    ensures limits { IfOk result (λ side. side.limits ≡ limits) }
-    ensures time { IfOk result (λ side. side.now ≡ now) }
+    ensures starts { IfOk result (λ side. Starts now limits side) }
 {
     let devices = devices_of(alloc, site.devices().len())?;
     let outputs = outputs_of(alloc, site.outs())?;

@@ -1,13 +1,13 @@
 //! The devices' side of a service, apart from its core and its connections: devices, outputs, and the times of scans.
-ghost use Rattle.std.specs.Prelude.{◌≡◌, ◌≤◌, ◌<◌, ℕ, Bool, IsTrue, Option, Some, true, length, max, slice_get, nat_le};
+ghost use Rattle.std.specs.Prelude.{◌≡◌, ◌≤◌, ◌<◌, ℕ, Bool, Option, Some, true, length, max, slice_get, nat_le};
 ghost use Rattle.service_core.specs.declared.device.Device.{Device as DeviceValue};
 ghost use Rattle.service_core.specs.Counting.{asked_once_more, counts_at};
 ghost use Rattle.service_core.specs.Noting.{Finds, HearsFrom, Loses, Refuses};
 ghost use Rattle.service_core.specs.Telling.{told_at};
 ghost use Rattle.service_core.specs.declared.output.OutputState.{OutputState as StateValue};
 ghost use Rattle.service_core.specs.Losing.{IsLost};
-ghost use Rattle.service_core.specs.Told.{Goes, LosesBy, Losses, allows, lost_then, note_of, state_then};
-ghost use Rattle.service_core.specs.Timing.{CountsScan, KeepsTime, PlansScan, not_over, planned_from, scan_after, so_much_later};
+ghost use Rattle.service_core.specs.Told.{Allowed, Goes, IsWrittenBy, LosesBy, WritesBy, allows, lost_then, note_of, state_then};
+ghost use Rattle.service_core.specs.Timing.{CountsScan, KeepsTime, PlansScan, not_over, planned_from, scan_after};
 
 use crate::device::Device;
 use crate::link_pace::LinkPace;
@@ -113,7 +113,7 @@ impl DeviceSide {
     /// Tells what is no loss of a device, and nothing of an output.
     #[tactic(auto, using(crate::proofs::ByNotes::other_goes))]
     fn tell(&mut self, note: Note)
-        requires allowed { (may : Losses) → allows may note ≡ true }
+        requires allowed { (may : Allowed) → allows may note ≡ true }
         requires device { (device : ℕ) (was : Bool) → lost_then note device was ≡ was }
         requires output { (output : ℕ) (was : Option StateValue) → state_then note output was ≡ was }
         ensures time { KeepsTime self.old self.new }
@@ -324,10 +324,7 @@ impl DeviceSide {
     {
         match plan {
             Ok(_) => self.await_write(output, is_open),
-            Err(cause) => {
-                let state = OutputState::Unwritten(Unwritten::NoSetPoint(*cause));
-                self.settle_output(output, state);
-            }
+            Err(cause) => self.leave_unwritten(output, Unwritten::NoSetPoint(*cause)),
         }
     }
 
@@ -344,13 +341,21 @@ impl DeviceSide {
     pub(crate) fn settle_output(&mut self, output: usize, state: OutputState)
         ensures state { output < length self.old.outputs.items → told_at self.new.outputs.items output ≡ Some state }
         ensures time { KeepsTime self.old self.new }
-        ensures stands { Goes self.old self.new }
+        ensures stands { WritesBy (IsWrittenBy output state) self.old self.new }
     {
         if let Some(found) = self.outputs.get_mut(output) {
             if found.settle(state) {
                 self.notes.add(note_of(output, state));
             }
         }
+    }
+
+    /// An output isn't written, for this; it is told where it is new.
+    fn leave_unwritten(&mut self, output: usize, cause: Unwritten)
+        ensures time { KeepsTime self.old self.new }
+        ensures stands { Goes self.old self.new }
+    {
+        self.settle_output(output, OutputState::Unwritten(cause));
     }
 
     /// A write went out, and this came of it.
@@ -384,8 +389,7 @@ impl DeviceSide {
         self.end_writing();
         for output in 0..self.outputs.len() {
             if self.is_awaited(output) && !round.is_open(output) {
-                let state = OutputState::Unwritten(Unwritten::Unanswered);
-                self.settle_output(output, state);
+                self.leave_unwritten(output, Unwritten::Unanswered);
             }
         }
         self.tell(Note::Scanned(report));

@@ -1,14 +1,15 @@
 //! What a device has isn't written to it again for a while.
 ghost use Rattle.std.specs.Prelude.{◌≡◌, ◌*◌, IfSome, None, Some};
 ghost use Rattle.modbus_frame.specs.Message.{HasQuantity};
-ghost use Rattle.service_core.specs.Told.{Goes};
-ghost use Rattle.service.specs.declared.fate.Fate.TheVariants.{Lost};
+ghost use Rattle.service_core.specs.Told.{WritesBy};
 ghost use Rattle.service_core.specs.Cycle.{LeadsOn, stage_of};
 ghost use Rattle.service_core.specs.LeftOut.{GivesDue, held_by};
 ghost use Rattle.service_core.specs.Stages.{Ends};
 ghost use Rattle.service_core.specs.Rewriting.{held_output, kept_for};
 ghost use Rattle.service_parts.specs.Requests.{IsOfRound};
-ghost use Rattle.service_core.specs.Timing.{StaysAt};
+ghost use Rattle.service_core.specs.Staying.{Stays};
+ghost use Rattle.service_core.specs.Having.{HasNoMore, WritesHad};
+ghost use Rattle.service_parts.specs.Frames.{LinesGo};
 
 use crate::output::OutputState;
 use crate::sent_writes::Intended;
@@ -27,10 +28,11 @@ impl Service {
         ensures left_out { GivesDue device (held_by self.old.sent device number self.old.side.now) result (stage_of self.old.cycle) (stage_of self.new.cycle) }
         ensures same_lines { self.new.lines ≡ self.old.lines }
         ensures sent { self.new.sent ≡ self.old.sent }
+        ensures rest { Stays self.old self.new }
+        ensures lines { LinesGo self.old.lines.lines.items self.new.lines.lines.items }
         ensures goes { LeadsOn self.old.cycle self.new.cycle }
-        ensures places { self.new.places.items ≡ self.old.places.items }
-        ensures time { StaysAt self.old self.new }
-        ensures stands { Goes self.old.side self.new.side }
+        ensures no_more { HasNoMore self.old.sent self.new.sent }
+        ensures stands { WritesHad self.old.sent self.old.side self.new.side }
     {
         for _ in 0..self.cycle.round().outputs() {
             let Some(wish) = self.cycle.next_write(device) else {
@@ -79,10 +81,11 @@ impl Service {
         ensures ends { Ends device (stage_of self.old.cycle) (stage_of self.new.cycle) }
         ensures same_lines { self.new.lines ≡ self.old.lines }
         ensures sent { self.new.sent ≡ self.old.sent }
+        ensures rest { Stays self.old self.new }
+        ensures lines { LinesGo self.old.lines.lines.items self.new.lines.lines.items }
         ensures goes { LeadsOn self.old.cycle self.new.cycle }
-        ensures places { self.new.places.items ≡ self.old.places.items }
-        ensures time { StaysAt self.old self.new }
-        ensures stands { Goes self.old.side self.new.side }
+        ensures no_more { HasNoMore self.old.sent self.new.sent }
+        ensures stands { WritesBy (λ which. which ≡ output) self.old.side self.new.side }
     {
         self.cycle.drop_write(device);
         self.side.wrote(true);

@@ -91,13 +91,6 @@ pub fn none_told(alloc: Global, wants: &[Want]) -> Result<Vec<LastTold>, AllocEr
         .collect(alloc)
 }
 
-/// Whether all are recent.
-pub fn are_recent(told: &[LastTold]) -> bool
-    ensures { IsTrue result ↔ All IsRecent told.now }
-{
-    told.iter().all(|last| last.is_recent())
-}
-
 /// Whether each wanted block of the device was told since its outputs were planned last.
 pub fn is_ready(told: &[LastTold], device: usize) -> bool
     ensures { result ≡ is_ready told.now device }

@@ -1,5 +1,5 @@
 //! What was told of an output.
-ghost use Rattle.std.specs.Prelude.{◌≡◌, Some, false, true};
+ghost use Rattle.std.specs.Prelude.{◌≡◌, Some, false};
 
 use crate::note::Unwritten;
 

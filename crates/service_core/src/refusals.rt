@@ -1,6 +1,5 @@
 //! What a device refuses.
 ghost use Rattle.std.specs.Prelude.{◌≡◌, [], ◌++◌, ◌∷◌, None, Some};
-ghost use Rattle.std.specs.List.{list_any};
 ghost use Rattle.service_core.specs.Refusing.{exception_at, is_known, is_more, is_same, refusal_by, with_refusal};
 
 use arrayvec::ArrayVec;

@@ -3,8 +3,9 @@ ghost use Rattle.std.specs.Prelude.{◌≡◌, IsTrue, Some, false, slice_set};
 ghost use Rattle.gateway.specs.event_core.Control.{after_wait};
 ghost use Rattle.gateway.specs.event_core.Restoring.{NothingSets};
 ghost use Rattle.service_core.specs.Told.{Goes};
-ghost use Rattle.service_core.specs.Cycle.{ClientsLeadOn, LeadsOn};
-ghost use Rattle.service_core.specs.Timing.{StaysAt};
+ghost use Rattle.service_core.specs.Cycle.{ClientsLeadOn, stage_of};
+ghost use Rattle.service_core.specs.Stages.{Waits};
+ghost use Rattle.service_core.specs.Staying.{Stays};
 
 use crate::service_state::Service;
 
@@ -13,7 +14,7 @@ impl Service {
     /// some client's write does so. Where none does nothing changes: the site has no such `set` tag, or no words of its
     /// point read as the number, exactly and in its range.
     pub fn restore(&mut self, tag: usize, number: i64) -> bool
-        ensures links { self.new.lines.links ≡ self.old.lines.links }
+        ensures rest { Stays self.old self.new }
         ensures lines { self.new.lines ≡ self.old.lines }
         ensures goes { ClientsLeadOn self.old.cycle self.new.cycle }
         ensures sets { IsTrue result → self.new.cycle.core.value.standing
@@ -22,8 +23,7 @@ impl Service {
               ages = slice_set self.old.cycle.core.value.standing.ages tag (Some 0);
             } }
         ensures refused { result ≡ false → (self.new.cycle.core.value ≡ self.old.cycle.core.value) × NothingSets self.old.cycle.core.value.site tag number }
-        ensures places { self.new.places.items ≡ self.old.places.items }
-        ensures time { StaysAt self.old self.new }
+        ensures sent { self.new.sent ≡ self.old.sent }
         ensures stands { Goes self.old.side self.new.side }
     {
         self.cycle.restore(tag, number)
@@ -31,12 +31,11 @@ impl Service {
 
     /// So many milliseconds went by since what was set so far: it is older by them, and lapses where that is its time.
     pub fn pass(&mut self, elapsed: u32)
-        ensures links { self.new.lines.links ≡ self.old.lines.links }
+        ensures rest { Stays self.old self.new }
         ensures lines { self.new.lines ≡ self.old.lines }
-        ensures goes { LeadsOn self.old.cycle self.new.cycle }
+        ensures waits { Waits elapsed (stage_of self.old.cycle) (stage_of self.new.cycle) }
         ensures passed { self.new.cycle.core.value ≡ after_wait elapsed self.old.cycle.core.value }
-        ensures places { self.new.places.items ≡ self.old.places.items }
-        ensures time { StaysAt self.old self.new }
+        ensures sent { self.new.sent ≡ self.old.sent }
         ensures stands { Goes self.old.side self.new.side }
     {
         self.cycle.pass(elapsed);

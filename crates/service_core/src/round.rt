@@ -10,7 +10,7 @@ ghost use Rattle.service_core.specs.Running.{ScansAfter};
 ghost use Rattle.service_core.specs.declared.last_told.LastTold.{LastTold as LastToldValue};
 ghost use Rattle.service_core.specs.Rounds.{ArePlanned, Closes, IsRecent, IsRoundFor, IsSendable, IsUnderWay, IsUntold, Opens, after_scan, age_of, is_ready, is_untold, since, skipped, task_of, told_at};
 
-use crate::last_told::{LastTold, age, age_of, are_recent, is_ready, none_told, untold};
+use crate::last_told::{LastTold, age, age_of, is_ready, none_told, untold};
 use gateway::{Call, Core, DEPTH, Event, MOST_ELAPSED, write_of};
 use point_writer::{NoWrite, Write};
 use service::{Mark, Task, Tasks};
@@ -172,13 +172,6 @@ impl Round {
         ensures { IsTrue result ↔ All IsDone self.now.writes }
     {
         self.writes.are_done()
-    }
-
-    /// Whether each wanted block was told lately, so that the program may run.
-    pub fn are_recent(&self) -> bool
-        ensures { IsTrue result ↔ All IsRecent self.now.told }
-    {
-        are_recent(&self.told)
     }
 
     /// Runs the program once, at this time: what it set is to be written to the devices that are ready. The core is told before

@@ -1,45 +1,49 @@
 //! Scans, by the time.
-ghost use Rattle.std.specs.Prelude.{◌≡◌, All, map, max};
+ghost use Rattle.std.specs.Prelude.{◌≡◌, All, map, max, nat_le};
 ghost use Rattle.service_core.specs.Losing.{LostByWait};
-ghost use Rattle.service_core.specs.Told.{Goes, LosesBy};
-ghost use Rattle.service_core.specs.Cycle.{LeadsOn};
+ghost use Rattle.service_core.specs.Told.{Goes};
+ghost use Rattle.service_core.specs.Cycle.{LeadsOn, stage_of};
 ghost use Rattle.service_parts.specs.Frames.{LinesGo};
 ghost use Rattle.service_parts.specs.Places.{closed_if_idle};
-ghost use Rattle.service_core.specs.Timing.{RunsNow, ScansNow, StaysAt, Ticks};
+ghost use Rattle.service_core.specs.Timing.{RunsNow, ScansNow, Ticks};
 ghost use Rattle.service_core.specs.Rounds.{IsRecent};
+ghost use Rattle.service_core.specs.Stages.{RunsIf, RunsOnce, Scans};
+ghost use Rattle.service_core.specs.Having.{HasNoMore, TellsHad, WritesHad};
+ghost use Rattle.service_core.specs.Staying.{Stays};
 
 use crate::service_state::Service;
 use gateway::Report;
 use service_parts::close_idle;
 
 impl Service {
-    /// The time is this: ends waits, runs the program where that is due. It is to be called after each wait.
-    #[tactic(auto, using(crate::proofs::Timing::ticks_ran, crate::proofs::Timing::ticks_rested))]
+    /// The time is this: ends waits, and runs the program once where that is due. It is to be called after each wait.
+    #[tactic(auto, using(crate::proofs::Timing::ticks_ran, crate::proofs::Timing::ticks_rested, crate::proofs::Courses::rests_where))]
     pub fn tick(&mut self, now: u64)
         ensures links { self.new.lines.links ≡ self.old.lines.links }
         ensures lines { LinesGo self.old.lines.lines.items self.new.lines.lines.items }
-        ensures goes { LeadsOn self.old.cycle self.new.cycle }
+        ensures goes { RunsIf (nat_le self.old.side.next_scan (max self.old.side.now now)) (max self.old.side.now now) (stage_of self.old.cycle) (stage_of self.new.cycle) }
+        ensures sent { HasNoMore self.old.sent self.new.sent }
         ensures places { self.new.places.items ≡ map (closed_if_idle (max self.old.side.now now) self.old.side.limits.idle) self.old.places.items }
         ensures time { Ticks now self.old self.new }
-        ensures stands { LosesBy (LostByWait self.old.lines.links.stations.items self.old.lines.lines.items (max self.old.side.now now)) self.old.side self.new.side }
+        ensures stands { TellsHad (LostByWait self.old.lines.links.stations.items self.old.lines.lines.items (max self.old.side.now now)) self.old.sent self.old.side self.new.side }
     {
         self.side.turn_to(now);
         close_idle(&mut self.places, self.side.now, self.side.limits.idle);
         self.end_waits();
         if self.side.is_due() {
             self.scan();
+        } else {
+            self.go_on();
         }
-        self.go_on();
     }
 
     /// Asks what can be asked, and tells what the last scan came to once all of it is written.
     pub(crate) fn go_on(&mut self)
-        ensures links { self.new.lines.links ≡ self.old.lines.links }
+        ensures rest { Stays self.old self.new }
         ensures lines { LinesGo self.old.lines.lines.items self.new.lines.lines.items }
         ensures goes { LeadsOn self.old.cycle self.new.cycle }
-        ensures places { self.new.places.items ≡ self.old.places.items }
-        ensures time { StaysAt self.old self.new }
-        ensures stands { Goes self.old.side self.new.side }
+        ensures sent { HasNoMore self.old.sent self.new.sent }
+        ensures stands { WritesHad self.old.sent self.old.side self.new.side }
     {
         self.ask_all();
         if self.cycle.is_complete() {
@@ -49,11 +53,10 @@ impl Service {
 
     /// Tells what the last scan came to, where that wasn't told yet.
     fn finish(&mut self)
-        ensures links { self.new.lines.links ≡ self.old.lines.links }
+        ensures rest { Stays self.old self.new }
         ensures lines { LinesGo self.old.lines.lines.items self.new.lines.lines.items }
         ensures goes { LeadsOn self.old.cycle self.new.cycle }
-        ensures places { self.new.places.items ≡ self.old.places.items }
-        ensures time { StaysAt self.old self.new }
+        ensures sent { HasNoMore self.old.sent self.new.sent }
         ensures stands { Goes self.old.side self.new.side }
     {
         if self.side.is_writing {
@@ -72,14 +75,15 @@ impl Service {
         }
     }
 
-    /// Runs the program at its time, whatever was read: a block that was told too many scans ago isn't known any more.
+    /// Runs the program at its time, whatever was read, and goes on: a block that was told too many scans ago isn't known any more.
     fn scan(&mut self)
         ensures links { self.new.lines.links ≡ self.old.lines.links }
         ensures lines { LinesGo self.old.lines.lines.items self.new.lines.lines.items }
-        ensures goes { LeadsOn self.old.cycle self.new.cycle }
+        ensures runs { RunsOnce self.old.side.now (stage_of self.old.cycle) (stage_of self.new.cycle) }
+        ensures sent { HasNoMore self.old.sent self.new.sent }
         ensures places { self.new.places.items ≡ self.old.places.items }
         ensures time { ScansNow self.old self.new }
-        ensures stands { Goes self.old.side self.new.side }
+        ensures stands { WritesHad self.old.sent self.old.side self.new.side }
     {
         self.finish();
         self.side.plan_scan();
@@ -87,16 +91,16 @@ impl Service {
         self.expire();
         self.run();
         self.lines.stir_all();
+        self.go_on();
     }
 
     /// Blocks that were told too many scans ago aren't known any more.
     fn expire(&mut self)
         ensures recent { All IsRecent self.new.cycle.round.told }
-        ensures links { self.new.lines.links ≡ self.old.lines.links }
+        ensures rest { Stays self.old self.new }
         ensures lines { LinesGo self.old.lines.lines.items self.new.lines.lines.items }
         ensures goes { LeadsOn self.old.cycle self.new.cycle }
-        ensures places { self.new.places.items ≡ self.old.places.items }
-        ensures time { StaysAt self.old self.new }
+        ensures sent { HasNoMore self.old.sent self.new.sent }
         ensures stands { Goes self.old.side self.new.side }
     {
         self.cycle.expire();
@@ -107,24 +111,22 @@ impl Service {
         requires recent { All IsRecent self.old.cycle.round.told }
         ensures links { self.new.lines.links ≡ self.old.lines.links }
         ensures lines { LinesGo self.old.lines.lines.items self.new.lines.lines.items }
-        ensures goes { LeadsOn self.old.cycle self.new.cycle }
+        ensures scans { Scans self.old.side.now (stage_of self.old.cycle) (stage_of self.new.cycle) }
+        ensures sent { HasNoMore self.old.sent self.new.sent }
         ensures places { self.new.places.items ≡ self.old.places.items }
         ensures time { RunsNow self.old self.new }
         ensures stands { Goes self.old.side self.new.side }
     {
-        if !self.cycle.scan(self.side.now) {
-            return;
-        }
+        self.cycle.scan(self.side.now);
         self.side.count_scan(self.cycle.core(), self.cycle.round());
     }
 
     /// Which devices the scan plans the outputs of, and which it passes over.
     fn note_devices(&mut self)
-        ensures links { self.new.lines.links ≡ self.old.lines.links }
+        ensures rest { Stays self.old self.new }
         ensures lines { LinesGo self.old.lines.lines.items self.new.lines.lines.items }
         ensures goes { LeadsOn self.old.cycle self.new.cycle }
-        ensures places { self.new.places.items ≡ self.old.places.items }
-        ensures time { StaysAt self.old self.new }
+        ensures sent { HasNoMore self.old.sent self.new.sent }
         ensures stands { Goes self.old.side self.new.side }
     {
         for device in 0..self.cycle.devices() {

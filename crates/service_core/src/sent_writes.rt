@@ -1,7 +1,8 @@
 //! What went out for each output last, and whether its device has it.
-ghost use Rattle.std.specs.Prelude.{◌≡◌, ℕ, None, Some, length, slice_set, false, true};
+ghost use Rattle.std.specs.Prelude.{◌≡◌, ℕ, IfOk, None, Some, length, slice_set, false, true};
 ghost use Rattle.site_model.specs.Readings.{known_at};
 ghost use Rattle.service_core.specs.Rewriting.{is_held, is_of, is_recent, is_same, is_written, sent_by, sent_for};
+ghost use Rattle.service_core.specs.Having.{HasNoMore, HasNothing};
 
 use modbus_frame::{Request, Words};
 use service_parts::Aim;
@@ -44,7 +45,10 @@ pub(crate) struct Intended<'a> {
 
 impl SentWrites {
     /// Nothing went out for any of so many outputs.
-    pub(crate) fn new(alloc: Global, outputs: usize) -> Result<SentWrites, AllocError> {
+    #[tactic(auto, using(crate::proofs::Having::none_taken))]
+    pub(crate) fn new(alloc: Global, outputs: usize) -> Result<SentWrites, AllocError>
+        ensures { IfOk result HasNothing }
+    {
         let mut writes = Vec::new(alloc);
         for _ in 0..outputs {
             writes.push(None)?;
@@ -57,7 +61,8 @@ impl SentWrites {
 
     /// A request goes out to a device; where it writes an output, nobody took it so far.
     pub(crate) fn go_out(&mut self, aim: Aim, device: usize, request: &Request)
-        ensures { sent_for aim device request.now self.old.writes.items self.old.taken.items ≡ (self.new.writes.items, self.new.taken.items) }
+        ensures sent { sent_for aim device request.now self.old.writes.items self.old.taken.items ≡ (self.new.writes.items, self.new.taken.items) }
+        ensures no_more { HasNoMore self.old self.new }
     {
         if let Aim::Output(output) = aim {
             self.send(output, device, request);
@@ -108,6 +113,7 @@ impl SentWrites {
     pub(crate) fn forget(&mut self, device: usize)
         ensures writes { self.new.writes ≡ self.old.writes }
         ensures forgotten { (i : ℕ) → is_of device (known_at self.old.writes.items i) ≡ true → known_at self.new.taken.items i ≡ None }
+        ensures no_more { HasNoMore self.old self.new }
     {
         for i in 0..self.taken.len() {
             self.forget_at(device, i);
@@ -119,10 +125,19 @@ impl SentWrites {
         ensures len { length self.new.taken.items ≡ length self.old.taken.items }
         ensures forgotten { is_of device (known_at self.old.writes.items i) ≡ true → self.new.taken.items ≡ slice_set self.old.taken.items i None }
         ensures others { is_of device (known_at self.old.writes.items i) ≡ false → self.new.taken.items ≡ self.old.taken.items }
+        ensures no_more { HasNoMore self.old self.new }
     {
         if self.is_of(device, i) {
-            put_taken(&mut self.taken, i, None);
+            self.untake(i);
         }
+    }
+
+    /// It isn't known any more that a device took what went out for an output last.
+    fn untake(&mut self, i: usize)
+        ensures taken { self.new.taken.items ≡ slice_set self.old.taken.items i None }
+        ensures writes { self.new.writes ≡ self.old.writes }
+    {
+        put_taken(&mut self.taken, i, None);
     }
 
     /// Whether the last write of an output went to this device.

@@ -5,7 +5,6 @@ ghost use Rattle.service_core.specs.Noting.{TakesOldest};
 ghost use Rattle.service_core.specs.Rounds.{is_ready};
 ghost use Rattle.service_core.specs.Standing.{IsStatus, is_reached, refusals_at};
 ghost use Rattle.service_core.specs.Telling.{told_at};
-ghost use Rattle.service_core.specs.Timing.{StaysAt};
 
 use crate::counts::Counts;
 use crate::note::{Loss, Note};
@@ -39,13 +38,7 @@ impl Service {
     /// What happened, the oldest first, each once.
     pub fn next_note(&mut self) -> Option<Note>
         ensures oldest { TakesOldest self.old.side.notes.items.items result self.new.side.notes.items.items }
-        ensures links { self.new.lines.links ≡ self.old.lines.links }
-        ensures lines { self.new.lines ≡ self.old.lines }
-        ensures core { self.new.cycle.core.value ≡ self.old.cycle.core.value }
-        ensures places { self.new.places.items ≡ self.old.places.items }
-        ensures time { StaysAt self.old self.new }
-        ensures devices { self.new.side.devices ≡ self.old.side.devices }
-        ensures outputs { self.new.side.outputs ≡ self.old.side.outputs }
+        ensures same { self.new ≡ record self.old { side = record self.old.side { notes = self.new.side.notes } } }
     {
         self.side.notes.next()
     }

@@ -8,8 +8,8 @@ ghost use Rattle.gateway.specs.event_core.Restoring.{NothingSets, SetsAlone};
 ghost use Rattle.gateway.specs.event_core.SiteRun.{with_block};
 ghost use Rattle.service.specs.declared.fate.Fate.TheVariants.{Told as ToldFate};
 ghost use Rattle.service.specs.Searches.{HasStepQuantity, Sought as SoughtValue};
-ghost use Rattle.service_parts.specs.declared.wire.Aim.{Aim as AimValue};
-ghost use Rattle.service_parts.specs.declared.wire.Aim.TheVariants.{Block as BlockAim, Output as OutputAim};
+ghost use Rattle.service_parts.specs.declared.asked.Aim.{Aim as AimValue};
+ghost use Rattle.service_parts.specs.declared.asked.Aim.TheVariants.{Block as BlockAim, Output as OutputAim};
 ghost use Rattle.service_parts.specs.Calls.{IsCallFor};
 ghost use Rattle.service_parts.specs.Requests.{IsOfRound};
 ghost use Rattle.service_parts.specs.Seeking.{IsFound, IsSought};
@@ -19,7 +19,7 @@ ghost use Rattle.service_core.specs.Forgetting.{first_but, forgotten, with_block
 ghost use Rattle.service_core.specs.GivingUp.{GivesUp};
 ghost use Rattle.service_core.specs.LeftOut.{GivesNext};
 ghost use Rattle.service_core.specs.Rounds.{AreRecentTo, IsRecent, IsSendable, told_at};
-ghost use Rattle.service_core.specs.Stages.{Ends, OpensNext, ScansIf, Skips, TakesEvent, Tells};
+ghost use Rattle.service_core.specs.Stages.{Ends, OpensNext, Scans, Skips, TakesEvent, Tells, Waits};
 
 use crate::round::Turn;
 use crate::scan_cycle::ScanCycle;
@@ -353,7 +353,7 @@ impl ScanCycle {
     pub fn pass(&mut self, elapsed: u32)
         ensures at { self.new.round.at ≡ self.old.round.at }
         ensures passed { self.new.core.value ≡ after_wait elapsed self.old.core.value }
-        ensures goes { LeadsOn self.old self.new }
+        ensures waits { Waits elapsed (stage_of self.old) (stage_of self.new) }
     {
         tell(&mut self.core, Event::Time(elapsed));
     }
@@ -379,17 +379,12 @@ impl ScanCycle {
         self.core.step(Event::Client(request_pdu(request)));
     }
 
-    /// Runs the program at this time, where each wanted block was told lately; whether it did.
-    pub fn scan(&mut self, now: u64) -> bool
-        ensures scans { ScansIf result now (stage_of self.old) (stage_of self.new) }
-        ensures goes { LeadsOn self.old self.new }
+    /// Runs the program once, at this time.
+    pub fn scan(&mut self, now: u64)
+        requires recent { All IsRecent self.old.round.told }
+        ensures scans { Scans now (stage_of self.old) (stage_of self.new) }
     {
-        if self.round.are_recent() {
-            self.round.scan(&mut self.core, now);
-            true
-        } else {
-            false
-        }
+        self.round.scan(&mut self.core, now);
     }
 
     /// Whether nothing is left to be written.

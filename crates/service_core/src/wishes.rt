@@ -3,11 +3,12 @@ ghost use Rattle.std.specs.Prelude.{◌≡◌, ◌<◌, ℕ, IfSome, Some, lengt
 ghost use Rattle.modbus_frame.specs.Message.{HasQuantity};
 ghost use Rattle.service.specs.declared.search.Step.TheVariants.{Found};
 ghost use Rattle.service_core.specs.Told.{Goes};
-ghost use Rattle.service_core.specs.Cycle.{LeadsOn};
-ghost use Rattle.service_parts.specs.Frames.{LinesGo};
 ghost use Rattle.service_parts.specs.Requests.{MayGoOver};
 ghost use Rattle.service_parts.specs.Seeking.{IsSought};
-ghost use Rattle.service_core.specs.Timing.{StaysAt};
+ghost use Rattle.service_core.specs.Staying.{Stays};
+ghost use Rattle.service_core.specs.Having.{HasNoMore, WritesHad};
+ghost use Rattle.service_parts.specs.Frames.{LinesGo};
+ghost use Rattle.service_core.specs.Cycle.{LeadsOn};
 
 use crate::link_pace::Purpose;
 use crate::service_state::Service;
@@ -20,12 +21,11 @@ impl Service {
     pub(crate) fn wish_of(&mut self, link: usize, device: usize, purpose: Purpose) -> Option<Wish>
         ensures quantity { IfSome result (λ wish. HasQuantity wish.request) }
         ensures asked { IfSome result (λ wish. MayGoOver self.new.cycle.core.value self.new.lines.links.numbers.items self.new.lines.found_on.items link wish.aim device wish.request) }
-        ensures links { self.new.lines.links ≡ self.old.lines.links }
+        ensures rest { Stays self.old self.new }
         ensures lines { LinesGo self.old.lines.lines.items self.new.lines.lines.items }
         ensures goes { LeadsOn self.old.cycle self.new.cycle }
-        ensures places { self.new.places.items ≡ self.old.places.items }
-        ensures time { StaysAt self.old self.new }
-        ensures stands { Goes self.old.side self.new.side }
+        ensures sent { HasNoMore self.old.sent self.new.sent }
+        ensures stands { WritesHad self.old.sent self.old.side self.new.side }
     {
         match purpose {
             Purpose::Write => self.wish_to_write(link, device),
@@ -51,12 +51,11 @@ impl Service {
     fn wish_to_write(&mut self, link: usize, device: usize) -> Option<Wish>
         ensures quantity { IfSome result (λ wish. HasQuantity wish.request) }
         ensures asked { IfSome result (λ wish. MayGoOver self.new.cycle.core.value self.new.lines.links.numbers.items self.new.lines.found_on.items link wish.aim device wish.request) }
-        ensures links { self.new.lines.links ≡ self.old.lines.links }
+        ensures rest { Stays self.old self.new }
         ensures lines { LinesGo self.old.lines.lines.items self.new.lines.lines.items }
         ensures goes { LeadsOn self.old.cycle self.new.cycle }
-        ensures places { self.new.places.items ≡ self.old.places.items }
-        ensures time { StaysAt self.old self.new }
-        ensures stands { Goes self.old.side self.new.side }
+        ensures sent { HasNoMore self.old.sent self.new.sent }
+        ensures stands { WritesHad self.old.sent self.old.side self.new.side }
     {
         if !self.is_served(link, device) || !self.cycle.round().has_writes(device) {
             return None;
@@ -73,11 +72,10 @@ impl Service {
     fn wish_to_read(&mut self, link: usize, device: usize) -> Option<Wish>
         ensures quantity { IfSome result (λ wish. HasQuantity wish.request) }
         ensures asked { IfSome result (λ wish. MayGoOver self.new.cycle.core.value self.new.lines.links.numbers.items self.new.lines.found_on.items link wish.aim device wish.request) }
-        ensures links { self.new.lines.links ≡ self.old.lines.links }
+        ensures rest { Stays self.old self.new }
         ensures lines { LinesGo self.old.lines.lines.items self.new.lines.lines.items }
         ensures goes { LeadsOn self.old.cycle self.new.cycle }
-        ensures places { self.new.places.items ≡ self.old.places.items }
-        ensures time { StaysAt self.old self.new }
+        ensures sent { HasNoMore self.old.sent self.new.sent }
         ensures stands { Goes self.old.side self.new.side }
     {
         if !self.is_served(link, device) || !self.side.is_read_now(device) {
@@ -93,11 +91,10 @@ impl Service {
     fn wish_to_make_sure(&mut self, link: usize, device: usize) -> Option<Wish>
         ensures quantity { IfSome result (λ wish. HasQuantity wish.request) }
         ensures asked { IfSome result (λ wish. MayGoOver self.new.cycle.core.value self.new.lines.links.numbers.items self.new.lines.found_on.items link wish.aim device wish.request) }
-        ensures links { self.new.lines.links ≡ self.old.lines.links }
+        ensures rest { Stays self.old self.new }
         ensures lines { LinesGo self.old.lines.lines.items self.new.lines.lines.items }
         ensures goes { LeadsOn self.old.cycle self.new.cycle }
-        ensures places { self.new.places.items ≡ self.old.places.items }
-        ensures time { StaysAt self.old self.new }
+        ensures sent { HasNoMore self.old.sent self.new.sent }
         ensures stands { Goes self.old.side self.new.side }
     {
         if self.side.is_sought(device)
@@ -114,11 +111,10 @@ impl Service {
     fn wish_to_go_on(&mut self, link: usize, device: usize) -> Option<Wish>
         ensures quantity { IfSome result (λ wish. HasQuantity wish.request) }
         ensures asked { IfSome result (λ wish. MayGoOver self.new.cycle.core.value self.new.lines.links.numbers.items self.new.lines.found_on.items link wish.aim device wish.request) }
-        ensures links { self.new.lines.links ≡ self.old.lines.links }
+        ensures rest { Stays self.old self.new }
         ensures lines { LinesGo self.old.lines.lines.items self.new.lines.lines.items }
         ensures goes { LeadsOn self.old.cycle self.new.cycle }
-        ensures places { self.new.places.items ≡ self.old.places.items }
-        ensures time { StaysAt self.old self.new }
+        ensures sent { HasNoMore self.old.sent self.new.sent }
         ensures stands { Goes self.old.side self.new.side }
     {
         if !self.side.is_sought(device) {
@@ -138,11 +134,10 @@ impl Service {
     fn wish_of_sign(&mut self, link: usize, device: usize) -> Option<Wish>
         ensures quantity { IfSome result (λ wish. HasQuantity wish.request) }
         ensures asked { IfSome result (λ wish. MayGoOver self.new.cycle.core.value self.new.lines.links.numbers.items self.new.lines.found_on.items link wish.aim device wish.request) }
-        ensures links { self.new.lines.links ≡ self.old.lines.links }
+        ensures rest { Stays self.old self.new }
         ensures lines { LinesGo self.old.lines.lines.items self.new.lines.lines.items }
         ensures goes { LeadsOn self.old.cycle self.new.cycle }
-        ensures places { self.new.places.items ≡ self.old.places.items }
-        ensures time { StaysAt self.old self.new }
+        ensures sent { HasNoMore self.old.sent self.new.sent }
         ensures stands { Goes self.old.side self.new.side }
     {
         if self.cycle.is_mapped(device) || !self.side.is_sought(device) {
@@ -167,11 +162,10 @@ impl Service {
     fn wish_to_search(&mut self, link: usize, device: usize) -> Option<Wish>
         ensures quantity { IfSome result (λ wish. HasQuantity wish.request) }
         ensures asked { IfSome result (λ wish. MayGoOver self.new.cycle.core.value self.new.lines.links.numbers.items self.new.lines.found_on.items link wish.aim device wish.request) }
-        ensures links { self.new.lines.links ≡ self.old.lines.links }
+        ensures rest { Stays self.old self.new }
         ensures lines { LinesGo self.old.lines.lines.items self.new.lines.lines.items }
         ensures goes { LeadsOn self.old.cycle self.new.cycle }
-        ensures places { self.new.places.items ≡ self.old.places.items }
-        ensures time { StaysAt self.old self.new }
+        ensures sent { HasNoMore self.old.sent self.new.sent }
         ensures stands { Goes self.old.side self.new.side }
     {
         if self.side.is_good(device)
@@ -188,11 +182,10 @@ impl Service {
     fn wish_to_probe(&mut self, link: usize, device: usize) -> Option<Wish>
         ensures quantity { IfSome result (λ wish. HasQuantity wish.request) }
         ensures asked { IfSome result (λ wish. MayGoOver self.new.cycle.core.value self.new.lines.links.numbers.items self.new.lines.found_on.items link wish.aim device wish.request) }
-        ensures links { self.new.lines.links ≡ self.old.lines.links }
+        ensures rest { Stays self.old self.new }
         ensures lines { LinesGo self.old.lines.lines.items self.new.lines.lines.items }
         ensures goes { LeadsOn self.old.cycle self.new.cycle }
-        ensures places { self.new.places.items ≡ self.old.places.items }
-        ensures time { StaysAt self.old self.new }
+        ensures sent { HasNoMore self.old.sent self.new.sent }
         ensures stands { Goes self.old.side self.new.side }
     {
         if !self.side.is_good(device) && self.may_search(link, device) {
@@ -211,11 +204,10 @@ impl Service {
     pub(crate) fn wish_anew(&mut self, link: usize, device: usize) -> Option<Wish>
         ensures quantity { IfSome result (λ wish. HasQuantity wish.request) }
         ensures asked { IfSome result (λ wish. MayGoOver self.new.cycle.core.value self.new.lines.links.numbers.items self.new.lines.found_on.items link wish.aim device wish.request) }
-        ensures links { self.new.lines.links ≡ self.old.lines.links }
+        ensures rest { Stays self.old self.new }
         ensures lines { LinesGo self.old.lines.lines.items self.new.lines.lines.items }
         ensures goes { LeadsOn self.old.cycle self.new.cycle }
-        ensures places { self.new.places.items ≡ self.old.places.items }
-        ensures time { StaysAt self.old self.new }
+        ensures sent { HasNoMore self.old.sent self.new.sent }
         ensures stands { Goes self.old.side self.new.side }
     {
         self.seek_anew(device);
@@ -223,11 +215,10 @@ impl Service {
     }
 
     fn seek_anew(&mut self, device: usize)
-        ensures links { self.new.lines.links ≡ self.old.lines.links }
+        ensures rest { Stays self.old self.new }
         ensures lines { LinesGo self.old.lines.lines.items self.new.lines.lines.items }
         ensures goes { LeadsOn self.old.cycle self.new.cycle }
-        ensures places { self.new.places.items ≡ self.old.places.items }
-        ensures time { StaysAt self.old self.new }
+        ensures sent { HasNoMore self.old.sent self.new.sent }
         ensures stands { Goes self.old.side self.new.side }
     {
         self.cycle.seek_anew(device, self.lines.number_for(device));
@@ -296,11 +287,10 @@ impl Service {
     fn wish_of_search(&mut self, link: usize, device: usize) -> Option<Wish>
         ensures quantity { IfSome result (λ wish. HasQuantity wish.request) }
         ensures asked { IfSome result (λ wish. MayGoOver self.new.cycle.core.value self.new.lines.links.numbers.items self.new.lines.found_on.items link wish.aim device wish.request) }
-        ensures links { self.new.lines.links ≡ self.old.lines.links }
+        ensures rest { Stays self.old self.new }
         ensures lines { LinesGo self.old.lines.lines.items self.new.lines.lines.items }
         ensures goes { LeadsOn self.old.cycle self.new.cycle }
-        ensures places { self.new.places.items ≡ self.old.places.items }
-        ensures time { StaysAt self.old self.new }
+        ensures sent { HasNoMore self.old.sent self.new.sent }
         ensures stands { Goes self.old.side self.new.side }
     {
         match self.cycle.seek(device)? {
@@ -325,11 +315,10 @@ impl Service {
     /// now; else it is searched again over this one.
     fn find_over(&mut self, link: usize, device: usize, map: Map)
         requires { ∥ IsSought self.old.cycle.core.value.site device (Found map) ∥₁ }
-        ensures links { self.new.lines.links ≡ self.old.lines.links }
+        ensures rest { Stays self.old self.new }
         ensures lines { LinesGo self.old.lines.lines.items self.new.lines.lines.items }
         ensures goes { LeadsOn self.old.cycle self.new.cycle }
-        ensures places { self.new.places.items ≡ self.old.places.items }
-        ensures time { StaysAt self.old self.new }
+        ensures sent { HasNoMore self.old.sent self.new.sent }
         ensures stands { Goes self.old.side self.new.side }
     {
         let Some(number) = self.lines.number_of(link) else {
@@ -349,11 +338,10 @@ impl Service {
         ensures learned { device < length self.old.cycle.core.value.site.devices → self.new.cycle.core.value.maps ≡ set self.old.cycle.core.value.maps device (Some map) }
         ensures found { (unit : ℕ) → slice_get self.old.lines.links.stations.items device ≡ Some (record { link = link; unit = unit })
             → device < length self.old.lines.found_on.items → self.new.lines.found_on.items ≡ set self.old.lines.found_on.items device (Some number) }
-        ensures links { self.new.lines.links ≡ self.old.lines.links }
+        ensures rest { Stays self.old self.new }
         ensures lines { LinesGo self.old.lines.lines.items self.new.lines.lines.items }
         ensures goes { LeadsOn self.old.cycle self.new.cycle }
-        ensures places { self.new.places.items ≡ self.old.places.items }
-        ensures time { StaysAt self.old self.new }
+        ensures sent { HasNoMore self.old.sent self.new.sent }
         ensures stands { Goes self.old.side self.new.side }
     {
         self.cycle.learn(device, Some(map));
@@ -362,11 +350,10 @@ impl Service {
     }
 
     fn find_none(&mut self, device: usize)
-        ensures links { self.new.lines.links ≡ self.old.lines.links }
+        ensures rest { Stays self.old self.new }
         ensures lines { LinesGo self.old.lines.lines.items self.new.lines.lines.items }
         ensures goes { LeadsOn self.old.cycle self.new.cycle }
-        ensures places { self.new.places.items ≡ self.old.places.items }
-        ensures time { StaysAt self.old self.new }
+        ensures sent { HasNoMore self.old.sent self.new.sent }
         ensures stands { Goes self.old.side self.new.side }
     {
         self.cycle.seek_anew(device, self.lines.number_for(device));

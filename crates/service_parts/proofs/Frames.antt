@@ -10,10 +10,10 @@ use Rattle.modbus_frame.specs.Frame.{frame_bytes}
 use Rattle.gateway.specs.poller.LinkRun.{Asked as Request, frame_of, next_id}
 use Rattle.service.specs.declared.fate.Fate.{Fate}
 use Rattle.service_parts.specs.declared.line.Line.{Line}
-use Rattle.service_parts.specs.declared.wire.Asked.{Asked}
+use Rattle.service_parts.specs.declared.asked.Asked.{Asked}
 use Rattle.service_parts.specs.Frames.{AreNumbered, Begins, CourseBy, FramesGoOutWhole, GivesUp, Hears, HearingStep, IsCut, IsSending, Keeps, Led, LinesGo, LinesGoBy, OthersGo, OwnStep, Sends, begins, gives_up, keeps, stays, goes}
 
-pub keeps_by : (old new : Line) → new.wire.asked ≡ old.wire.asked → new.wire.inquiry ≡ old.wire.inquiry → new.wire.id ≡ old.wire.id → new.out.items ≡ old.out.items → (old.wire.is_bad ≡ true → new.wire.is_bad ≡ true) → Keeps old new
+pub keeps_by : (old new : Line) → new.asked ≡ old.asked → new.inquiry ≡ old.inquiry → new.id ≡ old.id → new.out.items ≡ old.out.items → (old.is_bad ≡ true → new.is_bad ≡ true) → Keeps old new
 keeps_by old new asked heard next same bad = record {
   still = asked;
   heard = heard;
@@ -85,9 +85,9 @@ joined [] r = append-nil (frame_bytes (frame_of r))
 joined (q ∷ requests) r = ap (λ l. frame_bytes (frame_of q) ++ l) (joined requests r) ∙ sym (append_assoc (frame_bytes (frame_of q)) (flat_map (λ (x : Request). frame_bytes (frame_of x)) requests) (frame_bytes (frame_of r)))
 
 abbrev SendsMore : List Request → List ℕ → Line → Line → Type 0
-SendsMore requests gone old new = (more : List Request) × IsSending (requests ++ more) gone new × AreNumbered old.wire.id more new.wire.id
+SendsMore requests gone old new = (more : List Request) × IsSending (requests ++ more) gone new × AreNumbered old.id more new.id
 
-same_out : (requests : List Request) (gone : List ℕ) (old new : Line) → new.out.items ≡ old.out.items → new.wire.id ≡ old.wire.id → IsSending requests gone old → SendsMore requests gone old new
+same_out : (requests : List Request) (gone : List ℕ) (old new : Line) → new.out.items ≡ old.out.items → new.id ≡ old.id → IsSending requests gone old → SendsMore requests gone old new
 same_out requests gone old new same next sending = ([], ap (λ l. gone ++ l) same ∙ (sending ∙ ap (λ (l : List Request). flat_map (λ (x : Request). frame_bytes (frame_of x)) l) (sym (append-nil requests))), next)
 
 one_step : (requests : List Request) (gone : List ℕ) (old new : Line) → HearingStep old new → IsSending requests gone old → SendsMore requests gone old new
@@ -110,7 +110,7 @@ course_sends requests gone old new (stays line) sending = same_out requests gone
 course_sends requests gone old new (goes {middle = middle} course line step) sending =
     let first = course_sends requests gone old middle course sending in
     let then_ = one_step (requests ++ first.0) gone middle new step first.1 in
-    (first.0 ++ then_.0, and_more requests first.0 then_.0 gone new then_.1, numbered_on old.wire.id middle.wire.id new.wire.id first.0 then_.0 first.2 then_.2)
+    (first.0 ++ then_.0, and_more requests first.0 then_.0 gone new then_.1, numbered_on old.id middle.id new.id first.0 then_.0 first.2 then_.2)
 
 goes_out : (requests : List Request) (gone : List ℕ) (n : ℕ) (old new : Line) → Sends n old new → IsSending requests gone old → IsSending requests (gone ++ take (min n (length old.out.items)) old.out.items) new
 goes_out requests gone n old new sends sending =

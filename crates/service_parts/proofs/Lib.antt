@@ -2,3 +2,4 @@ pub mod Rightful
 pub mod Heard
 pub mod Frames
 pub mod Placed
+pub mod Waking

@@ -25,10 +25,9 @@ use Rattle.service.specs.declared.search.Step.TheVariants as step
 use Rattle.service_parts.specs.declared.limits.Station.{Station}
 use Rattle.service_parts.specs.declared.line.Line.{Line}
 use Rattle.service_parts.specs.declared.lines.Lines.{Lines}
-use Rattle.service_parts.specs.declared.wire.Aim.{Aim}
-use Rattle.service_parts.specs.declared.wire.Aim.TheVariants as aim
-use Rattle.service_parts.specs.declared.wire.Asked.{Asked}
-use Rattle.service_parts.specs.declared.wire.Wire.{Wire}
+use Rattle.service_parts.specs.declared.asked.Aim.{Aim}
+use Rattle.service_parts.specs.declared.asked.Aim.TheVariants as aim
+use Rattle.service_parts.specs.declared.asked.Asked.{Asked}
 use Rattle.service_parts.specs.Calls.{IsCallFor}
 use Rattle.service_parts.specs.Course.{Goes, GoesBy, GoesOn, IsOfClients, IsOfRounds, LeadsOnBy, Reached, stays, steps, learns}
 use Rattle.service_parts.specs.Course as course
@@ -117,7 +116,7 @@ module _ (now : Gateway) (stations : List Station) (found_on : List (Option ℕ)
   kept_line : (old new : Line) → Keeps old new → IsRightfulLine now stations found_on link number old → IsRightfulLine now stations found_on link number new
   kept_line old new keeps right = record {
     waits = subst (λ l. IsRightful now stations found_on link number l) (sym keeps.same) right.waits;
-    noted = subst (λ o. IsNotedIf now stations found_on link number o new) (sym keeps.still) (go old.wire.asked right.noted);
+    noted = subst (λ o. IsNotedIf now stations found_on link number o new) (sym keeps.still) (go old.asked right.noted);
   }
     where
       go : (o : Option Asked) → IsNotedIf now stations found_on link number o old → IsNotedIf now stations found_on link number o new
@@ -141,7 +140,7 @@ module _ (now : Gateway) (stations : List Station) (found_on : List (Option ℕ)
   sent_line : (old new : Line) (n : ℕ) → Sends n old new → IsRightfulLine now stations found_on link number old → IsRightfulLine now stations found_on link number new
   sent_line old new n sends right = record {
     waits = subst (λ l. IsRightful now stations found_on link number l) (sym sends.left) (left_of old.out.items (min n (length old.out.items)) right.waits);
-    noted = subst (λ o. IsNotedIf now stations found_on link number o new) (sym (ap (λ (w : Wire). w.asked) sends.wire)) (go old.wire.asked right.noted);
+    noted = subst (λ o. IsNotedIf now stations found_on link number o new) (sym (ap (λ (l : Line). l.asked) sends.same)) (go old.asked right.noted);
   }
     where
       go : (o : Option Asked) → IsNotedIf now stations found_on link number o old → IsNotedIf now stations found_on link number o new
@@ -149,7 +148,7 @@ module _ (now : Gateway) (stations : List Station) (found_on : List (Option ℕ)
       go (Some asked) noted = record {
         over = noted.over;
         wait = noted.wait;
-        waits = ap (λ (w : Wire). w.inquiry.wait) sends.wire ∙ noted.waits;
+        waits = ap (λ (l : Line). l.inquiry.wait) sends.same ∙ noted.waits;
         made = noted.made;
         address = noted.address;
         gone = noted.gone ++ take (min n (length old.out.items)) old.out.items;
@@ -161,10 +160,10 @@ module _ (now : Gateway) (stations : List Station) (found_on : List (Option ℕ)
   heard_line : (old new : Line) (bytes : List ℕ) (fate : Option Fate) → Hears bytes fate old new → IsRightfulLine now stations found_on link number old → IsRightfulLine now stations found_on link number new
   heard_line old new bytes fate hears right = record {
     waits = subst (λ l. IsRightful now stations found_on link number l) (sym hears.same) right.waits;
-    noted = subst (λ o. IsNotedIf now stations found_on link number o new) (sym hears.asked) (go fate old.wire.asked (old.wire.is_up && not old.wire.is_bad) hears.takes right.noted);
+    noted = subst (λ o. IsNotedIf now stations found_on link number o new) (sym hears.asked) (go fate old.asked (old.is_up && not old.is_bad) hears.takes right.noted);
   }
     where
-      goes_on : (asked : Asked) (w : Wait) → new.wire.inquiry.wait ≡ Some w → (noted : IsNoted now stations found_on link number asked old) → w.asked ≡ noted.wait.asked → IsNoted now stations found_on link number asked new
+      goes_on : (asked : Asked) (w : Wait) → new.inquiry.wait ≡ Some w → (noted : IsNoted now stations found_on link number asked old) → w.asked ≡ noted.wait.asked → IsNoted now stations found_on link number asked new
       goes_on asked w waits noted same = record {
         over = noted.over;
         wait = w;
@@ -175,12 +174,12 @@ module _ (now : Gateway) (stations : List Station) (found_on : List (Option ℕ)
         whole = ap (λ l. noted.gone ++ l) hears.same ∙ (noted.whole ∙ ap (λ (r : FrameRequest). frame_bytes (frame_of r)) (sym same));
       }
 
-      go : (f : Option Fate) (o : Option Asked) (well : Bool) → TakesWhere well old.wire.inquiry bytes f new.wire.inquiry → IsNotedIf now stations found_on link number o old
+      go : (f : Option Fate) (o : Option Asked) (well : Bool) → TakesWhere well old.inquiry bytes f new.inquiry → IsNotedIf now stations found_on link number o old
           → IsNotedIf now stations found_on link number (left_under_way f o) new
       go (Some told) o well takes noted = tt
       go None None well takes noted = tt
       go None (Some asked) true takes noted =
-          let after = still_waits old.wire.inquiry new.wire.inquiry bytes noted.wait noted.waits takes in
+          let after = still_waits old.inquiry new.inquiry bytes noted.wait noted.waits takes in
           goes_on asked after.0 after.1 noted after.2
       go None (Some asked) false takes noted = goes_on asked noted.wait (ap (λ (h : Hearing). h.wait) takes.1 ∙ noted.waits) noted refl
 
@@ -270,7 +269,7 @@ module _ (now : Gateway) (stations : List Station) (numbers : List ℕ) (found_o
       → slice_get stations device ≡ Some (record { link = link; unit = unit }) → slice_get numbers link ≡ Some number → AreRightful now stations numbers (set found_on device (Some number)) lines
   with_found link device unit number before station here k other line has at = ∥∥₁_elim (before k other line has at) ∥∥₁_prop (λ right. ∣ record {
     waits = bytes right.waits;
-    noted = noted line.wire.asked right.noted;
+    noted = noted line.asked right.noted;
   } ∣₁)
     where
       made : (made_for : Aim) (asked_of : ℕ) (frame : FrameRequest) → IsMade now stations found_on k other made_for asked_of frame → IsMade now stations (set found_on device (Some number)) k other made_for asked_of frame
@@ -352,7 +351,7 @@ module _ (old new : Gateway) (stations : List Station) (found_on : List (Option 
   } ∣₁)
 
   line_since : (line : Line) → IsRightfulLine old stations found_on link number line → ∥ IsRightfulLine new stations found_on link number line ∥₁
-  line_since line right = ∥∥₁_elim (right_since line.out.items right.waits) ∥∥₁_prop (λ waits. ∥∥₁_elim (noted_since line line.wire.asked right.noted) ∥∥₁_prop (λ noted. ∣ record { waits = waits; noted = noted } ∣₁))
+  line_since line right = ∥∥₁_elim (right_since line.out.items right.waits) ∥∥₁_prop (λ waits. ∥∥₁_elim (noted_since line line.asked right.noted) ∥∥₁_prop (λ noted. ∣ record { waits = waits; noted = noted } ∣₁))
 
 right_further : (old new : Gateway) (lines : Lines) → Further old new → AreRightfulBy old lines → AreRightfulBy new lines
 right_further old new lines goes before link number line has at = ∥∥₁_elim (before link number line has at) ∥∥₁_prop (λ right.

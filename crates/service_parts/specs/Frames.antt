@@ -7,40 +7,40 @@ use Rattle.gateway.specs.poller.LinkRun.{Asked as Request, frame_of, next_id}
 use Rattle.service.specs.declared.fate.Fate.{Fate}
 use Rattle.service.specs.Hearing.{Takes, Wire as Hearing, asking, fresh}
 use Rattle.service_parts.specs.declared.line.Line.{Line}
-use Rattle.service_parts.specs.declared.wire.Asked.{Asked}
+use Rattle.service_parts.specs.declared.asked.Asked.{Asked}
 
 -- ---- one step
 
 -- A request begins over a connection that is well, where none is under way and nothing waits: its frame is to be written. Its
 -- transaction has the next number.
 pub record Begins (old new : Line) : Type 0 where
-  pub up : old.wire.is_up ≡ true
-  pub well : old.wire.is_bad ≡ false
-  pub free : old.wire.asked ≡ None
+  pub up : old.is_up ≡ true
+  pub well : old.is_bad ≡ false
+  pub free : old.asked ≡ None
   pub quiet : old.out.items ≡ []
   pub asked : Asked
   pub request : Request
-  pub numbered : request.id ≡ old.wire.id
-  pub next : new.wire.id ≡ next_id old.wire.id
-  pub noted : new.wire.asked ≡ Some asked
-  pub under_way : new.wire.inquiry ≡ asking old.wire.inquiry request
+  pub numbered : request.id ≡ old.id
+  pub next : new.id ≡ next_id old.id
+  pub noted : new.asked ≡ Some asked
+  pub under_way : new.inquiry ≡ asking old.inquiry request
   pub frame : new.out.items ≡ frame_bytes (frame_of request)
 
 -- The request that is under way is given up. Over a connection on which a part of a frame waits nothing more begins.
 pub record GivesUp (old new : Line) : Type 0 where
-  pub over : new.wire.asked ≡ None
-  pub next : new.wire.id ≡ old.wire.id
+  pub over : new.asked ≡ None
+  pub next : new.id ≡ old.id
   pub same : new.out.items ≡ old.out.items
-  pub bad : old.wire.is_bad ≡ true → new.wire.is_bad ≡ true
-  pub spoils : (old.out.items ≡ [] → ⊥) → new.wire.is_bad ≡ true
+  pub bad : old.is_bad ≡ true → new.is_bad ≡ true
+  pub spoils : (old.out.items ≡ [] → ⊥) → new.is_bad ≡ true
 
 -- Nothing happens to the request that is under way.
 pub record Keeps (old new : Line) : Type 0 where
-  pub still : new.wire.asked ≡ old.wire.asked
-  pub heard : new.wire.inquiry ≡ old.wire.inquiry
-  pub next : new.wire.id ≡ old.wire.id
+  pub still : new.asked ≡ old.asked
+  pub heard : new.inquiry ≡ old.inquiry
+  pub next : new.id ≡ old.id
   pub same : new.out.items ≡ old.out.items
-  pub bad : old.wire.is_bad ≡ true → new.wire.is_bad ≡ true
+  pub bad : old.is_bad ≡ true → new.is_bad ≡ true
 
 -- what is under way after a fate
 abbrev pub left_under_way : Option Fate → Option Asked → Option Asked
@@ -54,21 +54,21 @@ TakesWhere false old bytes fate new = (fate ≡ None) × (new ≡ old)
 
 -- These bytes are taken of its stream; what they tell became of the request ends it, and nothing else does.
 pub record Hears (bytes : List ℕ) (fate : Option Fate) (old new : Line) : Type 0 where
-  pub takes : TakesWhere (old.wire.is_up && not old.wire.is_bad) old.wire.inquiry bytes fate new.wire.inquiry
-  pub asked : new.wire.asked ≡ left_under_way fate old.wire.asked
-  pub next : new.wire.id ≡ old.wire.id
+  pub takes : TakesWhere (old.is_up && not old.is_bad) old.inquiry bytes fate new.inquiry
+  pub asked : new.asked ≡ left_under_way fate old.asked
+  pub next : new.id ≡ old.id
   pub same : new.out.items ≡ old.out.items
-  pub bad : new.wire.is_bad ≡ old.wire.is_bad
+  pub bad : new.is_bad ≡ old.is_bad
 
 -- So many of the bytes that wait are written.
 pub record Sends (n : ℕ) (old new : Line) : Type 0 where
-  pub wire : new.wire ≡ old.wire
+  pub same : new ≡ record old { out = new.out }
   pub left : new.out.items ≡ drop (min n (length old.out.items)) old.out.items
 
 -- A stream that begins, or that is over: nothing waits, and nothing is under way.
 pub record IsCut (line : Line) : Type 0 where
-  pub begins : line.wire.inquiry ≡ fresh
-  pub none : line.wire.asked ≡ None
+  pub begins : line.inquiry ≡ fresh
+  pub none : line.asked ≡ None
   pub quiet : line.out.items ≡ []
 
 -- ---- kinds of steps
@@ -128,7 +128,7 @@ AreNumbered id (r ∷ requests) next = (r.id ≡ id) × AreNumbered (next_id id)
 pub record FramesGoOutWhole : Type 0 where
   pub anew : (line : Line) → IsCut line → IsSending [] [] line
   pub goes_on : (requests : List Request) (gone : List ℕ) (old new : Line) → CourseBy HearingStep old new → IsSending requests gone old
-      → (more : List Request) × IsSending (requests ++ more) gone new × AreNumbered old.wire.id more new.wire.id
+      → (more : List Request) × IsSending (requests ++ more) gone new × AreNumbered old.id more new.id
   pub goes_out : (requests : List Request) (gone : List ℕ) (n : ℕ) (old new : Line) → Sends n old new → IsSending requests gone old
       → IsSending requests (gone ++ take (min n (length old.out.items)) old.out.items) new
-  pub one_at_a_time : (old new : Line) → Begins old new → (old.wire.asked ≡ None) × (old.out.items ≡ [])
+  pub one_at_a_time : (old new : Line) → Begins old new → (old.asked ≡ None) × (old.out.items ≡ [])

@@ -2,7 +2,7 @@
 use Rattle.std.specs.Prelude.{◌≡◌, ℕ, nat_le, List, Option, None, Some, option_and_then, slice_get, if◌then◌else◌}
 use Rattle.service_parts.specs.declared.limits.Station.{Station}
 use Rattle.service_parts.specs.declared.line.Line.{Line}
-use Rattle.service_parts.specs.declared.wire.Asked.{Asked}
+use Rattle.service_parts.specs.declared.asked.Asked.{Asked}
 
 -- A device is reached over a link.
 pub record IsAt (stations : List Station) (link device : ℕ) : Type 0 where
@@ -11,7 +11,7 @@ pub record IsAt (stations : List Station) (link device : ℕ) : Type 0 where
 
 -- the request that is under way on a link
 abbrev pub asked_at : List Line → ℕ → Option Asked
-asked_at lines link = option_and_then (λ (line : Line). line.wire.asked) (slice_get lines link)
+asked_at lines link = option_and_then (λ (line : Line). line.asked) (slice_get lines link)
 
 abbrev pub if_over : ℕ → Asked → Option Asked
 if_over now asked = if nat_le asked.until now then Some asked else None

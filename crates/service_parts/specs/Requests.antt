@@ -11,9 +11,9 @@ use Rattle.service.specs.Hearing.{Wait}
 use Rattle.service_parts.specs.declared.limits.Station.{Station}
 use Rattle.service_parts.specs.declared.line.Line.{Line}
 use Rattle.service_parts.specs.declared.lines.Lines.{Lines}
-use Rattle.service_parts.specs.declared.wire.Aim.{Aim}
-use Rattle.service_parts.specs.declared.wire.Aim.TheVariants as aim
-use Rattle.service_parts.specs.declared.wire.Asked.{Asked}
+use Rattle.service_parts.specs.declared.asked.Aim.{Aim}
+use Rattle.service_parts.specs.declared.asked.Aim.TheVariants as aim
+use Rattle.service_parts.specs.declared.asked.Asked.{Asked}
 use Rattle.service_parts.specs.Calls.{IsCallFor}
 use Rattle.service_parts.specs.Course.{GoesOn, Reached}
 use Rattle.service_parts.specs.Seeking.{IsSought}
@@ -58,7 +58,7 @@ IsRightful now stations found_on link number bytes = (bytes ≡ []) ⊎ IsRest n
 pub record IsNoted (now : Gateway) (stations : List Station) (found_on : List (Option ℕ)) (link number : ℕ) (asked : Asked) (line : Line) : Type 0 where
   pub over : asked.number ≡ number
   pub wait : Wait
-  pub waits : line.wire.inquiry.wait ≡ Some wait
+  pub waits : line.inquiry.wait ≡ Some wait
   pub made : IsMade now stations found_on link number asked.aim asked.device wait.asked
   pub address : asked.address ≡ address_of wait.asked.request
   pub gone : List ℕ
@@ -71,7 +71,7 @@ IsNotedIf now stations found_on link number (Some asked) line = IsNoted now stat
 -- What waits on a line is the rest of a rightful frame, and what is noted of the request that is under way is so.
 pub record IsRightfulLine (now : Gateway) (stations : List Station) (found_on : List (Option ℕ)) (link number : ℕ) (line : Line) : Type 0 where
   pub waits : IsRightful now stations found_on link number line.out.items
-  pub noted : IsNotedIf now stations found_on link number line.wire.asked line
+  pub noted : IsNotedIf now stations found_on link number line.asked line
 
 -- Each link's line is so, by the number of the connection that it has now.
 abbrev pub AreRightful : Gateway → List Station → List ℕ → List (Option ℕ) → List Line → Type 0

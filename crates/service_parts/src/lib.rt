@@ -2,6 +2,7 @@
 //! devices, connections, and the places of clients. None knows of a socket or a clock.
 #![tactic(auto)]
 
+mod asked;
 mod client_place;
 mod client_places;
 mod limits;
@@ -11,13 +12,12 @@ mod links;
 mod standing;
 mod times;
 mod traffic;
-mod wire;
 
 // what is asked of a service
 pub use limits::{Limits, Station};
 // the links to devices
+pub use asked::{Aim, Asked, first_register};
 pub use lines::Lines;
-pub use wire::{Aim, Asked, Wire, first_register};
 // clients
 pub use client_place::ClientPlace;
 pub use client_places::{close_idle, place_for};

@@ -1,39 +1,94 @@
-//! A link to devices: its connection, and what goes out over it.
-ghost use Rattle.std.specs.Prelude.{◌≡◌, ◌≤◌, ◌&&◌, not, is_none, IsTrue, drop, length, take, false};
+//! A line to devices: a connection, and what goes out over it.
+ghost use Rattle.std.specs.Prelude.{◌≡◌, ◌≤◌, ◌↔◌, ◌&&◌, not, is_none, IsTrue, drop, length, take, true, false};
 ghost use Rattle.modbus_frame.specs.Message.{HasQuantity};
 ghost use Rattle.service_parts.specs.Frames.{Begins, GivesUp, Hears, IsCut, Keeps, Sends};
-ghost use Rattle.service_parts.specs.Waking.{due_at, is_quiet};
+ghost use Rattle.service_parts.specs.Waking.{IsToDial, IsToHangUp, due_at, is_quiet};
 
+use crate::asked::Asked;
 use crate::limits::Limits;
-use crate::wire::{Asked, Wire};
+use crate::times::longer;
 use arrayvec::ArrayVec;
 use modbus_frame::Request;
-use service::Fate;
+use service::{Fate, Inquiry};
 
-/// A link to devices: its connection, and the bytes that go out over it.
+/// A line to devices: its connection, up or down, with the request that is under way on it and what is still to be written.
 #[derive(Drop)]
 pub struct Line {
-    wire: Wire,
+    inquiry: Inquiry,
+    asked: Option<Asked>,
     /// What is still to be written of a request.
     out: ArrayVec<u8, 260>,
+    /// The number of the next transaction.
+    id: u16,
+    is_up: bool,
+    is_bad: bool,
+    /// The numbers of its devices.
+    devices: Vec<usize>,
+    /// Before this time there is nothing to ask over it, unless something happens.
+    rest_until: u64,
+    /// So many requests in a row had no answer.
+    silent: usize,
+    /// Whether a device answered since it came up.
+    is_heard: bool,
+    dial_at: u64,
+    /// Until when the dial that is under way may take.
+    dial_until: Option<u64>,
+    /// Its last back-off; 0 where a device answered since.
+    wait: u64,
 }
 
 impl Line {
-    /// One to these devices whose connection is down, and on which nothing waits.
+    /// One to these devices that is down, and on which nothing waits.
     pub fn new(devices: Vec<usize>) -> Line
         ensures { IsCut result }
     {
         Line {
-            wire: Wire::new(devices),
+            inquiry: Inquiry::new(),
+            asked: None,
             out: ArrayVec::new(),
+            id: 0,
+            is_up: false,
+            is_bad: false,
+            devices,
+            rest_until: 0,
+            silent: 0,
+            is_heard: false,
+            dial_at: 0,
+            dial_until: None,
+            wait: 0,
         }
     }
 
-    /// Its connection.
-    pub fn wire(&self) -> &Wire
-        ensures { result.now ≡ self.now.wire }
+    pub fn is_up(&self) -> bool
+        ensures { result ≡ self.now.is_up }
     {
-        &self.wire
+        self.is_up
+    }
+
+    /// Whether it is up, and nothing is wrong with it.
+    pub fn is_well(&self) -> bool
+        ensures { result ≡ (self.now.is_up && not self.now.is_bad) }
+    {
+        self.is_up && !self.is_bad
+    }
+
+    /// Whether it is to be hung up.
+    pub fn is_bad(&self) -> bool
+        ensures { result ≡ (self.now.is_up && self.now.is_bad) }
+    {
+        self.is_up && self.is_bad
+    }
+
+    /// The request that is under way.
+    pub fn asked(&self) -> Option<Asked>
+        ensures { result ≡ self.now.asked }
+    {
+        self.asked
+    }
+
+    /// The numbers of its devices.
+    pub fn devices(&self) -> &[usize] {
+        &self.devices
     }
 
     /// What is to be written.
@@ -43,27 +98,65 @@ impl Line {
         &self.out
     }
 
-    /// Whether nothing waits.
+    /// Whether nothing waits to be written.
     pub fn is_sent(&self) -> bool
         ensures { result ≡ is_quiet self.now }
     {
         self.out.is_empty()
     }
 
-    /// Whether a request may begin: the connection is well, no request is under way, and nothing waits.
+    /// Whether a request may begin: it is well, no request is under way, and nothing waits.
     pub fn is_free(&self) -> bool
-        ensures { result ≡ (self.now.wire.is_up && not self.now.wire.is_bad && is_none self.now.wire.asked && is_quiet self.now) }
+        ensures { result ≡ (self.now.is_up && not self.now.is_bad && is_none self.now.asked && is_quiet self.now) }
     {
-        self.wire.is_free() && self.out.is_empty()
+        self.is_up && !self.is_bad && self.asked.is_none() && self.out.is_empty()
     }
 
-    /// When something is to be done about it.
+    /// Whether it is well and does nothing: its devices answered, and no request is under way.
+    pub fn is_idle(&self) -> bool {
+        self.is_well() && self.asked.is_none() && self.is_heard
+    }
+
+    /// Whether something may be to be asked at this time.
+    pub fn is_stirred(&self, now: u64) -> bool {
+        now >= self.rest_until
+    }
+
+    /// Whether it is to be made: it is down, no dial is under way, and its back-off is over.
+    pub fn wants_dial(&self, now: u64) -> bool
+        ensures { IsTrue result ↔ IsToDial now self.now }
+    {
+        !self.is_up && self.dial_until.is_none() && now >= self.dial_at
+    }
+
+    /// Whether it is to be closed, or the dial that is under way to be given up.
+    pub fn wants_hang_up(&self, now: u64) -> bool
+        ensures { IsTrue result ↔ IsToHangUp now self.now }
+    {
+        match self.dial_until {
+            Some(until) => now >= until,
+            None => self.is_bad(),
+        }
+    }
+
+    /// When something is to be done about it: a wait or a dial ends, a dial is due, or, once all is written, a device may
+    /// be asked again.
     pub fn wakes_at(&self) -> u64
         ensures { result ≡ due_at self.now }
     {
-        self.wire.wakes_at(self.is_sent())
+        if !self.is_up {
+            return self.dial_until.unwrap_or(self.dial_at);
+        }
+        match self.asked {
+            Some(asked) => asked.until,
+            None if self.is_sent() => self.rest_until,
+            None => u64::MAX,
+        }
     }
+}
 
+// what is asked, and what comes of it
+impl Line {
     /// Begins a request to a device at this unit, where one may begin; whether it did.
     pub fn begin(&mut self, asked: Asked, unit: u8, request: Request) -> bool
         requires quantity { HasQuantity request }
@@ -73,13 +166,11 @@ impl Line {
         if !self.is_free() {
             return false;
         }
-        match self.wire.begin(asked, unit, request) {
-            Some(bytes) => {
-                self.out = bytes;
-                true
-            }
-            None => false,
-        }
+        let id = self.id;
+        self.id = id.wrapping_add(1);
+        self.asked = Some(asked);
+        self.out = self.inquiry.begin(id, unit, request);
+        true
     }
 
     /// So many bytes are written.
@@ -87,55 +178,86 @@ impl Line {
         ensures { Sends n self.old self.new }
     {
         let n = n.min(self.out.len());
-        self.out = behind(&self.out, n);
+        self.out = rest_after(&self.out, n);
     }
 
     /// Takes bytes of its stream, as many as have room, and tells how many, and what became of the request that is under
-    /// way, which is over then.
+    /// way, which is over then. Over a connection that isn't well nothing is heard.
     pub fn take(&mut self, bytes: &[u8]) -> (usize, Option<Fate>)
         ensures { Hears (take result.0 bytes.now) result.1 self.old self.new }
     {
-        let (used, fate) = self.wire.take(bytes);
-        if fate.is_some() {
-            self.wire.stir();
-            let _ = self.wire.end();
+        if !self.is_well() {
+            return (bytes.len(), None);
         }
-        (used, fate)
+        let n = self.inquiry.room().min(bytes.len());
+        let fate = self.inquiry.take(bytes.split_at(n).0);
+        if fate.is_some() {
+            self.rest_until = 0;
+            self.asked = None;
+        }
+        (n, fate)
     }
 
-    /// The request that is under way is given up.
+    /// The request that is under way is given up. A part of its frame that wasn't written spoils the stream.
     pub fn give_up(&mut self)
         ensures { GivesUp self.old self.new }
     {
-        let is_sent = self.is_sent();
-        self.wire.stir();
-        self.wire.give_up(is_sent);
+        self.rest_until = 0;
+        self.asked = None;
+        let _ = self.inquiry.end();
+        if !self.out.is_empty() {
+            self.is_bad = true;
+        }
     }
 
     /// It is up from now on: a new stream.
     pub fn come_up(&mut self)
         ensures cut { IsCut self.new }
+        ensures well { (self.new.is_up ≡ true) × (self.new.is_bad ≡ false) }
     {
-        self.out = ArrayVec::new();
-        self.wire.come_up();
+        self.cut();
+        self.is_up = true;
+        self.rest_until = 0;
+        self.silent = 0;
+        self.is_heard = false;
     }
 
     /// It is down from now on. One that ended while nothing was under way is made again at once, any other after a while.
     pub fn go_down(&mut self, now: u64, limits: &Limits)
         ensures cut { IsCut self.new }
+        ensures down { self.new.is_up ≡ false }
     {
+        if !self.is_idle() {
+            self.wait = longer(self.wait, limits.period.min(1000), limits.back_off_most);
+        }
+        self.cut();
+        self.is_up = false;
+        self.dial_at = now.saturating_add(self.wait);
+    }
+
+    /// Its stream is over: nothing is under way, and nothing waits.
+    fn cut(&mut self)
+        ensures cut { IsCut self.new }
+        ensures well { self.new.is_bad ≡ false }
+    {
+        self.inquiry = Inquiry::new();
+        self.asked = None;
         self.out = ArrayVec::new();
-        self.wire.go_down(now, limits);
+        self.is_bad = false;
+        self.dial_until = None;
     }
 }
 
+// beside the request that is under way
 impl Line {
     /// A dial begins that may take until this time.
     #[tactic(auto, using(crate::proofs::Frames::keeps_by))]
     pub fn dial(&mut self, until: u64)
         ensures { Keeps self.old self.new }
     {
-        self.wire.dial(until);
+        if !self.is_up {
+            self.dial_until = Some(until);
+        }
     }
 
     /// It is to be hung up.
@@ -143,7 +265,7 @@ impl Line {
     pub fn spoil(&mut self)
         ensures { Keeps self.old self.new }
     {
-        self.wire.spoil();
+        self.is_bad = true;
     }
 
     /// Something happened: there may be something to ask.
@@ -151,7 +273,7 @@ impl Line {
     pub fn stir(&mut self)
         ensures { Keeps self.old self.new }
     {
-        self.wire.stir();
+        self.rest_until = 0;
     }
 
     /// There is nothing to ask before this time, unless something happens.
@@ -159,7 +281,7 @@ impl Line {
     pub fn rest_until(&mut self, until: u64)
         ensures { Keeps self.old self.new }
     {
-        self.wire.rest_until(until);
+        self.rest_until = until;
     }
 
     /// A device answered.
@@ -167,20 +289,26 @@ impl Line {
     pub fn heard(&mut self)
         ensures { Keeps self.old self.new }
     {
-        self.wire.heard();
+        self.silent = 0;
+        self.wait = 0;
+        self.is_heard = true;
     }
 
-    /// A device didn't answer.
+    /// A device didn't answer. After two silent requests in a row for each of its devices and one more, the connection
+    /// itself is at fault.
     #[tactic(auto, using(crate::proofs::Frames::keeps_by))]
     pub fn missed(&mut self)
         ensures { Keeps self.old self.new }
     {
-        self.wire.missed();
+        self.silent = self.silent.saturating_add(1);
+        if self.silent >= self.devices.len().saturating_mul(2).saturating_add(1) {
+            self.is_bad = true;
+        }
     }
 }
 
 /// All but so many bytes at the front.
-fn behind(bytes: &[u8], n: usize) -> ArrayVec<u8, 260>
+fn rest_after(bytes: &[u8], n: usize) -> ArrayVec<u8, 260>
     requires most { length bytes.now ≤ 260 }
     requires within { n ≤ length bytes.now }
     ensures { result.items ≡ drop n bytes.now }

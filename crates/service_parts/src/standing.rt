@@ -5,36 +5,33 @@ ghost use Rattle.service_parts.specs.Frames.{LinesGo};
 ghost use Rattle.service_parts.specs.Requests.{StayRightful};
 ghost use Rattle.service_parts.specs.Waking.{IsToDial, IsToHangUp, is_up_at, is_well_at};
 
+use crate::line::Line;
 use crate::lines::Lines;
-use crate::wire::Wire;
 
 impl Lines {
-    fn wire(&self, link: usize) -> Option<&Wire>
-        ensures there { IfSome result (λ wire. (line : LineValue) → slice_get self.entry.now.lines.items link ≡ Some line → wire.now ≡ line.wire) }
+    fn line(&self, link: usize) -> Option<&Line>
+        ensures there { IfSome result (λ found. (line : LineValue) → slice_get self.entry.now.lines.items link ≡ Some line → found.now ≡ line) }
         ensures none { IfNone result ((line : LineValue) → slice_get self.entry.now.lines.items link ≡ Some line → ⊥) }
     {
-        match self.lines.get(link) {
-            Some(line) => Some(line.wire()),
-            None => None,
-        }
+        self.lines.get(link)
     }
 
     /// Whether a connection is to be made: it is down, no dial is under way, and its back-off is over.
     pub fn wants_dial(&self, link: usize, now: u64) -> bool
-        ensures { (line : LineValue) → slice_get self.now.lines.items link ≡ Some line → IsTrue result ↔ IsToDial now line.wire }
+        ensures { (line : LineValue) → slice_get self.now.lines.items link ≡ Some line → IsTrue result ↔ IsToDial now line }
     {
-        match self.wire(link) {
-            Some(wire) => wire.wants_dial(now),
+        match self.line(link) {
+            Some(line) => line.wants_dial(now),
             None => false,
         }
     }
 
     /// Whether a connection is to be closed, or its dial to be given up.
     pub fn wants_hang_up(&self, link: usize, now: u64) -> bool
-        ensures { (line : LineValue) → slice_get self.now.lines.items link ≡ Some line → IsTrue result ↔ IsToHangUp now line.wire }
+        ensures { (line : LineValue) → slice_get self.now.lines.items link ≡ Some line → IsTrue result ↔ IsToHangUp now line }
     {
-        match self.wire(link) {
-            Some(wire) => wire.wants_hang_up(now),
+        match self.line(link) {
+            Some(line) => line.wants_hang_up(now),
             None => false,
         }
     }
@@ -44,15 +41,15 @@ impl Lines {
         ensures { result ≡ is_up_at self.now.lines.items link }
     {
         match self.lines.get(link) {
-            Some(line) => line.wire().is_up(),
+            Some(line) => line.is_up(),
             None => false,
         }
     }
 
     /// Whether a connection is to be hung up.
     pub fn is_bad(&self, link: usize) -> bool {
-        match self.wire(link) {
-            Some(wire) => wire.is_bad(),
+        match self.line(link) {
+            Some(line) => line.is_bad(),
             None => false,
         }
     }
@@ -62,36 +59,36 @@ impl Lines {
         ensures { result ≡ is_well_at self.now.lines.items link }
     {
         match self.lines.get(link) {
-            Some(line) => line.wire().is_well(),
+            Some(line) => line.is_well(),
             None => false,
         }
     }
 
     /// Whether there may be something to ask over a link at this time.
     pub fn is_stirred(&self, link: usize, now: u64) -> bool {
-        match self.wire(link) {
-            Some(wire) => wire.is_stirred(now),
+        match self.line(link) {
+            Some(line) => line.is_stirred(now),
             None => false,
         }
     }
 
     /// How many devices a link has.
     pub fn devices_on(&self, link: usize) -> usize {
-        match self.wire(link) {
-            Some(wire) => wire.devices().len(),
+        match self.line(link) {
+            Some(line) => line.devices().len(),
             None => 0,
         }
     }
 
     /// The number of the device at a place of a link.
     pub fn device_at(&self, link: usize, i: usize) -> Option<usize> {
-        self.wire(link)?.devices().get(i).copied()
+        self.line(link)?.devices().get(i).copied()
     }
 
     /// Whether a connection is up, its devices answered over it, and nothing is under way on it.
     pub fn is_idle(&self, link: usize) -> bool {
-        match self.wire(link) {
-            Some(wire) => wire.is_idle(),
+        match self.line(link) {
+            Some(line) => line.is_idle(),
             None => false,
         }
     }

@@ -1,5 +1,5 @@
 //! Requests to devices, and what comes of them.
-ghost use Rattle.std.specs.Prelude.{◌≡◌, ◌≤◌, ℕ, IsTrue, None, Some, [], slice_get, take};
+ghost use Rattle.std.specs.Prelude.{◌≡◌, ◌⊎◌, ◌≤◌, ℕ, IsTrue, None, Some, [], slice_get, take};
 ghost use Rattle.modbus_frame.specs.Message.{HasQuantity, address_of};
 ghost use Rattle.gateway.specs.event_core.Core.{Gateway};
 ghost use Rattle.service_parts.specs.declared.line.Line.{Line as LineValue};
@@ -7,10 +7,10 @@ ghost use Rattle.service_parts.specs.Course.{Reached};
 ghost use Rattle.service_parts.specs.Frames.{Hears, LinesGo, OthersGo, Sends};
 ghost use Rattle.service_parts.specs.Overdue.{asked_at, overdue_at};
 ghost use Rattle.service_parts.specs.Requests.{AreRightfulBy, IsRightfulOn, MayGoOver, StayRightful};
-ghost use Rattle.service_parts.specs.Waking.{due_at};
+ghost use Rattle.service_parts.specs.Waking.{IsDueOf, due_at};
 
+use crate::asked::Asked;
 use crate::lines::Lines;
-use crate::wire::Asked;
 use modbus_frame::Request;
 use service::Fate;
 
@@ -70,7 +70,7 @@ impl Lines {
         ensures { result ≡ asked_at self.now.lines.items link }
     {
         match self.lines.get(link) {
-            Some(line) => line.wire().asked(),
+            Some(line) => line.asked(),
             None => None,
         }
     }
@@ -80,7 +80,7 @@ impl Lines {
         ensures { IsTrue result → (line : LineValue) → slice_get self.now.lines.items link ≡ Some line → line.out.items ≡ [] }
     {
         match self.lines.get(link) {
-            Some(line) => line.is_sent() && line.wire().asked().is_some(),
+            Some(line) => line.is_sent() && line.asked().is_some(),
             None => false,
         }
     }
@@ -122,9 +122,11 @@ impl Lines {
         }
     }
 
-    /// Not later than at this time something is to be done about a connection, or at the given one.
+    /// When something is to be done about a connection next, or the given time where that is earlier.
+    #[tactic(auto, using(crate::proofs::Waking::min_due))]
     pub fn wakes_at(&self, at: u64) -> u64
         ensures most { result ≤ at }
+        ensures one { (result ≡ at) ⊎ IsDueOf self.now.lines.items result }
         ensures links { (link : ℕ) (line : LineValue) → slice_get self.now.lines.items link ≡ Some line → result ≤ due_at line }
     {
         let mut at = at;

@@ -1,6 +1,7 @@
 //! A survey is made.
 ghost use Rattle.std.specs.Prelude.{◌≡◌, [], false, replicate, IfOk};
 ghost use Rattle.service_core.specs.Cycle.{stage_of};
+ghost use Rattle.service_core.specs.Timing.{Starts};
 ghost use Rattle.site_survey.specs.Surveying.{IsSurveyStart};
 
 use gateway::{CoreFault, DEPTH};
@@ -32,8 +33,7 @@ pub fn survey_of(
     ensures start { IfOk result (λ service. IsSurveyStart site (stage_of service.cycle)) }
     ensures stations { IfOk result (λ service. service.lines.links.stations.items ≡ stations.now) }
     ensures numbers { IfOk result (λ service. service.lines.links.numbers.items ≡ replicate links 0) }
-    ensures limits { IfOk result (λ service. service.side.limits ≡ limits) }
-    ensures time { IfOk result (λ service. service.side.now ≡ 0) }
+    ensures starts { IfOk result (λ service. Starts 0 limits service.side) }
 {
     if has_outputs(&site) {
         return Err(NoSurvey::HasOutputs);

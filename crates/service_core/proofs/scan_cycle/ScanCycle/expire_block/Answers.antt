@@ -1,6 +1,4 @@
-use Rattle.std.proofs.Common.{rules, ◌≡◌, ◌+◌, true, None, Some, slice_get, subst, sym, ap, ◌∙◌, length}
-use Rattle.std.specs.Prelude.{IsTrue, ◌↔◌}
-use Rattle.service_core.specs.declared.last_told.LastTold.{LastTold}
+use Rattle.std.proofs.Common.{rules, ◌≡◌, ◌+◌, None, slice_get, subst, sym}
 use Rattle.service_core.specs.Rounds.{AreRecentTo, Progress}
 use Rattle.service_core.proofs.Timing.{past_told, recent_further, recent_told}
 use Rattle.service_core.proofs.scan_cycle.ScanCycle.expire_block.Goals as goal

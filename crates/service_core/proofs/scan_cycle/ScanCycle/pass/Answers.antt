@@ -1,14 +1,14 @@
 use Rattle.std.proofs.Common.{refl, rules, ◌≡◌}
 use Rattle.service_core.specs.Cycle.{stage_of}
 use Rattle.service_core.specs.Stages.{Waits}
-use Rattle.service_core.proofs.Courses.{goes_waits, reached_rounds, sought_for}
+use Rattle.service_core.proofs.Courses.{reached_wait, sought_for}
 use Rattle.service_core.proofs.Restored.{time_alone}
 use Rattle.service_core.proofs.scan_cycle.ScanCycle.pass.Goals as goal
 
 pub invariant_of-self-clause-reached : goal.invariant_of-self-clause-reached
 invariant_of-self-clause-reached c =
     let waits : Waits c.args.elapsed (stage_of c.args.self.now) (record { core = c.tell.new.core; round = c.args.self.now.round }) = search rules in
-    reached_rounds _ _ c.args.self.now.reached (goes_waits _ _ c.args.elapsed waits)
+    reached_wait _ _ c.args.elapsed c.args.self.now.reached waits
 
 pub returns : goal.returns
 returns c =
@@ -16,7 +16,7 @@ returns c =
     record {
       at = refl;
       passed = time_alone c.args.self.now.core.value c.tell.new.core c.args.elapsed waits.told;
-      goes = goes_waits _ _ c.args.elapsed waits;
+      waits = waits;
     }
 
 pub invariant_of-self-clause-sought : goal.invariant_of-self-clause-sought

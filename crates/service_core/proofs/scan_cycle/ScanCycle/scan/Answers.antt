@@ -1,40 +1,39 @@
-use Rattle.std.proofs.Common.{rules, ◌∙◌, length, All}
+use Rattle.std.proofs.Common.{◌∙◌, length}
 use Rattle.gateway.specs.declared.event_core.event.Event.TheVariants as event
 use Rattle.gateway.specs.declared.event_core.event.Answer.TheVariants as answer
 use Rattle.service_core.specs.Cycle.{stage_of}
-use Rattle.service_core.specs.Rounds.{IsRecent, since}
+use Rattle.service_core.specs.Rounds.{since}
 use Rattle.service_core.specs.Stages.{Scans}
-use Rattle.service_core.proofs.Courses.{goes_scans, reached_rounds, round_for, sought_for, taken_site, takes_from}
+use Rattle.service_core.proofs.Courses.{reached_scan, round_for, sought_for, taken_site, takes_from}
 use Rattle.service_core.proofs.LastTold.{round_when_scanned}
 use Rattle.service_core.proofs.scan_cycle.ScanCycle.scan.Goals as goal
 
 pub invariant_of-self-clause-reached : goal.invariant_of-self-clause-reached
 invariant_of-self-clause-reached c =
-    let recent : All IsRecent c.args.self.now.round.told = search rules in
     let ran = c.scan.ensures.scanned in
     let scans : Scans c.args.now (stage_of c.args.self.now) (record { core = c.scan.new.core; round = c.scan.new.self }) = record {
-      recent = recent;
+      recent = c.requires.recent;
       waited = ran.waited;
       waits = takes_from _ _ (event.Time (since c.args.self.now.round.at c.args.now)) _ c.deref_mut.ensures.value (answer.None, ran.waits);
       runs = (answer.Writes (length (ran.waited).site.outs), ran.runs);
       planned = c.scan.ensures.planned;
       same = c.scan.ensures.same;
     } in
-    reached_rounds _ _ c.args.self.now.reached (goes_scans _ _ c.args.now scans)
+    reached_scan _ _ c.args.now c.args.self.now.reached scans
 
-pub returns-then-are_recent : goal.returns-then-are_recent
-returns-then-are_recent c =
-    let recent : All IsRecent c.args.self.now.round.told = search rules in
+pub returns : goal.returns
+returns c =
     let ran = c.scan.ensures.scanned in
-    let scans : Scans c.args.now (stage_of c.args.self.now) (record { core = c.scan.new.core; round = c.scan.new.self }) = record {
-      recent = recent;
-      waited = ran.waited;
-      waits = takes_from _ _ (event.Time (since c.args.self.now.round.at c.args.now)) _ c.deref_mut.ensures.value (answer.None, ran.waits);
-      runs = (answer.Writes (length (ran.waited).site.outs), ran.runs);
-      planned = c.scan.ensures.planned;
-      same = c.scan.ensures.same;
-    } in
-    record { scans = scans; goes = goes_scans _ _ c.args.now scans }
+    record {
+      scans = record {
+        recent = c.requires.recent;
+        waited = ran.waited;
+        waits = takes_from _ _ (event.Time (since c.args.self.now.round.at c.args.now)) _ c.deref_mut.ensures.value (answer.None, ran.waits);
+        runs = (answer.Writes (length (ran.waited).site.outs), ran.runs);
+        planned = c.scan.ensures.planned;
+        same = c.scan.ensures.same;
+      };
+    }
 
 pub invariant_of-self-clause-sought : goal.invariant_of-self-clause-sought
 invariant_of-self-clause-sought c =

@@ -12,13 +12,12 @@ loop-link-preserved c =
           (λ device why is. has device why (
             c.loop-link.link,
             (
-              waited_before c.args.self.now.lines.links.stations.items _ c.args.self.now.lines.lines.items _ c.args.self.now.side.now _ c.loop-link.link device (ap (λ (l : Links). l.stations.items) so_far.0) (so_far.2 c.loop-link.link (le_refl c.loop-link.link)) so_far.6.side.now is.0,
+              waited_before c.args.self.now.lines.links.stations.items _ c.args.self.now.lines.lines.items _ c.args.self.now.side.now _ c.loop-link.link device (ap (λ (l : Links). l.stations.items) so_far.0.links) (so_far.2 c.loop-link.link (le_refl c.loop-link.link)) so_far.0.time.side.now is.0,
               is.1,
             ),
           ))
           from (so_far.1 may has from before)),
       (λ k after. let below : c.loop-link.link < k = search rules in c.end_wait.ensures.others k (below_other k c.loop-link.link below) ∙ so_far.2 k (search rules)),
-      search rules,
       search rules,
       search rules,
       search rules,

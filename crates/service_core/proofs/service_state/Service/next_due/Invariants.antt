@@ -1,16 +1,18 @@
 use Rattle.std.proofs.Common.{◌≡◌}
+use Rattle.service_parts.specs.Frames.{LinesGo}
 use Rattle.service_core.specs.Cycle.{LeadsOn, stage_of}
+use Rattle.service_core.specs.Having.{HasNoMore, WritesHad}
 use Rattle.service_core.specs.LeftOut.{LeavesOut, held_by}
-use Rattle.service_core.specs.Told.{Goes}
-use Rattle.service_core.specs.Timing.{StaysAt}
+use Rattle.service_core.specs.Staying.{Stays}
 use Rattle.service_core.proofs.service_state.Service.next_due.Given as goal
 
 abbrev pub invariant-loop : goal.invariant-loop
 invariant-loop l =
     (l.self.lines ≡ l.initial.self.lines)
     × (l.self.sent ≡ l.initial.self.sent)
-    × LeadsOn l.initial.self.cycle l.self.cycle
-    × (l.self.places.items ≡ l.initial.self.places.items)
-    × StaysAt l.initial.self l.self
-    × Goes l.initial.self.side l.self.side
+    × Stays l.initial.self l.self
+    × WritesHad l.initial.self.sent l.initial.self.side l.self.side
     × LeavesOut l.fn.device (held_by l.initial.self.sent l.fn.device l.fn.number l.initial.self.side.now) (stage_of l.initial.self.cycle) (stage_of l.self.cycle)
+    × LinesGo l.initial.self.lines.lines.items l.self.lines.lines.items
+    × LeadsOn l.initial.self.cycle l.self.cycle
+    × HasNoMore l.initial.self.sent l.self.sent

@@ -1,4 +1,5 @@
 use Rattle.service_core.proofs.Courses.{own_of_rounds, own_of_settles}
+use Rattle.service_core.proofs.Having.{none_more, writes_by}
 use Rattle.service_core.proofs.service_state.Service.settle.Goals as goal
 
 pub returns-in-Some-clause-goes : goal.returns-in-Some-clause-goes
@@ -6,3 +7,9 @@ returns-in-Some-clause-goes c = own_of_settles c.args.fate c.in-Some.asked c.arg
 
 pub returns-in-None-clause-goes : goal.returns-in-None-clause-goes
 returns-in-None-clause-goes c = own_of_rounds _ _ c.go_on.ensures.goes
+
+pub returns-in-None-clause-sent : goal.returns-in-None-clause-sent
+returns-in-None-clause-sent c = none_more _ _ _ c.go_on.ensures.sent
+
+pub returns-in-None-clause-stands : goal.returns-in-None-clause-stands
+returns-in-None-clause-stands c may lost = writes_by _ _ _ _ c.go_on.ensures.stands may

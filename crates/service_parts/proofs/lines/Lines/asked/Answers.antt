@@ -2,7 +2,6 @@ use Rattle.std.proofs.Common.{rules, ◌≡◌, ◌≤◌, ◌<◌, Some, length
 use Rattle.std.specs.Prelude.{option_and_then}
 use Rattle.std.proofs.lemmas.Option.{slice_get_past}
 use Rattle.service_parts.specs.declared.line.Line.{Line as LineValue}
-use Rattle.service_parts.specs.declared.wire.Wire.{Wire as WireValue}
 use Rattle.service_parts.proofs.Placed.{is_read}
 use Rattle.service_parts.proofs.lines.Lines.asked.Goals as goal
 
@@ -11,9 +10,9 @@ returns-in-Some c =
     let same : c.args.self.now.lines.items ≡ c.deref.result.now = search rules in
     let within : c.args.link < length c.deref.result.now = search rules in
     let at : slice_get c.args.self.now.lines.items c.args.link ≡ Some c.in-Some.line.now = is_read _ _ c.deref.result.now c.in-Some.line.now same within c.in-Some.ensures.lookup.1 in
-    c.asked.ensures ∙ (ap (λ (w : WireValue). w.asked) c.wire.ensures ∙ sym (ap (option_and_then (λ (l : LineValue). l.wire.asked)) at))
+    c.asked.ensures ∙ sym (ap (option_and_then (λ (l : LineValue). l.asked)) at)
 
 pub returns-in-None : goal.returns-in-None
 returns-in-None c =
     let past : length c.args.self.now.lines.items ≤ c.args.link = search rules in
-    sym (ap (option_and_then (λ (l : LineValue). l.wire.asked)) (slice_get_past c.args.self.now.lines.items c.args.link past))
+    sym (ap (option_and_then (λ (l : LineValue). l.asked)) (slice_get_past c.args.self.now.lines.items c.args.link past))

@@ -1,0 +1,40 @@
+//! The request that is under way on a line.
+ghost use Rattle.std.specs.Prelude.{◌≡◌};
+ghost use Rattle.modbus_frame.specs.Message.{address_of};
+
+use modbus_frame::Request;
+
+/// The request that is under way.
+#[derive(Clone, Copy)]
+pub struct Asked {
+    pub device: usize,
+    pub aim: Aim,
+    /// The address of the first register that it is about.
+    pub address: u16,
+    /// The number of the connection over which it is asked.
+    pub number: u64,
+    pub since: u64,
+    pub until: u64,
+}
+
+/// What a request is made for.
+#[derive(Clone, Copy, PartialEq, Eq)]
+pub enum Aim {
+    /// A map.
+    Map,
+    /// The wanted block of this number.
+    Block(usize),
+    /// The output of this number.
+    Output(usize),
+}
+
+/// The address of the first register that a request is about.
+pub fn first_register(request: &Request) -> u16
+    ensures { result ≡ address_of request.now }
+{
+    match request {
+        Request::Read { addr, .. }
+        | Request::WriteOne { addr, .. }
+        | Request::WriteMany { addr, .. } => *addr,
+    }
+}
