@@ -12,9 +12,9 @@ use gateway::Core;
 use point_types::{Reading, Var};
 use refusal_notes::escaped;
 use run_report::{Report, Role, Sample, Series, Source, Unset, page_of};
+use service_texts::digits_of;
 use site_alarms::missing_word;
 use site_model::{Access, SiteTag};
-use start_texts::digits_of;
 use std::alloc::{AllocError, Global};
 use std::io::Write;
 

@@ -5,9 +5,11 @@ use clap::builder::ValueParser;
 use clap::{Arg, ArgAction, ArgMatches, Command};
 use point_types::Items;
 use service_core::Limits;
-use service_texts::{Devices, DevicesFault, Writer, WriterFault, devices_of, limits, writers_of};
+use service_texts::{
+    Devices, DevicesFault, Start, Times, Writer, WriterFault, devices_of, limits, times_of,
+    writers_of,
+};
 use site_service::{Keeping, KeptState, Serving};
-use start_texts::{Start, Times, times_of};
 use std::alloc::{AllocError, Global};
 use std::net::{Net, SocketAddr, ToSocketAddrs};
 

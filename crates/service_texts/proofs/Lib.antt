@@ -2,3 +2,5 @@ pub mod Placing
 pub mod KeptVariables
 pub mod StateLines
 pub mod Named
+pub mod Spelled
+pub mod Read

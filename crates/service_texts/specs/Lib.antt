@@ -7,3 +7,13 @@ pub mod Sleeping
 pub mod State
 pub mod Stations
 pub mod Writers
+pub mod Keys
+pub mod Rationing
+pub mod Beginning
+pub mod Starting
+pub mod Changing
+pub mod Hearing
+pub mod Hitting
+pub mod Numbers
+pub mod Outcomes
+pub mod Telling

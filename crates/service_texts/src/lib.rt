@@ -1,16 +1,27 @@
 //! What a service over sockets reads and writes as text, and what it is told: where a site file says that devices are, who
-//! may write, how long is waited, the file of set values, and its lines.
+//! may write, how long is waited, the file of set values, what clients write, the start, and its lines and how often they come.
 #![tactic(auto)]
 
 mod addresses;
+mod clock_times;
 mod device_places;
+mod digits;
+mod ear;
+mod hit;
 mod lapsing_lines;
 mod lines;
+mod number;
+mod outcome;
+mod ration;
 mod reaching;
 mod retain_pace;
 mod retaining;
+mod settings;
+mod share;
 mod sleeping;
+mod start;
 mod state_lines;
+mod told;
 mod waiting;
 mod write_record;
 mod writers;
@@ -39,3 +50,16 @@ pub use lines::{
     listening_line, lost_line, program_refused_line, program_taken_line, stamped, unwritten_line,
     written_line,
 };
+// what clients write: which frame is answered, what comes of it, and what a number that is refused would have been
+pub use ear::Ear;
+pub use hit::{RefusedNumber, refused_number};
+pub use outcome::{RefusedWrite, WriteOutcome, outcome_of};
+pub use settings::{Change, KnownSettings};
+pub use told::{lapsed_line, number_text, refused_more_line, refused_text, set_line};
+// how often something is told of one address
+pub use ration::{Over, Ration};
+pub use share::{Share, address_of, key_of};
+// the time of day, and which program runs on which texts
+pub use clock_times::{Times, time_of_day, timed_line, times_of};
+pub use digits::digits_of;
+pub use start::Start;

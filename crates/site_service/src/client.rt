@@ -2,12 +2,12 @@
 ghost use Rattle.std.specs.Prelude.{◌<◌};
 ghost use Rattle.service_parts.specs.Clients.{DoesAt, Sends};
 
-use client_writes::Ear;
 use mio::net::TcpStream;
 use mio::{Interest, Registry, Token};
 use modbus_frame::Frame;
-use polled_stream::{Connection, Giver, Taker};
 use service_core::Service;
+use service_edges::{Connection, Giver, Taker};
+use service_texts::Ear;
 use std::net::SocketAddr;
 
 /// A client's connection.

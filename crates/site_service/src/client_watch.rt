@@ -1,12 +1,12 @@
 //! What is told of clients.
 use crate::journal::Journal;
-use client_writes::{
-    Change, KnownSettings, RefusedNumber, RefusedWrite, WriteOutcome, lapsed_line, number_text,
-    outcome_of, refused_more_line, refused_number, refused_text, set_line,
-};
 use gateway::{Core, DEPTH};
-use line_rations::{Over, Ration, address_of, key_of};
 use modbus_frame::{Exception, Frame, parse_request};
+use service_texts::{
+    Change, KnownSettings, Over, Ration, RefusedNumber, RefusedWrite, WriteOutcome, address_of,
+    key_of, lapsed_line, number_text, outcome_of, refused_more_line, refused_number, refused_text,
+    set_line,
+};
 use site_model::Site;
 use std::alloc::{AllocError, Global};
 use std::io::Write;

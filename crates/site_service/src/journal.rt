@@ -3,8 +3,7 @@ ghost use Rattle.std.specs.Prelude.{string_bytes, IfOk};
 ghost use Rattle.site_service.specs.Timing.{IsLineAt};
 
 use crate::room::Room;
-use service_texts::{client_line, left_out_line, stamped};
-use start_texts::{Times, time_of_day, timed_line};
+use service_texts::{Times, client_line, left_out_line, stamped, time_of_day, timed_line};
 use std::alloc::{AllocError, Global};
 use std::io::Write;
 use std::net::SocketAddr;

@@ -1,6 +1,6 @@
 //! The bytes of a connection to devices, as the service takes and gives them.
-use polled_stream::{Giver, Taker};
 use service_core::Service;
+use service_edges::{Giver, Taker};
 
 /// Takes what comes over a connection to devices.
 #[derive(Drop)]

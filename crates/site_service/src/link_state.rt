@@ -1,8 +1,7 @@
 //! How far a connection to devices is.
 use mio::net::TcpStream;
 use mio::{Interest, Registry, Token};
-use name_lookup::{Lookup, Progress, Target, target_of};
-use polled_stream::Connection;
+use service_edges::{Connection, Lookup, Progress, Target, target_of};
 use std::alloc::Global;
 use std::io::ErrorKind;
 use std::mem;

@@ -5,8 +5,8 @@ use inverter_sim::Plant;
 use mio::net::TcpStream;
 use mio::{Interest, Registry, Token};
 use modbus_frame::{Frame, FrameReply, Responder};
-use polled_stream::{Connection, Giver};
 use service::Session;
+use service_edges::{Connection, Giver};
 
 /// The most pieces of one turn.
 const MOST_PIECES: u32 = 2;

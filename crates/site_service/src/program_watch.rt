@@ -1,6 +1,6 @@
 //! Who looks whether a service is to run another program.
 use service_core::Service;
-use start_texts::Start;
+use service_texts::Start;
 use std::rt::Files;
 use std::time::Clock;
 

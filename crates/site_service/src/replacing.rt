@@ -1,5 +1,5 @@
 //! Files that are replaced whole.
-use lasting_file::{Lasting, SystemFile, WrittenDown};
+use service_edges::{Lasting, SystemFile, WrittenDown};
 use std::alloc::{AllocError, Global};
 use std::fs::OpenFile;
 use std::io::{ErrorKind, Read};

@@ -4,11 +4,10 @@ ghost use Rattle.site_service.specs.Setting.{SetsBy};
 use crate::journal::Journal;
 use crate::keeping::KeptState;
 use crate::state_file::variables;
-use client_writes::lapsed_line;
 use gateway::{Core, DEPTH, has_lapsed};
 use point_types::Name;
 use service_core::Service;
-use service_texts::{StateLine, kept_by, left_out_setting_line, state_line, time_in};
+use service_texts::{StateLine, kept_by, lapsed_line, left_out_setting_line, state_line, time_in};
 use std::alloc::{AllocError, Global};
 use std::io::Write;
 

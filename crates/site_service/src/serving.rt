@@ -1,7 +1,6 @@
 //! What a service is to do, and how it ends.
 use crate::state_fault::StateFault;
-use service_texts::Writer;
-use start_texts::{Start, Times};
+use service_texts::{Start, Times, Writer};
 use std::io;
 use std::io::ErrorKind;
 use std::net::SocketAddr;

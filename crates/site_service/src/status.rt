@@ -7,8 +7,7 @@ use crate::status_devices::devices_value;
 use crate::status_tags::{outputs_value, set_value, tags_value, variables_value};
 use serde_json::{Map, Value, put};
 use service_core::Service;
-use service_texts::Addresses;
-use start_texts::Start;
+use service_texts::{Addresses, Start};
 use std::alloc::{AllocError, Global};
 
 /// The text of how a service stands at a time of day, so many seconds after its start, with so many rounds that began late.

@@ -4,13 +4,14 @@ use escaped_text::escaped;
 use gateway::{Core, DEPTH, Report};
 use register_map::Map;
 use service_core::{Note, Refusal};
-use service_texts::{device_line, lost_line, program_taken_line, unwritten_line, written_line};
+use service_texts::{
+    Start, device_line, lost_line, program_taken_line, unwritten_line, written_line,
+};
 use site_alarms::{
     Changes, Slept, begun_line, device_name, is_lacking, lacks_text, loss_word, output_name,
     over_line, push_models, refuses_text, unwritten_word,
 };
 use site_model::{Site, Want};
-use start_texts::Start;
 use std::alloc::{AllocError, Global};
 use std::io::Write;
 

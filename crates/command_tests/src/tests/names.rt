@@ -1,6 +1,6 @@
 //! Texts of addresses and of answers, those included that say nothing.
 use crate::tests::assert_same;
-use name_lookup::{Target, address_in, target_of};
+use service_edges::{Target, address_in, target_of};
 use std::alloc::{AllocError, Global};
 use std::net::SocketAddr;
 

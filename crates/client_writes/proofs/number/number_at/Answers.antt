@@ -1,4 +1,0 @@
-use Rattle.client_writes.proofs.number.number_at.Goals as goal
-
-pub returns : goal.returns
-returns c = rw c.tag_factor.ensures at c.number_by.ensures

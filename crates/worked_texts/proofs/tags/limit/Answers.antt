@@ -1,6 +1,0 @@
-use Rattle.std.proofs.Common.{refl, arith}
-use Rattle.std.proofs.lemmas.Int.{ints}
-use Rattle.worked_texts.proofs.tags.limit.Goals as goal
-
-pub invariant_of-result : goal.invariant_of-result
-invariant_of-result c = record { ranged = refl; scaled = (omega (arith, ints), omega (arith, ints)); numeric = λ e. cc; writes = refl }
