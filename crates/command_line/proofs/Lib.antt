@@ -1,4 +1,1 @@
-mod FaultLemmas
-mod LinkLemmas
 mod PrintingLemmas
-mod SourceLemmas

@@ -7,7 +7,7 @@ use Rattle.commands.specs.Printed.{IsUnlinked, unlinked_with}
 use Rattle.commands.specs.Report.{link_line, listening_line, no_memory_line}
 use Rattle.commands.specs.Simulate.{GivesDefined}
 use Rattle.commands.specs.Told.{IsTold, Told, refused_with}
-use Rattle.command_line.specs.Printing.{Fails, Grows}
+use Rattle.command_files.specs.Printing.{Fails, Grows}
 use Rattle.command_line.specs.Simulated.{ServesPlant, Simulates}
 
 grows_on : (a b c : Option (List ℕ)) → Grows a b → Grows b c → Grows a c

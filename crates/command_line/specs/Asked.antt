@@ -6,8 +6,8 @@ use Rattle.commands.specs.Explained.{IsExplained}
 use Rattle.commands.specs.Obeyed.{Checks}
 use Rattle.command_line.specs.declared.file_command.FileCommand.{FileCommand}
 use Rattle.command_line.specs.declared.file_command.FileCommand.TheVariants.{Check, Explain, Probe, Run, Simulate}
-use Rattle.command_line.specs.Probed.{ProbesOnce}
-use Rattle.command_line.specs.Ran.{RunsOnce}
+use Rattle.command_files.specs.Probed.{ProbesOnce}
+use Rattle.command_files.specs.Ran.{RunsOnce}
 use Rattle.command_line.specs.Simulated.{Simulates}
 
 -- by the command

@@ -10,7 +10,7 @@ use Rattle.inverter_sim.specs.State.{PlantState}
 use Rattle.commands.specs.Printed.{IsUnlinked}
 use Rattle.commands.specs.Report.{listening_line}
 use Rattle.commands.specs.Simulate.{GivesDefined, TellsNoPlant}
-use Rattle.command_line.specs.Printing.{Fails}
+use Rattle.command_files.specs.Printing.{Fails}
 
 -- nothing is printed of a link that was served to its end; of another one the fault is told
 abbrev pub EndsServed : Result ℕ LinkFault → Option (List ℕ) → Option (List ℕ) → ℕ → Type 0

@@ -1,25 +1,22 @@
 //! The command line.
-use crate::arguments::command;
-use crate::command_words::{file_command, probe_address};
-use crate::definition_folder::warn_of_none;
 use crate::explain_run::{TraceText, explain_with};
-use crate::file_command::{obey_on, warn_of_site};
-use crate::help;
+use crate::file_command::obey_on;
 use crate::run_command::run_on;
-use crate::run_files::{misuse_of_definitions, misuse_of_files};
-use crate::serve_words::{Misuse, keeping_of, service_limits, service_words, serving_of};
-use crate::service_run::{ServiceRun, run_service};
+use crate::runtimes::{CommandRuntime, LoopRuntime};
+use crate::serve::{ServiceRun, run_service};
 use crate::sources::{Refusal, Sources, read_sources, read_state};
-use crate::standard_input::misuse;
-use crate::survey_run::{SurveyRun, run_survey};
-use crate::survey_words::survey_devices;
-use crate::trial_input::trial_of;
-use clap::error::ErrorKind;
-use clap::{ArgMatches, Error};
+use crate::survey::{SurveyRun, run_survey};
+use crate::words::{
+    Misuse, command, file_command, keeping_of, misuse, misuse_of_definitions, misuse_of_files,
+    probe_address, service_limits, service_words, serving_of, survey_devices, tell_misuse,
+    tell_unparsed, version,
+};
+use clap::ArgMatches;
+use command_files::{trial_of, warn_of_none, warn_of_site};
 use commands::tell_no_memory;
 use file_keys::TomlFile;
-use refusal_notes::{Notes, escaped, explain_unusable};
-use service_texts::{Devices, Start};
+use refusal_notes::{Notes, explain_unusable};
+use service_texts::{DeviceSource, Start};
 use site_service::seconds_of_day;
 use std::alloc::{AllocError, Global};
 use std::fs::File;
@@ -38,6 +35,7 @@ const QUIET: &str = "--quiet";
 
 /// Does what the words of the program's own command line ask for, or without arguments a trial of the program on standard
 /// input. Gives the exit status. That standard input is read from its beginning, and by nobody else, no contract says.
+/// (Its bounds are written out, since no `main` is proved where a call has a trait of them.)
 pub fn obey_command_line(
     rt: &(impl Input
         + Print
@@ -72,18 +70,7 @@ fn words(rt: &(impl AllocGlobal + Env)) -> io::Result<Vec<String>> {
 
 /// Obeys the words of a command line, of which the first is the program's path, and prints what the command prints to
 /// `out`. A command line that isn't one, or that asks for help, is told by `clap`. Gives the exit status.
-pub fn obey<W: Write>(
-    rt: &(impl Input
-        + Print
-        + Eprint
-        + AllocGlobal
-        + Files<File = File>
-        + Clock
-        + Net
-        + Processes<Started = SystemProcess>),
-    words: &[String],
-    out: &mut W,
-) -> u8 {
+pub fn obey<W: Write>(rt: &impl CommandRuntime, words: &[String], out: &mut W) -> u8 {
     let alloc = rt.alloc();
     let Ok(command) = command(alloc) else {
         return tell_no_memory(out);
@@ -94,83 +81,9 @@ pub fn obey<W: Write>(
     }
 }
 
-/// Has `clap` tell what is wrong with the words, and gives the status. It shows words as they are: control characters are
-/// escaped before, so that no word can pass for another line.
-fn tell_unparsed<W: Write>(
-    rt: &(impl Print + Eprint),
-    alloc: Global,
-    words: &[String],
-    fault: &Error,
-    out: &mut W,
-) -> u8 {
-    match fault_of_escaped(alloc, words) {
-        Ok(Some(shown)) => tell_usage(rt, &shown, out),
-        Ok(None) => tell_usage(rt, fault, out),
-        Err(AllocError) => tell_no_memory(out),
-    }
-}
-
-/// Why the words are no command line, once their control characters are escaped.
-fn fault_of_escaped(alloc: Global, words: &[String]) -> Result<Option<Error>, AllocError> {
-    let mut shown = Vec::new(alloc);
-    push_escaped(alloc, &mut shown, words)?;
-    let command = command(alloc)?;
-    match command.try_get_matches_from(shown.as_slice()) {
-        Ok(_) => Ok(None),
-        Err(fault) => Ok(Some(fault)),
-    }
-}
-
-fn push_escaped(
-    alloc: Global,
-    shown: &mut Vec<String>,
-    words: &[String],
-) -> Result<(), AllocError> {
-    for word in words {
-        shown.push(escaped(alloc, word.as_str())?)?;
-    }
-    Ok(())
-}
-
-/// Has `clap` tell what is wrong with the words, or the help that they ask for, and gives the status.
-fn tell_usage<W: Write>(rt: &(impl Print + Eprint), fault: &Error, out: &mut W) -> u8 {
-    if fault.kind() == ErrorKind::OutOfMemory {
-        return tell_no_memory(out);
-    }
-    match fault.print(rt) {
-        Err(_) if fault.exit_code() == 0 => 1,
-        _ => fault.exit_code() as u8,
-    }
-}
-
-/// Has `clap` tell why the words are no command line, and gives the status.
-pub(crate) fn tell_misuse<W: Write>(
-    rt: &(impl Print + Eprint),
-    alloc: Global,
-    why: &str,
-    out: &mut W,
-) -> u8 {
-    match misuse_fault(alloc, why) {
-        Ok(fault) => tell_usage(rt, &fault, out),
-        Err(AllocError) => tell_no_memory(out),
-    }
-}
-
-fn misuse_fault(alloc: Global, why: &str) -> Result<Error, AllocError> {
-    let mut command = command(alloc)?;
-    command.error(ErrorKind::ArgumentConflict, why)
-}
-
 /// Does what the command asks for.
 fn obey_matches<W: Write>(
-    rt: &(impl Input
-        + Print
-        + Eprint
-        + AllocGlobal
-        + Files<File = File>
-        + Clock
-        + Net
-        + Processes<Started = SystemProcess>),
+    rt: &impl CommandRuntime,
     alloc: Global,
     words: &[String],
     matches: &ArgMatches<'_>,
@@ -209,14 +122,7 @@ fn path_of(words: &[String]) -> &str {
 
 /// Does what a command asks for on its files, once it is told which folders have no definition.
 fn obey_on_sources<W: Write>(
-    rt: &(impl Input
-        + Print
-        + Eprint
-        + AllocGlobal
-        + Files<File = File>
-        + Clock
-        + Net
-        + Processes<Started = SystemProcess>),
+    rt: &impl CommandRuntime,
     alloc: Global,
     itself: &str,
     name: &str,
@@ -240,14 +146,7 @@ fn obey_on_sources<W: Write>(
 
 /// Does what a command asks for on the texts of its files; `itself` is this program's path.
 fn obey_on_texts<W: Write>(
-    rt: &(impl Input
-        + Print
-        + Eprint
-        + AllocGlobal
-        + Files<File = File>
-        + Clock
-        + Net
-        + Processes<Started = SystemProcess>),
+    rt: &impl CommandRuntime,
     alloc: Global,
     itself: &str,
     name: &str,
@@ -278,14 +177,7 @@ fn obey_on_texts<W: Write>(
 
 /// Does what a command asks for, once the texts of its files are parsed.
 fn obey_on_notes<W: Write>(
-    rt: &(impl Input
-        + Print
-        + Eprint
-        + AllocGlobal
-        + Files<File = File>
-        + Clock
-        + Net
-        + Processes<Started = SystemProcess>),
+    rt: &impl CommandRuntime,
     alloc: Global,
     itself: &str,
     name: &str,
@@ -344,7 +236,7 @@ fn unread<W: Write>(
 
 /// Runs `survey` on the texts of the files.
 fn surveyed<W: Write>(
-    rt: &(impl Print + Eprint + AllocGlobal + Clock + Net + Processes<Started = SystemProcess>),
+    rt: &(impl LoopRuntime + Print),
     alloc: Global,
     matches: &ArgMatches<'_>,
     notes: &Notes<'_>,
@@ -367,14 +259,7 @@ fn surveyed<W: Write>(
 
 /// Runs `serve` on the texts of the files, once the file of set values is read.
 fn served<W: Write>(
-    rt: &(impl Input
-        + Print
-        + Eprint
-        + AllocGlobal
-        + Files<File = File>
-        + Clock
-        + Net
-        + Processes<Started = SystemProcess>),
+    rt: &impl CommandRuntime,
     alloc: Global,
     itself: &str,
     matches: &ArgMatches<'_>,
@@ -389,13 +274,7 @@ fn served<W: Write>(
 
 /// Runs `serve` on the texts of the files and of the set values.
 fn served_with<W: Write>(
-    rt: &(impl Print
-        + Eprint
-        + AllocGlobal
-        + Files<File = File>
-        + Clock
-        + Net
-        + Processes<Started = SystemProcess>),
+    rt: &(impl LoopRuntime + Print + Files<File = File>),
     alloc: Global,
     itself: &str,
     matches: &ArgMatches<'_>,
@@ -404,13 +283,7 @@ fn served_with<W: Write>(
     out: &mut W,
 ) -> u8 {
     let seconds = seconds_of_day(rt);
-    let Ok(start) = Start::of(
-        alloc,
-        seconds,
-        help::version(),
-        notes.site.text(),
-        notes.program,
-    ) else {
+    let Ok(start) = Start::of(alloc, seconds, version(), notes.site.text(), notes.program) else {
         return tell_no_memory(out);
     };
     match service_words(rt, alloc, matches) {
@@ -428,7 +301,7 @@ fn served_with<W: Write>(
                 names: &[],
             };
             match devices {
-                Devices::Plant(_) => warn_of_site(rt, notes),
+                DeviceSource::Plant(_) => warn_of_site(rt, notes),
                 _ => notes.warn(rt),
             }
             run_service(rt, alloc, &run, out)

@@ -1,14 +1,11 @@
 //! The command `explain` with a trace of a run.
 use crate::file_command::{FileCommand, obey_on};
-use crate::retained::variables_of;
-use crate::traced_spans::{TraceFault, TracedSpans};
+use command_files::{RunRuntime, TraceFault, TracedSpans, variables_of};
 use commands::{accept, tell_no_memory, write_lines};
 use point_types::Var;
 use refusal_notes::{Notes, escaped};
 use std::alloc::{AllocError, Global};
 use std::io::Write;
-use std::net::Net;
-use std::process::Processes;
 use std::time::Clock;
 
 /// A trace, as it was read.
@@ -20,7 +17,7 @@ pub(crate) struct TraceText<'p, 't> {
 
 /// Explains a program, and tells then which numbers its variables had in a trace. A text that is no trace is refused before.
 /// Gives the status.
-pub(crate) fn explain_with<R: Net + Clock + Processes + Eprint + AllocGlobal, W: Write>(
+pub(crate) fn explain_with<R: RunRuntime + Clock, W: Write>(
     rt: &R,
     alloc: Global,
     command: FileCommand<'_>,

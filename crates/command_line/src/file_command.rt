@@ -3,16 +3,14 @@ ghost use Rattle.std.specs.Prelude.{map, string_bytes};
 ghost use Rattle.commands.specs.Obeyed.{Checks, Obeys};
 ghost use Rattle.command_line.specs.Asked.{ObeysFiles};
 
-use crate::plant_run::{PlantRun, run_plant};
 use crate::plant_server::{PlantPort, simulate};
-use crate::probe_link::{ProbeRun, probe_over};
-use crate::shown::warn_beside;
+use command_files::{
+    PlantRun, ProbeRun, RunRuntime, probe_over, run_plant, warn_beside, warn_of_site,
+};
 use commands::{Pace, TextCommand, judge};
 use refusal_notes::Notes;
 use std::alloc::Global;
 use std::io::Write;
-use std::net::Net;
-use std::process::Processes;
 use std::time::Clock;
 
 /// What a command line asks for on the texts of its files, but for a service.
@@ -38,7 +36,7 @@ pub enum FileCommand<'a> {
 
 /// Does what a command asks for, on just the texts of its files; `itself` is this program's path.
 pub fn obey_on<W: Write>(
-    rt: &(impl Eprint + AllocGlobal + Net + Clock + Processes),
+    rt: &(impl RunRuntime + Clock),
     alloc: Global,
     itself: &str,
     command: FileCommand<'_>,
@@ -111,13 +109,4 @@ fn checked<W: Write>(rt: &(impl Eprint + AllocGlobal), notes: &Notes<'_>, out: &
         }
     }
     judged.status
-}
-
-/// Warns of what nothing reads in the site file. The simulator that is started warns of the plant file and the definitions.
-pub fn warn_of_site(rt: &(impl Eprint + AllocGlobal), notes: &Notes<'_>) {
-    let of_site = Notes {
-        defs: &[],
-        ..*notes
-    };
-    of_site.warn(rt);
 }

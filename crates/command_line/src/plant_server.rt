@@ -2,11 +2,10 @@
 ghost use Rattle.std.specs.Prelude.{◌⊎◌, ℕ, List, Option, map, string_bytes};
 ghost use Rattle.commands.specs.Report.{listening_line, no_memory_line};
 ghost use Rattle.commands.specs.Told.{IsTold, refused_with};
-ghost use Rattle.command_line.specs.Printing.{Fails};
+ghost use Rattle.command_files.specs.Printing.{Fails};
 ghost use Rattle.command_line.specs.Simulated.{ServesMany, ServesOne, ServesStream, Simulates};
 
-use crate::failing::tell_unserved;
-use crate::socket::{link_over, loopback};
+use command_files::{link_over, loopback, tell_unserved};
 use commands::{listening, plant_told, tell_no_memory, tell_unlinked, write_lines};
 use inverter_sim::{Plant, serve_link};
 use modbus_frame::LinkFault;

@@ -1,17 +1,15 @@
 //! The command `run`, by the words of its command line.
-use crate::command_words::file_command;
-use crate::file_command::{FileCommand, warn_of_site};
-use crate::plant_run::{PlantRun, run_plant};
-use crate::run_files::{RunPaths, run_into_files};
-use crate::set_lines::{SetsFault, read_settings};
-use crate::set_player::tell_late;
+use crate::file_command::FileCommand;
+use crate::words::file_command;
 use clap::ArgMatches;
+use command_files::{
+    PlantRun, RunPaths, RunRuntime, SetsFault, read_settings, run_into_files, run_plant, tell_late,
+    warn_of_site,
+};
 use commands::{tell_no_memory, write_lines};
 use refusal_notes::{Notes, escaped};
 use std::alloc::{AllocError, Global};
 use std::io::Write;
-use std::net::Net;
-use std::process::Processes;
 use std::rt::Files;
 
 /// The status of words that are none of `run`.
@@ -19,7 +17,7 @@ const BAD_COMMAND_LINE: u8 = 2;
 
 /// Does a run: on the texts of its files, with what clients set in it by the lines of a text, and into the files that are
 /// wanted of it. `itself` is this program's path.
-pub(crate) fn run_on<R: Files + Net + Processes + Eprint + AllocGlobal, W: Write>(
+pub(crate) fn run_on<R: RunRuntime + Files, W: Write>(
     rt: &R,
     alloc: Global,
     itself: &str,
@@ -48,7 +46,10 @@ where
         settings: settings.as_slice(),
         exe: exe.unwrap_or(itself),
     };
-    let paths = RunPaths::of(matches);
+    let paths = RunPaths {
+        trace: matches.get_str("trace"),
+        report: matches.get_str("report"),
+    };
     if paths.are_any() {
         return run_into_files(rt, alloc, &run, paths, out);
     }

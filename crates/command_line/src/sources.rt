@@ -1,10 +1,8 @@
 //! The texts of the files that a command line names.
-ghost use Rattle.command_line.specs.Printing.{Fails};
+ghost use Rattle.command_files.specs.Printing.{Fails};
 
-use crate::definition_folder::definitions_in;
-use crate::failing::tell_file;
-use crate::source::{SourceFault, read_file, read_kept};
 use clap::ArgMatches;
+use command_files::{SourceFault, definitions_in, read_file, read_kept, tell_file};
 use commands::tell_no_memory;
 use refusal_notes::FileFault;
 use std::alloc::{AllocError, AllocFailed, Global};

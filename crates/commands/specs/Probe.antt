@@ -21,7 +21,7 @@ use Rattle.register_map.specs.declared.layout.Block.{Block}
 use Rattle.register_map.specs.declared.layout.MapFault.{MapFault}
 use Rattle.site_model.specs.Readings.{registers_at}
 use Rattle.site_model.specs.Tagging.{is_numeric}
-use Rattle.escaped_text.specs.Escaping.{escaped}
+use Rattle.note_text.specs.Escaping.{escaped}
 use Rattle.commands.specs.declared.unit_points.NoLines.{NoLines}
 use Rattle.commands.specs.declared.unit_points.NoLines.TheVariants as no_lines
 use Rattle.commands.specs.Report.{bad_map_line, line_of, link_line, no_memory_line}

@@ -2,11 +2,11 @@
 use crate::given::{equals_sign, input_place, reading_of};
 use crate::input::{before_end, input_line, is_blank_line, line_length};
 use il_reader::Program;
+use note_text::nearer;
 use point_types::{IlType, Name};
 use program_notes::type_word;
 use refusal_notes::Cause;
 use scan_code::Image;
-use source_notes::nearer;
 use std::alloc::{AllocError, Global};
 
 /// The cause of the refusal of the input line with this number among those that aren't blank. Where memory for a part of

@@ -4,7 +4,7 @@ ghost use Rattle.std.specs.Fmt.{decimal};
 ghost use Rattle.commands.specs.Probe as probe;
 ghost use Rattle.commands.specs.Report as report;
 
-use escaped_text::escaped;
+use note_text::escaped;
 use point_types::{IlType, Name};
 use register_map::Block;
 use std::alloc::{AllocError, Global};

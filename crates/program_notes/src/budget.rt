@@ -4,11 +4,11 @@ ghost use Rattle.std.specs.Prelude.{◌<◌, length};
 use crate::detail::Detail;
 use crate::longest::{longest_length, reached_flags};
 use crate::refusing::MOST_DEFERRED;
+use crate::rows::{Row, rows_of};
 use facts::RefusalKind;
 use facts::context::Context;
 use il_reader::Program;
 use point_types::Items;
-use program_rows::{Row, rows_of};
 use scan_code::{Image, Op};
 use site_model::Site;
 use std::alloc::{AllocError, Global};
@@ -29,10 +29,7 @@ pub(crate) fn budget_detail(
             return detail_in(alloc, program, &context);
         }
     }
-    Ok(Detail {
-        line: 0,
-        text: String::new(alloc),
-    })
+    Ok(Detail::none(alloc))
 }
 
 fn detail_in(alloc: Global, program: &Program, context: &Context) -> Result<Detail, AllocError>
@@ -41,10 +38,7 @@ fn detail_in(alloc: Global, program: &Program, context: &Context) -> Result<Deta
     let rows: Items<Row> = rows_of(alloc, program, context)?;
     let reached = reached_flags(alloc, rows.as_slice())?;
     if reached.len() != context.size() {
-        return Ok(Detail {
-            line: 0,
-            text: String::new(alloc),
-        });
+        return Ok(Detail::none(alloc));
     }
     let steps = most_steps(alloc, context, &reached)?;
     let longest = longest_length(alloc, context, &reached)?;

@@ -1,9 +1,31 @@
 //! Which line of a program's text an instruction is of, and which name it has.
+ghost use Rattle.std.specs.Prelude.{◌≡◌, ◌⊎◌, Some, slice_get};
+ghost use Rattle.il_assemble.specs.LineTable.{instruction_lines};
+
 use il_assemble::instruction_lines;
 use il_reader::Program;
 use point_types::Name;
 use scan_code::{Image, Op, decode};
 use std::alloc::Global;
+
+/// The line of the statement whose code an instruction is in; 0 where there is none, or where memory was refused.
+pub fn instruction_line(alloc: Global, program: &Program, number: usize) -> u32
+    ensures { (result ≡ 0) ⊎ (slice_get (instruction_lines program.now) number ≡ Some result) }
+{
+    match instruction_lines(alloc, program) {
+        Ok(lines) => line_at(lines.as_slice(), number),
+        Err(_) => 0,
+    }
+}
+
+fn line_at(lines: &[u32], number: usize) -> u32
+    ensures { (result ≡ 0) ⊎ (slice_get lines.now number ≡ Some result) }
+{
+    match lines.get(number) {
+        Some(line) => *line,
+        None => 0,
+    }
+}
 
 /// The last line inside the parentheses at whose end an instruction acts, though its operator stands before them; None
 /// for an instruction that closes none, or where memory was refused.

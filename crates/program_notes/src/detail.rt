@@ -1,12 +1,11 @@
 //! Why a program is refused, by what is known where it is.
 use crate::budget::budget_detail;
-use crate::code_lines::declared_line;
+use crate::code_lines::{declared_line, instruction_line};
 use crate::refusing::instruction_text;
 use crate::words::{access_words, type_word};
 use facts::{Refusal, RefusalKind, RefusedAt};
 use il_reader::Program;
 use point_types::Name;
-use program_rows::instruction_line;
 use scan_code::{Image, Tag};
 use site_model::{Site, SiteTag};
 use std::alloc::{AllocError, Global};
@@ -18,6 +17,16 @@ pub struct Detail {
     pub line: u32,
     /// What is known there; empty where nothing is told.
     pub text: String,
+}
+
+impl Detail {
+    /// Nothing is known, and there is no line.
+    pub(crate) fn none(alloc: Global) -> Detail {
+        Detail {
+            line: 0,
+            text: String::new(alloc),
+        }
+    }
 }
 
 /// Why a program's image is refused for a site: of a tag what both sides say of it, of an instruction what is known
@@ -53,10 +62,7 @@ fn tag_detail(
             line: declared_line(program, &tag.name),
             text: tag_text(alloc, tag, site, kind)?,
         }),
-        None => Ok(Detail {
-            line: 0,
-            text: String::new(alloc),
-        }),
+        None => Ok(Detail::none(alloc)),
     }
 }
 

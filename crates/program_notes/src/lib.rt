@@ -1,28 +1,56 @@
-//! What is known before each instruction of a program, in words: behind a refusal ([`detail_of`]), and line by line
-//! ([`table_of`]); which line and name an instruction has; where names are used; and what mends types that don't
-//! agree ([`mend_of`]).
+//! Programs in words. Why one isn't read ([`told_of_unread`]), has no code ([`told_of_unassembled`]) or isn't accepted
+//! ([`detail_of`]), by what is known there; where the carets stand; and what mends types that don't agree ([`mend_of`]).
+//! What is known before each instruction, line by line ([`table_of`], over [`rows_of`]); and which line and name an
+//! instruction has.
 #![tactic(auto)]
 
 mod budget;
 mod code_lines;
+mod comments;
+mod declaring;
 mod detail;
+mod instructing;
 mod items;
+mod kinds;
+mod limits;
 mod line_index;
 mod longest;
+mod marks;
 mod meeting;
+mod mend_texts;
 mod mending;
+mod met;
+mod mistakes;
+mod nearest;
+mod numbers;
+mod pieces;
 mod refusing;
+mod reserved;
+mod rows;
 mod stacking;
 mod table;
+mod told;
 mod typing;
+mod unassembled;
+mod unknown;
+mod unread;
 mod uses;
+mod wording;
 mod words;
 
-pub use code_lines::{address_of, declared_line, line_inside, name_in, number_at, tag_name};
+pub use code_lines::{
+    address_of, declared_line, instruction_line, line_inside, name_in, number_at, tag_name,
+};
 pub use detail::{Detail, detail_of};
+pub use marks::{
+    ends_line, mark_of_bytes, mark_of_unassembled, mark_of_unread, mark_of_unverified,
+};
 pub use mending::{Mend, MendPlace, Way};
-pub use program_rows::{Row, instruction_line, rows_of};
+pub use met::line_of_byte;
 pub use refusing::{is_divided_by_zero, mend_of};
+pub use rows::{Row, rows_of};
 pub use table::{Beside, table_of};
-pub use uses::{Use, other_use_text, uses_in};
+pub use told::{Hint, Told};
+pub use unassembled::{known_of_unassembled, told_of_unassembled};
+pub use unread::told_of_unread;
 pub use words::type_word;

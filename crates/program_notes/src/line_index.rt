@@ -1,5 +1,5 @@
 //! Which instructions stand on each line.
-use program_rows::Row;
+use crate::rows::Row;
 use std::alloc::{AllocError, Global};
 
 /// The numbers of the instructions by their lines: the first one of each line, and the next one on the same line.

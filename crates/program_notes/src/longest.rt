@@ -2,9 +2,9 @@
 ghost use Rattle.std.specs.Prelude.{◌≡◌, ◌<◌, length};
 
 use crate::items::Line;
+use crate::rows::Row;
 use facts::context::Context;
 use point_types::Condition;
-use program_rows::Row;
 use scan_code::Op;
 use std::alloc::{AllocError, Global};
 use verifier::budget::path_lengths;

@@ -1,9 +1,9 @@
 //! Why there is no result at an instruction: what the ways bring that meet before it.
+use crate::rows::Row;
 use crate::words::type_word;
 use facts::context::Context;
 use facts::span::Span;
 use point_types::{Condition, IlType, Operator};
-use program_rows::Row;
 use scan_code::{Image, Op};
 use std::alloc::{AllocError, Global};
 use verifier::told::{Shown, Standing};
@@ -81,18 +81,27 @@ fn ways_to(
         None => return Ok(ways),
     };
     for row in rows.iter().take(at) {
-        if let Some(Standing::Known(told)) = &row.known {
-            if leads_to(row, told.result, at, address) {
-                ways.push(Incoming {
-                    op: row.op,
-                    number: row.number,
-                    line: row.line,
-                    kind: brought(image, row.op, told.result),
-                })?;
-            }
+        if let Some(way) = way_from(image, row, at, address) {
+            ways.push(way)?;
         }
     }
     Ok(ways)
+}
+
+/// The way from an instruction to the one with that number, at that address; None where it doesn't lead there.
+fn way_from(image: &Image, row: &Row, at: usize, address: usize) -> Option<Incoming> {
+    let Some(Standing::Known(told)) = &row.known else {
+        return None;
+    };
+    if !leads_to(row, told.result, at, address) {
+        return None;
+    }
+    Some(Incoming {
+        op: row.op,
+        number: row.number,
+        line: row.line,
+        kind: brought(image, row.op, told.result),
+    })
 }
 
 /// Whether an instruction with this result before it leads to the one with that number, at that address.

@@ -3,6 +3,7 @@ ghost use Rattle.std.specs.Prelude.{◌<◌, length};
 
 use crate::meeting::missing_text;
 use crate::mending::{Mend, mended_by};
+use crate::rows::{Row, rows_of};
 use crate::stacking::{clash_text, stack_text};
 use crate::typing::type_text;
 use crate::words::{span_words, type_word};
@@ -13,7 +14,6 @@ use facts::span::Span;
 use facts::{Refusal, RefusalKind};
 use il_reader::Program;
 use point_types::{IlType, Items, Name, Operator};
-use program_rows::{Row, rows_of};
 use scan_code::{Image, Op};
 use site_model::Site;
 use std::alloc::{AllocError, Global};

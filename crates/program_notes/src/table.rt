@@ -5,15 +5,15 @@ use crate::items::{Line, push_known};
 use crate::line_index::LineIndex;
 use crate::longest::{line_of, push_longest};
 use crate::refusing::MOST_DEFERRED;
+use crate::rows::{Row, rows_of};
 use crate::words::mnemonic;
 use facts::RefusalKind;
 use facts::context::Context;
 use il_reader::Program;
+use note_text::plain_letter;
 use point_types::Items;
-use program_rows::{Row, rows_of};
 use scan_code::Image;
 use site_model::Site;
-use source_notes::plain_letter;
 use std::alloc::{AllocError, Global};
 use verifier::known::framed;
 

@@ -8,7 +8,7 @@ const PRESENCE: &[u8] = b"_ok";
 
 /// A load or a store of a name, and its line.
 #[derive(Clone, Copy)]
-pub struct Use {
+pub(crate) struct Use {
     pub line: u32,
     pub name: Name,
     /// Whether it is stored.
@@ -16,7 +16,11 @@ pub struct Use {
 }
 
 /// Where an external that is used on this line is used the other way first, in words; empty where none is.
-pub fn other_use_text(alloc: Global, program: &Program, line: u32) -> Result<String, AllocError> {
+pub(crate) fn other_use_text(
+    alloc: Global,
+    program: &Program,
+    line: u32,
+) -> Result<String, AllocError> {
     let uses = uses_in(alloc, program)?;
     let Some(other) = other_use(program.externals.as_slice(), uses.as_slice(), line) else {
         return Ok(String::new(alloc));
@@ -31,14 +35,22 @@ pub fn other_use_text(alloc: Global, program: &Program, line: u32) -> Result<Str
 fn other_use(externals: &[External], uses: &[Use], line: u32) -> Option<Use> {
     for here in uses {
         if here.line == line {
-            if let Some(first) = first_use(externals, uses, &here.name) {
-                if first.stored != here.stored {
-                    return Some(first);
-                }
+            if let Some(first) = first_unlike(externals, uses, here) {
+                return Some(first);
             }
         }
     }
     None
+}
+
+/// The first use of the same external, where it is of the other kind.
+fn first_unlike(externals: &[External], uses: &[Use], here: &Use) -> Option<Use> {
+    let first = first_use(externals, uses, &here.name)?;
+    if first.stored == here.stored {
+        None
+    } else {
+        Some(first)
+    }
 }
 
 /// The first use of the external that a name means.
@@ -70,7 +82,7 @@ fn means(name: &Name, external: &Name) -> bool {
 }
 
 /// All loads and stores of names, in the order of the text.
-pub fn uses_in(alloc: Global, program: &Program) -> Result<Vec<Use>, AllocError> {
+pub(crate) fn uses_in(alloc: Global, program: &Program) -> Result<Vec<Use>, AllocError> {
     let mut uses = Vec::new(alloc);
     for statement in program.statements.as_slice() {
         if let Some(action) = &statement.action {

@@ -1,24 +1,17 @@
 //! Why a command refuses, and the note that tells it on standard error.
 use crate::kind_texts::{link_help, link_meaning};
-use crate::kinds::misfit;
-use crate::limits::too_much;
-use crate::marks::{
-    ends_line, mark_of_bytes, mark_of_trapped, mark_of_unassembled, mark_of_unread,
-    mark_of_unverified,
-};
-use crate::met::line_of;
-use crate::told::Told;
-use crate::unknown::{label_place, unknown_label, unknown_name};
-use crate::unread::told_of;
-use il_assemble::{AsmFault, AsmFaultKind};
+use il_assemble::AsmFault;
 use il_reader::{FaultPlace, Program, ReadFault, fault_at};
 use inverter_sim::PlantFault;
 use modbus_frame::LinkFault;
 use model_defs::DefFault;
-use program_notes::{line_inside, other_use_text};
+use note_text::{Mark, Note};
+use program_notes::{
+    Told, ends_line, known_of_unassembled, line_inside, line_of_byte, mark_of_bytes,
+    mark_of_unassembled, mark_of_unread, mark_of_unverified, told_of_unassembled, told_of_unread,
+};
 use scan_vm::TrapKind;
 use site_model::SiteFault;
-use source_notes::{Mark, Note};
 use std::alloc::{AllocError, Global};
 use verifier::RefusalKind;
 
@@ -55,13 +48,14 @@ pub struct Cause {
 impl Cause {
     /// On account of a line of the program's text.
     fn of_line(alloc: Global, line: u32, mark: Mark, texts: Texts) -> Cause {
+        let Texts(kind, meaning, help) = texts;
         Cause {
             file: NotedFile::Program,
             line,
             mark,
-            kind: texts.kind,
-            meaning: texts.meaning,
-            help: texts.help,
+            kind,
+            meaning,
+            help,
             name: String::new(alloc),
             detail: String::new(alloc),
         }
@@ -77,15 +71,11 @@ impl Cause {
     /// The text of the program can't be read.
     pub fn unread(alloc: Global, text: &str, fault: ReadFault) -> Cause {
         let kind = fault.kind;
-        let texts = Texts {
-            kind: kind.word(),
-            meaning: kind.meaning(),
-            help: kind.help(),
-        };
+        let texts = Texts(kind.word(), kind.meaning(), kind.help());
         let mut cause = Cause::of_line(alloc, fault.line, Mark::Line, texts);
         if let Some(place) = fault_at(alloc, text) {
             cause.mark_unread(text, place);
-            if let Ok(Some(told)) = told_of(alloc, text, place) {
+            if let Ok(Some(told)) = told_of_unread(alloc, text, place) {
                 cause.mark_span(alloc, text, told.span);
                 cause.take(told);
             }
@@ -96,7 +86,7 @@ impl Cause {
     /// Marks these bytes of the program's text, and takes back what was known of others.
     fn mark_span(&mut self, alloc: Global, text: &str, span: Option<(usize, usize)>) {
         if let Some((at, behind)) = span {
-            self.line = line_of(text, at);
+            self.line = line_of_byte(text, at);
             self.mark = mark_of_bytes(text.as_bytes(), at, behind);
             self.detail = String::new(alloc);
         }
@@ -138,15 +128,11 @@ impl Cause {
     /// The program has no code.
     pub fn unassembled(alloc: Global, program: &Program, fault: AsmFault) -> Cause {
         let kind = fault.kind;
-        let texts = Texts {
-            kind: kind.word(),
-            meaning: kind.meaning(),
-            help: kind.help(),
-        };
+        let texts = Texts(kind.word(), kind.meaning(), kind.help());
         let mut cause = Cause::of_line(alloc, fault.line, mark_of_unassembled(kind), texts);
-        if let Ok(Some(told)) = told_of_fault(alloc, program, fault) {
+        if let Ok(Some(told)) = told_of_unassembled(alloc, program, fault) {
             cause.take(told);
-        } else if let Ok(text) = known_of_fault(alloc, program, fault) {
+        } else if let Ok(text) = known_of_unassembled(alloc, program, fault) {
             cause.detail = text;
         }
         cause
@@ -154,21 +140,13 @@ impl Cause {
 
     /// The verdict refuses this line.
     pub fn unverified(alloc: Global, kind: RefusalKind, line: u32) -> Cause {
-        let texts = Texts {
-            kind: kind.word(),
-            meaning: kind.meaning(),
-            help: kind.help(),
-        };
+        let texts = Texts(kind.word(), kind.meaning(), kind.help());
         Cause::of_line(alloc, line, mark_of_unverified(kind), texts)
     }
 
     /// A trial stopped in this line.
     pub fn trapped(alloc: Global, kind: TrapKind, line: u32) -> Cause {
-        let texts = Texts {
-            kind: kind.word(),
-            meaning: kind.meaning(),
-            help: kind.help(),
-        };
+        let texts = Texts(kind.word(), kind.meaning(), kind.help());
         Cause::of_line(alloc, line, mark_of_trapped(kind), texts)
     }
 
@@ -193,51 +171,35 @@ impl Cause {
 
     /// An input line gives nothing to an input.
     pub fn no_input(alloc: Global, line: u32) -> Cause {
-        let texts = Texts {
-            kind: "input",
-            meaning: "the line gives no value to an input",
-            help: "write NAME=VALUE without blanks: an external that the program loads, once, and a value of its type or absent",
-        };
+        let texts = Texts(
+            "input",
+            "the line gives no value to an input",
+            "write NAME=VALUE without blanks: an external that the program loads, once, and a value of its type or absent",
+        );
         Cause::of_line(alloc, line, Mark::Line, texts)
     }
 
     /// The site file is none.
     pub fn no_site(alloc: Global, fault: SiteFault) -> Cause {
-        let texts = Texts {
-            kind: fault.word(),
-            meaning: fault.meaning(),
-            help: fault.help(),
-        };
+        let texts = Texts(fault.word(), fault.meaning(), fault.help());
         Cause::of_file(alloc, NotedFile::Site, texts)
     }
 
     /// The plant file is none.
     pub fn no_plant(alloc: Global, fault: PlantFault) -> Cause {
-        let texts = Texts {
-            kind: fault.word(),
-            meaning: fault.meaning(),
-            help: fault.help(),
-        };
+        let texts = Texts(fault.word(), fault.meaning(), fault.help());
         Cause::of_file(alloc, NotedFile::Plant, texts)
     }
 
     /// The definition of this number is none.
     pub fn undefined(alloc: Global, number: usize, fault: DefFault) -> Cause {
-        let texts = Texts {
-            kind: fault.word(),
-            meaning: fault.meaning(),
-            help: fault.help(),
-        };
+        let texts = Texts(fault.word(), fault.meaning(), fault.help());
         Cause::of_file(alloc, NotedFile::Definition(number), texts)
     }
 
     /// The link to the devices failed.
     pub fn unlinked(alloc: Global, fault: LinkFault) -> Cause {
-        let texts = Texts {
-            kind: fault.word(),
-            meaning: link_meaning(fault),
-            help: link_help(fault),
-        };
+        let texts = Texts(fault.word(), link_meaning(fault), link_help(fault));
         Cause::of_file(alloc, NotedFile::Link, texts)
     }
 
@@ -257,37 +219,18 @@ impl Cause {
     }
 }
 
-/// What is told of a name or a label that isn't there, of a number that doesn't fit, or of the limit that is met; none for
-/// other faults.
-fn told_of_fault(
-    alloc: Global,
-    program: &Program,
-    fault: AsmFault,
-) -> Result<Option<Told>, AllocError> {
-    match fault.kind {
-        AsmFaultKind::UnknownName => unknown_name(alloc, program, fault.line),
-        AsmFaultKind::UnknownLabel => unknown_label(alloc, program, fault.line),
-        AsmFaultKind::LiteralType => misfit(alloc, program),
-        AsmFaultKind::TooLong => Ok(Some(too_much(alloc, program, fault.line))),
-        _ => Ok(None),
+/// Where the carets stand on a line in which a trial stopped.
+fn mark_of_trapped(kind: TrapKind) -> Mark {
+    match kind {
+        TrapKind::WrongType
+        | TrapKind::Overflow
+        | TrapKind::ZeroDivisor
+        | TrapKind::MissingPoint
+        | TrapKind::StoreRange => Mark::Operand,
+        TrapKind::Code | TrapKind::Stack => Mark::Operator,
     }
 }
 
-/// What is known where a program has no code; empty where nothing is.
-fn known_of_fault(alloc: Global, program: &Program, fault: AsmFault) -> Result<String, AllocError> {
-    match fault.kind {
-        AsmFaultKind::LoadAndStore => other_use_text(alloc, program, fault.line),
-        AsmFaultKind::BackwardJump | AsmFaultKind::ForwardLoop => {
-            label_place(alloc, program, fault.line)
-        }
-        _ => Ok(String::new(alloc)),
-    }
-}
-
-/// What is told of a kind.
+/// What is told of a kind: its word, what is wrong, and what to do.
 #[derive(Clone, Copy)]
-struct Texts {
-    kind: &'static str,
-    meaning: &'static str,
-    help: &'static str,
-}
+struct Texts(&'static str, &'static str, &'static str);

@@ -2,9 +2,9 @@
 use crate::cause::{Cause, NotedFile};
 use crate::file_fault::FileFault;
 use crate::listen_fault::ListenFault;
-use crate::unread_keys::{warnings_of_definition, warnings_of_plant, warnings_of_site};
 use file_keys::TomlFile;
-use source_notes::{Mark, Note};
+use file_notes::{warnings_of_definition, warnings_of_plant, warnings_of_site};
+use note_text::{Mark, Note};
 use std::alloc::{AllocError, Global};
 
 /// The files that the notes of a command are on, each by its path and its text, and whether there are notes.
@@ -98,18 +98,8 @@ pub fn explain_unusable(rt: &(impl Eprint + AllocGlobal), path: &str, fault: Fil
     let Ok(detail) = place_of_byte(rt.alloc(), fault) else {
         return;
     };
-    let note = Note {
-        path,
-        text: "",
-        line: 0,
-        mark: Mark::Line,
-        kind: "file",
-        meaning: fault.meaning(),
-        help: fault.help(),
-        name: "",
-        detail: detail.as_str(),
-    };
-    print(rt, &note);
+    let texts = ("file", fault.meaning(), fault.help());
+    print(rt, &note_on(path, texts, detail.as_str()));
 }
 
 /// Prints why nothing can be served at an address.
@@ -117,18 +107,27 @@ pub fn explain_unserved(rt: &(impl Eprint + AllocGlobal), address: &str, fault: 
     let Ok(path) = format!(in rt.alloc(); "listen {address}") else {
         return;
     };
-    let note = Note {
-        path: path.as_str(),
+    let texts = (fault.word(), fault.meaning(), fault.help());
+    print(rt, &note_on(path.as_str(), texts, ""));
+}
+
+/// A note on the whole of a file or an address, by its kind, what is wrong, and what to do.
+fn note_on<'a>(
+    path: &'a str,
+    (kind, meaning, help): (&'a str, &'a str, &'a str),
+    detail: &'a str,
+) -> Note<'a> {
+    Note {
+        path,
         text: "",
         line: 0,
         mark: Mark::Line,
-        kind: fault.word(),
-        meaning: fault.meaning(),
-        help: fault.help(),
+        kind,
+        meaning,
+        help,
         name: "",
-        detail: "",
-    };
-    print(rt, &note);
+        detail,
+    }
 }
 
 /// Where the byte stands that isn't UTF-8; empty for other faults.

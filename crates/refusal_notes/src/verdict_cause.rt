@@ -1,8 +1,7 @@
 //! What is noted of a program that the verdict refuses.
 use crate::cause::Cause;
-use crate::mend_texts::{help_on, name_of};
-use crate::nearest::Nearest;
 use il_reader::Program;
+use note_text::nearer;
 use point_types::Name;
 use program_notes::{address_of, detail_of, is_divided_by_zero, mend_of, name_in, tag_name};
 use scan_code::{Image, decode};
@@ -62,16 +61,20 @@ fn put_divisor(alloc: Global, cause: &mut Cause, site: &Site, refused: &Refused)
 
 /// Appends the tag of the site that may be meant.
 fn push_tag_meant(alloc: Global, cause: &mut Cause, site: &Site) -> Result<(), AllocError> {
-    let mut nearest = Nearest::to(alloc, cause.name.as_str());
+    let Some(meant) = tag_meant(site, cause.name.as_str()) else {
+        return Ok(());
+    };
+    let question = format!(in alloc; "; did you mean {meant}?")?;
+    cause.detail.push_str(question.as_str())
+}
+
+/// The name of the site's tag that is nearest to a written one.
+fn tag_meant<'a>(site: &'a Site, written: &str) -> Option<&'a str> {
+    let mut found = None;
     for tag in site.tags() {
-        nearest.offer(tag.name.as_str())?;
+        found = nearer(found, tag.name.as_str(), written);
     }
-    let question = nearest.question(alloc)?;
-    if !question.is_empty() {
-        cause.detail.push_str("; ")?;
-        cause.detail.push_str(question.as_str())?;
-    }
-    Ok(())
+    found.map(|near| near.name)
 }
 
 /// Appends in which steps a tag counts that is stored, where that isn't in ones.
@@ -132,8 +135,8 @@ fn put_mend(
     let Some(mend) = mend_of(alloc, &refused.image, site, number) else {
         return Ok(());
     };
-    cause.name = name_of(alloc, mend.way)?;
-    cause.help = help_on(mend);
+    cause.name = mend.name(alloc)?;
+    cause.help = mend.help();
     Ok(())
 }
 

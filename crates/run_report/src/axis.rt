@@ -2,7 +2,7 @@
 ghost use Rattle.std.specs.Prelude.{◌≤◌};
 
 use crate::coordinates::{BOTTOM, TOP, y_on};
-use crate::recorded::{Sample, Series};
+use crate::recorded::{Sample, ScanSeries};
 
 /// The least and the greatest of some numbers.
 #[derive(Clone, Copy)]
@@ -42,7 +42,7 @@ fn with(extent: Option<Extent>, n: i64) -> Extent {
 impl Axis {
     /// From the least to the greatest number of a line, and on to 0 and to the ends of its range where these aren't so far
     /// that its steps couldn't be seen.
-    pub fn of(series: &Series) -> Axis {
+    pub fn of(series: &ScanSeries) -> Axis {
         let (low, high) = (i128::from(series.low), i128::from(series.high));
         let axis = match extent_of(series.samples.as_slice()) {
             Some(all) => Axis {

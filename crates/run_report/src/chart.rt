@@ -4,14 +4,14 @@ use crate::coordinates::{TALL, WIDE};
 use crate::curve::{Stroke, push_steps};
 use crate::frame::{push_numbers, push_plot, push_scans};
 use crate::marks::{Set, push_sets, push_spans, sets_of};
-use crate::recorded::{Report, Role, Sample, Series};
+use crate::recorded::{Role, RunReport, Sample, ScanSeries};
 use crate::remarks::{push_caption, push_remarks};
 use crate::sheet::Sheet;
-use crate::spans::{Span, spans_of};
+use crate::spans::{FaultSpan, spans_of};
 use std::alloc::Global;
 
 /// Appends the chart of a line of a run, with what is said of it.
-pub(crate) fn push_chart(page: &mut Sheet, alloc: Global, report: &Report, series: &Series) {
+pub(crate) fn push_chart(page: &mut Sheet, alloc: Global, report: &RunReport, series: &ScanSeries) {
     let spans = page.got_list(spans_of(alloc, series));
     let sets = match series.role {
         Role::Setting => page.got_list(sets_of(alloc, series.samples.as_slice())),
@@ -34,9 +34,9 @@ pub(crate) fn push_chart(page: &mut Sheet, alloc: Global, report: &Report, serie
 fn push_picture(
     page: &mut Sheet,
     alloc: Global,
-    report: &Report,
-    series: &Series,
-    spans: &[Span],
+    report: &RunReport,
+    series: &ScanSeries,
+    spans: &[FaultSpan],
     sets: &[Set],
 ) {
     let n = report.steps.samples.len();

@@ -2,17 +2,17 @@
 use crate::axis::Axis;
 use crate::coordinates::{BOTTOM, LEFT, RIGHT, TOP, x_within};
 use crate::numbers::time_of;
-use crate::recorded::Series;
+use crate::recorded::ScanSeries;
 use crate::sheet::Sheet;
 use crate::ticks::{is_tick, tick_step};
-use decimal_text::decimal;
+use note_text::decimal;
 use std::alloc::Global;
 
 /// How many letters have room before the plot.
 const ROOM: usize = 11;
 
 /// Appends the plot with the declared range.
-pub(crate) fn push_plot(page: &mut Sheet, series: &Series, axis: Axis) {
+pub(crate) fn push_plot(page: &mut Sheet, series: &ScanSeries, axis: Axis) {
     let (wide, tall) = (RIGHT - LEFT, BOTTOM - TOP);
     let top = axis.top_to(series.high);
     let range = axis.bottom_from(series.low).saturating_sub(top);

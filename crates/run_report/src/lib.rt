@@ -22,7 +22,7 @@ mod table;
 mod ticks;
 
 // what a run was
-pub use recorded::{Report, Role, Sample, Series, Source, Unset};
+pub use recorded::{Role, RunFile, RunReport, Sample, ScanSeries, Unset};
 // its page
 pub use page::page_of;
 // a text in HTML

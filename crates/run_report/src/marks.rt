@@ -2,22 +2,22 @@
 use crate::axis::Axis;
 use crate::coordinates::{BOTTOM, TOP, x_at};
 use crate::numbers::shown;
-use crate::recorded::{Sample, Series};
+use crate::recorded::{Sample, ScanSeries};
 use crate::sheet::Sheet;
-use crate::spans::Span;
+use crate::spans::FaultSpan;
 use std::alloc::{AllocError, Global};
 
 /// The width of a letter of a mark, with room to spare.
 const LETTER: u32 = 78;
 
 /// Appends a mark over the whole plot for each span of a line over n scans.
-pub(crate) fn push_spans(page: &mut Sheet, spans: &[Span], n: usize) {
+pub(crate) fn push_spans(page: &mut Sheet, spans: &[FaultSpan], n: usize) {
     for span in spans {
         push_span(page, *span, n);
     }
 }
 
-fn push_span(page: &mut Sheet, span: Span, n: usize) {
+fn push_span(page: &mut Sheet, span: FaultSpan, n: usize) {
     let x = x_at(span.first.saturating_sub(1), n);
     let (wide, tall) = (x_at(span.last, n).saturating_sub(x), BOTTOM - TOP);
     let (class, words, cause) = (span.wrong.class(), span.wrong.words(), span.cause);
@@ -76,7 +76,7 @@ pub(crate) fn sets_of(alloc: Global, samples: &[Sample]) -> Result<Vec<Set>, All
 pub(crate) fn push_sets(
     page: &mut Sheet,
     alloc: Global,
-    series: &Series,
+    series: &ScanSeries,
     sets: &[Set],
     n: usize,
     axis: Axis,

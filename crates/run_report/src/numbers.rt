@@ -1,5 +1,5 @@
 //! Numbers in words.
-use decimal_text::decimal;
+use note_text::decimal;
 use std::alloc::{AllocError, Global};
 
 /// A number that counts a power of ten, as a decimal number.

@@ -2,7 +2,7 @@
 use crate::axis::extent_of;
 use crate::chart::push_chart;
 use crate::numbers::seconds;
-use crate::recorded::{Report, Role, Source};
+use crate::recorded::{Role, RunFile, RunReport};
 use crate::sheet::Sheet;
 use crate::style::{LEGEND, STYLE};
 use crate::table::push_table;
@@ -19,7 +19,7 @@ const PARTS: [(&str, &[Role]); 3] = [
 ];
 
 /// The page of a run, in HTML.
-pub fn page_of(alloc: Global, report: &Report) -> Result<String, AllocError> {
+pub fn page_of(alloc: Global, report: &RunReport) -> Result<String, AllocError> {
     let mut page = Sheet::new(alloc);
     push_head(&mut page, report);
     push_run(&mut page, alloc, report);
@@ -29,7 +29,7 @@ pub fn page_of(alloc: Global, report: &Report) -> Result<String, AllocError> {
     page.whole()
 }
 
-fn push_head(page: &mut Sheet, report: &Report) {
+fn push_head(page: &mut Sheet, report: &RunReport) {
     page.push(
         "<!DOCTYPE html>\n<html lang=\"en\">\n<head>\n<meta charset=\"utf-8\">\n<meta name=\"viewport\" content=\"width=device-width, initial-scale=1\">\n<title>",
     );
@@ -41,14 +41,14 @@ fn push_head(page: &mut Sheet, report: &Report) {
     page.push("</h1>\n");
 }
 
-fn push_title(page: &mut Sheet, report: &Report) {
+fn push_title(page: &mut Sheet, report: &RunReport) {
     page.push_html(report.program.path.as_str());
     page.push(" on ");
     page.push_html(report.site.path.as_str());
 }
 
 /// Appends what the run was of, and how far it came.
-fn push_run(page: &mut Sheet, alloc: Global, report: &Report) {
+fn push_run(page: &mut Sheet, alloc: Global, report: &RunReport) {
     page.push("<dl>\n");
     push_source(page, "Site", &report.site);
     push_source(page, "Program", &report.program);
@@ -63,7 +63,7 @@ fn push_run(page: &mut Sheet, alloc: Global, report: &Report) {
 }
 
 /// Appends the path of a file, and the digits of its hash.
-fn push_source(page: &mut Sheet, what: &str, source: &Source) {
+fn push_source(page: &mut Sheet, what: &str, source: &RunFile) {
     page.say(format_args!("<dt>{what}</dt><dd>"));
     page.push_html(source.path.as_str());
     page.push(" <small>SHA-256 ");
@@ -71,7 +71,7 @@ fn push_source(page: &mut Sheet, what: &str, source: &Source) {
     page.push("..</small></dd>\n");
 }
 
-fn push_scans(page: &mut Sheet, alloc: Global, report: &Report) {
+fn push_scans(page: &mut Sheet, alloc: Global, report: &RunReport) {
     let done = u32::try_from(report.steps.samples.len()).unwrap_or(u32::MAX);
     let all = report.scans;
     let every = page.got(seconds(alloc, u64::from(report.every)));
@@ -82,7 +82,7 @@ fn push_scans(page: &mut Sheet, alloc: Global, report: &Report) {
     page.say(format_args!("{done} of {all}, {every} apart"));
 }
 
-fn push_steps(page: &mut Sheet, report: &Report) {
+fn push_steps(page: &mut Sheet, report: &RunReport) {
     let budget = report.budget;
     match extent_of(report.steps.samples.as_slice()) {
         Some(all) => {
@@ -94,7 +94,7 @@ fn push_steps(page: &mut Sheet, report: &Report) {
 }
 
 /// Appends the parts with charts.
-fn push_parts(page: &mut Sheet, alloc: Global, report: &Report) {
+fn push_parts(page: &mut Sheet, alloc: Global, report: &RunReport) {
     for (head, roles) in PARTS {
         let charts = page.got(charts_of(alloc, report, roles));
         push_part(page, head, charts.as_str());
@@ -114,7 +114,7 @@ fn push_part(page: &mut Sheet, head: &str, charts: &str) {
 }
 
 /// The charts of the lines of some roles.
-fn charts_of(alloc: Global, report: &Report, roles: &[Role]) -> Result<String, AllocError> {
+fn charts_of(alloc: Global, report: &RunReport, roles: &[Role]) -> Result<String, AllocError> {
     let mut charts = Sheet::new(alloc);
     for series in &report.series {
         if roles.contains(&series.role) {

@@ -2,9 +2,9 @@
 
 /// What a run was of, and what its scans read, stored and wrote.
 #[derive(Drop)]
-pub struct Report {
-    pub site: Source,
-    pub program: Source,
+pub struct RunReport {
+    pub site: RunFile,
+    pub program: RunFile,
     /// The path of the plant file.
     pub plant: String,
     /// How many scans there were to be.
@@ -14,8 +14,8 @@ pub struct Report {
     /// How many instructions a scan may take.
     pub budget: u32,
     /// How many each scan took: there are as many scans as samples.
-    pub steps: Series,
-    pub series: Vec<Series>,
+    pub steps: ScanSeries,
+    pub series: Vec<ScanSeries>,
     /// What clients were to set and couldn't, in the order in which it was found.
     pub unset: Vec<Unset>,
 }
@@ -35,7 +35,7 @@ pub struct Unset {
 
 /// A file that a run was of.
 #[derive(Drop)]
-pub struct Source {
+pub struct RunFile {
     pub path: String,
     /// The first digits of its hash.
     pub digits: String,
@@ -43,7 +43,7 @@ pub struct Source {
 
 /// A line of numbers, of which each scan has one or none.
 #[derive(Drop)]
-pub struct Series {
+pub struct ScanSeries {
     pub name: String,
     pub role: Role,
     /// Its numbers count this power of ten.

@@ -2,16 +2,16 @@
 use crate::axis::extent_of;
 use crate::marks::{Set, push_scan_range};
 use crate::numbers::shown;
-use crate::recorded::{Role, Series};
+use crate::recorded::{Role, ScanSeries};
 use crate::sheet::Sheet;
-use crate::spans::Span;
+use crate::spans::FaultSpan;
 use std::alloc::Global;
 
 /// How many marks of a kind are told below a chart.
 const MOST: usize = 4;
 
 /// Appends a line's name, the least and the greatest of its numbers, and its range.
-pub(crate) fn push_caption(page: &mut Sheet, alloc: Global, series: &Series) {
+pub(crate) fn push_caption(page: &mut Sheet, alloc: Global, series: &ScanSeries) {
     page.push("<figcaption><b>");
     page.push_html(series.name.as_str());
     page.push("</b> ");
@@ -34,7 +34,7 @@ fn role_words(role: Role) -> &'static str {
     }
 }
 
-fn push_extent(page: &mut Sheet, alloc: Global, series: &Series) {
+fn push_extent(page: &mut Sheet, alloc: Global, series: &ScanSeries) {
     let Some(all) = extent_of(series.samples.as_slice()) else {
         page.push("; never had a number");
         return;
@@ -52,9 +52,9 @@ fn push_extent(page: &mut Sheet, alloc: Global, series: &Series) {
 pub(crate) fn push_remarks(
     page: &mut Sheet,
     alloc: Global,
-    series: &Series,
+    series: &ScanSeries,
     sets: &[Set],
-    spans: &[Span],
+    spans: &[FaultSpan],
 ) {
     if sets.is_empty() && spans.is_empty() {
         return;
@@ -70,14 +70,14 @@ pub(crate) fn push_remarks(
     page.push("</ul>\n");
 }
 
-fn push_span_remarks(page: &mut Sheet, spans: &[Span]) {
+fn push_span_remarks(page: &mut Sheet, spans: &[FaultSpan]) {
     for span in spans.iter().take(MOST) {
         push_span_remark(page, *span);
     }
     push_more(page, "more", spans.len());
 }
 
-fn push_span_remark(page: &mut Sheet, span: Span) {
+fn push_span_remark(page: &mut Sheet, span: FaultSpan) {
     let (class, words, cause) = (span.wrong.class(), span.wrong.words(), span.cause);
     page.say(format_args!("<li class=\"{class}\">"));
     push_scan_range(page, span.first, span.last);

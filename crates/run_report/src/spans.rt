@@ -1,5 +1,5 @@
 //! From which scan to which a line was missing or wasn't written.
-use crate::recorded::{Role, Sample, Series};
+use crate::recorded::{Role, Sample, ScanSeries};
 use std::alloc::{AllocError, Global};
 
 /// What was wrong with a line.
@@ -19,7 +19,7 @@ pub(crate) enum Wrong {
 
 /// Scans that follow each other with the same fault, counted from 1.
 #[derive(Clone, Copy)]
-pub(crate) struct Span {
+pub(crate) struct FaultSpan {
     pub first: usize,
     pub last: usize,
     pub wrong: Wrong,
@@ -48,7 +48,7 @@ impl Wrong {
     }
 }
 
-impl Span {
+impl FaultSpan {
     /// Whether the next scan belongs to it.
     fn goes_on(self, scan: usize, wrong: Wrong, cause: &str) -> bool {
         self.last.saturating_add(1) == scan && self.wrong == wrong && self.cause == cause
@@ -56,7 +56,7 @@ impl Span {
 }
 
 /// What was wrong with a line, in the order of the scans.
-pub(crate) fn spans_of(alloc: Global, series: &Series) -> Result<Vec<Span>, AllocError> {
+pub(crate) fn spans_of(alloc: Global, series: &ScanSeries) -> Result<Vec<FaultSpan>, AllocError> {
     let mut spans = Vec::new(alloc);
     for (i, sample) in series.samples.iter().enumerate() {
         if let Some((wrong, cause)) = wrong_in(series.role, *sample) {
@@ -82,7 +82,7 @@ fn wrong_in(role: Role, sample: Sample) -> Option<(Wrong, &'static str)> {
 
 /// Notes one more scan: the last span goes on, or a new one begins.
 fn note(
-    spans: &mut Vec<Span>,
+    spans: &mut Vec<FaultSpan>,
     scan: usize,
     wrong: Wrong,
     cause: &'static str,
@@ -93,7 +93,7 @@ fn note(
             return Ok(());
         }
     }
-    spans.push(Span {
+    spans.push(FaultSpan {
         first: scan,
         last: scan,
         wrong,

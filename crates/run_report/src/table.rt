@@ -1,11 +1,11 @@
 //! The table of what was missing, wasn't set or wasn't written.
-use crate::recorded::{Report, Series, Unset};
+use crate::recorded::{RunReport, ScanSeries, Unset};
 use crate::sheet::Sheet;
-use crate::spans::{Span, spans_of};
+use crate::spans::{FaultSpan, spans_of};
 use std::alloc::Global;
 
 /// Appends the table, or that there is nothing in it.
-pub(crate) fn push_table(page: &mut Sheet, alloc: Global, report: &Report) {
+pub(crate) fn push_table(page: &mut Sheet, alloc: Global, report: &RunReport) {
     page.push("<h2 id=\"missing\">Missing, not set and not written</h2>\n");
     let mut rows = Sheet::new(alloc);
     for series in &report.series {
@@ -26,7 +26,7 @@ pub(crate) fn push_table(page: &mut Sheet, alloc: Global, report: &Report) {
     page.push("</tbody>\n</table>\n");
 }
 
-fn push_rows(rows: &mut Sheet, alloc: Global, series: &Series) {
+fn push_rows(rows: &mut Sheet, alloc: Global, series: &ScanSeries) {
     for span in rows.got_list(spans_of(alloc, series)) {
         push_row(rows, series.name.as_str(), span);
     }
@@ -50,7 +50,7 @@ fn push_unset_row(rows: &mut Sheet, unset: &Unset) {
     rows.push("</td></tr>\n");
 }
 
-fn push_row(rows: &mut Sheet, name: &str, span: Span) {
+fn push_row(rows: &mut Sheet, name: &str, span: FaultSpan) {
     let (class, words, cause) = (span.wrong.class(), span.wrong.words(), span.cause);
     let (first, last) = (span.first, span.last);
     rows.push("<tr><td>");

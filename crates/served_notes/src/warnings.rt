@@ -4,13 +4,13 @@ use crate::reason::reason_of;
 use crate::set_points::told_of_output;
 use crate::subject::{Shown, Subject};
 use crate::words::wrong_with;
-use file_places::{EntryName, entry_shown};
+use file_notes::{EntryName, entry_shown};
+use note_text::escaped;
 use served_ranges::{
     Demand, always_shows_stored, always_shows_total, demand_of_stored, demand_of_total,
     factor_for_range,
 };
 use site_model::{Access, Served, Site, SiteTag, Source};
-use source_notes::escaped;
 use std::alloc::{AllocError, Global};
 
 /// The most points that are told.

@@ -1,3 +1,4 @@
 pub mod Meant
 pub mod Going
 mod Served
+mod ReadsAlone

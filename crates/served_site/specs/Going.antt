@@ -14,7 +14,7 @@ use Rattle.service_parts.specs.declared.lines.Lines.{Lines}
 use Rattle.service_parts.specs.Course.{AreRuns}
 use Rattle.service_parts.specs.Requests.{IsRightfulOn}
 use Rattle.service_core.specs.Stages.{Stage}
-use Rattle.site_survey.specs.Surveying.{IsRestOfRead}
+use Rattle.served_site.specs.Surveying.{IsRestOfRead}
 use Rattle.served_site.specs.Serving.{Serves}
 
 -- These bytes are the rest of the frame of a write: the set point of an `out` tag of the site, on a point that can be written,

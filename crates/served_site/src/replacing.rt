@@ -31,7 +31,7 @@ pub fn replace_program(
     ensures searches { service.new.cycle.searches ≡ service.old.cycle.searches }
     ensures over { service.new.cycle.over ≡ service.old.cycle.over }
     ensures side { service.new.side ≡ service.old.side }
-    ensures sent { service.new.sent ≡ service.old.sent }
+    ensures held { service.new.held ≡ service.old.held }
     ensures links { service.new.lines.links ≡ service.old.lines.links }
     ensures lines { service.new.lines ≡ service.old.lines }
     ensures places { service.new.places.items ≡ service.old.places.items }

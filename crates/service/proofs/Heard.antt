@@ -13,7 +13,7 @@ use Rattle.modbus_frame.specs.Reading.{Reading}
 use Rattle.modbus_frame.proofs.Streams.{AllByRecursion-more as each_more}
 use Rattle.gateway.specs.declared.poller.outcome.Outcome.TheVariants as outcome
 use Rattle.gateway.specs.poller.LinkRun.{is_reply, outcome_by, decided_within}
-use Rattle.service.specs.Hearing.{Wait, unused, Settles, StaysOpen, MeetsFault}
+use Rattle.service.specs.Hearing.{Wait, unused, Settles, MeetsFault}
 
 -- These frames were dropped, and so many more may be.
 pub record HeardSoFar (old : Reading) (wait : Wait) (may_drop : ℕ) (now : Reading) : Type 0 where
@@ -24,17 +24,6 @@ pub record HeardSoFar (old : Reading) (wait : Wait) (may_drop : ℕ) (now : Read
   pub came : unused old ≡ stream_of frames (unused now)
   pub good : now.held.fault ≡ None
   pub between : 0 < length frames → now.held ≡ empty
-
-pub heard_none : (old : Reading) (wait : Wait) → old.held.fault ≡ None → HeardSoFar old wait wait.may_drop old
-heard_none old wait good = record {
-  frames = [];
-  each = tt;
-  dropped = omega arith;
-  undecided = λ behind. refl;
-  came = refl;
-  good = good;
-  between = λ some. absurd (omega (arith, some));
-}
 
 -- the bytes of one frame more
 stream_more : (frames : List Frame) (frame : Frame) (rest : List ℕ) → stream_of frames (frame_bytes frame ++ rest) ≡ stream_of (frames ++ frame ∷ []) rest
@@ -91,22 +80,6 @@ settles_stale old now wait some so_far = record {
   came = so_far.came;
   held = so_far.between (omega (arith, some, so_far.dropped));
 }
-
--- no frame more came
-pub stays_open : (old now then : Reading) (wait : Wait) (may_drop : ℕ) → 0 < may_drop → HeardSoFar old wait may_drop now
-    → FeedsUnfed now (Ok None) then → StaysOpen old wait may_drop then
-stays_open old now then wait may_drop some so_far feeds =
-    let kept : (then.held).kept ≡ unused now = ap (λ (h : Held). h.kept) feeds.1 in record {
-      frames = so_far.frames;
-      each = so_far.each;
-      dropped = so_far.dropped;
-      undecided = so_far.undecided;
-      some = some;
-      came = so_far.came ∙ ap (stream_of so_far.frames) (sym kept);
-      partial = rw kept feeds.0;
-      good = ap (λ (h : Held). h.fault) feeds.1;
-      fed = feeds.2;
-    }
 
 reading_of : Held → List ℕ → Reading
 reading_of held unfed = record { held = held; unfed = unfed }

@@ -23,5 +23,5 @@ pub use search::{Search, Step};
 pub use task::{Mark, Task, Tasks};
 // clients
 pub use guard::{is_write, refusal};
-pub use session::{Session, Taken};
+pub use session::{PieceTaken, Session};
 pub use turn::Turned;

@@ -23,7 +23,7 @@ pub struct Session {
 
 /// What a session took of a piece.
 #[derive(Clone, Copy, Debug, PartialEq, Eq)]
-pub struct Taken {
+pub struct PieceTaken {
     /// How many bytes were used.
     pub used: usize,
     /// How many frames were answered, one at most.
@@ -76,7 +76,7 @@ impl Session {
 
     /// Takes the next piece of the stream, up to the end of the first frame that is whole now, and answers that frame; the
     /// caller gives the others again. A fault uses up all of the piece, and stays.
-    pub fn take<R: Responder>(&mut self, responder: &mut R, piece: &[u8]) -> Taken
+    pub fn take<R: Responder>(&mut self, responder: &mut R, piece: &[u8]) -> PieceTaken
         requires { IsFree self.old }
         ensures takes { TakesPiece R.answers responder.old self.old piece.now result responder.new self.new }
         ensures used { result.used ≤ length piece.now }
@@ -87,12 +87,12 @@ impl Session {
             Ok(fed) => {
                 let used = fed.used;
                 let Some(frame) = &fed.frame else {
-                    return Taken { used, frames: 0 };
+                    return PieceTaken { used, frames: 0 };
                 };
                 self.hold(responder.answer(frame));
-                Taken { used, frames: 1 }
+                PieceTaken { used, frames: 1 }
             }
-            Err(_) => Taken {
+            Err(_) => PieceTaken {
                 used: piece.len(),
                 frames: 0,
             },

@@ -2,7 +2,7 @@
 ghost use Rattle.std.specs.Prelude.{◌≡◌, ◌≤◌, ◌<◌, [], length, take};
 ghost use Rattle.service.specs.Sessions.{IsFree, ServesOn};
 
-use crate::session::{Session, Taken};
+use crate::session::{PieceTaken, Session};
 use modbus_frame::Responder;
 
 /// The most frames that one turn answers.
@@ -64,7 +64,7 @@ impl Session {
         ensures rests { 0 < length out.old → result.put ≡ 0 → self.new.waiting ≡ [] }
     {
         if self.is_free() {
-            let Taken { used, frames } = self.take(responder, piece);
+            let PieceTaken { used, frames } = self.take(responder, piece);
             let put = self.put(out);
             return Turned { used, put, frames };
         }

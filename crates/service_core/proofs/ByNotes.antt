@@ -1,5 +1,5 @@
 -- Devices and outputs stand by what was told of them.
-use Rattle.std.proofs.Common.{◌≡◌, ◌≢◌, ◌⊎◌, inl, inr, ℕ, Bool, true, false, not, ◌&&◌, ◌||◌, eqb, List, Option, None, Some, set, slice_get, refl, sym, ap, subst, ◌∙◌, if◌then◌else◌}
+use Rattle.std.proofs.Common.{◌≡◌, ◌≢◌, ◌⊎◌, inl, inr, ℕ, Bool, true, false, not, ◌&&◌, ◌||◌, eqb, List, Option, Some, set, slice_get, refl, sym, ap, subst, ◌∙◌, if◌then◌else◌}
 use Rattle.std.specs.Prelude.{◌==◌, option_and_then}
 use Rattle.std.specs.List.{list_all}
 use Rattle.std.specs.Option.{option_map_or}
@@ -19,7 +19,7 @@ use Rattle.service_core.specs.Noting.{Finds, HearsFrom, Loses, Refuses, heard_by
 use Rattle.service_core.specs.Refusing.{is_more}
 use Rattle.service_core.specs.Telling.{told_at}
 use Rattle.service_core.specs.Losing.{IsLost}
-use Rattle.service_core.specs.Told.{Allowed, Course, Goes, IsWrittenBy, LosesBy, StatesAreByNotes, Tells, TellsNothing, WritesBy, allows, goes, happened, lost_after, lost_at, lost_then, note_of, state_after, state_at, state_then, stays, tells}
+use Rattle.service_core.specs.Told.{Allowed, BecomesBy, Course, Goes, IsThis, LosesBy, StatesAreByNotes, Tells, TellsNothing, allows, goes, happened, lost_after, lost_at, lost_then, note_of, state_after, state_at, state_then, stays, tells}
 
 -- ---- one step
 
@@ -29,7 +29,7 @@ told_step n old new allowed step may from before = ∥∥₁_elim before ∥∥�
 lost_step : (device : ℕ) (loss : Loss) (old new : DeviceSide) → Tells (note.Lost device loss) old new → LosesBy (IsLost device loss) old new
 lost_step device loss old new step may has from before = ∥∥₁_elim before ∥∥₁_prop (λ course. ∣ tells course (note.Lost device loss) new (has device loss (refl, refl)) step ∣₁)
 
-by_step : (n : Note) (old new : DeviceSide) (Is : ℕ → Type 0) → ((may : Allowed) → ((output : ℕ) → Is output → may.written output ≡ true) → allows may n ≡ true) → Tells n old new → WritesBy Is old new
+by_step : (n : Note) (old new : DeviceSide) (Is : ℕ → OutputState → Type 0) → ((may : Allowed) → ((output : ℕ) (became : OutputState) → Is output became → may.became output became ≡ true) → allows may n ≡ true) → Tells n old new → BecomesBy Is old new
 by_step n old new Is allowed step may has from before = ∥∥₁_elim before ∥∥₁_prop (λ course. ∣ tells course n new (allowed may has) step ∣₁)
 
 silent_step : (old new : DeviceSide) → TellsNothing old new → Goes old new
@@ -75,13 +75,6 @@ module _ {X : Type 0} {Y : Type 0} (f : X → Y) (default : Y) where
       go : ((eqb k at ≡ true) × (k ≡ at)) ⊎ ((eqb k at ≡ false) × (k ≢ at)) → put at (f old) k (seen xs k) ≡ seen xs k
       go (inl here) = chosen (eqb k at) (f old) (seen xs k) here.0 ∙ sym (shown xs k old (ap (slice_get xs) here.1 ∙ is))
       go (inr away) = left_out (eqb k at) (f old) (seen xs k) away.0
-
-  put_none : (xs : List X) (at k : ℕ) → slice_get xs at ≡ None → put at default k (seen xs k) ≡ seen xs k
-  put_none xs at k is = go (eqb_tells k at)
-    where
-      go : ((eqb k at ≡ true) × (k ≡ at)) ⊎ ((eqb k at ≡ false) × (k ≢ at)) → put at default k (seen xs k) ≡ seen xs k
-      go (inl here) = chosen (eqb k at) default (seen xs k) here.0 ∙ sym (ap (λ (o : Option X). option_map_or f o default) (ap (slice_get xs) here.1 ∙ is))
-      go (inr away) = left_out (eqb k at) default (seen xs k) away.0
 
 -- ---- devices
 
@@ -233,16 +226,16 @@ output_goes old new output own at next outputs same devices notes = silent_step 
 
 -- this became of it, which is told
 pub settled_goes : (old new : DeviceSide) (output : ℕ) (own : Output) → slice_get old.outputs.items output ≡ Some own → (next : Output) (s : OutputState) → new.outputs.items ≡ set old.outputs.items output next → next.told ≡ Some s
-    → new.devices ≡ old.devices → {n : Note} → new.notes.items.items ≡ told n old.notes → n ≡ note_of output s → WritesBy (IsWrittenBy output s) old new
-settled_goes old new output own at next s outputs is devices {n = n} notes named = by_step (note_of output s) old new (IsWrittenBy output s) (free s) (record {
+    → new.devices ≡ old.devices → {n : Note} → new.notes.items.items ≡ told n old.notes → n ≡ note_of output s → BecomesBy (IsThis output s) old new
+settled_goes old new output own at next s outputs is devices {n = n} notes named = by_step (note_of output s) old new (IsThis output s) (free s) (record {
   notes = notes ∙ ap (λ m. told m old.notes) named;
   devices = λ k. ap (λ d. option_map_or (λ (x : Device). x.is_lost) (slice_get d.items k) false) devices ∙ sym (no_loss s k (lost_at old k));
   outputs = λ k. ap (λ l. told_at l k) outputs ∙ (told_set old.outputs.items output k own next at ∙ (ap (λ t. if k == output then t else state_at old k) is ∙ sym (says s k (state_at old k))));
 })
   where
-    free : (x : OutputState) (may : Allowed) → ((k : ℕ) → IsWrittenBy output x k → may.written k ≡ true) → allows may (note_of output x) ≡ true
-    free state.Written may has = has output refl
-    free (state.Unwritten cause) may has = refl
+    free : (x : OutputState) (may : Allowed) → ((k : ℕ) (became : OutputState) → IsThis output x k became → may.became k became ≡ true) → allows may (note_of output x) ≡ true
+    free state.Written may has = has output state.Written (refl, refl)
+    free (state.Unwritten cause) may has = has output (state.Unwritten cause) (refl, refl)
 
     no_loss : (x : OutputState) (k : ℕ) (was : Bool) → lost_then (note_of output x) k was ≡ was
     no_loss state.Written k was = refl

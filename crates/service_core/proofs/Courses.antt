@@ -10,17 +10,17 @@ use Rattle.scan_vm.specs.Machine.{Running}
 use Rattle.verifier.specs.Verified.{HasLinks}
 use Rattle.gateway.specs.declared.event_core.event.Event.{Event}
 use Rattle.gateway.specs.declared.event_core.event.Event.TheVariants as event
-use Rattle.gateway.specs.declared.event_core.event.Answer.{Answer}
 use Rattle.gateway.specs.declared.event_core.event.Answer.TheVariants as answer
 use Rattle.gateway.specs.declared.poller.outcome.Outcome.{Outcome}
 use Rattle.gateway.specs.event_core.Control.{AnswersFrame}
-use Rattle.gateway.specs.event_core.Core.{Gateway, IsSame, StepsOn, adopting}
-use Rattle.gateway.specs.event_core.Driving.{Drives, Happens}
+use Rattle.gateway.specs.event_core.Core.{Gateway, adopting}
+use Rattle.gateway.specs.event_core.Driving.{Happens}
 use Rattle.service.specs.declared.fate.Fate.{Fate}
 use Rattle.service.specs.declared.fate.Fate.TheVariants as fate
 use Rattle.service.specs.Guarding.{AnswersUnless, Guards, is_write}
 use Rattle.service.specs.Sessions.{IsChain, Turn}
 use Rattle.service_parts.specs.declared.client_place.ClientPlace.{ClientPlace}
+use Rattle.service_parts.specs.Answering.{is_answer}
 use Rattle.service_parts.specs.Clients.{Hears}
 use Rattle.service_parts.specs.declared.asked.Aim.{Aim}
 use Rattle.service_parts.specs.declared.asked.Aim.TheVariants as aim
@@ -34,7 +34,7 @@ use Rattle.service_parts.specs.Requests.{AreRightfulBy}
 use Rattle.service_parts.proofs.Rightful.{goes_further, right_adopting, right_behind_clients, right_on}
 use Rattle.service_core.specs.declared.round.Turn as Turns
 use Rattle.service_core.specs.declared.scan_cycle.ScanCycle.{ScanCycle}
-use Rattle.service_core.specs.Cycle.{Answers, AnswersIf, DevicesLeadOn, EndsOwn, Settles, is_answer, stage_of}
+use Rattle.service_core.specs.Cycle.{Answers, AnswersIf, DevicesLeadOn, EndsOwn, Settles, stage_of}
 use Rattle.service_core.specs.Rounds.{IsRoundFor, IsUntold, Progress, event_of, since}
 use Rattle.service_core.specs.Stages.{Adopts, AnyStep, Asks, ClientStep, CourseBy, Ends, IsFirst, IsReached, LeadsOnBy, OpensNext, OwnStep, RoundStep, RunStep, RunsIf, RunsOnce, Scans, Skips, Stage, TakesEvent, Tells, TimeStep, Waits, loses, opens, ends, skips, scans, learns, waits, stays, goes}
 use Rattle.service_core.proofs.Told.{of_fate}
@@ -203,9 +203,6 @@ own_of_settles fate.Lost asked old new led = own_of_rounds (stage_of old) (stage
 
 -- ---- what the core takes
 
-pub takes_event : (g : Gateway) (e : Event) (a : Answer) (h : Gateway) (depth : ℕ) → StepsOn g e a h → Drives depth g e h → IsSame g h → TakesEvent e g h
-takes_event g e a h depth step drives same = (a, (depth, ((step, same), drives)))
-
 -- the core that is kept in a box
 pub takes_from : (g m : Gateway) (e : Event) (h : Gateway) → m ≡ g → TakesEvent e m h → TakesEvent e g h
 takes_from g m e h same takes = subst (λ (x : Gateway). TakesEvent e x h) same takes
@@ -284,22 +281,23 @@ goes_loses s t i is_new is = one_step RoundStep s t (loses i is_new is)
 
 -- ---- one run of the program, amid other steps
 
-pub runs_once : (now : ℕ) (s a b t : Stage) → LeadsOnBy RoundStep s a → Scans now a b → LeadsOnBy RoundStep b t → RunsOnce now s t
-runs_once now s a b t first is then_on = record { before = a; first = first; scanned = b; scans = is; then_on = then_on }
+pub runs_once : (After : Stage → Type 0) (now : ℕ) (s a b t : Stage) → LeadsOnBy RoundStep s a → Scans now a b → After b → LeadsOnBy RoundStep b t → RunsOnce After now s t
+runs_once After now s a b t first is after then_on = record { before = a; first = first; scanned = b; scans = is; after = after; then_on = then_on }
 
-pub runs_where : (due : Bool) (now : ℕ) (s a t : Stage) → due ≡ true → LeadsOnBy RoundStep s a → RunsOnce now a t → RunsIf due now s t
-runs_where true now s a t is first once = record {
+pub runs_where : (due : Bool) (First After : Stage → Type 0) (now : ℕ) (s a t : Stage) → due ≡ true → LeadsOnBy RoundStep s a → RunsOnce First now a t → ((b : Stage) → First b → After b) → RunsIf due After now s t
+runs_where true First After now s a t is first once so = record {
   before = once.before;
   first = λ from course. once.first from (first from course);
   scanned = once.scanned;
   scans = once.scans;
+  after = so once.scanned once.after;
   then_on = once.then_on;
 }
-runs_where false now s a t is first once = absurd (cc)
+runs_where false First After now s a t is first once so = absurd (cc)
 
-pub rests_where : (due : Bool) (now : ℕ) (s t : Stage) → due ≡ false → LeadsOnBy RoundStep s t → RunsIf due now s t
-rests_where false now s t is led = led
-rests_where true now s t is led = absurd (cc)
+pub rests_where : (due : Bool) (After : Stage → Type 0) (now : ℕ) (s t : Stage) → due ≡ false → LeadsOnBy RoundStep s t → RunsIf due After now s t
+rests_where false After now s t is led = led
+rests_where true After now s t is led = absurd (cc)
 
 pub goes_asks : (s t : Stage) (pdu : List ℕ) → Asks pdu s t → LeadsOnBy ClientStep s t
 goes_asks s t pdu is = one_step ClientStep s t (pdu, is)

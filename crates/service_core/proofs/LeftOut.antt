@@ -8,9 +8,8 @@ use Rattle.gateway.specs.declared.poller.cycle.Call.{Call}
 use Rattle.service_parts.specs.declared.asked.Aim.{Aim}
 use Rattle.service_parts.specs.declared.asked.Aim.TheVariants as aim
 use Rattle.service_core.specs.declared.round.Turn.TheVariants as turn
-use Rattle.service_core.specs.declared.sent_writes.SentWrite.{SentWrite}
-use Rattle.service_core.specs.declared.sent_writes.SentWrites.{SentWrites}
-use Rattle.service_core.specs.declared.sent_writes.Taken.{Taken}
+use Rattle.service_core.specs.declared.held_writes.HeldWrite.{HeldWrite}
+use Rattle.service_core.specs.declared.held_writes.HeldWrites.{HeldWrites}
 use Rattle.service_core.specs.declared.wish.Wish.{Wish}
 use Rattle.service_core.specs.LeftOut as left
 use Rattle.service_core.specs.LeftOut.{GivesDue, GivesNext, IsNext, LeavesOut, NothingIsLeftOutWithoutRewrite, held_by}
@@ -37,12 +36,12 @@ module _ (device : ℕ) (held : Stage → Aim → Request → Option ℕ) (old s
   pub one_due : (wish : Wish) → LeavesOut device held old s → GivesNext device (Some wish) s t → GivesDue device held (Some wish) old t
   one_due wish leaves next = record { middle = s; leaves = leaves; next = inl next }
 
-pub left_one : (device number : ℕ) (first sent : SentWrites) (start now : ℕ) (old s t u : Stage) (wish : Wish) (output : ℕ) → LeavesOut device (held_by first device number start) old s → IsNext device wish.aim wish.request s t
-    → sent ≡ first → now ≡ start → held_by sent device number now t wish.aim wish.request ≡ Some output → Ends device t u → LeavesOut device (held_by first device number start) old u
-left_one device number first sent start now old s t u wish output before next same_sent same_time held ends =
-    let P : SentWrites → Type 0 = λ x. held_by x device number now t wish.aim wish.request ≡ Some output in
+pub left_one : (device number : ℕ) (first held : HeldWrites) (start now : ℕ) (old s t u : Stage) (wish : Wish) (output : ℕ) → LeavesOut device (held_by first device number start) old s → IsNext device wish.aim wish.request s t
+    → held ≡ first → now ≡ start → held_by held device number now t wish.aim wish.request ≡ Some output → Ends device t u → LeavesOut device (held_by first device number start) old u
+left_one device number first held start now old s t u wish output before next same_held same_time own ends =
+    let P : HeldWrites → Type 0 = λ x. held_by x device number now t wish.aim wish.request ≡ Some output in
     let Q : ℕ → Type 0 = λ x. held_by first device number x t wish.aim wish.request ≡ Some output in
-    left.leaves_more before wish.aim wish.request output t next (subst Q same_time (subst P same_sent held)) u ends
+    left.leaves_more before wish.aim wish.request output t next (subst Q same_time (subst P same_held own)) u ends
 
 -- ---- without `rewrite`
 
@@ -53,24 +52,22 @@ and_false false = refl
 nothing_below : (n : ℕ) → nat_lt n 0 ≡ false
 nothing_below n = grind arith
 
-never_recent : (t : Option Taken) (number now : ℕ) → is_recent t number 0 now ≡ false
-never_recent None number now = refl
-never_recent (Some taken) number now = ap (λ b. nat_eq taken.number number && b) (nothing_below (now - taken.at)) ∙ and_false (nat_eq taken.number number)
+never_recent : (held : HeldWrite) (number now : ℕ) → is_recent held number 0 now ≡ false
+never_recent held number now = ap (λ b. nat_eq held.number number && b) (nothing_below (now - held.at)) ∙ and_false (nat_eq held.number number)
 
-never_held : (last : Option SentWrite) (taken : List (Option Taken)) (output device : ℕ) (asked : Request) (number now : ℕ)
-    → option_map_or (λ sent. is_same sent device asked && is_recent (known_at taken output) number 0 now) last false ≡ false
-never_held None taken output device asked number now = refl
-never_held (Some sent) taken output device asked number now = ap (λ b. is_same sent device asked && b) (never_recent (known_at taken output) number now) ∙ and_false (is_same sent device asked)
+never_held : (own : Option HeldWrite) (device : ℕ) (asked : Request) (number now : ℕ) → option_map_or (λ held. is_same held device asked && is_recent held number 0 now) own false ≡ false
+never_held None device asked number now = refl
+never_held (Some held) device asked number now = ap (λ b. is_same held device asked && b) (never_recent held number now) ∙ and_false (is_same held device asked)
 
-none_held : (writes : List (Option SentWrite)) (taken : List (Option Taken)) (device number now : ℕ) (made_for : Aim) (asked : Request) → held_output writes taken device number 0 now made_for asked ≡ None
-none_held writes taken device number now (aim.Output output) asked = ap (λ b. if b then Some output else None) (never_held (known_at writes output) taken output device asked number now)
-none_held writes taken device number now (aim.Block want) asked = refl
-none_held writes taken device number now aim.Map asked = refl
+none_held : (writes : List (Option HeldWrite)) (device number now : ℕ) (made_for : Aim) (asked : Request) → held_output writes device number 0 now made_for asked ≡ None
+none_held writes device number now (aim.Output output) asked = ap (λ b. if b then Some output else None) (never_held (known_at writes output) device asked number now)
+none_held writes device number now (aim.Block want) asked = refl
+none_held writes device number now aim.Map asked = refl
 
 kept_never : (o : Option SiteDevice) (own : SiteDevice) → o ≡ Some own → own.rewrite ≡ 0 → option_map_or (λ (d : SiteDevice). d.rewrite * 1000) o 0 ≡ 0
 kept_never o own is none = ap (λ x. option_map_or (λ (d : SiteDevice). d.rewrite * 1000) x 0) is ∙ ap (λ n. n * 1000) none
 
 pub nothing_is_left_out_without_rewrite : NothingIsLeftOutWithoutRewrite
-nothing_is_left_out_without_rewrite sent device number now s own made_for request at none =
-    ap (λ within. held_output sent.writes.items sent.taken.items device number within now made_for request) (kept_never (slice_get s.core.site.devices device) own at none)
-    ∙ none_held sent.writes.items sent.taken.items device number now made_for request
+nothing_is_left_out_without_rewrite held device number now s own made_for request at none =
+    ap (λ within. held_output held.writes.items device number within now made_for request) (kept_never (slice_get s.core.site.devices device) own at none)
+    ∙ none_held held.writes.items device number now made_for request

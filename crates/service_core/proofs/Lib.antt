@@ -23,3 +23,4 @@ pub mod LeftOut
 pub mod Timing
 pub mod Having
 pub mod Waking
+pub mod Going

@@ -11,7 +11,8 @@ use Rattle.service.specs.declared.task.Mark.TheVariants as mark
 use Rattle.service.specs.declared.task.Task.{Task}
 use Rattle.service.specs.Tasks.{given_up, is_asked, is_due, next_place, with_mark}
 use Rattle.service_parts.specs.Calls.{write_to}
-use Rattle.service_core.specs.Rounds.{AsksWrite, ClosesWrite, EachOutputIsWrittenOnce, OpensWrite, Progress, Writing, begin, sends, ends, skips, tells, asked_of, times_asked}
+use Rattle.service_parts.specs.Frames.{times_asked}
+use Rattle.service_core.specs.Rounds.{AsksWrite, ClosesWrite, EachOutputIsWrittenOnce, OpensWrite, Progress, Writing, begin, sends, ends, skips, tells, asked_of}
 use Rattle.service_core.proofs.Marks.{at_place, map_at, some_task, next_is_due, with_mark-at}
 
 abbrev ZeroIfDue : ℕ → Mark → Type 0
@@ -45,10 +46,10 @@ fits_marked tasks asked j u m settled at fits =
     let P : List Task → Type 0 = λ l. Fits l asked in
     subst P (sym (with_mark-at tasks j m u at)) (λ i. ((fits i).0, λ t is. kept_at tasks asked j u m settled fits i t (set-cases tasks j (record u { mark = m }) i t is)))
 
-times_here : (i j : ℕ) (asked : List ℕ) → j ≡ i → times_asked i (j ∷ asked) ≡ 1 + times_asked i asked
+pub times_here : (i j : ℕ) (asked : List ℕ) → j ≡ i → times_asked i (j ∷ asked) ≡ 1 + times_asked i asked
 times_here i j asked is = rw (eq-eqb j i is) refl
 
-times_there : (i j : ℕ) (asked : List ℕ) → j ≢ i → times_asked i (j ∷ asked) ≡ times_asked i asked
+pub times_there : (i j : ℕ) (asked : List ℕ) → j ≢ i → times_asked i (j ∷ asked) ≡ times_asked i asked
 times_there i j asked other = rw (ne_eqb j i other) (omega arith)
 
 most_once : (asked : List ℕ) (j i : ℕ) (b : Bool) → times_asked j asked ≡ 0 → times_asked i asked ≤ 1 → ((b ≡ true) × (j ≡ i)) ⊎ ((b ≡ false) × (j ≢ i)) → times_asked i (j ∷ asked) ≤ 1

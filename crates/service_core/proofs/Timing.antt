@@ -104,13 +104,6 @@ set_length [] i t = refl
 set_length (x ∷ told) zero t = refl
 set_length (x ∷ told) (suc i) t = ap suc (set_length told i t)
 
-pub told_length : (told : List LastTold) (i : ℕ) (is_new : Bool) → length (told_at i is_new told) ≡ length told
-told_length told i is_new = go (slice_get told i) refl
-  where
-    go : (o : Option LastTold) → slice_get told i ≡ o → length (told_at i is_new told) ≡ length told
-    go None is = rw is refl
-    go (Some t) is = rw is (set_length told i (told_now is_new t))
-
 -- ---- a tick
 
 chosen : {Y : Type 0} (b : Bool) (x y : Y) → b ≡ true → x ≡ (if b then x else y)

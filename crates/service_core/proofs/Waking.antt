@@ -2,7 +2,7 @@
 use Rattle.std.proofs.Common.{◌≡◌, ◌⊎◌, inl, inr, ℕ, true, not, ◌&&◌, List, Some, slice_get, ◌∙◌}
 use Rattle.service_parts.specs.declared.client_place.ClientPlace.{ClientPlace}
 use Rattle.service_parts.specs.declared.line.Line.{Line}
-use Rattle.service_parts.specs.Places.{after}
+use Rattle.service_parts.specs.Backing.{after}
 use Rattle.service_parts.specs.Waking.{IsDueOf}
 use Rattle.service_core.specs.Waking.{IsCloseOf}
 

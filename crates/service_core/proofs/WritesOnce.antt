@@ -1,10 +1,12 @@
 -- A service writes each output once at most after a scan.
-use Rattle.std.proofs.Common.{◌≡◌, ℕ, List, sym, ap, subst}
+use Rattle.std.proofs.Common.{◌≡◌, ℕ, List, sym, ap, subst, arith}
+use Rattle.service_parts.specs.Frames.{begun}
+use Rattle.service_parts.proofs.Frames.{times_joined}
 use Rattle.service_core.specs.Rounds.{Progress, Writing}
 use Rattle.service_core.specs.Rounds as rounds
 use Rattle.service_core.specs.Stages.{Stage}
 use Rattle.service_core.specs.WrittenOnce as after
-use Rattle.service_core.specs.WrittenOnce.{AfterScan, EachScanWritesOnce}
+use Rattle.service_core.specs.WrittenOnce.{AfterScan, EachRunIsWrittenOnce, EachScanWritesOnce}
 use Rattle.service_core.proofs.Sent.{each_output_once}
 
 same_round : (p : Progress) (asked : List ℕ) (q r : Progress) → r ≡ q → Writing p asked q → Writing p asked r
@@ -24,3 +26,8 @@ module _ (scanned : Stage) where
 
 pub each_scan_writes_once : EachScanWritesOnce
 each_scan_writes_once now old scanned s asked scans run = each_output_once scanned.round asked s.round (writing scanned asked s run)
+
+pub each_run_is_written_once : EachRunIsWrittenOnce
+each_run_is_written_once link first scans asked last after.none output = omega arith
+each_run_is_written_once link first scans asked last (after.calls {scans = earlier} {asked = so_far} {before} run runs from then_on lines led) output =
+    omega (arith, each_run_is_written_once link first earlier so_far before run output, led.within output, times_joined output (begun led.course) so_far)

@@ -1,12 +1,12 @@
 -- What the calls of a service do to its core and its round.
-use Rattle.std.specs.Prelude.{◌≡◌, ◌⊎◌, ℕ, nat_eq, Bool, true, false, not, ◌||◌, Option, None, Some, slice_get}
+use Rattle.std.specs.Prelude.{◌≡◌, ◌⊎◌, ℕ, Bool, true, false, Option, None, Some, slice_get}
 use Rattle.gateway.specs.declared.poller.outcome.Outcome.{Outcome}
-use Rattle.gateway.specs.declared.poller.outcome.Outcome.TheVariants as outcome
 use Rattle.service.specs.declared.fate.Fate.{Fate}
 use Rattle.service.specs.declared.fate.Fate.TheVariants as fate
 use Rattle.service_parts.specs.declared.asked.Aim.{Aim}
 use Rattle.service_parts.specs.declared.asked.Aim.TheVariants as aim
 use Rattle.service_parts.specs.declared.asked.Asked.{Asked}
+use Rattle.service_parts.specs.Answering.{is_answer}
 use Rattle.service_core.specs.declared.scan_cycle.ScanCycle.{ScanCycle}
 use Rattle.service_core.specs.Rounds.{IsUnderWay}
 use Rattle.service_core.specs.Stages.{ClientStep, Ends, LeadsOnBy, OwnStep, RoundStep, Stage, Tells}
@@ -40,18 +40,6 @@ pub record Answers (asked : Asked) (o : Outcome) (old new : ScanCycle) : Type 0 
   pub middle : Stage
   pub ends : EndsOwn asked.aim asked.device o (stage_of old) middle
   pub goes : LeadsOnBy RoundStep middle (stage_of new)
-
--- whether a gateway says by this code that the unit behind it can't be reached, or doesn't answer
-abbrev pub is_gateways : ℕ → Bool
-is_gateways code = nat_eq code 10 || nat_eq code 11
-
--- After too many frames that answer something else there is no answer; nor is what a gateway says in place of its unit.
-abbrev pub is_answer : Outcome → Bool
-is_answer (outcome.Words words) = true
-is_answer outcome.Wrote = true
-is_answer (outcome.Exception e) = not (is_gateways e.0)
-is_answer outcome.Mismatch = true
-is_answer outcome.Stale = false
 
 abbrev pub AnswersIf : Bool → Asked → Outcome → ScanCycle → ScanCycle → Type 0
 AnswersIf true asked o old new = Answers asked o old new

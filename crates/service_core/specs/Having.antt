@@ -1,89 +1,155 @@
 -- What devices have of what was written to them, by their acknowledgements, over all calls (Modbus Application Protocol V1.1b3,
 -- sections 6.6 and 6.12).
-use Rattle.std.specs.Prelude.{◌≡◌, ◌⊎◌, ◌==◌, ℕ, Option, None, Some, if◌then◌else◌}
+use Rattle.std.specs.Prelude.{◌≡◌, ◌⊎◌, ◌==◌, ⊤, ℕ, true, Option, None, Some, Result, Ok, Err, if◌then◌else◌}
 use Rattle.site_model.specs.Readings.{known_at}
+use Rattle.point_writer.specs.declared.write.Write.{Write}
+use Rattle.point_writer.specs.declared.write.NoWrite.{NoWrite}
 use Rattle.gateway.specs.declared.poller.outcome.Outcome.{Outcome}
 use Rattle.gateway.specs.declared.poller.outcome.Outcome.TheVariants as outcome
+use Rattle.gateway.specs.event_core.Control.{IsPlanned}
+use Rattle.gateway.specs.event_core.Core.{Gateway}
 use Rattle.service.specs.declared.fate.Fate.{Fate}
 use Rattle.service.specs.declared.fate.Fate.TheVariants as fate
 use Rattle.service_parts.specs.declared.asked.Aim.{Aim}
 use Rattle.service_parts.specs.declared.asked.Aim.TheVariants as aim
 use Rattle.service_parts.specs.declared.asked.Asked.{Asked}
+use Rattle.service_parts.specs.Answering.{is_answer}
 use Rattle.service_core.specs.declared.device_side.DeviceSide.{DeviceSide}
 use Rattle.service_core.specs.declared.note.Loss.{Loss}
-use Rattle.service_core.specs.declared.sent_writes.SentWrite.{SentWrite}
-use Rattle.service_core.specs.declared.sent_writes.SentWrites.{SentWrites}
-use Rattle.service_core.specs.declared.sent_writes.Taken.{Taken}
-use Rattle.service_core.specs.Told.{TellsBy, WritesBy}
+use Rattle.service_core.specs.declared.note.Unwritten.TheVariants as unwritten
+use Rattle.service_core.specs.declared.output.OutputState.{OutputState}
+use Rattle.service_core.specs.declared.output.OutputState.TheVariants as state
+use Rattle.service_core.specs.declared.held_writes.HeldWrite.{HeldWrite}
+use Rattle.service_core.specs.declared.held_writes.HeldWrites.{HeldWrites}
+use Rattle.service_core.specs.Rewriting.{had_without, write_of}
+use Rattle.service_core.specs.Told.{BecomesBy, IsThis, TellsBy}
 
--- This went out last for an output, and its device took it: then, and over that connection.
-pub record Has (sent : SentWrites) (output : ℕ) (write : SentWrite) (taken : Taken) : Type 0 where
-  pub last : known_at sent.writes.items output ≡ Some write
-  pub took : known_at sent.taken.items output ≡ Some taken
+-- This is had of an output: by that device, in those registers, since then, and over that connection.
+pub record Has (held : HeldWrites) (output : ℕ) (write : HeldWrite) : Type 0 where
+  pub is : known_at held.writes.items output ≡ Some write
 
--- Its device has what went out last for an output.
-pub record IsHad (sent : SentWrites) (output : ℕ) : Type 0 where
-  pub write : SentWrite
-  pub taken : Taken
-  pub has : Has sent output write taken
+-- Its device has something of an output.
+pub record IsHad (held : HeldWrites) (output : ℕ) : Type 0 where
+  pub write : HeldWrite
+  pub has : Has held output write
 
 -- No device has anything.
-abbrev pub HasNothing : SentWrites → Type 0
-HasNothing sent = (output : ℕ) → known_at sent.taken.items output ≡ None
+abbrev pub HasNothing : HeldWrites → Type 0
+HasNothing held = (output : ℕ) → known_at held.writes.items output ≡ None
 
 -- All that devices have now they had then too.
-pub record IsWithin (first sent : SentWrites) : Type 0 where
-  pub each : (output : ℕ) (write : SentWrite) (taken : Taken) → Has sent output write taken → Has first output write taken
+pub record IsWithin (first held : HeldWrites) : Type 0 where
+  pub each : (output : ℕ) (write : HeldWrite) → Has held output write → Has first output write
 
 -- Devices have nothing more than they had, and so nothing more than at any time since which they had nothing more.
-abbrev pub HasNoMore : SentWrites → SentWrites → Type 0
-HasNoMore old new = (first : SentWrites) → IsWithin first old → IsWithin first new
+abbrev pub HasNoMore : HeldWrites → HeldWrites → Type 0
+HasNoMore old new = (first : HeldWrites) → IsWithin first old → IsWithin first new
 
 -- ---- by what a device answers
 
 -- what is taken of an output where a request is acknowledged that was made for this
-abbrev pub taken_for : Aim → (number now output : ℕ) → Option Taken
-taken_for (aim.Output which) number now output = if which == output then Some (record { number = number; at = now }) else None
-taken_for (aim.Block want) number now output = None
-taken_for aim.Map number now output = None
+abbrev pub taken_for : Aim → HeldWrite → (output : ℕ) → Option HeldWrite
+taken_for (aim.Output which) write output = if which == output then Some write else None
+taken_for (aim.Block want) write output = None
+taken_for aim.Map write output = None
 
--- An acknowledgement says that it is, and no other answer.
-abbrev pub taken_by : Outcome → Asked → (now output : ℕ) → Option Taken
-taken_by outcome.Wrote asked now output = taken_for asked.aim asked.number now output
+-- An acknowledgement says that the words of its request are, and no other answer.
+abbrev pub taken_by : Outcome → Asked → (now output : ℕ) → Option HeldWrite
+taken_by outcome.Wrote asked now output = taken_for asked.aim (write_of asked now) output
 taken_by (outcome.Words words) asked now output = None
 taken_by (outcome.Exception e) asked now output = None
 taken_by outcome.Mismatch asked now output = None
 taken_by outcome.Stale asked now output = None
 
-abbrev pub taken_at : Fate → Asked → (now output : ℕ) → Option Taken
+abbrev pub taken_at : Fate → Asked → (now output : ℕ) → Option HeldWrite
 taken_at (fate.Told o) asked now output = taken_by o asked now output
 taken_at fate.Lost asked now output = None
 
 -- by what became of the request that was under way, if one was; or by nothing yet
-abbrev pub taken_if : Option Asked → Option Fate → (now output : ℕ) → Option Taken
+abbrev pub taken_if : Option Asked → Option Fate → (now output : ℕ) → Option HeldWrite
 taken_if None f now output = None
 taken_if (Some asked) None now output = None
 taken_if (Some asked) (Some f) now output = taken_at f asked now output
 
--- What devices have they had before; or it went out last, and this says that it is taken.
-abbrev pub HasMoreBy : (ℕ → Option Taken) → SentWrites → SentWrites → Type 0
-HasMoreBy took old new = (output : ℕ) (write : SentWrite) (taken : Taken) → Has new output write taken
-    → Has old output write taken ⊎ ((known_at old.writes.items output ≡ Some write) × (took output ≡ Some taken))
+-- What devices have they had before; or it is just what this says that is taken.
+abbrev pub HasMoreBy : (ℕ → Option HeldWrite) → HeldWrites → HeldWrites → Type 0
+HasMoreBy took old new = (output : ℕ) (write : HeldWrite) → Has new output write → Has old output write ⊎ (took output ≡ Some write)
 
--- This says that it is taken.
-abbrev pub IsTaken : (ℕ → Option Taken) → ℕ → Type 0
-IsTaken took output = (taken : Taken) × (took output ≡ Some taken)
+-- This says that something is taken.
+abbrev pub IsTaken : (ℕ → Option HeldWrite) → ℕ → Type 0
+IsTaken took output = (write : HeldWrite) × (took output ≡ Some write)
 
--- The device has it, or takes it now.
-abbrev pub IsHadBy : (ℕ → Option Taken) → SentWrites → ℕ → Type 0
-IsHadBy took sent output = IsHad sent output ⊎ IsTaken took output
+-- ---- what is known no more
+
+-- It isn't known any more what this device has; what others have stays.
+abbrev pub Forgets : (device : ℕ) → HeldWrites → HeldWrites → Type 0
+Forgets device old new = (output : ℕ) → known_at new.writes.items output ≡ had_without device (known_at old.writes.items output)
+
+-- ---- what a device answers otherwise
+
+-- This came of the request that writes an output, and not that its device took it.
+abbrev pub IsRefusedBy : Outcome → Asked → ℕ → Type 0
+IsRefusedBy o asked output = (asked.aim ≡ aim.Output output) × (o ≡ outcome.Wrote → ⊥)
+
+-- An answer of its device refuses it.
+abbrev pub IsRefusedAt : Fate → Asked → ℕ → Type 0
+IsRefusedAt (fate.Told o) asked output = (is_answer o ≡ true) × IsRefusedBy o asked output
+IsRefusedAt fate.Lost asked output = ⊥
+
+-- by what became of the request that was under way, if one was; or by nothing yet
+abbrev pub IsRefusedIf : Option Asked → Option Fate → ℕ → Type 0
+IsRefusedIf None f output = ⊥
+IsRefusedIf (Some asked) None output = ⊥
+IsRefusedIf (Some asked) (Some f) output = IsRefusedAt f asked output
 
 -- ---- what is told of it
 
--- An output is told as written on the way only where its device has what went out last for it.
-abbrev pub WritesHad : SentWrites → DeviceSide → DeviceSide → Type 0
-WritesHad sent old new = (first : SentWrites) → IsWithin first sent → WritesBy (IsHad first) old new
+-- While a service goes on by itself: an output is told as written where its device has it, and as not written where nothing came
+-- of its write; for no other cause.
+abbrev pub IsToldBy : HeldWrites → ℕ → OutputState → Type 0
+IsToldBy held output state.Written = IsHad held output
+IsToldBy held output (state.Unwritten unwritten.Unanswered) = ⊤
+IsToldBy held output (state.Unwritten unwritten.Refused) = ⊥
+IsToldBy held output (state.Unwritten (unwritten.NoSetPoint cause)) = ⊥
+
+-- An output is told as written where it is taken now, and as refused where it is.
+abbrev pub IsAnsweredBy : (ℕ → Option HeldWrite) → (ℕ → Type 0) → ℕ → OutputState → Type 0
+IsAnsweredBy took IsRefused output state.Written = IsTaken took output
+IsAnsweredBy took IsRefused output (state.Unwritten unwritten.Refused) = IsRefused output
+IsAnsweredBy took IsRefused output (state.Unwritten unwritten.Unanswered) = ⊥
+IsAnsweredBy took IsRefused output (state.Unwritten (unwritten.NoSetPoint cause)) = ⊥
+
+-- By what comes of a request: so, or as while a service goes on by itself.
+abbrev pub IsHeardBy : (ℕ → Option HeldWrite) → (ℕ → Type 0) → HeldWrites → ℕ → OutputState → Type 0
+IsHeardBy took IsRefused held output became = IsToldBy held output became ⊎ IsAnsweredBy took IsRefused output became
+
+-- This is planned for an output: nothing, for a cause.
+abbrev pub IsOfPlan : ℕ → Result Write NoWrite → ℕ → OutputState → Type 0
+IsOfPlan which (Ok write) output became = ⊥
+IsOfPlan which (Err cause) output became = IsThis which (state.Unwritten (unwritten.NoSetPoint cause)) output became
+
+-- The core plans nothing for an output, for this.
+abbrev pub IsUnplanned : Gateway → ℕ → OutputState → Type 0
+IsUnplanned core output state.Written = ⊥
+IsUnplanned core output (state.Unwritten unwritten.Unanswered) = ⊥
+IsUnplanned core output (state.Unwritten unwritten.Refused) = ⊥
+IsUnplanned core output (state.Unwritten (unwritten.NoSetPoint cause)) = IsPlanned core output (Err cause)
+
+-- By a scan, after which the core is this: so, or as while a service goes on by itself.
+abbrev pub IsToldAt : Gateway → HeldWrites → ℕ → OutputState → Type 0
+IsToldAt core held output became = IsToldBy held output became ⊎ IsUnplanned core output became
+
+-- Of an output only that is told on the way which a service tells while it goes on by itself.
+abbrev pub WritesHad : HeldWrites → DeviceSide → DeviceSide → Type 0
+WritesHad held old new = (first : HeldWrites) → IsWithin first held → BecomesBy (IsToldBy first) old new
 
 -- The same, and a loss is told on the way only where this says why.
-abbrev pub TellsHad : (ℕ → Loss → Type 0) → SentWrites → DeviceSide → DeviceSide → Type 0
-TellsHad Why sent old new = (first : SentWrites) → IsWithin first sent → TellsBy Why (IsHad first) old new
+abbrev pub TellsHad : (ℕ → Loss → Type 0) → HeldWrites → DeviceSide → DeviceSide → Type 0
+TellsHad Why held old new = (first : HeldWrites) → IsWithin first held → TellsBy Why (IsToldBy first) old new
+
+-- both so by a scan, after which the core is this
+abbrev pub WritesAt : Gateway → HeldWrites → DeviceSide → DeviceSide → Type 0
+WritesAt core held old new = (first : HeldWrites) → IsWithin first held → BecomesBy (IsToldAt core first) old new
+
+abbrev pub TellsAt : (ℕ → Loss → Type 0) → Gateway → HeldWrites → DeviceSide → DeviceSide → Type 0
+TellsAt Why core held old new = (first : HeldWrites) → IsWithin first held → TellsBy Why (IsToldAt core first) old new

@@ -7,7 +7,7 @@ use Rattle.gateway.specs.declared.poller.cycle.Call.{Call}
 use Rattle.service_parts.specs.declared.asked.Aim.{Aim}
 use Rattle.service_core.specs.declared.round.Turn.TheVariants as turn
 use Rattle.service_core.specs.declared.wish.Wish.{Wish}
-use Rattle.service_core.specs.declared.sent_writes.SentWrites.{SentWrites}
+use Rattle.service_core.specs.declared.held_writes.HeldWrites.{HeldWrites}
 use Rattle.service_core.specs.Rewriting.{held_output, kept_for}
 use Rattle.service_core.specs.Stages.{Ends, OpensNext, Stage}
 
@@ -25,9 +25,9 @@ GivesNext device (Some wish) old new = IsNext device wish.aim wish.request old n
 
 -- ---- what is left out of that
 
--- the output whose set point a request over the connection with this number would write once more, by what went out last
-abbrev pub held_by : SentWrites → (device number now : ℕ) → Stage → Aim → Request → Option ℕ
-held_by sent device number now s made_for request = held_output sent.writes.items sent.taken.items device number (kept_for s.core.site.devices device) now made_for request
+-- the output whose set point a request over the connection with this number would write once more, by what devices have
+abbrev pub held_by : HeldWrites → (device number now : ℕ) → Stage → Aim → Request → Option ℕ
+held_by held device number now s made_for request = held_output held.writes.items device number (kept_for s.core.site.devices device) now made_for request
 
 -- Requests to the device are left out, one after another: each would write once more what it has.
 pub data LeavesOut (device : ℕ) (held : Stage → Aim → Request → Option ℕ) (old : Stage) : Stage → Type 0 where
@@ -45,5 +45,5 @@ pub record GivesDue (device : ℕ) (held : Stage → Aim → Request → Option 
 
 -- Where the site says no `rewrite` of a device, or 0, no request to it is left out.
 abbrev pub NothingIsLeftOutWithoutRewrite : Type 0
-NothingIsLeftOutWithoutRewrite = (sent : SentWrites) (device number now : ℕ) (s : Stage) (own : SiteDevice) (made_for : Aim) (request : Request)
-    → slice_get s.core.site.devices device ≡ Some own → own.rewrite ≡ 0 → held_by sent device number now s made_for request ≡ None
+NothingIsLeftOutWithoutRewrite = (held : HeldWrites) (device number now : ℕ) (s : Stage) (own : SiteDevice) (made_for : Aim) (request : Request)
+    → slice_get s.core.site.devices device ≡ Some own → own.rewrite ≡ 0 → held_by held device number now s made_for request ≡ None

@@ -3,6 +3,7 @@ pub mod Connections
 pub mod Counting
 pub mod Cycle
 pub mod Forgetting
+pub mod Going
 pub mod Having
 pub mod GivingUp
 pub mod LeftOut

@@ -10,7 +10,7 @@ use Rattle.service_parts.specs.declared.asked.Asked.{Asked}
 use Rattle.service_parts.specs.Overdue.{IsAt, overdue_at}
 use Rattle.service_core.specs.declared.note.Loss.{Loss}
 use Rattle.service_core.specs.declared.note.Loss.TheVariants as loss
-use Rattle.service_core.specs.Cycle.{is_answer}
+use Rattle.service_parts.specs.Answering.{is_answer}
 
 -- ---- which devices, and why
 

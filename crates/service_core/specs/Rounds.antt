@@ -22,6 +22,7 @@ use Rattle.service.specs.declared.fate.Fate.TheVariants as fate
 use Rattle.service.specs.Tasks.{given_up, is_asked, next_place, with_mark}
 use Rattle.service_parts.specs.declared.asked.Aim.TheVariants as aim
 use Rattle.service_parts.specs.Calls.{write_to}
+use Rattle.service_parts.specs.Frames.{times_asked}
 use Rattle.service_core.specs.declared.last_told.LastTold.{LastTold}
 use Rattle.service_core.specs.declared.round.Turn.{Turn}
 use Rattle.service_core.specs.declared.round.Turn.TheVariants as turn
@@ -177,10 +178,6 @@ pub data Writing : Progress → List ℕ → Progress → Type 0 where
   ends : {p q : Progress} {asked : List ℕ} → Writing p asked q → (device : ℕ) (r : Progress) → ClosesWrite (position (is_asked device) q.writes) q r → Writing p asked r
   skips : {p q : Progress} {asked : List ℕ} → Writing p asked q → (device : ℕ) (r : Progress) → r ≡ skipped device q → Writing p asked r
   tells : {p q : Progress} {asked : List ℕ} → Writing p asked q → (r : Progress) → r.writes ≡ q.writes → Writing p asked r
-
-abbrev pub times_asked : ℕ → List ℕ → ℕ
-times_asked i [] = 0
-times_asked i (k ∷ asked) = (if k == i then 1 else 0) + times_asked i asked
 
 -- Each output is written once at most.
 abbrev pub EachOutputIsWrittenOnce : Type 0

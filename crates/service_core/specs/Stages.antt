@@ -132,18 +132,19 @@ pub data CourseBy (Step : Stage → Stage → Type 0) : Stage → Stage → Type
 abbrev pub LeadsOnBy : (Step : Stage → Stage → Type 0) → Stage → Stage → Type 0
 LeadsOnBy Step old new = (from : Stage) → ∥ CourseBy Step from old ∥₁ → ∥ CourseBy Step from new ∥₁
 
--- The program runs once, at this time; before and after it are steps of a round alone.
-pub record RunsOnce (now : ℕ) (old new : Stage) : Type 0 where
+-- The program runs once, at this time; before and after it are steps of a round alone. Of the stage right after it this is so.
+pub record RunsOnce (After : Stage → Type 0) (now : ℕ) (old new : Stage) : Type 0 where
   pub before : Stage
   pub first : LeadsOnBy RoundStep old before
   pub scanned : Stage
   pub scans : Scans now before scanned
+  pub after : After scanned
   pub then_on : LeadsOnBy RoundStep scanned new
 
 -- It does, where this says so. Else it doesn't run.
-abbrev pub RunsIf : Bool → ℕ → Stage → Stage → Type 0
-RunsIf true now old new = RunsOnce now old new
-RunsIf false now old new = LeadsOnBy RoundStep old new
+abbrev pub RunsIf : Bool → (Stage → Type 0) → ℕ → Stage → Stage → Type 0
+RunsIf true After now old new = RunsOnce After now old new
+RunsIf false After now old new = LeadsOnBy RoundStep old new
 
 -- A core on which nothing happened, before its first scan: no wanted block was told yet.
 pub record IsFirst (s : Stage) : Type 0 where

@@ -8,6 +8,7 @@ use Rattle.service_core.specs.declared.device_side.DeviceSide.{DeviceSide}
 use Rattle.service_core.specs.declared.note.Loss.{Loss}
 use Rattle.service_core.specs.declared.note.Note.{Note}
 use Rattle.service_core.specs.declared.note.Note.TheVariants as note
+use Rattle.service_core.specs.declared.note.Unwritten.TheVariants as unwritten
 use Rattle.service_core.specs.declared.output.OutputState.{OutputState}
 use Rattle.service_core.specs.declared.output.OutputState.TheVariants as state
 use Rattle.service_core.specs.Noting.{told}
@@ -68,10 +69,11 @@ pub record TellsNothing (old new : DeviceSide) : Type 0 where
 
 -- ---- one step after another
 
--- which losses may be told, by the number of the device, and which outputs may be told as written
+-- which losses may be told, by the number of the device; and what may be told to have become of an output, by its number: that it
+-- is written, or that it isn't, for this
 pub record Allowed : Type 0 where
   pub lost : ℕ → Loss → Bool
-  pub written : ℕ → Bool
+  pub became : ℕ → OutputState → Bool
 
 abbrev pub allows : Allowed → Note → Bool
 allows may (note.Lost device why) = may.lost device why
@@ -81,10 +83,10 @@ allows may (note.NoMap device) = true
 allows may (note.Refused device refusal) = true
 allows may (note.Scanned report) = true
 allows may (note.Late by) = true
-allows may (note.Unwritten output cause) = true
-allows may (note.Written output) = may.written output
+allows may (note.Unwritten output cause) = may.became output (state.Unwritten cause)
+allows may (note.Written output) = may.became output state.Written
 
--- From the one to the other by such steps, on which of losses and of written outputs only these are told.
+-- From the one to the other by such steps, on which of losses and of outputs only this is told.
 pub data Course (may : Allowed) : DeviceSide → DeviceSide → Type 0 where
   stays : (side : DeviceSide) → Course may side side
   tells : {old middle : DeviceSide} → Course may old middle → (n : Note) (new : DeviceSide) → allows may n ≡ true → Tells n middle new → Course may old new
@@ -94,7 +96,7 @@ pub data Course (may : Allowed) : DeviceSide → DeviceSide → Type 0 where
 abbrev pub GoesBy : Allowed → DeviceSide → DeviceSide → Type 0
 GoesBy may old new = (from : DeviceSide) → ∥ Course may from old ∥₁ → ∥ Course may from new ∥₁
 
--- the same, and neither a loss nor a written output is told on the way
+-- the same, and on the way no loss is told, and of no output that it is written or isn't
 abbrev pub Goes : DeviceSide → DeviceSide → Type 0
 Goes old new = (may : Allowed) → GoesBy may old new
 
@@ -102,19 +104,22 @@ Goes old new = (may : Allowed) → GoesBy may old new
 abbrev pub LosesBy : (ℕ → Loss → Type 0) → DeviceSide → DeviceSide → Type 0
 LosesBy Why old new = (may : Allowed) → ((device : ℕ) (why : Loss) → Why device why → may.lost device why ≡ true) → GoesBy may old new
 
--- An output is told as written on the way only where this says that it is.
-abbrev pub WritesBy : (ℕ → Type 0) → DeviceSide → DeviceSide → Type 0
-WritesBy Is old new = (may : Allowed) → ((output : ℕ) → Is output → may.written output ≡ true) → GoesBy may old new
+-- Of an output only that is told on the way of which this says that it is so.
+abbrev pub BecomesBy : (ℕ → OutputState → Type 0) → DeviceSide → DeviceSide → Type 0
+BecomesBy Is old new = (may : Allowed) → ((output : ℕ) (became : OutputState) → Is output became → may.became output became ≡ true) → GoesBy may old new
 
 -- both so
-abbrev pub TellsBy : (ℕ → Loss → Type 0) → (ℕ → Type 0) → DeviceSide → DeviceSide → Type 0
+abbrev pub TellsBy : (ℕ → Loss → Type 0) → (ℕ → OutputState → Type 0) → DeviceSide → DeviceSide → Type 0
 TellsBy Why Is old new =
-    (may : Allowed) → ((device : ℕ) (why : Loss) → Why device why → may.lost device why ≡ true) → ((output : ℕ) → Is output → may.written output ≡ true) → GoesBy may old new
+    (may : Allowed) → ((device : ℕ) (why : Loss) → Why device why → may.lost device why ≡ true) → ((output : ℕ) (became : OutputState) → Is output became → may.became output became ≡ true) → GoesBy may old new
 
--- this became of this output: that it is written
-abbrev pub IsWrittenBy : ℕ → OutputState → ℕ → Type 0
-IsWrittenBy which state.Written output = output ≡ which
-IsWrittenBy which (state.Unwritten cause) output = ⊥
+-- just this became of this output
+abbrev pub IsThis : ℕ → OutputState → ℕ → OutputState → Type 0
+IsThis which this output became = (output ≡ which) × (became ≡ this)
+
+-- nothing came of its write
+abbrev pub IsUnanswered : ℕ → OutputState → Type 0
+IsUnanswered output became = became ≡ state.Unwritten unwritten.Unanswered
 
 -- what was told on the way, the last one first
 abbrev pub happened : {may : Allowed} {old new : DeviceSide} → Course may old new → List Note
@@ -130,8 +135,8 @@ abbrev pub state_after : List Note → ℕ → Option OutputState → Option Out
 state_after [] output was = was
 state_after (n ∷ earlier) output was = state_then n output (state_after earlier output was)
 
--- Over all calls a device is lost, and an output is written or isn't, just by what was told of it; and of losses and of written
--- outputs only those were told that a call may tell.
+-- Over all calls a device is lost, and an output is written or isn't, just by what was told of it; and of losses and of outputs only
+-- that was told that a call may tell.
 pub record StatesAreByNotes : Type 0 where
   pub devices : (may : Allowed) (old new : DeviceSide) (course : Course may old new) (device : ℕ) → lost_at new device ≡ lost_after (happened course) device (lost_at old device)
   pub outputs : (may : Allowed) (old new : DeviceSide) (course : Course may old new) (output : ℕ) → state_at new output ≡ state_after (happened course) output (state_at old output)

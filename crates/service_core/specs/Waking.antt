@@ -1,7 +1,7 @@
 -- When a service is to be called again, by the time in milliseconds. No standard says it; it is this project's.
 use Rattle.std.specs.Prelude.{◌≡◌, ◌⊎◌, ◌&&◌, ℕ, not, true, List, Some, slice_get}
 use Rattle.service_parts.specs.declared.client_place.ClientPlace.{ClientPlace}
-use Rattle.service_parts.specs.Places.{after}
+use Rattle.service_parts.specs.Backing.{after}
 use Rattle.service_parts.specs.Waking.{IsDueOf}
 use Rattle.service_core.specs.declared.service_state.Service.{Service}
 

@@ -1,12 +1,15 @@
 -- What is written after a scan: each output once at most before the next one, whatever steps a service makes
 -- (Modbus Application Protocol V1.1b3, sections 6.6 and 6.12).
-use Rattle.std.specs.Prelude.{ℕ, ◌≤◌, Bool, List, [], ◌++◌, Option}
+use Rattle.std.specs.Prelude.{ℕ, ◌+◌, ◌≤◌, Bool, List, [], ◌++◌, Option}
 use Rattle.register_map.specs.Layout.{Layout}
 use Rattle.scan_vm.specs.Machine.{Running}
 use Rattle.service.specs.declared.fate.Fate.{Fate}
 use Rattle.service.specs.Tasks.{next_place}
 use Rattle.service_core.specs.declared.round.Turn.{Turn}
-use Rattle.service_core.specs.Rounds.{asked_of, times_asked}
+use Rattle.service.specs.declared.task.Task.{Task}
+use Rattle.service_parts.specs.declared.line.Line.{Line}
+use Rattle.service_parts.specs.Frames.{IsLed, begun, due_at, times_asked}
+use Rattle.service_core.specs.Rounds.{asked_of}
 use Rattle.service_core.specs.Stages.{Adopts, Asks, Ends, Learns, OpensNext, Scans, Skips, Stage, Tells, Waits}
 
 -- After a scan, before the next one: the numbers of the outputs whose requests went out, the last one first. Beside them blocks
@@ -25,3 +28,18 @@ pub data AfterScan (scanned : Stage) : List ℕ → Stage → Type 0 where
 -- From a scan to the next one a service asks to write each output once at most.
 abbrev pub EachScanWritesOnce : Type 0
 EachScanWritesOnce = (now : ℕ) (old scanned s : Stage) (asked : List ℕ) → Scans now old scanned → AfterScan scanned asked s → (i : ℕ) → times_asked i asked ≤ 1
+
+-- ---- what goes out
+
+-- Calls, one after another, as far as one link goes. By each of them the service goes on by itself from some line on: from the one
+-- that was there, or from what became of it when bytes were heard or written, or a stream began. So often the program ran, and the
+-- writes of these outputs began over the link, the last one first.
+pub data OverLink (link : ℕ) (first : List Task) : ℕ → List ℕ → List Task → Type 0 where
+  none : OverLink link first 0 [] first
+  calls : {scans : ℕ} {asked : List ℕ} {before : List Task} → OverLink link first scans asked before → (runs : ℕ) (from : Line) (after : List Task) (lines : List Line)
+      → (led : IsLed (λ output. due_at output before + runs) from after lines link) → OverLink link first (scans + runs) (begun led.course ++ asked) after
+
+-- No more writes of an output begin than the program ran, and one more where one was still to be made at first.
+abbrev pub EachRunIsWrittenOnce : Type 0
+EachRunIsWrittenOnce = (link : ℕ) (first : List Task) (scans : ℕ) (asked : List ℕ) (after : List Task) → OverLink link first scans asked after
+    → (output : ℕ) → times_asked output asked + due_at output after ≤ due_at output first + scans

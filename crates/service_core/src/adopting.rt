@@ -39,7 +39,7 @@ impl Service {
         ensures searches { self.new.cycle.searches ≡ self.old.cycle.searches }
         ensures over { self.new.cycle.over ≡ self.old.cycle.over }
         ensures side { self.new.side ≡ self.old.side }
-        ensures sent { self.new.sent ≡ self.old.sent }
+        ensures held { self.new.held ≡ self.old.held }
         ensures rest { Stays self.old self.new }
         ensures lines { self.new.lines ≡ self.old.lines }
         ensures stands { Goes self.old.side self.new.side }

@@ -1,31 +1,32 @@
 //! What becomes of requests: answers that come, and those that don't.
 ghost use Rattle.std.specs.Prelude.{◌≡◌, ◌<◌, ℕ, None, Some, slice_get, length, true, false};
 ghost use Rattle.service_parts.specs.declared.asked.Aim.TheVariants.{Output as OutputAim};
+ghost use Rattle.service_parts.specs.Answering.{is_answer};
 ghost use Rattle.service.specs.declared.fate.Fate.TheVariants.{Told};
-ghost use Rattle.service_parts.specs.Frames.{LinesGo};
 ghost use Rattle.service_core.specs.declared.note.Loss.TheVariants.{Frame as frame, Silent as silent};
 ghost use Rattle.service_core.specs.declared.device.Device.{Device as DeviceValue};
 ghost use Rattle.service_core.specs.declared.refusals.Refusal.{Refusal as RefusalValue};
 ghost use Rattle.service_core.specs.Noting.{Refuses};
 ghost use Rattle.service_core.specs.Refusing.{refusal_by};
 ghost use Rattle.service_core.specs.Losing.{AreLost, AreLostWith, LostByFate, LostByHearing, LostByWait, LostByWaitAt, loss_by};
-ghost use Rattle.service_core.specs.Told.{Goes, IsWrittenBy, LosesBy, TellsBy, WritesBy};
-ghost use Rattle.service_core.specs.Cycle.{Answers, AnswersIf, DevicesLeadOn, EndsOwn, LeadsOn, Settles, SettlesIf, is_answer, is_gateways, stage_of};
-ghost use Rattle.service_core.specs.Rewriting.{after_answer};
+ghost use Rattle.service_core.specs.Told.{BecomesBy, Goes, IsThis, LosesBy, TellsBy};
+ghost use Rattle.service_core.specs.Cycle.{Answers, AnswersIf, DevicesLeadOn, EndsOwn, LeadsOn, Settles, SettlesIf, stage_of};
+ghost use Rattle.service_core.specs.Rewriting.{after_answer, write_of};
 ghost use Rattle.service_core.specs.Telling.{state_by, told_at};
 ghost use Rattle.service_core.specs.Timing.{StaysAt};
-ghost use Rattle.service_core.specs.Having.{HasMoreBy, HasNoMore, IsHadBy, IsTaken, TellsHad, taken_at, taken_by, taken_if};
+ghost use Rattle.service_core.specs.Going.{LinksGo};
+ghost use Rattle.service_core.specs.Having.{HasMoreBy, HasNoMore, IsAnsweredBy, IsHeardBy, IsRefusedAt, IsRefusedBy, IsRefusedIf, TellsHad, taken_at, taken_by, taken_if};
 ghost use Rattle.service_core.specs.Staying.{Stays};
 
+use crate::held_writes::write_of;
 use crate::link_pace::Purpose;
 use crate::note::{Loss, Unwritten};
 use crate::output::OutputState;
 use crate::refusals::refusal_by;
-use crate::sent_writes::Taken;
 use crate::service_state::Service;
 use gateway::Outcome;
 use service::Fate;
-use service_parts::{Aim, Asked};
+use service_parts::{Aim, Asked, is_answer};
 
 impl Service {
     /// This became of the request that was under way on a connection; then the service goes on.
@@ -33,9 +34,9 @@ impl Service {
         ensures settles { SettlesIf asked fate self.old.cycle self.new.cycle }
         ensures goes { DevicesLeadOn self.old.cycle self.new.cycle }
         ensures rest { Stays self.old self.new }
-        ensures lines { LinesGo self.old.lines.lines.items self.new.lines.lines.items }
-        ensures sent { HasMoreBy (taken_if asked (Some fate) self.old.side.now) self.old.sent self.new.sent }
-        ensures stands { TellsBy (LostByHearing self.old.lines.links.stations.items link asked (Some fate)) (IsHadBy (taken_if asked (Some fate) self.old.side.now) self.old.sent) self.old.side self.new.side }
+        ensures lines { LinksGo self.old self.new }
+        ensures held { HasMoreBy (taken_if asked (Some fate) self.old.side.now) self.old.held self.new.held }
+        ensures stands { TellsBy (LostByHearing self.old.lines.links.stations.items link asked (Some fate)) (IsHeardBy (taken_if asked (Some fate) self.old.side.now) (IsRefusedIf asked (Some fate)) self.old.held) self.old.side self.new.side }
     {
         match asked {
             Some(asked) => self.settle_asked(link, asked, fate),
@@ -46,25 +47,25 @@ impl Service {
     fn settle_asked(&mut self, link: usize, asked: Asked, fate: Fate)
         ensures settles { Settles fate asked self.old.cycle self.new.cycle }
         ensures rest { Stays self.old self.new }
-        ensures lines { LinesGo self.old.lines.lines.items self.new.lines.lines.items }
-        ensures sent { HasMoreBy (taken_at fate asked self.old.side.now) self.old.sent self.new.sent }
-        ensures stands { TellsBy (LostByFate self.old.lines.links.stations.items link asked fate) (IsHadBy (taken_at fate asked self.old.side.now) self.old.sent) self.old.side self.new.side }
+        ensures lines { LinksGo self.old self.new }
+        ensures held { HasMoreBy (taken_at fate asked self.old.side.now) self.old.held self.new.held }
+        ensures stands { TellsBy (LostByFate self.old.lines.links.stations.items link asked fate) (IsHeardBy (taken_at fate asked self.old.side.now) (IsRefusedAt fate asked) self.old.held) self.old.side self.new.side }
     {
         match fate {
-            Fate::Lost => self.lose_stream(link, asked),
+            Fate::Lost => self.lose_stream(link, asked.aim),
             Fate::Told(outcome) => self.settle_told(link, asked, outcome),
         }
     }
 
     /// What came over a connection is no frame.
-    fn lose_stream(&mut self, link: usize, asked: Asked)
+    fn lose_stream(&mut self, link: usize, aim: Aim)
         ensures rest { Stays self.old self.new }
-        ensures lines { LinesGo self.old.lines.lines.items self.new.lines.lines.items }
+        ensures lines { LinksGo self.old self.new }
         ensures goes { LeadsOn self.old.cycle self.new.cycle }
-        ensures sent { HasNoMore self.old.sent self.new.sent }
-        ensures stands { TellsHad (AreLost self.old.lines.links.stations.items link frame) self.old.sent self.old.side self.new.side }
+        ensures held { HasNoMore self.old.held self.new.held }
+        ensures stands { TellsHad (AreLost self.old.lines.links.stations.items link frame) self.old.held self.old.side self.new.side }
     {
-        self.side.lose_write(asked.aim);
+        self.side.lose_write(aim);
         self.lines.spoil(link);
         self.lose_all(link, Loss::Frame);
         self.go_on();
@@ -73,9 +74,9 @@ impl Service {
     fn settle_told(&mut self, link: usize, asked: Asked, outcome: Outcome)
         ensures settles { AnswersIf (is_answer outcome) asked outcome self.old.cycle self.new.cycle }
         ensures rest { Stays self.old self.new }
-        ensures lines { LinesGo self.old.lines.lines.items self.new.lines.lines.items }
-        ensures sent { HasMoreBy (taken_by outcome asked self.old.side.now) self.old.sent self.new.sent }
-        ensures stands { TellsBy (LostByFate self.old.lines.links.stations.items link asked (Told outcome)) (IsHadBy (taken_by outcome asked self.old.side.now) self.old.sent) self.old.side self.new.side }
+        ensures lines { LinksGo self.old self.new }
+        ensures held { HasMoreBy (taken_by outcome asked self.old.side.now) self.old.held self.new.held }
+        ensures stands { TellsBy (LostByFate self.old.lines.links.stations.items link asked (Told outcome)) (IsHeardBy (taken_by outcome asked self.old.side.now) (IsRefusedAt (Told outcome) asked) self.old.held) self.old.side self.new.side }
     {
         if is_answer(&outcome) {
             self.take_answer(link, asked, outcome);
@@ -87,10 +88,10 @@ impl Service {
     /// What came is no answer of the device.
     fn lose_answer(&mut self, link: usize, asked: Asked, loss: Loss)
         ensures rest { Stays self.old self.new }
-        ensures lines { LinesGo self.old.lines.lines.items self.new.lines.lines.items }
+        ensures lines { LinksGo self.old self.new }
         ensures goes { LeadsOn self.old.cycle self.new.cycle }
-        ensures sent { HasNoMore self.old.sent self.new.sent }
-        ensures stands { TellsHad (AreLostWith self.old.lines.links.stations.items link asked.device loss) self.old.sent self.old.side self.new.side }
+        ensures held { HasNoMore self.old.held self.new.held }
+        ensures stands { TellsHad (AreLostWith self.old.lines.links.stations.items link asked.device loss) self.old.held self.old.side self.new.side }
     {
         self.side.lose_write(asked.aim);
         self.miss(link, asked.device, loss);
@@ -100,26 +101,26 @@ impl Service {
     fn take_answer(&mut self, link: usize, asked: Asked, outcome: Outcome)
         ensures answers { Answers asked outcome self.old.cycle self.new.cycle }
         ensures rest { Stays self.old self.new }
-        ensures lines { LinesGo self.old.lines.lines.items self.new.lines.lines.items }
-        ensures sent { HasMoreBy (taken_by outcome asked self.old.side.now) self.old.sent self.new.sent }
-        ensures stands { WritesBy (IsHadBy (taken_by outcome asked self.old.side.now) self.old.sent) self.old.side self.new.side }
+        ensures lines { LinksGo self.old self.new }
+        ensures held { HasMoreBy (taken_by outcome asked self.old.side.now) self.old.held self.new.held }
+        ensures stands { BecomesBy (IsHeardBy (taken_by outcome asked self.old.side.now) (IsRefusedBy outcome asked) self.old.held) self.old.side self.new.side }
     {
-        let is_mapped = self.cycle.is_mapped(asked.device);
-        self.lines.heard(link);
-        self.side.hear(asked.device, is_mapped);
-        self.note_reply(link, asked);
-        self.note_refusal(asked, &outcome);
+        let device = asked.device;
+        let is_mapped = self.cycle.is_mapped(device);
+        self.side.hear(device, is_mapped);
+        self.note_reply(link, &asked);
+        self.note_refusal(&asked, &outcome);
         let foreign = self.take(asked, outcome);
-        self.forget_if(foreign, asked.device);
-        self.owe_search(link, asked.device);
+        self.forget_if(foreign, device);
+        self.leave_turn(link, device);
         self.go_on();
     }
 
-    /// A device that is read leaves the next search its turn.
-    fn owe_search(&mut self, link: usize, device: usize)
+    /// A device whose blocks are all told leaves its turn to the next search, and to the next device that is read.
+    fn leave_turn(&mut self, link: usize, device: usize)
         ensures lines { self.new.lines ≡ self.old.lines }
         ensures cycle { self.new.cycle ≡ self.old.cycle }
-        ensures sent { self.new.sent ≡ self.old.sent }
+        ensures held { self.new.held ≡ self.old.held }
         ensures places { self.new.places.items ≡ self.old.places.items }
         ensures time { StaysAt self.old self.new }
         ensures stands { Goes self.old.side self.new.side }
@@ -135,10 +136,10 @@ impl Service {
     }
 
     /// How long a device took to answer, where nothing before held its answer up.
-    fn note_reply(&mut self, link: usize, asked: Asked)
+    fn note_reply(&mut self, link: usize, asked: &Asked)
         ensures lines { self.new.lines ≡ self.old.lines }
         ensures cycle { self.new.cycle ≡ self.old.cycle }
-        ensures sent { self.new.sent ≡ self.old.sent }
+        ensures held { self.new.held ≡ self.old.held }
         ensures places { self.new.places.items ≡ self.old.places.items }
         ensures time { StaysAt self.old self.new }
         ensures stands { Goes self.old.side self.new.side }
@@ -153,13 +154,13 @@ impl Service {
     }
 
     /// A device that answered a read with an exception refuses it.
-    fn note_refusal(&mut self, asked: Asked, outcome: &Outcome)
-        ensures refuses { (refusal : RefusalValue) (own : DeviceValue) → refusal_by asked.aim asked.address outcome.now ≡ Some refusal → slice_get self.old.side.devices.items asked.device ≡ Some own
-            → Refuses asked.device refusal own self.old.side self.new.side }
-        ensures answers { refusal_by asked.aim asked.address outcome.now ≡ None → self.new.side ≡ self.old.side }
+    fn note_refusal(&mut self, asked: &Asked, outcome: &Outcome)
+        ensures refuses { (refusal : RefusalValue) (own : DeviceValue) → refusal_by asked.now.aim asked.now.address outcome.now ≡ Some refusal → slice_get self.old.side.devices.items asked.now.device ≡ Some own
+            → Refuses asked.now.device refusal own self.old.side self.new.side }
+        ensures answers { refusal_by asked.now.aim asked.now.address outcome.now ≡ None → self.new.side ≡ self.old.side }
         ensures lines { self.new.lines ≡ self.old.lines }
         ensures cycle { self.new.cycle ≡ self.old.cycle }
-        ensures sent { self.new.sent ≡ self.old.sent }
+        ensures held { self.new.held ≡ self.old.held }
         ensures places { self.new.places.items ≡ self.old.places.items }
         ensures time { StaysAt self.old self.new }
         ensures stands { Goes self.old.side self.new.side }
@@ -172,9 +173,9 @@ impl Service {
     /// A device whose words are no block of the model that was asked for has other registers than its map says.
     fn forget_if(&mut self, foreign: bool, device: usize)
         ensures rest { Stays self.old self.new }
-        ensures lines { LinesGo self.old.lines.lines.items self.new.lines.lines.items }
+        ensures lines { LinksGo self.old self.new }
         ensures goes { LeadsOn self.old.cycle self.new.cycle }
-        ensures sent { HasNoMore self.old.sent self.new.sent }
+        ensures held { HasNoMore self.old.held self.new.held }
         ensures stands { Goes self.old.side self.new.side }
     {
         if foreign {
@@ -186,9 +187,9 @@ impl Service {
     /// A device didn't answer, and is lost: it isn't asked for a while.
     fn miss(&mut self, link: usize, device: usize, loss: Loss)
         ensures rest { Stays self.old self.new }
-        ensures lines { LinesGo self.old.lines.lines.items self.new.lines.lines.items }
+        ensures lines { LinksGo self.old self.new }
         ensures goes { LeadsOn self.old.cycle self.new.cycle }
-        ensures sent { HasNoMore self.old.sent self.new.sent }
+        ensures held { HasNoMore self.old.held self.new.held }
         ensures others { (other : ℕ) → (other ≡ link → ⊥) → slice_get self.new.lines.lines.items other ≡ slice_get self.old.lines.lines.items other }
         ensures stands { LosesBy (AreLostWith self.old.lines.links.stations.items link device loss) self.old.side self.new.side }
     {
@@ -206,9 +207,9 @@ impl Service {
     fn take(&mut self, asked: Asked, outcome: Outcome) -> bool
         ensures ends { EndsOwn asked.aim asked.device outcome (stage_of self.old.cycle) (stage_of self.new.cycle) }
         ensures rest { Stays self.old self.new }
-        ensures lines { LinesGo self.old.lines.lines.items self.new.lines.lines.items }
-        ensures sent { HasMoreBy (taken_by outcome asked self.old.side.now) self.old.sent self.new.sent }
-        ensures stands { WritesBy (IsTaken (taken_by outcome asked self.old.side.now)) self.old.side self.new.side }
+        ensures lines { LinksGo self.old self.new }
+        ensures held { HasMoreBy (taken_by outcome asked self.old.side.now) self.old.held self.new.held }
+        ensures stands { BecomesBy (IsAnsweredBy (taken_by outcome asked self.old.side.now) (IsRefusedBy outcome asked)) self.old.side self.new.side }
     {
         match asked.aim {
             Aim::Map => {
@@ -224,39 +225,37 @@ impl Service {
     }
 
     fn take_write(&mut self, asked: Asked, output: usize, outcome: Outcome)
-        ensures taken { self.new.sent.taken.items ≡ after_answer (state_by outcome) output asked.number self.old.side.now self.old.sent.taken.items }
-        ensures writes { self.new.sent.writes ≡ self.old.sent.writes }
+        ensures taken { self.new.held.writes.items ≡ after_answer (state_by outcome) output (write_of asked self.old.side.now) self.old.held.writes.items }
         ensures told { output < length self.old.side.outputs.items → told_at self.new.side.outputs.items output ≡ Some (state_by outcome) }
         ensures ends { EndsOwn (OutputAim output) asked.device outcome (stage_of self.old.cycle) (stage_of self.new.cycle) }
         ensures rest { Stays self.old self.new }
-        ensures lines { LinesGo self.old.lines.lines.items self.new.lines.lines.items }
-        ensures stands { WritesBy (IsWrittenBy output (state_by outcome)) self.old.side self.new.side }
+        ensures lines { LinksGo self.old self.new }
+        ensures stands { BecomesBy (IsThis output (state_by outcome)) self.old.side self.new.side }
     {
         let state = state_by(&outcome);
-        self.note_answer(state, output, asked.number);
+        let device = asked.device;
+        self.note_answer(state, output, asked);
         self.side.wrote(state == OutputState::Written);
         self.side.settle_output(output, state);
-        self.cycle.close_write(asked.device, output, &outcome);
+        self.cycle.close_write(device, output, &outcome);
     }
 
-    /// Whether the device has what went out for an output last, by its answer over the connection with this number.
-    fn note_answer(&mut self, state: OutputState, output: usize, number: u64)
-        ensures taken { self.new.sent.taken.items ≡ after_answer state output number self.old.side.now self.old.sent.taken.items }
-        ensures writes { self.new.sent.writes ≡ self.old.sent.writes }
-        ensures same { self.new ≡ record self.old { sent = self.new.sent } }
+    /// What the device has of an output, by its answer to the request that writes it.
+    fn note_answer(&mut self, state: OutputState, output: usize, asked: Asked)
+        ensures taken { self.new.held.writes.items ≡ after_answer state output (write_of asked self.old.side.now) self.old.held.writes.items }
+        ensures same { self.new ≡ record self.old { held = self.new.held } }
     {
         if state == OutputState::Written {
-            let at = self.side.now;
-            self.sent.take(output, Taken { number, at });
+            self.held.take(output, write_of(asked, self.side.now));
         }
     }
 
     /// The time of each request that is over ends its wait.
     pub(crate) fn end_waits(&mut self)
         ensures rest { Stays self.old self.new }
-        ensures lines { LinesGo self.old.lines.lines.items self.new.lines.lines.items }
+        ensures lines { LinksGo self.old self.new }
         ensures goes { LeadsOn self.old.cycle self.new.cycle }
-        ensures sent { HasNoMore self.old.sent self.new.sent }
+        ensures held { HasNoMore self.old.held self.new.held }
         ensures stands { LosesBy (LostByWait self.old.lines.links.stations.items self.old.lines.lines.items self.old.side.now) self.old.side self.new.side }
     {
         for link in 0..self.lines.count() {
@@ -266,26 +265,26 @@ impl Service {
 
     fn end_wait(&mut self, link: usize)
         ensures rest { Stays self.old self.new }
-        ensures lines { LinesGo self.old.lines.lines.items self.new.lines.lines.items }
+        ensures lines { LinksGo self.old self.new }
         ensures goes { LeadsOn self.old.cycle self.new.cycle }
-        ensures sent { HasNoMore self.old.sent self.new.sent }
+        ensures held { HasNoMore self.old.held self.new.held }
         ensures others { (other : ℕ) → (other ≡ link → ⊥) → slice_get self.new.lines.lines.items other ≡ slice_get self.old.lines.lines.items other }
         ensures stands { LosesBy (LostByWaitAt self.old.lines.links.stations.items self.old.lines.lines.items self.old.side.now link) self.old.side self.new.side }
     {
-        if let Some(asked) = self.lines.overdue(link, self.side.now) {
+        if let Some(asked) = self.lines.give_up_overdue(link, self.side.now) {
             self.give_up(link, asked);
         }
     }
 
+    /// A request had no answer in its time.
     fn give_up(&mut self, link: usize, asked: Asked)
         ensures rest { Stays self.old self.new }
-        ensures lines { LinesGo self.old.lines.lines.items self.new.lines.lines.items }
+        ensures lines { LinksGo self.old self.new }
         ensures goes { LeadsOn self.old.cycle self.new.cycle }
-        ensures sent { HasNoMore self.old.sent self.new.sent }
+        ensures held { HasNoMore self.old.held self.new.held }
         ensures others { (other : ℕ) → (other ≡ link → ⊥) → slice_get self.new.lines.lines.items other ≡ slice_get self.old.lines.lines.items other }
         ensures stands { LosesBy (AreLostWith self.old.lines.links.stations.items link asked.device silent) self.old.side self.new.side }
     {
-        self.lines.give_up(link);
         self.side.miss_link(link, asked.since);
         self.side.lose_write(asked.aim);
         self.side.note_write(asked.device, asked.aim, false);
@@ -302,9 +301,9 @@ impl Service {
     /// A device didn't answer in the time that it mostly takes: it is asked later whether it does. What is known of it stays known.
     fn doubt(&mut self, link: usize, device: usize)
         ensures rest { Stays self.old self.new }
-        ensures lines { LinesGo self.old.lines.lines.items self.new.lines.lines.items }
+        ensures lines { LinksGo self.old self.new }
         ensures goes { LeadsOn self.old.cycle self.new.cycle }
-        ensures sent { HasNoMore self.old.sent self.new.sent }
+        ensures held { HasNoMore self.old.held self.new.held }
         ensures others { (other : ℕ) → (other ≡ link → ⊥) → slice_get self.new.lines.lines.items other ≡ slice_get self.old.lines.lines.items other }
         ensures stands { Goes self.old.side self.new.side }
     {
@@ -312,25 +311,6 @@ impl Service {
         self.lines.missed(link);
         self.cycle.drop_write(device);
     }
-}
-
-/// Whether it is an answer of the device: after too many frames that answer something else there is none, and a gateway may say
-/// that there is none.
-fn is_answer(outcome: &Outcome) -> bool
-    ensures { result ≡ is_answer outcome.now }
-{
-    match outcome {
-        Outcome::Stale => false,
-        Outcome::Exception(exception) => !is_gateways(exception.0),
-        Outcome::Words(_) | Outcome::Wrote | Outcome::Mismatch => true,
-    }
-}
-
-/// Whether a gateway says by this code that the unit behind it can't be reached, or doesn't answer.
-fn is_gateways(code: u8) -> bool
-    ensures { result ≡ is_gateways code }
-{
-    code == 10 || code == 11
 }
 
 /// Why a device is lost that answered so.

@@ -2,11 +2,11 @@
 ghost use Rattle.std.specs.Prelude.{◌≡◌, ℕ, Some, slice_get};
 ghost use Rattle.modbus_frame.specs.Message.{HasQuantity, address_of};
 ghost use Rattle.service_core.specs.Told.{Goes};
-ghost use Rattle.service_core.specs.Rewriting.{sent_for};
-ghost use Rattle.service_parts.specs.Requests.{MayGoOver};
+ghost use Rattle.service_core.specs.Rewriting.{had_beside};
+ghost use Rattle.service_parts.specs.Requests.{MayGoOver, words_of};
 ghost use Rattle.service_core.specs.Staying.{Stays};
+ghost use Rattle.service_core.specs.Going.{BeginsOf, LinksGo};
 ghost use Rattle.service_core.specs.Having.{HasNoMore, WritesHad};
-ghost use Rattle.service_parts.specs.Frames.{LinesGo};
 ghost use Rattle.service_core.specs.Cycle.{LeadsOn};
 
 use crate::link_pace::Purpose;
@@ -14,16 +14,16 @@ use crate::service_state::Service;
 use crate::wish::Wish;
 use modbus_frame::Request;
 use register_map::Map;
-use service_parts::{Aim, Asked, first_register};
+use service_parts::{Aim, Asked, first_register, words_of};
 
 impl Service {
     /// Begins requests on all connections that are free.
     pub(crate) fn ask_all(&mut self)
         ensures rest { Stays self.old self.new }
-        ensures lines { LinesGo self.old.lines.lines.items self.new.lines.lines.items }
+        ensures lines { LinksGo self.old self.new }
         ensures goes { LeadsOn self.old.cycle self.new.cycle }
-        ensures sent { HasNoMore self.old.sent self.new.sent }
-        ensures stands { WritesHad self.old.sent self.old.side self.new.side }
+        ensures held { HasNoMore self.old.held self.new.held }
+        ensures stands { WritesHad self.old.held self.old.side self.new.side }
     {
         for link in 0..self.lines.count() {
             self.ask(link);
@@ -33,10 +33,10 @@ impl Service {
     /// Begins requests on a connection until one is under way, or none is left to begin.
     fn ask(&mut self, link: usize)
         ensures rest { Stays self.old self.new }
-        ensures lines { LinesGo self.old.lines.lines.items self.new.lines.lines.items }
+        ensures lines { LinksGo self.old self.new }
         ensures goes { LeadsOn self.old.cycle self.new.cycle }
-        ensures sent { HasNoMore self.old.sent self.new.sent }
-        ensures stands { WritesHad self.old.sent self.old.side self.new.side }
+        ensures held { HasNoMore self.old.held self.new.held }
+        ensures stands { WritesHad self.old.held self.old.side self.new.side }
     {
         for _ in 0..self.cycle.devices().saturating_add(64) {
             if !self.may_ask(link) {
@@ -53,10 +53,10 @@ impl Service {
     /// Asks what comes next over a connection; whether there is something.
     fn ask_next(&mut self, link: usize) -> bool
         ensures rest { Stays self.old self.new }
-        ensures lines { LinesGo self.old.lines.lines.items self.new.lines.lines.items }
+        ensures lines { LinksGo self.old self.new }
         ensures goes { LeadsOn self.old.cycle self.new.cycle }
-        ensures sent { HasNoMore self.old.sent self.new.sent }
-        ensures stands { WritesHad self.old.sent self.old.side self.new.side }
+        ensures held { HasNoMore self.old.held self.new.held }
+        ensures stands { WritesHad self.old.held self.old.side self.new.side }
     {
         self.ask_before_reads(link)
             || self.ask_for(link, Purpose::Read)
@@ -66,10 +66,10 @@ impl Service {
     /// The same of what is asked in the time that reads leave: searches, then devices that didn't answer.
     fn ask_in_spare_time(&mut self, link: usize) -> bool
         ensures rest { Stays self.old self.new }
-        ensures lines { LinesGo self.old.lines.lines.items self.new.lines.lines.items }
+        ensures lines { LinksGo self.old self.new }
         ensures goes { LeadsOn self.old.cycle self.new.cycle }
-        ensures sent { HasNoMore self.old.sent self.new.sent }
-        ensures stands { WritesHad self.old.sent self.old.side self.new.side }
+        ensures held { HasNoMore self.old.held self.new.held }
+        ensures stands { WritesHad self.old.held self.old.side self.new.side }
     {
         self.ask_for(link, Purpose::Search) || self.ask_for(link, Purpose::Probe)
     }
@@ -78,10 +78,10 @@ impl Service {
     /// whether the others are still reached; then writes, and searches that come first.
     fn ask_before_reads(&mut self, link: usize) -> bool
         ensures rest { Stays self.old self.new }
-        ensures lines { LinesGo self.old.lines.lines.items self.new.lines.lines.items }
+        ensures lines { LinksGo self.old self.new }
         ensures goes { LeadsOn self.old.cycle self.new.cycle }
-        ensures sent { HasNoMore self.old.sent self.new.sent }
-        ensures stands { WritesHad self.old.sent self.old.side self.new.side }
+        ensures held { HasNoMore self.old.held self.new.held }
+        ensures stands { WritesHad self.old.held self.old.side self.new.side }
     {
         self.ask_sign(link) || self.ask_for(link, Purpose::Write) || self.ask_search_first(link)
     }
@@ -89,10 +89,10 @@ impl Service {
     /// The same of searches that come before reads: of a device that is in doubt, or one that goes on.
     fn ask_search_first(&mut self, link: usize) -> bool
         ensures rest { Stays self.old self.new }
-        ensures lines { LinesGo self.old.lines.lines.items self.new.lines.lines.items }
+        ensures lines { LinksGo self.old self.new }
         ensures goes { LeadsOn self.old.cycle self.new.cycle }
-        ensures sent { HasNoMore self.old.sent self.new.sent }
-        ensures stands { WritesHad self.old.sent self.old.side self.new.side }
+        ensures held { HasNoMore self.old.held self.new.held }
+        ensures stands { WritesHad self.old.held self.old.side self.new.side }
     {
         self.ask_for(link, Purpose::Doubt) || self.ask_for(link, Purpose::GoOn)
     }
@@ -100,10 +100,10 @@ impl Service {
     /// Asks the device that answered last over a connection, where the last request had no answer; whether it does.
     fn ask_sign(&mut self, link: usize) -> bool
         ensures rest { Stays self.old self.new }
-        ensures lines { LinesGo self.old.lines.lines.items self.new.lines.lines.items }
+        ensures lines { LinksGo self.old self.new }
         ensures goes { LeadsOn self.old.cycle self.new.cycle }
-        ensures sent { HasNoMore self.old.sent self.new.sent }
-        ensures stands { WritesHad self.old.sent self.old.side self.new.side }
+        ensures held { HasNoMore self.old.held self.new.held }
+        ensures stands { WritesHad self.old.held self.old.side self.new.side }
     {
         let Some(device) = self.side.sign_of(link) else {
             return false;
@@ -119,9 +119,9 @@ impl Service {
     /// Asks a device for the first registers of its map, whatever is known of it.
     fn ask_again(&mut self, link: usize, device: usize) -> bool
         ensures rest { Stays self.old self.new }
-        ensures lines { LinesGo self.old.lines.lines.items self.new.lines.lines.items }
+        ensures lines { LinksGo self.old self.new }
         ensures goes { LeadsOn self.old.cycle self.new.cycle }
-        ensures sent { HasNoMore self.old.sent self.new.sent }
+        ensures held { HasNoMore self.old.held self.new.held }
         ensures stands { Goes self.old.side self.new.side }
     {
         match self.wish_anew(link, device) {
@@ -152,10 +152,10 @@ impl Service {
     /// Asks the device whose turn it is, or the next one that there is something to ask of; whether there is one.
     fn ask_for(&mut self, link: usize, purpose: Purpose) -> bool
         ensures rest { Stays self.old self.new }
-        ensures lines { LinesGo self.old.lines.lines.items self.new.lines.lines.items }
+        ensures lines { LinksGo self.old self.new }
         ensures goes { LeadsOn self.old.cycle self.new.cycle }
-        ensures sent { HasNoMore self.old.sent self.new.sent }
-        ensures stands { WritesHad self.old.sent self.old.side self.new.side }
+        ensures held { HasNoMore self.old.held self.new.held }
+        ensures stands { WritesHad self.old.held self.old.side self.new.side }
     {
         let turn = self.side.turn(link, purpose);
         self.ask_between(link, purpose, turn, usize::MAX)
@@ -165,10 +165,10 @@ impl Service {
     /// The same among the devices at these places of the connection.
     fn ask_between(&mut self, link: usize, purpose: Purpose, first: usize, end: usize) -> bool
         ensures rest { Stays self.old self.new }
-        ensures lines { LinesGo self.old.lines.lines.items self.new.lines.lines.items }
+        ensures lines { LinksGo self.old self.new }
         ensures goes { LeadsOn self.old.cycle self.new.cycle }
-        ensures sent { HasNoMore self.old.sent self.new.sent }
-        ensures stands { WritesHad self.old.sent self.old.side self.new.side }
+        ensures held { HasNoMore self.old.held self.new.held }
+        ensures stands { WritesHad self.old.held self.old.side self.new.side }
     {
         for i in first..end.min(self.lines.devices_on(link)) {
             if let Some(device) = self.lines.device_at(link, i) {
@@ -184,10 +184,10 @@ impl Service {
 
     fn ask_device(&mut self, link: usize, device: usize, purpose: Purpose) -> bool
         ensures rest { Stays self.old self.new }
-        ensures lines { LinesGo self.old.lines.lines.items self.new.lines.lines.items }
+        ensures lines { LinksGo self.old self.new }
         ensures goes { LeadsOn self.old.cycle self.new.cycle }
-        ensures sent { HasNoMore self.old.sent self.new.sent }
-        ensures stands { WritesHad self.old.sent self.old.side self.new.side }
+        ensures held { HasNoMore self.old.held self.new.held }
+        ensures stands { WritesHad self.old.held self.old.side self.new.side }
     {
         match self.wish_of(link, device, purpose) {
             Some(wish) => {
@@ -198,15 +198,15 @@ impl Service {
         }
     }
 
+    #[tactic(auto, using(service_parts::proofs::Frames::not_begun))]
     fn begin(&mut self, link: usize, device: usize, wish: Wish)
         requires quantity { HasQuantity wish.request }
         requires asked { MayGoOver self.old.cycle.core.value self.old.lines.links.numbers.items self.old.lines.found_on.items link wish.aim device wish.request }
-        ensures sent { (number : ℕ) → slice_get self.old.lines.links.numbers.items link ≡ Some number → sent_for wish.aim device wish.request self.old.sent.writes.items self.old.sent.taken.items
-            ≡ (self.new.sent.writes.items, self.new.sent.taken.items) }
+        ensures held { (number : ℕ) → slice_get self.old.lines.links.numbers.items link ≡ Some number → self.new.held.writes.items ≡ had_beside wish.aim self.old.held.writes.items }
         ensures rest { Stays self.old self.new }
-        ensures lines { LinesGo self.old.lines.lines.items self.new.lines.lines.items }
+        ensures lines { BeginsOf wish.aim self.old self.new }
         ensures goes { LeadsOn self.old.cycle self.new.cycle }
-        ensures no_more { HasNoMore self.old.sent self.new.sent }
+        ensures no_more { HasNoMore self.old.held self.new.held }
         ensures stands { Goes self.old.side self.new.side }
     {
         let Some(number) = self.lines.number_of(link) else {
@@ -217,11 +217,12 @@ impl Service {
             device,
             aim: wish.aim,
             address: first_register(&wish.request),
+            words: words_of(&wish.request),
             number,
             since: self.side.now,
             until: self.side.now.saturating_add(wait),
         };
-        self.sent.go_out(wish.aim, device, &wish.request);
+        self.held.begin(wish.aim);
         self.start(link, asked, wish.request);
         self.side.count_request(device);
         if wish.aim == Aim::Map {
@@ -234,12 +235,13 @@ impl Service {
         requires quantity { HasQuantity request }
         requires number { slice_get self.old.lines.links.numbers.items link ≡ Some asked.number }
         requires address { asked.address ≡ address_of request }
+        requires words { asked.words ≡ words_of request }
         requires asked { MayGoOver self.old.cycle.core.value self.old.lines.links.numbers.items self.old.lines.found_on.items link asked.aim asked.device request }
-        ensures sent { self.new.sent ≡ self.old.sent }
+        ensures held { self.new.held ≡ self.old.held }
         ensures rest { Stays self.old self.new }
-        ensures lines { LinesGo self.old.lines.lines.items self.new.lines.lines.items }
+        ensures lines { BeginsOf asked.aim self.old self.new }
         ensures goes { LeadsOn self.old.cycle self.new.cycle }
-        ensures no_more { HasNoMore self.old.sent self.new.sent }
+        ensures no_more { HasNoMore self.old.held self.new.held }
         ensures stands { Goes self.old.side self.new.side }
     {
         self.lines.begin(link, asked, request);

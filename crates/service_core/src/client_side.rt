@@ -20,7 +20,7 @@ impl Service {
         ensures links { self.new.lines.links ≡ self.old.lines.links }
         ensures lines { self.new.lines ≡ self.old.lines }
         ensures core { self.new.cycle.core.value ≡ self.old.cycle.core.value }
-        ensures sent { self.new.sent ≡ self.old.sent }
+        ensures held { self.new.held ≡ self.old.held }
         ensures time { TurnsTo now self.old self.new }
         ensures stands { Goes self.old.side self.new.side }
         ensures given { result ≡ given_place self.new.side.now self.old.places.items }
@@ -41,7 +41,7 @@ impl Service {
         ensures lines { self.new.lines ≡ self.old.lines }
         ensures core { self.new.cycle.core.value ≡ self.old.cycle.core.value }
         ensures gone { DoesAt (λ c d. d.is_taken ≡ false) self.old.places.items place self.new.places.items }
-        ensures sent { self.new.sent ≡ self.old.sent }
+        ensures held { self.new.held ≡ self.old.held }
         ensures time { StaysAt self.old self.new }
         ensures stands { Goes self.old.side self.new.side }
     {
@@ -56,7 +56,7 @@ impl Service {
         ensures links { self.new.lines.links ≡ self.old.lines.links }
         ensures lines { self.new.lines ≡ self.old.lines }
         ensures goes { ClientsLeadOn self.old.cycle self.new.cycle }
-        ensures sent { self.new.sent ≡ self.old.sent }
+        ensures held { self.new.held ≡ self.old.held }
         ensures time { TurnsTo now self.old self.new }
         ensures stands { Goes self.old.side self.new.side }
         ensures used { result ≤ length bytes.now }
@@ -102,7 +102,7 @@ impl Service {
         ensures lines { self.new.lines ≡ self.old.lines }
         ensures core { self.new.cycle.core.value ≡ self.old.cycle.core.value }
         ensures sends { DoesAt (λ c d. Sends c n d) self.old.places.items place self.new.places.items }
-        ensures sent { self.new.sent ≡ self.old.sent }
+        ensures held { self.new.held ≡ self.old.held }
         ensures time { StaysAt self.old self.new }
         ensures stands { Goes self.old.side self.new.side }
     {

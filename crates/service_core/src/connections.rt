@@ -1,22 +1,22 @@
 //! Connections to devices, and what comes over them.
-ghost use Rattle.std.specs.Prelude.{◌≡◌, ◌+◌, ◌<◌, ◌^◌, ◌↔◌, ℕ, IsTrue, None, Some, set, slice_get, take, true};
-ghost use Rattle.site_model.specs.Readings.{known_at};
+ghost use Rattle.std.specs.Prelude.{◌≡◌, ◌+◌, ◌<◌, ◌^◌, ◌↔◌, ℕ, IsTrue, None, Some, max, set, slice_get, take, true};
 ghost use Rattle.service_parts.specs.declared.line.Line.{Line as LineValue};
-ghost use Rattle.service_parts.specs.Frames.{LinesGo, OthersGo};
+ghost use Rattle.service_parts.specs.Frames.{ComesUp, GoesDown};
 ghost use Rattle.service_parts.specs.Requests.{IsRightfulOn};
 ghost use Rattle.service_parts.specs.Waking.{IsToDial, IsToHangUp};
 ghost use Rattle.service_core.specs.declared.note.Loss.TheVariants.{Down as down, Frame as frame};
 ghost use Rattle.service_core.specs.Losing.{AreLost, IsLost};
 ghost use Rattle.service_core.specs.Told.{Goes, LosesBy};
-ghost use Rattle.service_core.specs.Connections.{GoesAfterSent, GoesFromCut, Hears};
+ghost use Rattle.service_core.specs.Connections.{GoesAfterSent, GoesFrom, Hears};
 ghost use Rattle.service_core.specs.Cycle.{DevicesLeadOn, LeadsOn};
-ghost use Rattle.service_core.specs.Rewriting.{is_of};
 ghost use Rattle.service_core.specs.Timing.{TurnsTo};
-ghost use Rattle.service_core.specs.Having.{HasNoMore, TellsHad, WritesHad};
+ghost use Rattle.service_core.specs.Going.{LinksGo, OtherLinksGo};
+ghost use Rattle.service_core.specs.Having.{Forgets, HasNoMore, TellsHad, WritesHad};
 ghost use Rattle.service_core.specs.Staying.{Stays};
 
 use crate::note::Loss;
 use crate::service_state::Service;
+use service_parts::Intake;
 
 impl Service {
     /// Whether a connection is to be made: it is down, no dial is under way, and its back-off is over.
@@ -29,9 +29,9 @@ impl Service {
     /// A dial began. It may take as long as a device may take to answer; then it is to be given up, and told as down.
     pub fn dial_began(&mut self, link: usize, now: u64)
         ensures links { self.new.lines.links ≡ self.old.lines.links }
-        ensures lines { LinesGo self.old.lines.lines.items self.new.lines.lines.items }
+        ensures lines { LinksGo self.old self.new }
         ensures core { self.new.cycle.core.value ≡ self.old.cycle.core.value }
-        ensures sent { self.new.sent ≡ self.old.sent }
+        ensures held { self.new.held ≡ self.old.held }
         ensures places { self.new.places.items ≡ self.old.places.items }
         ensures time { TurnsTo now self.old self.new }
         ensures stands { Goes self.old.side self.new.side }
@@ -44,15 +44,15 @@ impl Service {
     pub fn link_up(&mut self, link: usize, now: u64)
         ensures stations { self.new.lines.links.stations ≡ self.old.lines.links.stations }
         ensures goes { LeadsOn self.old.cycle self.new.cycle }
-        ensures others { OthersGo link self.old.lines.lines.items self.new.lines.lines.items }
+        ensures others { OtherLinksGo link self.old self.new }
         ensures anew { (number : ℕ) (line : LineValue) → slice_get self.old.lines.links.numbers.items link ≡ Some number → number + 1 < 2 ^ 64 → slice_get self.old.lines.lines.items link ≡ Some line
-            → GoesFromCut link self.new.lines.lines.items }
+            → GoesFrom (ComesUp line) link self.old self.new }
         ensures next { (number : ℕ) → slice_get self.old.lines.links.numbers.items link ≡ Some number → number + 1 < 2 ^ 64
             → self.new.lines.links.numbers.items ≡ set self.old.lines.links.numbers.items link (number + 1) }
-        ensures sent { HasNoMore self.old.sent self.new.sent }
+        ensures held { HasNoMore self.old.held self.new.held }
         ensures places { self.new.places.items ≡ self.old.places.items }
         ensures time { TurnsTo now self.old self.new }
-        ensures stands { WritesHad self.old.sent self.old.side self.new.side }
+        ensures stands { WritesHad self.old.held self.old.side self.new.side }
     {
         self.side.turn_to(now);
         if self.lines.come_up(link) {
@@ -63,10 +63,10 @@ impl Service {
     /// A link has a new connection: what was known of its devices isn't known any more.
     fn begin_anew(&mut self, link: usize)
         ensures rest { Stays self.old self.new }
-        ensures lines { LinesGo self.old.lines.lines.items self.new.lines.lines.items }
+        ensures lines { LinksGo self.old self.new }
         ensures goes { LeadsOn self.old.cycle self.new.cycle }
-        ensures sent { HasNoMore self.old.sent self.new.sent }
-        ensures stands { WritesHad self.old.sent self.old.side self.new.side }
+        ensures held { HasNoMore self.old.held self.new.held }
+        ensures stands { WritesHad self.old.held self.old.side self.new.side }
     {
         self.forget_all(link);
         self.side.begin_link(link);
@@ -76,9 +76,9 @@ impl Service {
     fn forget_all(&mut self, link: usize)
         ensures noted { self.new.lines.found_on ≡ self.old.lines.found_on }
         ensures rest { Stays self.old self.new }
-        ensures lines { LinesGo self.old.lines.lines.items self.new.lines.lines.items }
+        ensures lines { LinksGo self.old self.new }
         ensures goes { LeadsOn self.old.cycle self.new.cycle }
-        ensures sent { HasNoMore self.old.sent self.new.sent }
+        ensures held { HasNoMore self.old.held self.new.held }
         ensures stands { Goes self.old.side self.new.side }
     {
         for device in 0..self.cycle.devices() {
@@ -92,13 +92,13 @@ impl Service {
     /// aren't lost: it is made again at once.
     pub fn link_down(&mut self, link: usize, now: u64)
         ensures links { self.new.lines.links ≡ self.old.lines.links }
-        ensures others { OthersGo link self.old.lines.lines.items self.new.lines.lines.items }
-        ensures ends { (line : LineValue) → slice_get self.old.lines.lines.items link ≡ Some line → GoesFromCut link self.new.lines.lines.items }
+        ensures others { OtherLinksGo link self.old self.new }
+        ensures ends { (line : LineValue) → slice_get self.old.lines.lines.items link ≡ Some line → GoesFrom (GoesDown (max self.old.side.now now) self.old.side.limits line) link self.old self.new }
         ensures goes { LeadsOn self.old.cycle self.new.cycle }
-        ensures sent { HasNoMore self.old.sent self.new.sent }
+        ensures held { HasNoMore self.old.held self.new.held }
         ensures places { self.new.places.items ≡ self.old.places.items }
         ensures time { TurnsTo now self.old self.new }
-        ensures stands { TellsHad (AreLost self.old.lines.links.stations.items link down) self.old.sent self.old.side self.new.side }
+        ensures stands { TellsHad (AreLost self.old.lines.links.stations.items link down) self.old.held self.old.side self.new.side }
     {
         self.side.turn_to(now);
         let is_idle = self.lines.is_idle(link);
@@ -110,9 +110,9 @@ impl Service {
     /// All devices of a connection are lost, unless it ended while nothing was under way.
     fn lose_unless(&mut self, is_idle: bool, link: usize)
         ensures rest { Stays self.old self.new }
-        ensures lines { LinesGo self.old.lines.lines.items self.new.lines.lines.items }
+        ensures lines { LinksGo self.old self.new }
         ensures goes { LeadsOn self.old.cycle self.new.cycle }
-        ensures sent { HasNoMore self.old.sent self.new.sent }
+        ensures held { HasNoMore self.old.held self.new.held }
         ensures same { self.new.lines ≡ self.old.lines }
         ensures stands { LosesBy (AreLost self.old.lines.links.stations.items link down) self.old.side self.new.side }
     {
@@ -133,12 +133,12 @@ impl Service {
     pub fn from_link(&mut self, link: usize, bytes: &[u8], now: u64) -> usize
         ensures hears { (line : LineValue) → slice_get self.old.lines.lines.items link ≡ Some line → Hears link line (take result bytes.now) self.old self.new }
         ensures links { self.new.lines.links ≡ self.old.lines.links }
-        ensures others { OthersGo link self.old.lines.lines.items self.new.lines.lines.items }
+        ensures others { OtherLinksGo link self.old self.new }
         ensures goes { DevicesLeadOn self.old.cycle self.new.cycle }
-        ensures sent { slice_get self.old.lines.lines.items link ≡ None → HasNoMore self.old.sent self.new.sent }
+        ensures held { slice_get self.old.lines.lines.items link ≡ None → HasNoMore self.old.held self.new.held }
         ensures places { self.new.places.items ≡ self.old.places.items }
         ensures time { TurnsTo now self.old self.new }
-        ensures stands { slice_get self.old.lines.lines.items link ≡ None → WritesHad self.old.sent self.old.side self.new.side }
+        ensures stands { slice_get self.old.lines.lines.items link ≡ None → WritesHad self.old.held self.old.side self.new.side }
     {
         self.side.turn_to(now);
         self.hear(link, bytes)
@@ -147,13 +147,12 @@ impl Service {
     fn hear(&mut self, link: usize, bytes: &[u8]) -> usize
         ensures hears { (line : LineValue) → slice_get self.old.lines.lines.items link ≡ Some line → Hears link line (take result bytes.now) self.old self.new }
         ensures rest { Stays self.old self.new }
-        ensures others { OthersGo link self.old.lines.lines.items self.new.lines.lines.items }
+        ensures others { OtherLinksGo link self.old self.new }
         ensures goes { DevicesLeadOn self.old.cycle self.new.cycle }
-        ensures sent { slice_get self.old.lines.lines.items link ≡ None → HasNoMore self.old.sent self.new.sent }
-        ensures stands { slice_get self.old.lines.lines.items link ≡ None → WritesHad self.old.sent self.old.side self.new.side }
+        ensures held { slice_get self.old.lines.lines.items link ≡ None → HasNoMore self.old.held self.new.held }
+        ensures stands { slice_get self.old.lines.lines.items link ≡ None → WritesHad self.old.held self.old.side self.new.side }
     {
-        let asked = self.lines.asked(link);
-        let (used, fate) = self.lines.take(link, bytes);
+        let Intake { used, asked, fate } = self.lines.take(link, bytes);
         if let Some(fate) = fate {
             self.settle(link, asked, fate);
         }
@@ -175,10 +174,10 @@ impl Service {
     pub fn sent_to_link(&mut self, link: usize, n: usize)
         ensures sends { (line : LineValue) → slice_get self.old.lines.lines.items link ≡ Some line → GoesAfterSent link n line self.old self.new }
         ensures rest { Stays self.old self.new }
-        ensures others { OthersGo link self.old.lines.lines.items self.new.lines.lines.items }
+        ensures others { OtherLinksGo link self.old self.new }
         ensures goes { DevicesLeadOn self.old.cycle self.new.cycle }
-        ensures sent { slice_get self.old.lines.lines.items link ≡ None → HasNoMore self.old.sent self.new.sent }
-        ensures stands { slice_get self.old.lines.lines.items link ≡ None → WritesHad self.old.sent self.old.side self.new.side }
+        ensures held { slice_get self.old.lines.lines.items link ≡ None → HasNoMore self.old.held self.new.held }
+        ensures stands { slice_get self.old.lines.lines.items link ≡ None → WritesHad self.old.held self.old.side self.new.side }
     {
         self.lines.sent(link, n);
         if self.lines.is_asked(link) {
@@ -193,26 +192,25 @@ impl Service {
     pub(crate) fn forget(&mut self, device: usize)
         ensures noted { self.new.lines.found_on ≡ self.old.lines.found_on }
         ensures rest { Stays self.old self.new }
-        ensures lines { LinesGo self.old.lines.lines.items self.new.lines.lines.items }
+        ensures lines { LinksGo self.old self.new }
         ensures goes { LeadsOn self.old.cycle self.new.cycle }
-        ensures sent { HasNoMore self.old.sent self.new.sent }
-        ensures forgotten { (i : ℕ) → is_of device (known_at self.old.sent.writes.items i) ≡ true → known_at self.new.sent.taken.items i ≡ None }
-        ensures writes { self.new.sent.writes ≡ self.old.sent.writes }
+        ensures held { HasNoMore self.old.held self.new.held }
+        ensures forgotten { Forgets device self.old.held self.new.held }
         ensures stands { Goes self.old.side self.new.side }
     {
         self.cycle.forget(device);
         self.cycle.skip_writes(device);
         self.cycle.seek_anew(device, self.lines.number_for(device));
         self.side.seek(device);
-        self.sent.forget(device);
+        self.held.forget(device);
     }
 
     /// All devices of a connection are lost.
     pub(crate) fn lose_all(&mut self, link: usize, loss: Loss)
         ensures rest { Stays self.old self.new }
-        ensures lines { LinesGo self.old.lines.lines.items self.new.lines.lines.items }
+        ensures lines { LinksGo self.old self.new }
         ensures goes { LeadsOn self.old.cycle self.new.cycle }
-        ensures sent { HasNoMore self.old.sent self.new.sent }
+        ensures held { HasNoMore self.old.held self.new.held }
         ensures same { self.new.lines ≡ self.old.lines }
         ensures stands { LosesBy (AreLost self.old.lines.links.stations.items link loss) self.old.side self.new.side }
     {
@@ -226,16 +224,15 @@ impl Service {
     /// A device is lost: nothing more is written to it, and nothing is known of it any more.
     pub(crate) fn lose(&mut self, device: usize, loss: Loss)
         ensures rest { Stays self.old self.new }
-        ensures lines { LinesGo self.old.lines.lines.items self.new.lines.lines.items }
+        ensures lines { LinksGo self.old self.new }
         ensures goes { LeadsOn self.old.cycle self.new.cycle }
-        ensures sent { HasNoMore self.old.sent self.new.sent }
+        ensures held { HasNoMore self.old.held self.new.held }
         ensures same { self.new.lines ≡ self.old.lines }
-        ensures forgotten { (i : ℕ) → is_of device (known_at self.old.sent.writes.items i) ≡ true → known_at self.new.sent.taken.items i ≡ None }
-        ensures writes { self.new.sent.writes ≡ self.old.sent.writes }
+        ensures forgotten { Forgets device self.old.held self.new.held }
         ensures stands { LosesBy (IsLost device loss) self.old.side self.new.side }
     {
         self.cycle.give_up(device);
         self.side.lose(device, loss);
-        self.sent.forget(device);
+        self.held.forget(device);
     }
 }

@@ -14,12 +14,12 @@ ghost use Rattle.service_core.specs.Timing.{Starts};
 
 use crate::device::Device;
 use crate::device_side::DeviceSide;
+use crate::held_writes::HeldWrites;
 use crate::link_pace::LinkPace;
 use crate::notes::Notes;
 use crate::output::Output;
 use crate::round::Round;
 use crate::scan_cycle::ScanCycle;
-use crate::sent_writes::SentWrites;
 use crate::service_state::Service;
 use gateway::{Core, CoreFault, DEPTH};
 use register_map::Map;
@@ -49,7 +49,7 @@ impl Service {
         ensures stations { IfOk result (λ service. service.lines.links.stations.items ≡ stations.now) }
         ensures numbers { IfOk result (λ service. service.lines.links.numbers.items ≡ replicate links 0) }
         ensures starts { IfOk result (λ service. Starts now limits service.side) }
-        ensures nothing { IfOk result (λ service. HasNothing service.sent) }
+        ensures nothing { IfOk result (λ service. HasNothing service.held) }
         ensures places { IfOk result (λ service. length service.places.items ≡ limits.clients) }
         ensures foreign { IfErr result (λ e. e ≡ Foreign → HasLinks site.tags machine.accepted.links → ⊥) }
     {
@@ -58,7 +58,7 @@ impl Service {
         let cycle = ScanCycle::new(alloc, core, parts.round, parts.searches, parts.over)?;
         Ok(Service {
             cycle,
-            sent: parts.sent,
+            held: parts.held,
             lines: parts.peers.lines,
             side: parts.peers.side,
             places: parts.peers.places,
@@ -73,7 +73,7 @@ struct Parts {
     round: Round,
     searches: Vec<Search>,
     over: Vec<u64>,
-    sent: SentWrites,
+    held: HeldWrites,
     peers: Peers,
 }
 
@@ -93,21 +93,21 @@ fn parts_of(
     ensures stations { IfOk result (λ parts. parts.peers.lines.links.stations.items ≡ stations.now) }
     ensures numbers { IfOk result (λ parts. parts.peers.lines.links.numbers.items ≡ replicate links 0) }
     ensures starts { IfOk result (λ parts. Starts now limits parts.peers.side) }
-    ensures nothing { IfOk result (λ parts. HasNothing parts.sent) }
+    ensures nothing { IfOk result (λ parts. HasNothing parts.held) }
     ensures places { IfOk result (λ parts. length parts.peers.places.items ≡ limits.clients) }
 {
     let maps = no_maps(alloc, site.devices())?;
     let round = Round::new(alloc, site)?;
     let searches = searches_for(alloc, site.devices())?;
     let over = vec![in alloc; 0; site.devices().len()]?;
-    let sent = SentWrites::new(alloc, site.outs().len())?;
+    let held = HeldWrites::new(alloc, site.outs().len())?;
     let peers = peers_of(alloc, site, links, stations, limits, now)?;
     Ok(Parts {
         maps,
         round,
         searches,
         over,
-        sent,
+        held,
         peers,
     })
 }

@@ -5,8 +5,10 @@ ghost use Rattle.service_core.specs.Counting.{asked_once_more, counts_at};
 ghost use Rattle.service_core.specs.Noting.{Finds, HearsFrom, Loses, Refuses};
 ghost use Rattle.service_core.specs.Telling.{told_at};
 ghost use Rattle.service_core.specs.declared.output.OutputState.{OutputState as StateValue};
+ghost use Rattle.service_core.specs.declared.output.OutputState.TheVariants.{Unwritten as unwritten_for};
 ghost use Rattle.service_core.specs.Losing.{IsLost};
-ghost use Rattle.service_core.specs.Told.{Allowed, Goes, IsWrittenBy, LosesBy, WritesBy, allows, lost_then, note_of, state_then};
+ghost use Rattle.service_core.specs.Told.{Allowed, BecomesBy, Goes, IsThis, IsUnanswered, LosesBy, allows, lost_then, note_of, state_then};
+ghost use Rattle.service_core.specs.Having.{IsOfPlan, IsUnplanned};
 ghost use Rattle.service_core.specs.Timing.{CountsScan, KeepsTime, PlansScan, not_over, planned_from, scan_after};
 
 use crate::device::Device;
@@ -301,7 +303,7 @@ impl DeviceSide {
     /// The program ran, and this is planned for each output.
     pub(crate) fn count_scan(&mut self, core: &Core<DEPTH>, round: &Round)
         ensures time { CountsScan self.old self.new }
-        ensures stands { Goes self.old self.new }
+        ensures stands { BecomesBy (IsUnplanned core.now) self.old self.new }
     {
         self.count();
         for output in 0..core.site().outs().len() {
@@ -320,7 +322,7 @@ impl DeviceSide {
     /// An output's write is waited for from now on, where one is to be made; where there is no set point for it, it isn't written.
     fn plan_output(&mut self, output: usize, plan: &Result<Write, NoWrite>, is_open: bool)
         ensures time { KeepsTime self.old self.new }
-        ensures stands { Goes self.old self.new }
+        ensures stands { BecomesBy (IsOfPlan output plan.now) self.old self.new }
     {
         match plan {
             Ok(_) => self.await_write(output, is_open),
@@ -341,7 +343,7 @@ impl DeviceSide {
     pub(crate) fn settle_output(&mut self, output: usize, state: OutputState)
         ensures state { output < length self.old.outputs.items → told_at self.new.outputs.items output ≡ Some state }
         ensures time { KeepsTime self.old self.new }
-        ensures stands { WritesBy (IsWrittenBy output state) self.old self.new }
+        ensures stands { BecomesBy (IsThis output state) self.old self.new }
     {
         if let Some(found) = self.outputs.get_mut(output) {
             if found.settle(state) {
@@ -353,7 +355,7 @@ impl DeviceSide {
     /// An output isn't written, for this; it is told where it is new.
     fn leave_unwritten(&mut self, output: usize, cause: Unwritten)
         ensures time { KeepsTime self.old self.new }
-        ensures stands { Goes self.old self.new }
+        ensures stands { BecomesBy (IsThis output (unwritten_for cause)) self.old self.new }
     {
         self.settle_output(output, OutputState::Unwritten(cause));
     }
@@ -384,15 +386,23 @@ impl DeviceSide {
     /// What the last scan planned is over: what was to be written and isn't any more wasn't done.
     pub(crate) fn finish(&mut self, report: Report, round: &Round)
         ensures time { KeepsTime self.old self.new }
-        ensures stands { Goes self.old self.new }
+        ensures stands { BecomesBy IsUnanswered self.old self.new }
     {
         self.end_writing();
         for output in 0..self.outputs.len() {
             if self.is_awaited(output) && !round.is_open(output) {
-                self.leave_unwritten(output, Unwritten::Unanswered);
+                self.leave_unanswered(output);
             }
         }
         self.tell(Note::Scanned(report));
+    }
+
+    /// Nothing came of an output's write.
+    fn leave_unanswered(&mut self, output: usize)
+        ensures time { KeepsTime self.old self.new }
+        ensures stands { BecomesBy IsUnanswered self.old self.new }
+    {
+        self.leave_unwritten(output, Unwritten::Unanswered);
     }
 
     #[tactic(auto, using(crate::proofs::ByNotes::same_goes))]

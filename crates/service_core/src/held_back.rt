@@ -1,18 +1,19 @@
 //! What a device has isn't written to it again for a while.
 ghost use Rattle.std.specs.Prelude.{◌≡◌, ◌*◌, IfSome, None, Some};
 ghost use Rattle.modbus_frame.specs.Message.{HasQuantity};
-ghost use Rattle.service_core.specs.Told.{WritesBy};
+ghost use Rattle.service_core.specs.declared.output.OutputState.TheVariants.{Written as written};
+ghost use Rattle.service_core.specs.Told.{BecomesBy, IsThis};
 ghost use Rattle.service_core.specs.Cycle.{LeadsOn, stage_of};
 ghost use Rattle.service_core.specs.LeftOut.{GivesDue, held_by};
 ghost use Rattle.service_core.specs.Stages.{Ends};
 ghost use Rattle.service_core.specs.Rewriting.{held_output, kept_for};
 ghost use Rattle.service_parts.specs.Requests.{IsOfRound};
 ghost use Rattle.service_core.specs.Staying.{Stays};
+ghost use Rattle.service_core.specs.Going.{LinksGo, WishGoes};
 ghost use Rattle.service_core.specs.Having.{HasNoMore, WritesHad};
-ghost use Rattle.service_parts.specs.Frames.{LinesGo};
 
+use crate::held_writes::Intended;
 use crate::output::OutputState;
-use crate::sent_writes::Intended;
 use crate::service_state::Service;
 use crate::wish::Wish;
 use service_parts::Aim;
@@ -24,15 +25,15 @@ impl Service {
     pub(crate) fn next_due(&mut self, number: u64, device: usize) -> Option<Wish>
         ensures quantity { IfSome result (λ wish. HasQuantity wish.request) }
         ensures asked { IfSome result (λ wish. IsOfRound self.new.cycle.core.value wish.aim device wish.request) }
-        ensures due { IfSome result (λ wish. held_output self.new.sent.writes.items self.new.sent.taken.items device number (kept_for self.new.cycle.core.value.site.devices device) self.new.side.now wish.aim wish.request ≡ None) }
-        ensures left_out { GivesDue device (held_by self.old.sent device number self.old.side.now) result (stage_of self.old.cycle) (stage_of self.new.cycle) }
+        ensures due { IfSome result (λ wish. held_output self.new.held.writes.items device number (kept_for self.new.cycle.core.value.site.devices device) self.new.side.now wish.aim wish.request ≡ None) }
+        ensures left_out { GivesDue device (held_by self.old.held device number self.old.side.now) result (stage_of self.old.cycle) (stage_of self.new.cycle) }
         ensures same_lines { self.new.lines ≡ self.old.lines }
-        ensures sent { self.new.sent ≡ self.old.sent }
+        ensures held { self.new.held ≡ self.old.held }
         ensures rest { Stays self.old self.new }
-        ensures lines { LinesGo self.old.lines.lines.items self.new.lines.lines.items }
+        ensures opens { WishGoes result self.old self.new }
         ensures goes { LeadsOn self.old.cycle self.new.cycle }
-        ensures no_more { HasNoMore self.old.sent self.new.sent }
-        ensures stands { WritesHad self.old.sent self.old.side self.new.side }
+        ensures no_more { HasNoMore self.old.held self.new.held }
+        ensures stands { WritesHad self.old.held self.old.side self.new.side }
     {
         for _ in 0..self.cycle.round().outputs() {
             let Some(wish) = self.cycle.next_write(device) else {
@@ -48,7 +49,7 @@ impl Service {
 
     /// The output whose set point a request would write once more, though the device has it.
     fn held_output(&self, number: u64, device: usize, wish: &Wish) -> Option<usize>
-        ensures { result ≡ held_output self.entry.now.sent.writes.items self.entry.now.sent.taken.items device number (kept_for self.entry.now.cycle.core.value.site.devices device) self.entry.now.side.now wish.now.aim wish.now.request }
+        ensures { result ≡ held_output self.entry.now.held.writes.items device number (kept_for self.entry.now.cycle.core.value.site.devices device) self.entry.now.side.now wish.now.aim wish.now.request }
     {
         let Aim::Output(output) = wish.aim else {
             return None;
@@ -59,7 +60,7 @@ impl Service {
             request: &wish.request,
             number,
         };
-        if self.sent.holds(write, self.kept_for(device), self.side.now) {
+        if self.held.holds(write, self.kept_for(device), self.side.now) {
             Some(output)
         } else {
             None
@@ -80,12 +81,12 @@ impl Service {
     fn hold_back(&mut self, device: usize, output: usize)
         ensures ends { Ends device (stage_of self.old.cycle) (stage_of self.new.cycle) }
         ensures same_lines { self.new.lines ≡ self.old.lines }
-        ensures sent { self.new.sent ≡ self.old.sent }
+        ensures held { self.new.held ≡ self.old.held }
         ensures rest { Stays self.old self.new }
-        ensures lines { LinesGo self.old.lines.lines.items self.new.lines.lines.items }
+        ensures lines { LinksGo self.old self.new }
         ensures goes { LeadsOn self.old.cycle self.new.cycle }
-        ensures no_more { HasNoMore self.old.sent self.new.sent }
-        ensures stands { WritesBy (λ which. which ≡ output) self.old.side self.new.side }
+        ensures no_more { HasNoMore self.old.held self.new.held }
+        ensures stands { BecomesBy (IsThis output written) self.old.side self.new.side }
     {
         self.cycle.drop_write(device);
         self.side.wrote(true);

@@ -74,8 +74,8 @@ fn is_same(known: Refusal, refusal: Refusal) -> bool
 }
 
 /// What a device refused that answered so, where it was asked to read.
-pub(crate) fn refusal_by(asked: Asked, outcome: &Outcome) -> Option<Refusal>
-    ensures { result ≡ refusal_by asked.aim asked.address outcome.now }
+pub(crate) fn refusal_by(asked: &Asked, outcome: &Outcome) -> Option<Refusal>
+    ensures { result ≡ refusal_by asked.now.aim asked.now.address outcome.now }
 {
     match asked.aim {
         Aim::Map | Aim::Block(_) => exception_at(asked.address, outcome),

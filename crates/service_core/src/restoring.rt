@@ -23,7 +23,7 @@ impl Service {
               ages = slice_set self.old.cycle.core.value.standing.ages tag (Some 0);
             } }
         ensures refused { result ≡ false → (self.new.cycle.core.value ≡ self.old.cycle.core.value) × NothingSets self.old.cycle.core.value.site tag number }
-        ensures sent { self.new.sent ≡ self.old.sent }
+        ensures held { self.new.held ≡ self.old.held }
         ensures stands { Goes self.old.side self.new.side }
     {
         self.cycle.restore(tag, number)
@@ -35,7 +35,7 @@ impl Service {
         ensures lines { self.new.lines ≡ self.old.lines }
         ensures waits { Waits elapsed (stage_of self.old.cycle) (stage_of self.new.cycle) }
         ensures passed { self.new.cycle.core.value ≡ after_wait elapsed self.old.cycle.core.value }
-        ensures sent { self.new.sent ≡ self.old.sent }
+        ensures held { self.new.held ≡ self.old.held }
         ensures stands { Goes self.old.side self.new.side }
     {
         self.cycle.pass(elapsed);

@@ -1,14 +1,14 @@
 //! Scans, by the time.
-ghost use Rattle.std.specs.Prelude.{◌≡◌, All, map, max, nat_le};
+ghost use Rattle.std.specs.Prelude.{◌≡◌, All, false, map, max, nat_le};
 ghost use Rattle.service_core.specs.Losing.{LostByWait};
-ghost use Rattle.service_core.specs.Told.{Goes};
+ghost use Rattle.service_core.specs.Told.{BecomesBy, Goes};
 ghost use Rattle.service_core.specs.Cycle.{LeadsOn, stage_of};
-ghost use Rattle.service_parts.specs.Frames.{LinesGo};
 ghost use Rattle.service_parts.specs.Places.{closed_if_idle};
 ghost use Rattle.service_core.specs.Timing.{RunsNow, ScansNow, Ticks};
 ghost use Rattle.service_core.specs.Rounds.{IsRecent};
 ghost use Rattle.service_core.specs.Stages.{RunsIf, RunsOnce, Scans};
-ghost use Rattle.service_core.specs.Having.{HasNoMore, TellsHad, WritesHad};
+ghost use Rattle.service_core.specs.Going.{LinksGo, LinksGoByScan, LinksGoIf};
+ghost use Rattle.service_core.specs.Having.{HasNoMore, IsUnplanned, TellsAt, TellsHad, WritesAt, WritesHad};
 ghost use Rattle.service_core.specs.Staying.{Stays};
 
 use crate::service_state::Service;
@@ -20,12 +20,13 @@ impl Service {
     #[tactic(auto, using(crate::proofs::Timing::ticks_ran, crate::proofs::Timing::ticks_rested, crate::proofs::Courses::rests_where))]
     pub fn tick(&mut self, now: u64)
         ensures links { self.new.lines.links ≡ self.old.lines.links }
-        ensures lines { LinesGo self.old.lines.lines.items self.new.lines.lines.items }
-        ensures goes { RunsIf (nat_le self.old.side.next_scan (max self.old.side.now now)) (max self.old.side.now now) (stage_of self.old.cycle) (stage_of self.new.cycle) }
-        ensures sent { HasNoMore self.old.sent self.new.sent }
+        ensures lines { LinksGoIf (nat_le self.old.side.next_scan (max self.old.side.now now)) self.old self.new }
+        ensures goes { RunsIf (nat_le self.old.side.next_scan (max self.old.side.now now)) (λ scanned. TellsAt (LostByWait self.old.lines.links.stations.items self.old.lines.lines.items (max self.old.side.now now)) scanned.core self.old.held self.old.side self.new.side)
+            (max self.old.side.now now) (stage_of self.old.cycle) (stage_of self.new.cycle) }
+        ensures held { HasNoMore self.old.held self.new.held }
         ensures places { self.new.places.items ≡ map (closed_if_idle (max self.old.side.now now) self.old.side.limits.idle) self.old.places.items }
         ensures time { Ticks now self.old self.new }
-        ensures stands { TellsHad (LostByWait self.old.lines.links.stations.items self.old.lines.lines.items (max self.old.side.now now)) self.old.sent self.old.side self.new.side }
+        ensures stands { nat_le self.old.side.next_scan (max self.old.side.now now) ≡ false → TellsHad (LostByWait self.old.lines.links.stations.items self.old.lines.lines.items (max self.old.side.now now)) self.old.held self.old.side self.new.side }
     {
         self.side.turn_to(now);
         close_idle(&mut self.places, self.side.now, self.side.limits.idle);
@@ -40,10 +41,10 @@ impl Service {
     /// Asks what can be asked, and tells what the last scan came to once all of it is written.
     pub(crate) fn go_on(&mut self)
         ensures rest { Stays self.old self.new }
-        ensures lines { LinesGo self.old.lines.lines.items self.new.lines.lines.items }
+        ensures lines { LinksGo self.old self.new }
         ensures goes { LeadsOn self.old.cycle self.new.cycle }
-        ensures sent { HasNoMore self.old.sent self.new.sent }
-        ensures stands { WritesHad self.old.sent self.old.side self.new.side }
+        ensures held { HasNoMore self.old.held self.new.held }
+        ensures stands { WritesHad self.old.held self.old.side self.new.side }
     {
         self.ask_all();
         if self.cycle.is_complete() {
@@ -52,12 +53,13 @@ impl Service {
     }
 
     /// Tells what the last scan came to, where that wasn't told yet.
+    #[tactic(auto, using(crate::proofs::Having::writes_unanswered))]
     fn finish(&mut self)
         ensures rest { Stays self.old self.new }
-        ensures lines { LinesGo self.old.lines.lines.items self.new.lines.lines.items }
+        ensures lines { LinksGo self.old self.new }
         ensures goes { LeadsOn self.old.cycle self.new.cycle }
-        ensures sent { HasNoMore self.old.sent self.new.sent }
-        ensures stands { Goes self.old.side self.new.side }
+        ensures held { HasNoMore self.old.held self.new.held }
+        ensures stands { WritesHad self.old.held self.old.side self.new.side }
     {
         if self.side.is_writing {
             let report = self.report();
@@ -75,15 +77,14 @@ impl Service {
         }
     }
 
-    /// Runs the program at its time, whatever was read, and goes on: a block that was told too many scans ago isn't known any more.
+    /// Runs the program, whatever was read, and goes on. A block that was told too many scans ago isn't known any more.
     fn scan(&mut self)
         ensures links { self.new.lines.links ≡ self.old.lines.links }
-        ensures lines { LinesGo self.old.lines.lines.items self.new.lines.lines.items }
-        ensures runs { RunsOnce self.old.side.now (stage_of self.old.cycle) (stage_of self.new.cycle) }
-        ensures sent { HasNoMore self.old.sent self.new.sent }
+        ensures lines { LinksGoByScan self.old self.new }
+        ensures runs { RunsOnce (λ scanned. WritesAt scanned.core self.old.held self.old.side self.new.side) self.old.side.now (stage_of self.old.cycle) (stage_of self.new.cycle) }
+        ensures held { HasNoMore self.old.held self.new.held }
         ensures places { self.new.places.items ≡ self.old.places.items }
         ensures time { ScansNow self.old self.new }
-        ensures stands { WritesHad self.old.sent self.old.side self.new.side }
     {
         self.finish();
         self.side.plan_scan();
@@ -98,24 +99,25 @@ impl Service {
     fn expire(&mut self)
         ensures recent { All IsRecent self.new.cycle.round.told }
         ensures rest { Stays self.old self.new }
-        ensures lines { LinesGo self.old.lines.lines.items self.new.lines.lines.items }
+        ensures lines { LinksGo self.old self.new }
         ensures goes { LeadsOn self.old.cycle self.new.cycle }
-        ensures sent { HasNoMore self.old.sent self.new.sent }
+        ensures held { HasNoMore self.old.held self.new.held }
         ensures stands { Goes self.old.side self.new.side }
     {
         self.cycle.expire();
     }
 
     /// Runs the program.
+    #[tactic(auto, using(crate::proofs::Going::scanned_goes))]
     fn run(&mut self)
         requires recent { All IsRecent self.old.cycle.round.told }
         ensures links { self.new.lines.links ≡ self.old.lines.links }
-        ensures lines { LinesGo self.old.lines.lines.items self.new.lines.lines.items }
+        ensures lines { LinksGoByScan self.old self.new }
         ensures scans { Scans self.old.side.now (stage_of self.old.cycle) (stage_of self.new.cycle) }
-        ensures sent { HasNoMore self.old.sent self.new.sent }
+        ensures held { HasNoMore self.old.held self.new.held }
         ensures places { self.new.places.items ≡ self.old.places.items }
         ensures time { RunsNow self.old self.new }
-        ensures stands { Goes self.old.side self.new.side }
+        ensures stands { BecomesBy (IsUnplanned self.new.cycle.core.value) self.old.side self.new.side }
     {
         self.cycle.scan(self.side.now);
         self.side.count_scan(self.cycle.core(), self.cycle.round());
@@ -124,9 +126,9 @@ impl Service {
     /// Which devices the scan plans the outputs of, and which it passes over.
     fn note_devices(&mut self)
         ensures rest { Stays self.old self.new }
-        ensures lines { LinesGo self.old.lines.lines.items self.new.lines.lines.items }
+        ensures lines { LinksGo self.old self.new }
         ensures goes { LeadsOn self.old.cycle self.new.cycle }
-        ensures sent { HasNoMore self.old.sent self.new.sent }
+        ensures held { HasNoMore self.old.held self.new.held }
         ensures stands { Goes self.old.side self.new.side }
     {
         for device in 0..self.cycle.devices() {

@@ -5,8 +5,8 @@ ghost use Rattle.service_core.specs.Stages.{IsReached};
 ghost use Rattle.service_parts.specs.Requests.{AreRightfulBy};
 
 use crate::device_side::DeviceSide;
+use crate::held_writes::HeldWrites;
 use crate::scan_cycle::ScanCycle;
-use crate::sent_writes::SentWrites;
 use gateway::{Core, DEPTH};
 use service_parts::{ClientPlace, Lines};
 
@@ -17,7 +17,7 @@ pub struct Service {
     pub(crate) cycle: ScanCycle,
     pub(crate) lines: Lines,
     pub(crate) side: DeviceSide,
-    pub(crate) sent: SentWrites,
+    pub(crate) held: HeldWrites,
     pub(crate) places: Vec<ClientPlace>,
     ghost rightful: { AreRightfulBy cycle.core.value lines },
 }

@@ -11,12 +11,14 @@ ghost use Rattle.service.specs.Searches.{HasStepQuantity, Sought as SoughtValue}
 ghost use Rattle.service_parts.specs.declared.asked.Aim.{Aim as AimValue};
 ghost use Rattle.service_parts.specs.declared.asked.Aim.TheVariants.{Block as BlockAim, Output as OutputAim};
 ghost use Rattle.service_parts.specs.Calls.{IsCallFor};
+ghost use Rattle.service_parts.specs.Frames.{outputs_of};
 ghost use Rattle.service_parts.specs.Requests.{IsOfRound};
 ghost use Rattle.service_parts.specs.Seeking.{IsFound, IsSought};
 ghost use Rattle.service_core.specs.declared.round.Turn.TheVariants.{Ask as AskTurn};
 ghost use Rattle.service_core.specs.Cycle.{ClientsLeadOn, EndsOwn, LeadsOn, stage_of};
 ghost use Rattle.service_core.specs.Forgetting.{first_but, forgotten, with_blocks, without_blocks};
 ghost use Rattle.service_core.specs.GivingUp.{GivesUp};
+ghost use Rattle.service_core.specs.Going.{NoMoreDue, TakesNext};
 ghost use Rattle.service_core.specs.LeftOut.{GivesNext};
 ghost use Rattle.service_core.specs.Rounds.{AreRecentTo, IsRecent, IsSendable, told_at};
 ghost use Rattle.service_core.specs.Stages.{Ends, OpensNext, Scans, Skips, TakesEvent, Tells, Waits};
@@ -49,6 +51,7 @@ impl ScanCycle {
     pub fn forget(&mut self, device: usize)
         ensures at { self.new.round.at ≡ self.old.round.at }
         ensures forgotten { device < length self.old.core.value.site.devices → self.new.core.value ≡ forgotten device self.old.core.value }
+        ensures writes { self.new.round.writes ≡ self.old.round.writes }
         ensures goes { LeadsOn self.old self.new }
     {
         self.learn(device, None);
@@ -159,6 +162,7 @@ impl ScanCycle {
     /// From now on the device's map is searched from the start, over the connection with this number.
     pub fn seek_anew(&mut self, device: usize, number: u64)
         ensures at { self.new.round.at ≡ self.old.round.at }
+        ensures writes { self.new.round.writes ≡ self.old.round.writes }
         ensures goes { LeadsOn self.old self.new }
         ensures begins { (own : DeviceValue) (search : SoughtValue) → slice_get self.old.core.value.site.devices device ≡ Some own → slice_get self.old.searches.items device ≡ Some search
             → slice_get self.new.searches.items device ≡ Some (record { base = own.base; answers = [] }) }
@@ -170,6 +174,7 @@ impl ScanCycle {
 
     fn begin_search(&mut self, device: usize)
         ensures at { self.new.round.at ≡ self.old.round.at }
+        ensures writes { self.new.round.writes ≡ self.old.round.writes }
         ensures goes { LeadsOn self.old self.new }
         ensures begins { (own : DeviceValue) (search : SoughtValue) → slice_get self.old.core.value.site.devices device ≡ Some own → slice_get self.old.searches.items device ≡ Some search
             → slice_get self.new.searches.items device ≡ Some (record { base = own.base; answers = [] }) }
@@ -200,6 +205,7 @@ impl ScanCycle {
         ensures goes { LeadsOn self.old self.new }
         ensures asked { IfSome result (λ wish. IsOfRound self.new.core.value wish.aim device wish.request) }
         ensures quantity { IfSome result (λ wish. HasQuantity wish.request) }
+        ensures reads { IfSome result (λ wish. outputs_of wish.aim ≡ []) }
         ensures writes { self.new.round.writes ≡ self.old.round.writes }
         ensures at { self.new.round.at ≡ self.old.round.at }
     {
@@ -220,6 +226,7 @@ impl ScanCycle {
     fn read_of(&self, device: usize, i: usize) -> Option<Wish>
         ensures asked { IfSome result (λ wish. IsOfRound self.now.core.value wish.aim device wish.request) }
         ensures quantity { IfSome result (λ wish. HasQuantity wish.request) }
+        ensures reads { IfSome result (λ wish. outputs_of wish.aim ≡ []) }
     {
         let want = self.want_at(i)?;
         if want.device != device {
@@ -251,6 +258,7 @@ impl ScanCycle {
         ensures asked { IfSome result (λ wish. IsOfRound self.new.core.value wish.aim device wish.request) }
         ensures quantity { IfSome result (λ wish. HasQuantity wish.request) }
         ensures next { GivesNext device result (stage_of self.old) (stage_of self.new) }
+        ensures due { TakesNext result self.old.round.writes self.new.round.writes }
     {
         match self.open(device) {
             Turn::Ask(aim, call) => Some(Wish {
@@ -275,6 +283,7 @@ impl ScanCycle {
     /// model.
     pub fn close_block(&mut self, device: usize, want: usize, outcome: Outcome) -> bool
         ensures at { self.new.round.at ≡ self.old.round.at }
+        ensures writes { self.new.round.writes ≡ self.old.round.writes }
         ensures ends { EndsOwn (BlockAim want) device outcome (stage_of self.old) (stage_of self.new) }
     {
         match self.want_at(want) {
@@ -286,6 +295,7 @@ impl ScanCycle {
     fn tell_block(&mut self, i: usize, want: Want, outcome: Outcome) -> bool
         requires wanted { slice_get self.old.core.value.site.wants i ≡ Some want }
         ensures at { self.new.round.at ≡ self.old.round.at }
+        ensures writes { self.new.round.writes ≡ self.old.round.writes }
         ensures tells { Tells i (ToldFate outcome) true (stage_of self.old) (stage_of self.new) }
     {
         let event = event_by(want, outcome);
@@ -298,6 +308,7 @@ impl ScanCycle {
     /// The device answered its request that writes an output, where that is still under way.
     pub fn close_write(&mut self, device: usize, output: usize, outcome: &Outcome)
         ensures at { self.new.round.at ≡ self.old.round.at }
+        ensures due { NoMoreDue self.old.round.writes self.new.round.writes }
         ensures ends { EndsOwn (OutputAim output) device outcome.now (stage_of self.old) (stage_of self.new) }
     {
         if self.round.is_writing(device, output) {
@@ -308,6 +319,7 @@ impl ScanCycle {
     /// The device's write that is under way is over.
     pub fn drop_write(&mut self, device: usize)
         ensures at { self.new.round.at ≡ self.old.round.at }
+        ensures due { NoMoreDue self.old.round.writes self.new.round.writes }
         ensures ends { Ends device (stage_of self.old) (stage_of self.new) }
         ensures goes { LeadsOn self.old self.new }
     {
@@ -317,6 +329,7 @@ impl ScanCycle {
     /// Nothing more is written to a device, and its wanted blocks aren't known any more.
     pub fn give_up(&mut self, device: usize)
         ensures at { self.new.round.at ≡ self.old.round.at }
+        ensures due { NoMoreDue self.old.round.writes self.new.round.writes }
         ensures over { GivesUp device (stage_of self.old) (stage_of self.new) }
         ensures goes { LeadsOn self.old self.new }
     {
@@ -326,6 +339,7 @@ impl ScanCycle {
 
     pub fn skip_writes(&mut self, device: usize)
         ensures at { self.new.round.at ≡ self.old.round.at }
+        ensures due { NoMoreDue self.old.round.writes self.new.round.writes }
         ensures skips { Skips device (stage_of self.old) (stage_of self.new) }
         ensures goes { LeadsOn self.old self.new }
     {

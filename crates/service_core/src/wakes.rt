@@ -2,7 +2,7 @@
 ghost use Rattle.std.specs.Prelude.{◌≡◌, ◌⊎◌, ◌≤◌, ◌&&◌, not, true, ℕ, Some, slice_get};
 ghost use Rattle.service_parts.specs.declared.client_place.ClientPlace.{ClientPlace as Place};
 ghost use Rattle.service_parts.specs.declared.line.Line.{Line as LineValue};
-ghost use Rattle.service_parts.specs.Places.{after};
+ghost use Rattle.service_parts.specs.Backing.{after};
 ghost use Rattle.service_parts.specs.Waking.{due_at};
 ghost use Rattle.service_core.specs.Waking.{IsCloseOf, IsWake};
 

@@ -1,13 +1,14 @@
 //! What a device may be asked next, for each purpose.
-ghost use Rattle.std.specs.Prelude.{◌≡◌, ◌<◌, ℕ, IfSome, Some, length, set, slice_get};
+ghost use Rattle.std.specs.Prelude.{◌≡◌, ◌<◌, ℕ, IfSome, Some, [], length, set, slice_get};
 ghost use Rattle.modbus_frame.specs.Message.{HasQuantity};
 ghost use Rattle.service.specs.declared.search.Step.TheVariants.{Found};
 ghost use Rattle.service_core.specs.Told.{Goes};
+ghost use Rattle.service_parts.specs.Frames.{outputs_of};
 ghost use Rattle.service_parts.specs.Requests.{MayGoOver};
 ghost use Rattle.service_parts.specs.Seeking.{IsSought};
 ghost use Rattle.service_core.specs.Staying.{Stays};
+ghost use Rattle.service_core.specs.Going.{LinksGo, WishGoes};
 ghost use Rattle.service_core.specs.Having.{HasNoMore, WritesHad};
-ghost use Rattle.service_parts.specs.Frames.{LinesGo};
 ghost use Rattle.service_core.specs.Cycle.{LeadsOn};
 
 use crate::link_pace::Purpose;
@@ -18,14 +19,15 @@ use service::Step;
 use service_parts::Aim;
 
 impl Service {
+    #[tactic(auto, using(crate::proofs::Going::reads_go))]
     pub(crate) fn wish_of(&mut self, link: usize, device: usize, purpose: Purpose) -> Option<Wish>
         ensures quantity { IfSome result (λ wish. HasQuantity wish.request) }
         ensures asked { IfSome result (λ wish. MayGoOver self.new.cycle.core.value self.new.lines.links.numbers.items self.new.lines.found_on.items link wish.aim device wish.request) }
         ensures rest { Stays self.old self.new }
-        ensures lines { LinesGo self.old.lines.lines.items self.new.lines.lines.items }
+        ensures opens { WishGoes result self.old self.new }
         ensures goes { LeadsOn self.old.cycle self.new.cycle }
-        ensures sent { HasNoMore self.old.sent self.new.sent }
-        ensures stands { WritesHad self.old.sent self.old.side self.new.side }
+        ensures held { HasNoMore self.old.held self.new.held }
+        ensures stands { WritesHad self.old.held self.old.side self.new.side }
     {
         match purpose {
             Purpose::Write => self.wish_to_write(link, device),
@@ -52,10 +54,10 @@ impl Service {
         ensures quantity { IfSome result (λ wish. HasQuantity wish.request) }
         ensures asked { IfSome result (λ wish. MayGoOver self.new.cycle.core.value self.new.lines.links.numbers.items self.new.lines.found_on.items link wish.aim device wish.request) }
         ensures rest { Stays self.old self.new }
-        ensures lines { LinesGo self.old.lines.lines.items self.new.lines.lines.items }
+        ensures opens { WishGoes result self.old self.new }
         ensures goes { LeadsOn self.old.cycle self.new.cycle }
-        ensures sent { HasNoMore self.old.sent self.new.sent }
-        ensures stands { WritesHad self.old.sent self.old.side self.new.side }
+        ensures held { HasNoMore self.old.held self.new.held }
+        ensures stands { WritesHad self.old.held self.old.side self.new.side }
     {
         if !self.is_served(link, device) || !self.cycle.round().has_writes(device) {
             return None;
@@ -73,9 +75,10 @@ impl Service {
         ensures quantity { IfSome result (λ wish. HasQuantity wish.request) }
         ensures asked { IfSome result (λ wish. MayGoOver self.new.cycle.core.value self.new.lines.links.numbers.items self.new.lines.found_on.items link wish.aim device wish.request) }
         ensures rest { Stays self.old self.new }
-        ensures lines { LinesGo self.old.lines.lines.items self.new.lines.lines.items }
+        ensures reads { IfSome result (λ wish. outputs_of wish.aim ≡ []) }
+        ensures lines { LinksGo self.old self.new }
         ensures goes { LeadsOn self.old.cycle self.new.cycle }
-        ensures sent { HasNoMore self.old.sent self.new.sent }
+        ensures held { HasNoMore self.old.held self.new.held }
         ensures stands { Goes self.old.side self.new.side }
     {
         if !self.is_served(link, device) || !self.side.is_read_now(device) {
@@ -92,9 +95,10 @@ impl Service {
         ensures quantity { IfSome result (λ wish. HasQuantity wish.request) }
         ensures asked { IfSome result (λ wish. MayGoOver self.new.cycle.core.value self.new.lines.links.numbers.items self.new.lines.found_on.items link wish.aim device wish.request) }
         ensures rest { Stays self.old self.new }
-        ensures lines { LinesGo self.old.lines.lines.items self.new.lines.lines.items }
+        ensures reads { IfSome result (λ wish. outputs_of wish.aim ≡ []) }
+        ensures lines { LinksGo self.old self.new }
         ensures goes { LeadsOn self.old.cycle self.new.cycle }
-        ensures sent { HasNoMore self.old.sent self.new.sent }
+        ensures held { HasNoMore self.old.held self.new.held }
         ensures stands { Goes self.old.side self.new.side }
     {
         if self.side.is_sought(device)
@@ -112,9 +116,10 @@ impl Service {
         ensures quantity { IfSome result (λ wish. HasQuantity wish.request) }
         ensures asked { IfSome result (λ wish. MayGoOver self.new.cycle.core.value self.new.lines.links.numbers.items self.new.lines.found_on.items link wish.aim device wish.request) }
         ensures rest { Stays self.old self.new }
-        ensures lines { LinesGo self.old.lines.lines.items self.new.lines.lines.items }
+        ensures reads { IfSome result (λ wish. outputs_of wish.aim ≡ []) }
+        ensures lines { LinksGo self.old self.new }
         ensures goes { LeadsOn self.old.cycle self.new.cycle }
-        ensures sent { HasNoMore self.old.sent self.new.sent }
+        ensures held { HasNoMore self.old.held self.new.held }
         ensures stands { Goes self.old.side self.new.side }
     {
         if !self.side.is_sought(device) {
@@ -135,9 +140,10 @@ impl Service {
         ensures quantity { IfSome result (λ wish. HasQuantity wish.request) }
         ensures asked { IfSome result (λ wish. MayGoOver self.new.cycle.core.value self.new.lines.links.numbers.items self.new.lines.found_on.items link wish.aim device wish.request) }
         ensures rest { Stays self.old self.new }
-        ensures lines { LinesGo self.old.lines.lines.items self.new.lines.lines.items }
+        ensures reads { IfSome result (λ wish. outputs_of wish.aim ≡ []) }
+        ensures lines { LinksGo self.old self.new }
         ensures goes { LeadsOn self.old.cycle self.new.cycle }
-        ensures sent { HasNoMore self.old.sent self.new.sent }
+        ensures held { HasNoMore self.old.held self.new.held }
         ensures stands { Goes self.old.side self.new.side }
     {
         if self.cycle.is_mapped(device) || !self.side.is_sought(device) {
@@ -163,9 +169,10 @@ impl Service {
         ensures quantity { IfSome result (λ wish. HasQuantity wish.request) }
         ensures asked { IfSome result (λ wish. MayGoOver self.new.cycle.core.value self.new.lines.links.numbers.items self.new.lines.found_on.items link wish.aim device wish.request) }
         ensures rest { Stays self.old self.new }
-        ensures lines { LinesGo self.old.lines.lines.items self.new.lines.lines.items }
+        ensures reads { IfSome result (λ wish. outputs_of wish.aim ≡ []) }
+        ensures lines { LinksGo self.old self.new }
         ensures goes { LeadsOn self.old.cycle self.new.cycle }
-        ensures sent { HasNoMore self.old.sent self.new.sent }
+        ensures held { HasNoMore self.old.held self.new.held }
         ensures stands { Goes self.old.side self.new.side }
     {
         if self.side.is_good(device)
@@ -183,9 +190,10 @@ impl Service {
         ensures quantity { IfSome result (λ wish. HasQuantity wish.request) }
         ensures asked { IfSome result (λ wish. MayGoOver self.new.cycle.core.value self.new.lines.links.numbers.items self.new.lines.found_on.items link wish.aim device wish.request) }
         ensures rest { Stays self.old self.new }
-        ensures lines { LinesGo self.old.lines.lines.items self.new.lines.lines.items }
+        ensures reads { IfSome result (λ wish. outputs_of wish.aim ≡ []) }
+        ensures lines { LinksGo self.old self.new }
         ensures goes { LeadsOn self.old.cycle self.new.cycle }
-        ensures sent { HasNoMore self.old.sent self.new.sent }
+        ensures held { HasNoMore self.old.held self.new.held }
         ensures stands { Goes self.old.side self.new.side }
     {
         if !self.side.is_good(device) && self.may_search(link, device) {
@@ -205,9 +213,10 @@ impl Service {
         ensures quantity { IfSome result (λ wish. HasQuantity wish.request) }
         ensures asked { IfSome result (λ wish. MayGoOver self.new.cycle.core.value self.new.lines.links.numbers.items self.new.lines.found_on.items link wish.aim device wish.request) }
         ensures rest { Stays self.old self.new }
-        ensures lines { LinesGo self.old.lines.lines.items self.new.lines.lines.items }
+        ensures reads { IfSome result (λ wish. outputs_of wish.aim ≡ []) }
+        ensures lines { LinksGo self.old self.new }
         ensures goes { LeadsOn self.old.cycle self.new.cycle }
-        ensures sent { HasNoMore self.old.sent self.new.sent }
+        ensures held { HasNoMore self.old.held self.new.held }
         ensures stands { Goes self.old.side self.new.side }
     {
         self.seek_anew(device);
@@ -216,9 +225,9 @@ impl Service {
 
     fn seek_anew(&mut self, device: usize)
         ensures rest { Stays self.old self.new }
-        ensures lines { LinesGo self.old.lines.lines.items self.new.lines.lines.items }
+        ensures lines { LinksGo self.old self.new }
         ensures goes { LeadsOn self.old.cycle self.new.cycle }
-        ensures sent { HasNoMore self.old.sent self.new.sent }
+        ensures held { HasNoMore self.old.held self.new.held }
         ensures stands { Goes self.old.side self.new.side }
     {
         self.cycle.seek_anew(device, self.lines.number_for(device));
@@ -288,9 +297,10 @@ impl Service {
         ensures quantity { IfSome result (λ wish. HasQuantity wish.request) }
         ensures asked { IfSome result (λ wish. MayGoOver self.new.cycle.core.value self.new.lines.links.numbers.items self.new.lines.found_on.items link wish.aim device wish.request) }
         ensures rest { Stays self.old self.new }
-        ensures lines { LinesGo self.old.lines.lines.items self.new.lines.lines.items }
+        ensures reads { IfSome result (λ wish. outputs_of wish.aim ≡ []) }
+        ensures lines { LinksGo self.old self.new }
         ensures goes { LeadsOn self.old.cycle self.new.cycle }
-        ensures sent { HasNoMore self.old.sent self.new.sent }
+        ensures held { HasNoMore self.old.held self.new.held }
         ensures stands { Goes self.old.side self.new.side }
     {
         match self.cycle.seek(device)? {
@@ -316,9 +326,9 @@ impl Service {
     fn find_over(&mut self, link: usize, device: usize, map: Map)
         requires { ∥ IsSought self.old.cycle.core.value.site device (Found map) ∥₁ }
         ensures rest { Stays self.old self.new }
-        ensures lines { LinesGo self.old.lines.lines.items self.new.lines.lines.items }
+        ensures lines { LinksGo self.old self.new }
         ensures goes { LeadsOn self.old.cycle self.new.cycle }
-        ensures sent { HasNoMore self.old.sent self.new.sent }
+        ensures held { HasNoMore self.old.held self.new.held }
         ensures stands { Goes self.old.side self.new.side }
     {
         let Some(number) = self.lines.number_of(link) else {
@@ -339,9 +349,9 @@ impl Service {
         ensures found { (unit : ℕ) → slice_get self.old.lines.links.stations.items device ≡ Some (record { link = link; unit = unit })
             → device < length self.old.lines.found_on.items → self.new.lines.found_on.items ≡ set self.old.lines.found_on.items device (Some number) }
         ensures rest { Stays self.old self.new }
-        ensures lines { LinesGo self.old.lines.lines.items self.new.lines.lines.items }
+        ensures lines { LinksGo self.old self.new }
         ensures goes { LeadsOn self.old.cycle self.new.cycle }
-        ensures sent { HasNoMore self.old.sent self.new.sent }
+        ensures held { HasNoMore self.old.held self.new.held }
         ensures stands { Goes self.old.side self.new.side }
     {
         self.cycle.learn(device, Some(map));
@@ -351,9 +361,9 @@ impl Service {
 
     fn find_none(&mut self, device: usize)
         ensures rest { Stays self.old self.new }
-        ensures lines { LinesGo self.old.lines.lines.items self.new.lines.lines.items }
+        ensures lines { LinksGo self.old self.new }
         ensures goes { LeadsOn self.old.cycle self.new.cycle }
-        ensures sent { HasNoMore self.old.sent self.new.sent }
+        ensures held { HasNoMore self.old.held self.new.held }
         ensures stands { Goes self.old.side self.new.side }
     {
         self.cycle.seek_anew(device, self.lines.number_for(device));

@@ -22,7 +22,7 @@ const MOST: usize = 64;
 pub struct Lookup {
     process: Child<SystemProcess>,
     stream: Connection<UnixStream>,
-    answer: Answer,
+    answer: LookupAnswer,
     port: u16,
 }
 
@@ -53,7 +53,7 @@ impl Lookup {
         Ok(Lookup {
             process: started(rt, alloc, name, OwnedFd::from(theirs))?,
             stream: Connection::new(stream),
-            answer: Answer::new(),
+            answer: LookupAnswer::new(),
             port,
         })
     }
@@ -114,14 +114,14 @@ fn started<R: Processes<Started = SystemProcess>>(
 
 /// The first bytes of an answer; what comes after them isn't kept.
 #[derive(Drop)]
-struct Answer {
+struct LookupAnswer {
     bytes: [u8; 64],
     count: usize,
 }
 
-impl Answer {
-    fn new() -> Answer {
-        Answer {
+impl LookupAnswer {
+    fn new() -> LookupAnswer {
+        LookupAnswer {
             bytes: [0; MOST],
             count: 0,
         }
@@ -136,7 +136,7 @@ impl Answer {
     }
 }
 
-impl Taker for Answer {
+impl Taker for LookupAnswer {
     ghost use Rattle.std.specs.Prelude.{None};
 
     ghost taken = { λ _. None };

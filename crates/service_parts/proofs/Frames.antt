@@ -1,5 +1,5 @@
 -- Steps of what goes out over a connection.
-use Rattle.std.proofs.Common.{◌≡◌, ◌≢◌, ◌⊎◌, inl, inr, ℕ, zero, suc, eqb, Bool, true, false, List, [], ◌∷◌, ◌++◌, take, drop, length, Option, None, Some, slice_get, set, refl, sym, ap, subst, ◌∙◌, append_assoc, arith}
+use Rattle.std.proofs.Common.{◌≡◌, ◌≢◌, ◌⊎◌, inl, inr, ℕ, zero, suc, eqb, Bool, true, false, List, [], ◌∷◌, ◌++◌, take, drop, length, Option, None, Some, slice_get, set, refl, sym, ap, subst, ◌∙◌, append_assoc, arith, ◌+◌, ◌≤◌}
 use Rattle.std.specs.Prelude.{IsTrue, is_none, not, min, ◌&&◌, ◌==◌}
 use Rattle.std.specs.List.{flat_map}
 use Rattle.std.proofs.Math.Logic.{∥∥₁_elim, ∥∥₁_prop}
@@ -8,18 +8,20 @@ use Rattle.std.proofs.lemmas.Bool.Decides.{eqb_tells}
 use Rattle.std.proofs.lemmas.List.{append-nil, take-append-drop}
 use Rattle.modbus_frame.specs.Frame.{frame_bytes}
 use Rattle.gateway.specs.poller.LinkRun.{Asked as Request, frame_of, next_id}
-use Rattle.service.specs.declared.fate.Fate.{Fate}
 use Rattle.service_parts.specs.declared.line.Line.{Line}
+use Rattle.service.specs.declared.task.Task.{Task}
+use Rattle.service_parts.specs.declared.asked.Aim.{Aim}
 use Rattle.service_parts.specs.declared.asked.Asked.{Asked}
-use Rattle.service_parts.specs.Frames.{AreNumbered, Begins, CourseBy, FramesGoOutWhole, GivesUp, Hears, HearingStep, IsCut, IsSending, Keeps, Led, LinesGo, LinesGoBy, OthersGo, OwnStep, Sends, begins, gives_up, keeps, stays, goes}
+use Rattle.service_parts.specs.Frames.{AreNumbered, Begins, CourseBy, FramesGoOutWhole, GivesUp, HearingStep, IsLed, IsSending, Keeps, LinesGo, LinkGoes, OthersGo, OwnStep, Sends, TakesDue, begins, begun, begun_by, due_at, gives_up, keeps, stays, goes, times_asked}
 
-pub keeps_by : (old new : Line) → new.asked ≡ old.asked → new.inquiry ≡ old.inquiry → new.id ≡ old.id → new.out.items ≡ old.out.items → (old.is_bad ≡ true → new.is_bad ≡ true) → Keeps old new
-keeps_by old new asked heard next same bad = record {
+pub keeps_by : (old new : Line) → new.asked ≡ old.asked → new.inquiry ≡ old.inquiry → new.id ≡ old.id → new.out.items ≡ old.out.items → (old.is_bad ≡ true → new.is_bad ≡ true) → new.is_up ≡ old.is_up → new.dial_at ≡ old.dial_at → new.wait ≡ old.wait → Keeps old new
+keeps_by old new asked heard next same bad up dial wait = record {
   still = asked;
   heard = heard;
   next = next;
   same = same;
   bad = bad;
+  linked = record { up = up; dial = dial; wait = wait };
 }
 
 -- ---- a place of a list
@@ -39,44 +41,65 @@ set_other (y ∷ xs) zero (suc k) v other = refl
 set_other (y ∷ xs) (suc i) zero v other = refl
 set_other (y ∷ xs) (suc i) (suc k) v other = set_other xs i k v (λ e. other (ap suc e))
 
+-- ---- how often a number stands in a list
+
+pub times_joined : (i : ℕ) (xs ys : List ℕ) → times_asked i (xs ++ ys) ≡ times_asked i xs + times_asked i ys
+times_joined i [] ys = omega arith
+times_joined i (x ∷ xs) ys = omega (arith, times_joined i xs ys)
+
 -- ---- a step on one line
 
-module _ (Step : Line → Line → Type 0) (lines : List Line) (at : ℕ) (old new : Line) (is : slice_get lines at ≡ Some old) (step : Step old new) where
-  led_on : (from : Line) → Led Step from lines at → Led Step from (set lines at new) at
-  led_on from led = record {
-    line = new;
-    there = set_there lines at old new is;
-    course = goes (subst (CourseBy Step from) (some_same led.there is) led.course) new step;
-  }
+module _ (lines : List Line) (at : ℕ) (old new : Line) (is : slice_get lines at ≡ Some old) (step : OwnStep old new) where
+  led_on : (most : ℕ → ℕ) (from : Line) (before after : List Task) → ((output : ℕ) → times_asked output (begun_by step) + due_at output after ≤ due_at output before)
+      → IsLed most from before lines at → IsLed most from after (set lines at new) at
+  led_on most from before after takes led =
+      let P : Line → Type 0 = λ x. (course : CourseBy OwnStep from x) × ((output : ℕ) → times_asked output (begun course) + due_at output before ≤ most output) in
+      let (course, within) = subst P (some_same led.there is) (led.course, led.within) in
+      record {
+        line = new;
+        there = set_there lines at old new is;
+        course = goes course new step;
+        within = λ output. omega (arith, times_joined output (begun_by step) (begun course), takes output, within output);
+      }
 
-  pub line_goes : LinesGoBy Step at lines (set lines at new)
-  line_goes from before = ∥∥₁_elim before ∥∥₁_prop (λ led. ∣ led_on from led ∣₁)
+  pub line_goes : (before after : List Task) → ((output : ℕ) → times_asked output (begun_by step) + due_at output after ≤ due_at output before) → LinkGoes at before lines after (set lines at new)
+  line_goes before after takes most from led = ∥∥₁_elim led ∥∥₁_prop (λ l. ∣ led_on most from before after takes l ∣₁)
 
-other_goes : (Step : Line → Line → Type 0) (lines : List Line) (at link : ℕ) (new : Line) → link ≢ at → LinesGoBy Step link lines (set lines at new)
-other_goes Step lines at link new other from before = ∥∥₁_elim before ∥∥₁_prop (λ led. ∣ record {
+same_line : (most : ℕ → ℕ) (from : Line) (before after : List Task) (lines now : List Line) (link : ℕ) → slice_get now link ≡ slice_get lines link → ((output : ℕ) → due_at output after ≤ due_at output before)
+    → IsLed most from before lines link → IsLed most from after now link
+same_line most from before after lines now link same fewer led = record {
   line = led.line;
-  there = set_other lines at link new other ∙ led.there;
+  there = same ∙ led.there;
   course = led.course;
-} ∣₁)
+  within = λ output. omega (arith, fewer output, led.within output);
+}
+
+pub still_goes : (before after : List Task) (lines now : List Line) (link : ℕ) → slice_get now link ≡ slice_get lines link → ((output : ℕ) → due_at output after ≤ due_at output before) → LinkGoes link before lines after now
+still_goes before after lines now link same fewer most from led = ∥∥₁_elim led ∥∥₁_prop (λ l. ∣ same_line most from before after lines now link same fewer l ∣₁)
+
+no_fewer : (tasks : List Task) (output : ℕ) → due_at output tasks ≤ due_at output tasks
+no_fewer tasks output = omega arith
 
 pub others_go : (lines : List Line) (at : ℕ) (new : Line) → OthersGo at lines (set lines at new)
-others_go lines at new link other = other_goes OwnStep lines at link new other
+others_go lines at new link tasks other = still_goes tasks tasks lines (set lines at new) link (set_other lines at link new other) (no_fewer tasks)
 
-own_goes : (lines : List Line) (at : ℕ) (old new : Line) → slice_get lines at ≡ Some old → OwnStep old new → LinesGo lines (set lines at new)
-own_goes lines at old new is step link = go (eqb_tells link at)
+own_goes : (lines : List Line) (at : ℕ) (old new : Line) → slice_get lines at ≡ Some old → (step : OwnStep old new) → (before after : List Task)
+    → ((output : ℕ) → times_asked output (begun_by step) + due_at output after ≤ due_at output before) → (link : ℕ) → LinkGoes link before lines after (set lines at new)
+own_goes lines at old new is step before after takes link = go (eqb_tells link at)
   where
-    go : ((eqb link at ≡ true) × (link ≡ at)) ⊎ ((eqb link at ≡ false) × (link ≢ at)) → LinesGoBy OwnStep link lines (set lines at new)
-    go (inl here) = subst (λ k. LinesGoBy OwnStep k lines (set lines at new)) (sym here.1) (line_goes OwnStep lines at old new is step)
-    go (inr away) = other_goes OwnStep lines at link new away.1
+    go : ((eqb link at ≡ true) × (link ≡ at)) ⊎ ((eqb link at ≡ false) × (link ≢ at)) → LinkGoes link before lines after (set lines at new)
+    go (inl here) = subst (λ k. LinkGoes k before lines after (set lines at new)) (sym here.1) (line_goes lines at old new is step before after takes)
+    go (inr away) = still_goes before after lines (set lines at new) link (set_other lines at link new away.1) (λ output. omega (arith, takes output))
 
 pub keeps_goes : (lines : List Line) (at : ℕ) (old new : Line) → slice_get lines at ≡ Some old → Keeps old new → LinesGo lines (set lines at new)
-keeps_goes lines at old new is step = own_goes lines at old new is (keeps step)
+keeps_goes lines at old new is step link tasks = own_goes lines at old new is (keeps step) tasks tasks (λ output. omega arith) link
 
 pub given_up_goes : (lines : List Line) (at : ℕ) (old new : Line) → slice_get lines at ≡ Some old → GivesUp old new → LinesGo lines (set lines at new)
-given_up_goes lines at old new is step = own_goes lines at old new is (gives_up step)
+given_up_goes lines at old new is step link tasks = own_goes lines at old new is (gives_up step) tasks tasks (λ output. omega arith) link
 
-pub begun_goes : (lines : List Line) (at : ℕ) (old new : Line) → slice_get lines at ≡ Some old → Begins old new → LinesGo lines (set lines at new)
-begun_goes lines at old new is step = own_goes lines at old new is (begins step)
+pub begun_goes : (lines : List Line) (at : ℕ) (old new : Line) → slice_get lines at ≡ Some old → (step : Begins old new) → (before after : List Task) → TakesDue step.asked.aim before after
+    → (link : ℕ) → LinkGoes link before lines after (set lines at new)
+begun_goes lines at old new is step before after takes = own_goes lines at old new is (begins step) before after takes.each
 
 -- ---- what went out
 
@@ -130,30 +153,32 @@ frames_go_out_whole = record {
 pub is_at : (P : Line → Type 0) (lines : List Line) (at : ℕ) (old new : Line) → slice_get lines at ≡ Some old → P new → (line : Line) → slice_get (set lines at new) at ≡ Some line → P line
 is_at P lines at old new is p line there = subst P (some_same (set_there lines at old new is) there) p
 
-pub cut_at : (lines : List Line) (at : ℕ) (old new : Line) → slice_get lines at ≡ Some old → IsCut new → (line : Line) → slice_get lines at ≡ Some line
-    → (cut : Line) × (slice_get (set lines at new) at ≡ Some cut) × IsCut cut
-cut_at lines at old new is cut line there = (new, set_there lines at old new is, cut)
-
-pub sends_at : (lines : List Line) (at n : ℕ) (old new : Line) → slice_get lines at ≡ Some old → Sends n old new → (line : Line) → slice_get lines at ≡ Some line
-    → (rest : Line) × (slice_get (set lines at new) at ≡ Some rest) × Sends n line rest
-sends_at lines at n old new is sends line there = (new, set_there lines at old new is, subst (λ (x : Line). Sends n x new) (some_same is there) sends)
-
-pub hears_at : (lines : List Line) (at : ℕ) (bytes : List ℕ) (fate : Option Fate) (old new : Line) → slice_get lines at ≡ Some old → Hears bytes fate old new → (line : Line) → slice_get lines at ≡ Some line
-    → (heard : Line) × (slice_get (set lines at new) at ≡ Some heard) × Hears bytes fate line heard
-hears_at lines at bytes fate old new is hears line there = (new, set_there lines at old new is, subst (λ (x : Line). Hears bytes fate x new) (some_same is there) hears)
+-- a step of a line that stands at its place
+pub step_at : (Step : Line → Line → Type 0) (lines : List Line) (at : ℕ) (old new : Line) → slice_get lines at ≡ Some old → Step old new → (line : Line) → slice_get lines at ≡ Some line
+    → (now : Line) × (slice_get (set lines at new) at ≡ Some now) × Step line now
+step_at Step lines at old new is step line there = (new, set_there lines at old new is, subst (λ (x : Line). Step x new) (some_same is there) step)
 
 same_at : (lines : List Line) (at : ℕ) (old : Line) → slice_get lines at ≡ Some old → set lines at old ≡ lines
 same_at [] at old is = refl
 same_at (x ∷ lines) zero old is = ap (λ (y : Line). y ∷ lines) (some_same refl (sym is))
 same_at (x ∷ lines) (suc at) old is = ap (λ (l : List Line). x ∷ l) (same_at lines at old is)
 
--- where one may begin it does, else nothing changes
-pub begun_goes_if : (lines : List Line) (at : ℕ) (old new : Line) (did : Bool) → slice_get lines at ≡ Some old → (IsTrue did → Begins old new) → (did ≡ false → new ≡ old) → LinesGo lines (set lines at new)
-begun_goes_if lines at old new true is begun none = begun_goes lines at old new is (begun refl)
-begun_goes_if lines at old new false is begun none = subst (λ (x : Line). LinesGo lines (set lines at x)) (sym (none refl)) (subst (λ (l : List Line). LinesGo lines l) (sym (same_at lines at old is)) (λ link from before. before))
-
 pub unchanged : (lines : List Line) (at : ℕ) (old new : Line) → slice_get lines at ≡ Some old → new ≡ old → set lines at new ≡ lines
 unchanged lines at old new is same = ap (set lines at) same ∙ same_at lines at old is
+
+-- a request that may not begin takes nothing of what is due
+pub not_begun : (made_for : Aim) (before after : List Task) (lines : List Line) → TakesDue made_for before after → (link : ℕ) → LinkGoes link before lines after lines
+not_begun made_for before after lines takes link = still_goes before after lines lines link refl (λ output. omega (arith, takes.each output))
+
+-- where one may begin it does, else nothing changes
+pub begun_goes_if : (lines : List Line) (at : ℕ) (old new : Line) (did : Bool) (asked : Asked) → slice_get lines at ≡ Some old → (IsTrue did → (step : Begins old new) × (step.asked ≡ asked)) → (did ≡ false → new ≡ old)
+    → (before after : List Task) → TakesDue asked.aim before after → (link : ℕ) → LinkGoes link before lines after (set lines at new)
+begun_goes_if lines at old new true asked is did_begin none before after takes link =
+    let (step, own) = did_begin refl in
+    let P : Asked → Type 0 = λ a. TakesDue a.aim before after in
+    begun_goes lines at old new is step before after (subst P (sym own) takes) link
+begun_goes_if lines at old new false asked is did_begin none before after takes link =
+    still_goes before after lines (set lines at new) link (ap (λ (l : List Line). slice_get l link) (unchanged lines at old new is (none refl))) (λ output. omega (arith, takes.each output))
 
 -- ---- what is free
 

@@ -32,7 +32,7 @@ use Rattle.service_parts.specs.Calls.{IsCallFor}
 use Rattle.service_parts.specs.Course.{Goes, GoesBy, GoesOn, IsOfClients, IsOfRounds, LeadsOnBy, Reached, stays, steps, learns}
 use Rattle.service_parts.specs.Course as course
 use Rattle.service_parts.specs.Frames.{Begins, GivesUp, Hears, IsCut, Keeps, Sends, TakesWhere, left_under_way}
-use Rattle.service_parts.specs.Requests.{AreRightful, AreRightfulBy, IsFoundOn, IsMade, IsNoted, IsNotedIf, IsOfRound, IsRightful, IsRightfulLine, IsRightfulOn, MayBeAsked, MayGoOver}
+use Rattle.service_parts.specs.Requests.{AreRightful, AreRightfulBy, IsFoundOn, IsMade, IsNoted, IsNotedIf, IsOfRound, IsRightful, IsRightfulLine, IsRightfulOn, MayBeAsked, MayGoOver, words_of}
 use Rattle.service_parts.specs.Seeking.{IsSought}
 use Rattle.service_parts.proofs.Frames.{set_other, set_there, unchanged}
 
@@ -127,6 +127,7 @@ module _ (now : Gateway) (stations : List Station) (found_on : List (Option ℕ)
         waits = ap (λ (h : Hearing). h.wait) keeps.heard ∙ noted.waits;
         made = noted.made;
         address = noted.address;
+        words = noted.words;
         gone = noted.gone;
         whole = ap (λ l. noted.gone ++ l) keeps.same ∙ noted.whole;
       }
@@ -151,6 +152,7 @@ module _ (now : Gateway) (stations : List Station) (found_on : List (Option ℕ)
         waits = ap (λ (l : Line). l.inquiry.wait) sends.same ∙ noted.waits;
         made = noted.made;
         address = noted.address;
+        words = noted.words;
         gone = noted.gone ++ take (min n (length old.out.items)) old.out.items;
         whole = ap (λ l. (noted.gone ++ take (min n (length old.out.items)) old.out.items) ++ l) sends.left
             ∙ (append_assoc noted.gone (take (min n (length old.out.items)) old.out.items) (drop (min n (length old.out.items)) old.out.items)
@@ -170,6 +172,7 @@ module _ (now : Gateway) (stations : List Station) (found_on : List (Option ℕ)
         waits = waits;
         made = subst (λ (r : FrameRequest). IsMade now stations found_on link number asked.aim asked.device r) (sym same) noted.made;
         address = noted.address ∙ ap (λ (r : FrameRequest). address_of r.request) (sym same);
+        words = noted.words ∙ ap (λ (r : FrameRequest). words_of r.request) (sym same);
         gone = noted.gone;
         whole = ap (λ l. noted.gone ++ l) hears.same ∙ (noted.whole ∙ ap (λ (r : FrameRequest). frame_bytes (frame_of r)) (sym same));
       }
@@ -185,8 +188,8 @@ module _ (now : Gateway) (stations : List Station) (found_on : List (Option ℕ)
 
   begun_line : (old new : Line) (begins : Begins old new) → begins.asked.number ≡ number → slice_get stations begins.asked.device ≡ Some (record { link = link; unit = begins.request.unit })
       → Reached now → MayBeAsked now found_on number begins.asked.aim begins.asked.device begins.request.request
-      → begins.asked.address ≡ address_of begins.request.request → IsRightfulLine now stations found_on link number new
-  begun_line old new begins over station reached asked address =
+      → begins.asked.address ≡ address_of begins.request.request → begins.asked.words ≡ words_of begins.request.request → IsRightfulLine now stations found_on link number new
+  begun_line old new begins over station reached asked address words =
       let made : IsMade now stations found_on link number begins.asked.aim begins.asked.device begins.request = record {
         station = station;
         core = now;
@@ -202,6 +205,7 @@ module _ (now : Gateway) (stations : List Station) (found_on : List (Option ℕ)
           waits = ap (λ (h : Hearing). h.wait) begins.under_way;
           made = made;
           address = address;
+          words = words;
           gone = [];
           whole = begins.frame;
         });
@@ -246,13 +250,13 @@ module _ (now : Gateway) (stations : List Station) (numbers : List ℕ) (found_o
   -- a request begins that may be asked over the connection that the link has now
   pub with_begun : (link unit : ℕ) (asked : Asked) (request : Request) (old new : Line) → AreRightful now stations numbers found_on lines → ∥ Reached now ∥₁
       → slice_get numbers link ≡ Some asked.number → slice_get stations asked.device ≡ Some (record { link = link; unit = unit }) → MayGoOver now numbers found_on link asked.aim asked.device request
-      → asked.address ≡ address_of request → ((begins : Begins old new) × (begins.asked ≡ asked) × (begins.request.unit ≡ unit) × (begins.request.request ≡ request)) → AreRightful now stations numbers found_on (set lines link new)
-  with_begun link unit asked request old new before reached numbered station may address (begins, is, at_unit, own) = with_line link new before (λ number has.
+      → asked.address ≡ address_of request → asked.words ≡ words_of request → ((begins : Begins old new) × (begins.asked ≡ asked) × (begins.request.unit ≡ unit) × (begins.request.request ≡ request)) → AreRightful now stations numbers found_on (set lines link new)
+  with_begun link unit asked request old new before reached numbered station may address words (begins, is, at_unit, own) = with_line link new before (λ number has.
       let same : asked.number ≡ number = same_number numbered has in
       ∥∥₁_elim reached ∥∥₁_prop (λ r. ∥∥₁_elim (may number has) ∥∥₁_prop (λ m. ∣ begun_line now stations found_on link number old new begins (ap (λ (x : Asked). x.number) is ∙ same)
       (subst (λ (x : Asked). slice_get stations x.device ≡ Some (record { link = link; unit = begins.request.unit })) (sym is) (station ∙ ap (λ u. Some (record { link = link; unit = u })) (sym at_unit)))
       r (subst (λ (x : Asked). MayBeAsked now found_on number x.aim x.device begins.request.request) (sym is) (subst (λ q. MayBeAsked now found_on number asked.aim asked.device q) (sym own) m))
-      (ap (λ (x : Asked). x.address) is ∙ (address ∙ ap address_of (sym own))) ∣₁)))
+      (ap (λ (x : Asked). x.address) is ∙ (address ∙ ap address_of (sym own))) (ap (λ (x : Asked). x.words) is ∙ (words ∙ ap words_of (sym own))) ∣₁)))
 
   -- ---- a new connection, on which nothing waits
 
@@ -307,6 +311,7 @@ module _ (now : Gateway) (stations : List Station) (numbers : List ℕ) (found_o
         waits = n.waits;
         made = made asked.aim asked.device n.wait.asked n.made;
         address = n.address;
+        words = n.words;
         gone = n.gone;
         whole = n.whole;
       }
@@ -346,6 +351,7 @@ module _ (old new : Gateway) (stations : List Station) (found_on : List (Option 
     waits = n.waits;
     made = made;
     address = n.address;
+    words = n.words;
     gone = n.gone;
     whole = n.whole;
   } ∣₁)
@@ -373,10 +379,10 @@ right_behind_clients old new lines goes before = right_by IsOfClients old new li
 
 pub with_begun_if : (now : Gateway) (stations : List Station) (numbers : List ℕ) (found_on : List (Option ℕ)) (lines : List Line) (link unit : ℕ) (asked : Asked) (request : Request) (old new : Line) (did : Bool)
     → AreRightful now stations numbers found_on lines → ∥ Reached now ∥₁ → slice_get numbers link ≡ Some asked.number → slice_get stations asked.device ≡ Some (record { link = link; unit = unit })
-    → MayGoOver now numbers found_on link asked.aim asked.device request → asked.address ≡ address_of request → slice_get lines link ≡ Some old
+    → MayGoOver now numbers found_on link asked.aim asked.device request → asked.address ≡ address_of request → asked.words ≡ words_of request → slice_get lines link ≡ Some old
     → (IsTrue did → (begins : Begins old new) × (begins.asked ≡ asked) × (begins.request.unit ≡ unit) × (begins.request.request ≡ request)) → (did ≡ false → new ≡ old)
     → AreRightful now stations numbers found_on (set lines link new)
-with_begun_if now stations numbers found_on lines link unit asked request old new true before reached numbered station may address is begun none =
-    with_begun now stations numbers found_on lines link unit asked request old new before reached numbered station may address (begun refl)
-with_begun_if now stations numbers found_on lines link unit asked request old new false before reached numbered station may address is begun none =
+with_begun_if now stations numbers found_on lines link unit asked request old new true before reached numbered station may address words is begun none =
+    with_begun now stations numbers found_on lines link unit asked request old new before reached numbered station may address words (begun refl)
+with_begun_if now stations numbers found_on lines link unit asked request old new false before reached numbered station may address words is begun none =
     subst (λ (l : List Line). AreRightful now stations numbers found_on l) (sym (unchanged lines link old new is (none refl))) before

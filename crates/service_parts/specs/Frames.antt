@@ -1,13 +1,30 @@
 -- What goes out over a connection to devices, frame by frame: a request begins where none is under way, and its whole frame
 -- is to be written (MODBUS Messaging on TCP/IP Implementation Guide, sections 3.1.3 and 4.4.1).
-use Rattle.std.specs.Prelude.{◌≡◌, ◌⊎◌, ◌&&◌, not, ℕ, Bool, true, false, List, [], ◌∷◌, ◌++◌, drop, take, min, length, Option, None, Some, slice_get}
+use Rattle.std.specs.Prelude.{◌≡◌, ◌⊎◌, ◌&&◌, not, is_none, ℕ, ◌+◌, ◌≤◌, ◌==◌, if◌then◌else◌, Bool, true, false, List, [], ◌∷◌, ◌++◌, drop, take, min, length, Option, None, Some, slice_get}
 use Rattle.std.specs.List.{flat_map}
+use Rattle.std.specs.Option.{option_map_or}
 use Rattle.modbus_frame.specs.Frame.{frame_bytes}
 use Rattle.gateway.specs.poller.LinkRun.{Asked as Request, frame_of, next_id}
 use Rattle.service.specs.declared.fate.Fate.{Fate}
 use Rattle.service.specs.Hearing.{Takes, Wire as Hearing, asking, fresh}
+use Rattle.service.specs.declared.task.Mark.{Mark}
+use Rattle.service.specs.declared.task.Mark.TheVariants as mark
+use Rattle.service.specs.declared.task.Task.{Task}
+use Rattle.service_parts.specs.declared.limits.Limits.{Limits}
 use Rattle.service_parts.specs.declared.line.Line.{Line}
+use Rattle.service_parts.specs.declared.asked.Aim.{Aim}
+use Rattle.service_parts.specs.declared.asked.Aim.TheVariants as aim
 use Rattle.service_parts.specs.declared.asked.Asked.{Asked}
+use Rattle.service_parts.specs.Answering.{answers}
+use Rattle.service_parts.specs.Backing.{after, longer}
+
+-- ---- the connection itself
+
+-- Whether it is up stays, when it is made again, and its back-off.
+pub record StaysLinked (old new : Line) : Type 0 where
+  pub up : new.is_up ≡ old.is_up
+  pub dial : new.dial_at ≡ old.dial_at
+  pub wait : new.wait ≡ old.wait
 
 -- ---- one step
 
@@ -25,6 +42,7 @@ pub record Begins (old new : Line) : Type 0 where
   pub noted : new.asked ≡ Some asked
   pub under_way : new.inquiry ≡ asking old.inquiry request
   pub frame : new.out.items ≡ frame_bytes (frame_of request)
+  pub linked : StaysLinked old new
 
 -- The request that is under way is given up. Over a connection on which a part of a frame waits nothing more begins.
 pub record GivesUp (old new : Line) : Type 0 where
@@ -33,6 +51,7 @@ pub record GivesUp (old new : Line) : Type 0 where
   pub same : new.out.items ≡ old.out.items
   pub bad : old.is_bad ≡ true → new.is_bad ≡ true
   pub spoils : (old.out.items ≡ [] → ⊥) → new.is_bad ≡ true
+  pub linked : StaysLinked old new
 
 -- Nothing happens to the request that is under way.
 pub record Keeps (old new : Line) : Type 0 where
@@ -41,24 +60,34 @@ pub record Keeps (old new : Line) : Type 0 where
   pub next : new.id ≡ old.id
   pub same : new.out.items ≡ old.out.items
   pub bad : old.is_bad ≡ true → new.is_bad ≡ true
+  pub linked : StaysLinked old new
 
 -- what is under way after a fate
 abbrev pub left_under_way : Option Fate → Option Asked → Option Asked
 left_under_way None asked = asked
 left_under_way (Some fate) asked = None
 
+-- the request that a fate ends
+abbrev pub ended_by : Option Fate → Option Asked → Option Asked
+ended_by None asked = None
+ended_by (Some fate) asked = asked
+
 -- Over a connection that is well they are taken; over any other one nothing is heard.
 abbrev pub TakesWhere : Bool → Hearing → List ℕ → Option Fate → Hearing → Type 0
 TakesWhere true old bytes fate new = Takes old bytes fate new
 TakesWhere false old bytes fate new = (fate ≡ None) × (new ≡ old)
 
--- These bytes are taken of its stream; what they tell became of the request ends it, and nothing else does.
+-- These bytes are taken of its stream; what they tell became of the request ends it, and nothing else does. An answer ends its
+-- back-off.
 pub record Hears (bytes : List ℕ) (fate : Option Fate) (old new : Line) : Type 0 where
   pub takes : TakesWhere (old.is_up && not old.is_bad) old.inquiry bytes fate new.inquiry
   pub asked : new.asked ≡ left_under_way fate old.asked
   pub next : new.id ≡ old.id
   pub same : new.out.items ≡ old.out.items
   pub bad : new.is_bad ≡ old.is_bad
+  pub up : new.is_up ≡ old.is_up
+  pub dial : new.dial_at ≡ old.dial_at
+  pub wait : new.wait ≡ (if answers fate then 0 else old.wait)
 
 -- So many of the bytes that wait are written.
 pub record Sends (n : ℕ) (old new : Line) : Type 0 where
@@ -70,6 +99,25 @@ pub record IsCut (line : Line) : Type 0 where
   pub begins : line.inquiry ≡ fresh
   pub none : line.asked ≡ None
   pub quiet : line.out.items ≡ []
+
+-- It comes up: a new stream begins.
+pub record ComesUp (old new : Line) : Type 0 where
+  pub cut : IsCut new
+  pub up : new.is_up ≡ true
+  pub well : new.is_bad ≡ false
+  pub wait : new.wait ≡ old.wait
+
+-- It does nothing and its devices answered.
+abbrev pub is_idle : Line → Bool
+is_idle line = line.is_up && not line.is_bad && is_none line.asked && line.is_heard
+
+-- It goes down: its stream is over. One that ended while it did nothing is made again after its last back-off, which is none; any
+-- other one after a longer one.
+pub record GoesDown (now : ℕ) (limits : Limits) (old new : Line) : Type 0 where
+  pub cut : IsCut new
+  pub down : new.is_up ≡ false
+  pub wait : new.wait ≡ (if is_idle old then old.wait else longer old.wait (min limits.period 1000) limits.back_off_most)
+  pub dial : new.dial_at ≡ after now new.wait
 
 -- ---- kinds of steps
 
@@ -94,23 +142,61 @@ pub data CourseBy (Step : Line → Line → Type 0) : Line → Line → Type 0 w
   stays : (line : Line) → CourseBy Step line line
   goes : {old middle : Line} → CourseBy Step old middle → (new : Line) → Step middle new → CourseBy Step old new
 
--- There is a line at that place, and such steps alone led to it.
-pub record Led (Step : Line → Line → Type 0) (from : Line) (lines : List Line) (link : ℕ) : Type 0 where
+-- ---- which writes begin on the way
+
+-- the output that is written by a request that was made for this
+abbrev pub outputs_of : Aim → List ℕ
+outputs_of (aim.Output output) = output ∷ []
+outputs_of (aim.Block want) = []
+outputs_of aim.Map = []
+
+abbrev pub begun_by : {old new : Line} → OwnStep old new → List ℕ
+begun_by (begins step) = outputs_of step.asked.aim
+begun_by (gives_up step) = []
+begun_by (keeps step) = []
+
+-- the outputs whose writes begin, the last one first
+abbrev pub begun : {old new : Line} → CourseBy OwnStep old new → List ℕ
+begun (stays line) = []
+begun (goes course new step) = begun_by step ++ begun course
+
+abbrev pub times_asked : ℕ → List ℕ → ℕ
+times_asked i [] = 0
+times_asked i (k ∷ asked) = (if k == i then 1 else 0) + times_asked i asked
+
+abbrev pub due_by : Mark → ℕ
+due_by mark.Due = 1
+due_by mark.Asked = 0
+due_by mark.Done = 0
+
+-- 1 where the write of an output is still to be made, else 0
+abbrev pub due_at : ℕ → List Task → ℕ
+due_at output tasks = option_map_or (λ (t : Task). due_by t.mark) (slice_get tasks output) 0
+
+-- What a service does by itself led from the one line to that of a link. Of each output no more writes began on the way than so
+-- many, and one less where its write is still to be made.
+pub record IsLed (most : ℕ → ℕ) (from : Line) (tasks : List Task) (lines : List Line) (link : ℕ) : Type 0 where
   pub line : Line
   pub there : slice_get lines link ≡ Some line
-  pub course : CourseBy Step from line
+  pub course : CourseBy OwnStep from line
+  pub within : (output : ℕ) → times_asked output (begun course) + due_at output tasks ≤ most output
 
--- Whatever such steps led to a line, they lead to what it is now.
-abbrev pub LinesGoBy : (Line → Line → Type 0) → ℕ → List Line → List Line → Type 0
-LinesGoBy Step link old new = (from : Line) → ∥ Led Step from old link ∥₁ → ∥ Led Step from new link ∥₁
+-- Whatever led to a link's line leads to what it is now. Each write that begins was still to be made, and isn't any more.
+abbrev pub LinkGoes : (link : ℕ) → (tasks : List Task) → (lines : List Line) → (left : List Task) → (now : List Line) → Type 0
+LinkGoes link tasks lines left now = (most : ℕ → ℕ) (from : Line) → ∥ IsLed most from tasks lines link ∥₁ → ∥ IsLed most from left now link ∥₁
 
--- each of them by what a service does by itself
+-- Each link's line goes on so, whatever is still to be written: no write begins.
 abbrev pub LinesGo : List Line → List Line → Type 0
-LinesGo old new = (link : ℕ) → LinesGoBy OwnStep link old new
+LinesGo old new = (link : ℕ) (tasks : List Task) → LinkGoes link tasks old tasks new
 
 -- all but that of one link
 abbrev pub OthersGo : ℕ → List Line → List Line → Type 0
-OthersGo at old new = (link : ℕ) → (link ≡ at → ⊥) → LinesGoBy OwnStep link old new
+OthersGo at old new = (link : ℕ) (tasks : List Task) → (link ≡ at → ⊥) → LinkGoes link tasks old tasks new
+
+-- The write of an output that a request was made for was still to be made, and isn't any more; nor is that of another one which
+-- wasn't.
+pub record TakesDue (made_for : Aim) (before after : List Task) : Type 0 where
+  pub each : (output : ℕ) → times_asked output (outputs_of made_for) + due_at output after ≤ due_at output before
 
 -- ---- what went out
 

@@ -1,3 +1,5 @@
+pub mod Answering
+pub mod Backing
 pub mod Seeking
 pub mod Course
 pub mod Calls

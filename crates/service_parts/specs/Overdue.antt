@@ -1,5 +1,5 @@
 -- Which request took its time, and which devices are reached over a link. No standard says it; it is this project's.
-use Rattle.std.specs.Prelude.{◌≡◌, ℕ, nat_le, List, Option, None, Some, option_and_then, slice_get, if◌then◌else◌}
+use Rattle.std.specs.Prelude.{◌≡◌, ℕ, nat_le, Bool, false, List, Option, None, Some, option_and_then, slice_get, if◌then◌else◌}
 use Rattle.service_parts.specs.declared.limits.Station.{Station}
 use Rattle.service_parts.specs.declared.line.Line.{Line}
 use Rattle.service_parts.specs.declared.asked.Asked.{Asked}
@@ -12,6 +12,10 @@ pub record IsAt (stations : List Station) (link device : ℕ) : Type 0 where
 -- the request that is under way on a link
 abbrev pub asked_at : List Line → ℕ → Option Asked
 asked_at lines link = option_and_then (λ (line : Line). line.asked) (slice_get lines link)
+
+abbrev pub is_over : ℕ → Option Asked → Bool
+is_over now None = false
+is_over now (Some asked) = nat_le asked.until now
 
 abbrev pub if_over : ℕ → Asked → Option Asked
 if_over now asked = if nat_le asked.until now then Some asked else None

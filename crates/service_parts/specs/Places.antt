@@ -1,12 +1,9 @@
 -- Which place a client gets, and which clients are to be closed, by the time in milliseconds. No standard says it; it is
 -- this project's.
-use Rattle.std.specs.Prelude.{◌+◌, ◌-◌, ◌^◌, ℕ, Bool, not, ◌||◌, ◌&&◌, leb, ltb, min, List, Option, None, Some}
+use Rattle.std.specs.Prelude.{ℕ, Bool, not, ◌||◌, ◌&&◌, leb, ltb, List, Option, None, Some}
 use Rattle.std.specs.List.{position}
 use Rattle.service_parts.specs.declared.client_place.ClientPlace.{ClientPlace}
-
--- so long after a moment; the last moment that there is stays
-abbrev pub after : ℕ → ℕ → ℕ
-after at wait = min (at + wait) (2 ^ 64 - 1)
+use Rattle.service_parts.specs.Backing.{after}
 
 -- It is to be closed where somebody is there of whom nothing was heard for so long.
 abbrev pub closed_if_idle : ℕ → ℕ → ClientPlace → ClientPlace

@@ -1,7 +1,8 @@
 -- What goes out to a device: frames of the requests that it may be asked, and nothing else
 -- (MODBUS Messaging on TCP/IP Implementation Guide, sections 3.1.3 and 4.4.1).
-use Rattle.std.specs.Prelude.{◌≡◌, ◌⊎◌, ℕ, List, [], ◌++◌, ⊤, Option, None, Some, slice_get}
+use Rattle.std.specs.Prelude.{◌≡◌, ◌⊎◌, ℕ, List, [], ◌∷◌, ◌++◌, ⊤, Option, None, Some, slice_get}
 use Rattle.modbus_frame.specs.declared.message.Request.{Request}
+use Rattle.modbus_frame.specs.declared.message.Request.TheVariants as request
 use Rattle.modbus_frame.specs.Message.{address_of}
 use Rattle.modbus_frame.specs.Frame.{frame_bytes}
 use Rattle.gateway.specs.event_core.Core.{Gateway}
@@ -53,14 +54,22 @@ pub record IsRest (now : Gateway) (stations : List Station) (found_on : List (Op
 abbrev pub IsRightful : Gateway → List Station → List (Option ℕ) → ℕ → ℕ → List ℕ → Type 0
 IsRightful now stations found_on link number bytes = (bytes ≡ []) ⊎ IsRest now stations found_on link number bytes
 
+-- the words that a request writes; none where it reads
+abbrev pub words_of : Request → List ℕ
+words_of (request.Read addr qty) = []
+words_of (request.WriteOne addr value) = value ∷ []
+words_of (request.WriteMany addr words) = words
+
 -- The request that is under way on a line is such a one, of the device, for the wanted block or the output, and of the registers
--- from the address on that it is noted with. Its connection is that with this number, and what waits is the rest of its frame.
+-- from the address on that it is noted with, and writes the words that it is noted with. Its connection is that with this number,
+-- and what waits is the rest of its frame.
 pub record IsNoted (now : Gateway) (stations : List Station) (found_on : List (Option ℕ)) (link number : ℕ) (asked : Asked) (line : Line) : Type 0 where
   pub over : asked.number ≡ number
   pub wait : Wait
   pub waits : line.inquiry.wait ≡ Some wait
   pub made : IsMade now stations found_on link number asked.aim asked.device wait.asked
   pub address : asked.address ≡ address_of wait.asked.request
+  pub words : asked.words ≡ words_of wait.asked.request
   pub gone : List ℕ
   pub whole : gone ++ line.out.items ≡ frame_bytes (frame_of wait.asked)
 

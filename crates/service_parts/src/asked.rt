@@ -1,16 +1,19 @@
 //! The request that is under way on a line.
-ghost use Rattle.std.specs.Prelude.{◌≡◌};
+ghost use Rattle.std.specs.Prelude.{◌≡◌, ◌≤◌, length};
 ghost use Rattle.modbus_frame.specs.Message.{address_of};
+ghost use Rattle.service_parts.specs.Requests.{words_of};
 
-use modbus_frame::Request;
+use modbus_frame::{Request, Words};
 
 /// The request that is under way.
-#[derive(Clone, Copy)]
+#[derive(Drop)]
 pub struct Asked {
     pub device: usize,
     pub aim: Aim,
     /// The address of the first register that it is about.
     pub address: u16,
+    /// The words that it writes; none where it reads.
+    pub words: Words,
     /// The number of the connection over which it is asked.
     pub number: u64,
     pub since: u64,
@@ -37,4 +40,22 @@ pub fn first_register(request: &Request) -> u16
         | Request::WriteOne { addr, .. }
         | Request::WriteMany { addr, .. } => *addr,
     }
+}
+
+/// The words that a request writes; none where it reads.
+pub fn words_of(request: &Request) -> Words
+    ensures { result ≡ words_of request.now }
+{
+    match request {
+        Request::Read { .. } => Words::new(),
+        Request::WriteOne { value, .. } => copied(&[*value]),
+        Request::WriteMany { words, .. } => copied(words.as_slice()),
+    }
+}
+
+fn copied(words: &[u16]) -> Words
+    requires { length words.now ≤ 125 }
+    ensures { result ≡ words.now }
+{
+    Words::from_slice(words).unwrap()
 }

@@ -2,6 +2,7 @@
 //! devices, connections, and the places of clients. None knows of a socket or a clock.
 #![tactic(auto)]
 
+mod answering;
 mod asked;
 mod client_place;
 mod client_places;
@@ -16,7 +17,9 @@ mod traffic;
 // what is asked of a service
 pub use limits::{Limits, Station};
 // the links to devices
-pub use asked::{Aim, Asked, first_register};
+pub use answering::is_answer;
+pub use asked::{Aim, Asked, first_register, words_of};
+pub use line::Intake;
 pub use lines::Lines;
 // clients
 pub use client_place::ClientPlace;

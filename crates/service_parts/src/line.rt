@@ -1,9 +1,11 @@
 //! A line to devices: a connection, and what goes out over it.
 ghost use Rattle.std.specs.Prelude.{◌≡◌, ◌≤◌, ◌↔◌, ◌&&◌, not, is_none, IsTrue, drop, length, take, true, false};
 ghost use Rattle.modbus_frame.specs.Message.{HasQuantity};
-ghost use Rattle.service_parts.specs.Frames.{Begins, GivesUp, Hears, IsCut, Keeps, Sends};
+ghost use Rattle.service_parts.specs.Frames.{Begins, ComesUp, GivesUp, GoesDown, Hears, IsCut, Keeps, Sends, ended_by, is_idle, left_under_way};
+ghost use Rattle.service_parts.specs.Overdue.{is_over};
 ghost use Rattle.service_parts.specs.Waking.{IsToDial, IsToHangUp, due_at, is_quiet};
 
+use crate::answering::is_answered;
 use crate::asked::Asked;
 use crate::limits::Limits;
 use crate::times::longer;
@@ -35,6 +37,17 @@ pub struct Line {
     dial_until: Option<u64>,
     /// Its last back-off; 0 where a device answered since.
     wait: u64,
+}
+
+/// What was taken of a line's stream.
+#[derive(Drop)]
+pub struct Intake {
+    /// So many bytes were used.
+    pub used: usize,
+    /// The request that was under way, where it is over now.
+    pub asked: Option<Asked>,
+    /// What became of it.
+    pub fate: Option<Fate>,
 }
 
 impl Line {
@@ -79,11 +92,19 @@ impl Line {
         self.is_up && self.is_bad
     }
 
-    /// The request that is under way.
-    pub fn asked(&self) -> Option<Asked>
-        ensures { result ≡ self.now.asked }
+    /// Whether a request is under way.
+    pub fn is_asked(&self) -> bool {
+        self.asked.is_some()
+    }
+
+    /// Whether the time of the request that is under way is over.
+    pub fn is_overdue(&self, now: u64) -> bool
+        ensures { result ≡ is_over now self.now.asked }
     {
-        self.asked
+        match &self.asked {
+            Some(asked) => asked.until <= now,
+            None => false,
+        }
     }
 
     /// The numbers of its devices.
@@ -113,7 +134,9 @@ impl Line {
     }
 
     /// Whether it is well and does nothing: its devices answered, and no request is under way.
-    pub fn is_idle(&self) -> bool {
+    pub fn is_idle(&self) -> bool
+        ensures { result ≡ is_idle self.now }
+    {
         self.is_well() && self.asked.is_none() && self.is_heard
     }
 
@@ -147,7 +170,7 @@ impl Line {
         if !self.is_up {
             return self.dial_until.unwrap_or(self.dial_at);
         }
-        match self.asked {
+        match &self.asked {
             Some(asked) => asked.until,
             None if self.is_sent() => self.rest_until,
             None => u64::MAX,
@@ -182,38 +205,67 @@ impl Line {
     }
 
     /// Takes bytes of its stream, as many as have room, and tells how many, and what became of the request that is under
-    /// way, which is over then. Over a connection that isn't well nothing is heard.
-    pub fn take(&mut self, bytes: &[u8]) -> (usize, Option<Fate>)
-        ensures { Hears (take result.0 bytes.now) result.1 self.old self.new }
+    /// way, which is over then and given away. Over a connection that isn't well nothing is heard.
+    pub fn take(&mut self, bytes: &[u8]) -> Intake
+        ensures hears { Hears (take result.used bytes.now) result.fate self.old self.new }
+        ensures ended { result.asked ≡ ended_by result.fate self.old.asked }
     {
         if !self.is_well() {
-            return (bytes.len(), None);
+            return Intake {
+                used: bytes.len(),
+                asked: None,
+                fate: None,
+            };
         }
-        let n = self.inquiry.room().min(bytes.len());
-        let fate = self.inquiry.take(bytes.split_at(n).0);
-        if fate.is_some() {
-            self.rest_until = 0;
-            self.asked = None;
+        let used = self.inquiry.room().min(bytes.len());
+        let fate = self.inquiry.take(bytes.split_at(used).0);
+        if is_answered(&fate) {
+            self.answered();
         }
-        (n, fate)
+        let asked = self.end_by(&fate);
+        Intake { used, asked, fate }
     }
 
-    /// The request that is under way is given up. A part of its frame that wasn't written spoils the stream.
-    pub fn give_up(&mut self)
-        ensures { GivesUp self.old self.new }
+    /// The request that is under way is over where something became of it, and given away then.
+    fn end_by(&mut self, fate: &Option<Fate>) -> Option<Asked>
+        ensures ended { result ≡ ended_by fate.now self.old.asked }
+        ensures left { self.new.asked ≡ left_under_way fate.now self.old.asked }
+        ensures rest { self.new ≡ record self.old { rest_until = self.new.rest_until; asked = self.new.asked } }
+    {
+        match fate {
+            Some(_) => {
+                self.rest_until = 0;
+                self.asked.take()
+            }
+            None => None,
+        }
+    }
+
+    /// A device answered.
+    fn answered(&mut self)
+        ensures { self.new ≡ record self.old { silent = 0; wait = 0; is_heard = true } }
+    {
+        self.silent = 0;
+        self.wait = 0;
+        self.is_heard = true;
+    }
+
+    /// The request that is under way is given up, and given away. A part of its frame that wasn't written spoils the stream.
+    pub fn give_up(&mut self) -> Option<Asked>
+        ensures gives { GivesUp self.old self.new }
+        ensures asked { result ≡ self.old.asked }
     {
         self.rest_until = 0;
-        self.asked = None;
         let _ = self.inquiry.end();
         if !self.out.is_empty() {
             self.is_bad = true;
         }
+        self.asked.take()
     }
 
     /// It is up from now on: a new stream.
     pub fn come_up(&mut self)
-        ensures cut { IsCut self.new }
-        ensures well { (self.new.is_up ≡ true) × (self.new.is_bad ≡ false) }
+        ensures { ComesUp self.old self.new }
     {
         self.cut();
         self.is_up = true;
@@ -224,8 +276,7 @@ impl Line {
 
     /// It is down from now on. One that ended while nothing was under way is made again at once, any other after a while.
     pub fn go_down(&mut self, now: u64, limits: &Limits)
-        ensures cut { IsCut self.new }
-        ensures down { self.new.is_up ≡ false }
+        ensures { GoesDown now limits.now self.old self.new }
     {
         if !self.is_idle() {
             self.wait = longer(self.wait, limits.period.min(1000), limits.back_off_most);
@@ -239,6 +290,7 @@ impl Line {
     fn cut(&mut self)
         ensures cut { IsCut self.new }
         ensures well { self.new.is_bad ≡ false }
+        ensures wait { self.new.wait ≡ self.old.wait }
     {
         self.inquiry = Inquiry::new();
         self.asked = None;
@@ -282,16 +334,6 @@ impl Line {
         ensures { Keeps self.old self.new }
     {
         self.rest_until = until;
-    }
-
-    /// A device answered.
-    #[tactic(auto, using(crate::proofs::Frames::keeps_by))]
-    pub fn heard(&mut self)
-        ensures { Keeps self.old self.new }
-    {
-        self.silent = 0;
-        self.wait = 0;
-        self.is_heard = true;
     }
 
     /// A device didn't answer. After two silent requests in a row for each of its devices and one more, the connection

@@ -2,7 +2,7 @@
 ghost use Rattle.std.specs.Prelude.{◌≡◌, ◌+◌, ◌<◌, ◌^◌, ℕ, All, slice_get, length, replicate, set, IfNone, IfOk, IfSome, IsTrue, Some};
 ghost use Rattle.service_parts.specs.declared.line.Line.{Line as LineValue};
 ghost use Rattle.gateway.specs.event_core.Core.{Gateway};
-ghost use Rattle.service_parts.specs.Frames.{IsCut, OthersGo};
+ghost use Rattle.service_parts.specs.Frames.{ComesUp, GoesDown, IsCut, OthersGo};
 ghost use Rattle.service_parts.specs.Overdue.{IsAt};
 ghost use Rattle.service_parts.specs.Requests.{AreRightfulBy, IsFoundOn, StayRightful};
 
@@ -139,7 +139,7 @@ impl Lines {
         ensures next { (number : ℕ) → slice_get self.old.links.numbers.items link ≡ Some number → number + 1 < 2 ^ 64
             → IsTrue result × (self.new.links.numbers.items ≡ set self.old.links.numbers.items link (number + 1)) }
         ensures others { OthersGo link self.old.lines.items self.new.lines.items }
-        ensures anew { IsTrue result → (line : LineValue) → slice_get self.old.lines.items link ≡ Some line → (cut : LineValue) × (slice_get self.new.lines.items link ≡ Some cut) × IsCut cut }
+        ensures anew { IsTrue result → (line : LineValue) → slice_get self.old.lines.items link ≡ Some line → (cut : LineValue) × (slice_get self.new.lines.items link ≡ Some cut) × ComesUp line cut }
     {
         let Some(number) = self.number_of(link) else {
             return false;
@@ -156,7 +156,7 @@ impl Lines {
         ensures rightful { StayRightful self.old self.new }
         ensures links { self.new.links ≡ self.old.links }
         ensures others { OthersGo link self.old.lines.items self.new.lines.items }
-        ensures ends { (line : LineValue) → slice_get self.old.lines.items link ≡ Some line → (cut : LineValue) × (slice_get self.new.lines.items link ≡ Some cut) × IsCut cut }
+        ensures anew { (line : LineValue) → slice_get self.old.lines.items link ≡ Some line → (cut : LineValue) × (slice_get self.new.lines.items link ≡ Some cut) × ComesUp line cut }
         ensures cut { (line : LineValue) → slice_get self.new.lines.items link ≡ Some line → IsCut line }
     {
         if let Some(line) = self.lines.get_mut(link) {
@@ -183,7 +183,7 @@ impl Lines {
         ensures rightful { StayRightful self.old self.new }
         ensures links { self.new.links ≡ self.old.links }
         ensures others { OthersGo link self.old.lines.items self.new.lines.items }
-        ensures ends { (line : LineValue) → slice_get self.old.lines.items link ≡ Some line → (cut : LineValue) × (slice_get self.new.lines.items link ≡ Some cut) × IsCut cut }
+        ensures ends { (line : LineValue) → slice_get self.old.lines.items link ≡ Some line → (cut : LineValue) × (slice_get self.new.lines.items link ≡ Some cut) × GoesDown now limits.now line cut }
     {
         if let Some(line) = self.lines.get_mut(link) {
             line.go_down(now, limits);

@@ -143,18 +143,6 @@ impl Lines {
         }
     }
 
-    /// A device on a link answered.
-    pub fn heard(&mut self, link: usize)
-        ensures rightful { StayRightful self.old self.new }
-        ensures links { self.new.links ≡ self.old.links }
-        ensures found { self.new.found_on ≡ self.old.found_on }
-        ensures lines { LinesGo self.old.lines.items self.new.lines.items }
-    {
-        if let Some(line) = self.lines.get_mut(link) {
-            line.heard();
-        }
-    }
-
     /// A device on a link didn't answer.
     pub fn missed(&mut self, link: usize)
         ensures rightful { StayRightful self.old self.new }

@@ -1,9 +1,12 @@
 //! Times and back-offs.
 ghost use Rattle.std.specs.Prelude.{◌≡◌};
+ghost use Rattle.service_parts.specs.Backing.{longer};
 ghost use Rattle.service_parts.specs.Clients.{heard_at};
 
 /// The wait after one of this length: it doubles, from the least on.
-pub fn longer(wait: u64, least: u64, most: u64) -> u64 {
+pub fn longer(wait: u64, least: u64, most: u64) -> u64
+    ensures { result ≡ longer wait least most }
+{
     wait.saturating_mul(2).max(least).min(most.max(least))
 }
 

@@ -1,18 +1,19 @@
 //! Requests to devices, and what comes of them.
-ghost use Rattle.std.specs.Prelude.{◌≡◌, ◌⊎◌, ◌≤◌, ℕ, IsTrue, None, Some, [], slice_get, take};
+ghost use Rattle.std.specs.Prelude.{◌≡◌, ◌⊎◌, ◌≤◌, ℕ, IsTrue, List, None, Some, [], slice_get, take};
 ghost use Rattle.modbus_frame.specs.Message.{HasQuantity, address_of};
 ghost use Rattle.gateway.specs.event_core.Core.{Gateway};
 ghost use Rattle.service_parts.specs.declared.line.Line.{Line as LineValue};
 ghost use Rattle.service_parts.specs.Course.{Reached};
-ghost use Rattle.service_parts.specs.Frames.{Hears, LinesGo, OthersGo, Sends};
-ghost use Rattle.service_parts.specs.Overdue.{asked_at, overdue_at};
-ghost use Rattle.service_parts.specs.Requests.{AreRightfulBy, IsRightfulOn, MayGoOver, StayRightful};
+ghost use Rattle.service.specs.declared.task.Task.{Task};
+ghost use Rattle.service_parts.specs.Frames.{Hears, LinesGo, LinkGoes, OthersGo, Sends, TakesDue, ended_by};
+ghost use Rattle.service_parts.specs.Overdue.{asked_at, is_over, overdue_at};
+ghost use Rattle.service_parts.specs.Requests.{AreRightfulBy, IsRightfulOn, MayGoOver, StayRightful, words_of};
 ghost use Rattle.service_parts.specs.Waking.{IsDueOf, due_at};
 
 use crate::asked::Asked;
+use crate::line::Intake;
 use crate::lines::Lines;
 use modbus_frame::Request;
-use service::Fate;
 
 impl Lines {
     /// What is to be written over a link.
@@ -35,14 +36,16 @@ impl Lines {
     }
 
     /// Begins a request to a device on this link, where one may begin.
+    #[tactic(auto, using(crate::proofs::Frames::not_begun))]
     pub fn begin(&mut self, link: usize, asked: Asked, request: Request)
         requires quantity { HasQuantity request }
         requires number { slice_get self.old.links.numbers.items link ≡ Some asked.number }
         requires address { asked.address ≡ address_of request }
+        requires words { asked.words ≡ words_of request }
         ensures rightful { (now : Gateway) → ∥ Reached now ∥₁ → MayGoOver now self.old.links.numbers.items self.old.found_on.items link asked.aim asked.device request
             → AreRightfulBy now self.old → AreRightfulBy now self.new }
         ensures links { self.new.links ≡ self.old.links }
-        ensures lines { LinesGo self.old.lines.items self.new.lines.items }
+        ensures lines { (before after : List Task) → TakesDue asked.aim before after → (at : ℕ) → LinkGoes at before self.old.lines.items after self.new.lines.items }
     {
         let Some(unit) = self.unit_at(asked.device, link) else {
             return;
@@ -65,60 +68,71 @@ impl Lines {
         }
     }
 
-    /// The request that is under way on a link.
-    pub fn asked(&self, link: usize) -> Option<Asked>
-        ensures { result ≡ asked_at self.now.lines.items link }
-    {
-        match self.lines.get(link) {
-            Some(line) => line.asked(),
-            None => None,
-        }
-    }
-
     /// Whether a request is under way on a link that is written whole.
     pub fn is_asked(&self, link: usize) -> bool
         ensures { IsTrue result → (line : LineValue) → slice_get self.now.lines.items link ≡ Some line → line.out.items ≡ [] }
     {
         match self.lines.get(link) {
-            Some(line) => line.is_sent() && line.asked().is_some(),
+            Some(line) => line.is_sent() && line.is_asked(),
             None => false,
         }
     }
 
     /// Takes bytes of a link's stream, and tells how many, and what became of the request that is under way, which is over
-    /// then.
-    pub fn take(&mut self, link: usize, bytes: &[u8]) -> (usize, Option<Fate>)
+    /// then and given away.
+    pub fn take(&mut self, link: usize, bytes: &[u8]) -> Intake
         ensures rightful { StayRightful self.old self.new }
         ensures links { self.new.links ≡ self.old.links }
-        ensures hears { (line : LineValue) → slice_get self.old.lines.items link ≡ Some line → (new : LineValue) × (slice_get self.new.lines.items link ≡ Some new) × Hears (take result.0 bytes.now) result.1 line new }
+        ensures hears { (line : LineValue) → slice_get self.old.lines.items link ≡ Some line → (new : LineValue) × (slice_get self.new.lines.items link ≡ Some new) × Hears (take result.used bytes.now) result.fate line new }
+        ensures ended { result.asked ≡ ended_by result.fate (asked_at self.old.lines.items link) }
         ensures others { OthersGo link self.old.lines.items self.new.lines.items }
     {
         match self.lines.get_mut(link) {
             Some(line) => line.take(bytes),
-            None => (bytes.len(), None),
+            None => Intake {
+                used: bytes.len(),
+                asked: None,
+                fate: None,
+            },
         }
     }
 
-    /// The request that is under way on a link, where its time is over.
-    pub fn overdue(&self, link: usize, now: u64) -> Option<Asked>
-        ensures { result ≡ overdue_at self.now.lines.items now link }
+    /// The request that is under way on a link is given up where its time is over, and given away then.
+    pub fn give_up_overdue(&mut self, link: usize, now: u64) -> Option<Asked>
+        ensures rightful { StayRightful self.old self.new }
+        ensures links { self.new.links ≡ self.old.links }
+        ensures overdue { result ≡ overdue_at self.old.lines.items now link }
+        ensures lines { LinesGo self.old.lines.items self.new.lines.items }
+        ensures others { (other : ℕ) → (other ≡ link → ⊥) → slice_get self.new.lines.items other ≡ slice_get self.old.lines.items other }
     {
-        let asked = self.asked(link)?;
-        if now < asked.until {
-            return None;
+        if self.is_overdue(link, now) {
+            self.give_up(link)
+        } else {
+            None
         }
-        Some(asked)
     }
 
-    /// The request that is under way on a link is given up.
-    pub fn give_up(&mut self, link: usize)
+    /// Whether the time of the request that is under way on a link is over.
+    fn is_overdue(&self, link: usize, now: u64) -> bool
+        ensures { result ≡ is_over now (asked_at self.now.lines.items link) }
+    {
+        match self.lines.get(link) {
+            Some(line) => line.is_overdue(now),
+            None => false,
+        }
+    }
+
+    /// The request that is under way on a link is given up, and given away.
+    fn give_up(&mut self, link: usize) -> Option<Asked>
+        ensures asked { result ≡ asked_at self.old.lines.items link }
         ensures rightful { StayRightful self.old self.new }
         ensures links { self.new.links ≡ self.old.links }
         ensures lines { LinesGo self.old.lines.items self.new.lines.items }
         ensures others { (other : ℕ) → (other ≡ link → ⊥) → slice_get self.new.lines.items other ≡ slice_get self.old.lines.items other }
     {
-        if let Some(line) = self.lines.get_mut(link) {
-            line.give_up();
+        match self.lines.get_mut(link) {
+            Some(line) => line.give_up(),
+            None => None,
         }
     }
 

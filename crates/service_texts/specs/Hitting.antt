@@ -7,7 +7,7 @@ use Rattle.site_model.specs.declared.site.Site.{Site}
 use Rattle.site_model.specs.declared.tag.SiteTag.{SiteTag}
 use Rattle.service_texts.specs.Numbers.{IsNumberBy, tag_factor}
 use Rattle.service_texts.specs.declared.hit.RefusedNumber.{RefusedNumber}
-use Rattle.service_texts.specs.declared.hit.Registers.{Registers}
+use Rattle.service_texts.specs.declared.hit.RegisterSpan.{RegisterSpan}
 use Rattle.service_texts.specs.declared.hit.Written.{Written}
 
 -- the registers that a request writes, and what they are to hold
@@ -17,11 +17,11 @@ asked_by (WriteOne addr value) = Some (record { first = addr; words = value ∷ 
 asked_by (WriteMany addr words) = Some (record { first = addr; words = words })
 
 -- the registers of a tag: those of a request that sets it, and nothing else
-abbrev pub IsPlaced : Site → (tag : ℕ) → Registers → Type 0
+abbrev pub IsPlaced : Site → (tag : ℕ) → RegisterSpan → Type 0
 IsPlaced site tag registers = (number : ℤ) × (alone : Request) × (asked : Written) × SetsAlone site tag number alone × (asked_by alone ≡ Some asked) × (registers ≡ record { first = asked.first; count = length asked.words })
 
 -- registers are all written, and are to hold this
-abbrev pub IsPart : Written → Registers → List ℕ → Type 0
+abbrev pub IsPart : Written → RegisterSpan → List ℕ → Type 0
 IsPart asked registers held = (asked.first ≤ registers.first) × (registers.first + registers.count ≤ asked.first + length asked.words)
     × (held ≡ take registers.count (drop (registers.first - asked.first) asked.words))
 
@@ -33,7 +33,7 @@ LiesIn tag number = (tag.low ≤ℤ number) × (number ≤ℤ tag.high)
 pub record HitsAt (site : Site) (asked : Written) (exception : ℕ) (refused : RefusedNumber) : Type 0 where
   pub own : SiteTag
   pub there : slice_get site.tags refused.tag ≡ Some own
-  pub registers : Registers
+  pub registers : RegisterSpan
   pub placed : IsPlaced site refused.tag registers
   pub held : List ℕ
   pub part : IsPart asked registers held

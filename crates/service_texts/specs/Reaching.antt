@@ -11,8 +11,8 @@ use Rattle.service_texts.specs.declared.addresses.Addresses.{Addresses}
 use Rattle.service_texts.specs.declared.device_places.AddressFault.{AddressFault}
 use Rattle.service_texts.specs.declared.device_places.AddressFault.TheVariants as fault
 use Rattle.service_texts.specs.declared.device_places.DevicePlace.{DevicePlace}
-use Rattle.service_texts.specs.declared.reaching.Devices.{Devices}
-use Rattle.service_texts.specs.declared.reaching.Devices.TheVariants as given
+use Rattle.service_texts.specs.declared.reaching.DeviceSource.{DeviceSource}
+use Rattle.service_texts.specs.declared.reaching.DeviceSource.TheVariants as given
 use Rattle.service_texts.specs.declared.reaching.DevicesFault.{DevicesFault}
 use Rattle.service_texts.specs.declared.reaching.DevicesFault.TheVariants as fault_of
 
@@ -35,7 +35,7 @@ HavePorts [] = ⊤
 HavePorts (place ∷ places) = HasPort place.address × HavePorts places
 
 -- where the devices are, by an address of all of them and by a plant file
-abbrev pub AreDevices : Option (Bor (List ℕ)) → Option (Bor (List ℕ)) → Result Devices DevicesFault → Type 0
+abbrev pub AreDevices : Option (Bor (List ℕ)) → Option (Bor (List ℕ)) → Result DeviceSource DevicesFault → Type 0
 AreDevices None None told = told ≡ Ok given.BySite
 AreDevices None (Some plant) told = told ≡ Ok (given.Plant plant)
 AreDevices (Some address) None told = MatchResult told (λ devices. (devices ≡ given.Behind address) × HasPort address.now) (λ e. e ≡ fault_of.NoPort)
@@ -50,7 +50,7 @@ pub record AreReachedBySite (site : List ℕ) (addresses : Addresses) : Type 0 w
   pub with_ports : HavePorts places
 
 -- the addresses of the devices of a site, with this text and this list of devices
-abbrev pub AreReached : Devices → List ℕ → List SiteDevice → Addresses → Type 0
+abbrev pub AreReached : DeviceSource → List ℕ → List SiteDevice → Addresses → Type 0
 AreReached given.BySite site listed addresses = AreReachedBySite site addresses
 AreReached (given.Behind address) site listed addresses = addresses ≡ all_behind address.now listed
 AreReached (given.Plant plant) site listed addresses = addresses ≡ all_behind (codes "127.0.0.1:0") listed
@@ -68,7 +68,7 @@ abbrev pub AreUnreachedBySite : List ℕ → AddressFault → Type 0
 AreUnreachedBySite site e = (places_in site ≡ Err e) ⊎ HasNoPort site e
 
 -- with one address for all of them nothing can be wrong
-abbrev pub AreUnreached : Devices → List ℕ → AddressFault → Type 0
+abbrev pub AreUnreached : DeviceSource → List ℕ → AddressFault → Type 0
 AreUnreached given.BySite site e = AreUnreachedBySite site e
 AreUnreached (given.Behind address) site e = ⊥
 AreUnreached (given.Plant plant) site e = ⊥

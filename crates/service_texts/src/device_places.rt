@@ -19,7 +19,7 @@ pub struct DevicePlace {
     pub unit: u8,
 }
 
-/// Why it isn't known where the devices are. Devices are told by their numbers.
+/// Why it isn't known where the devices are. DeviceSource are told by their numbers.
 #[derive(Clone, Copy)]
 pub enum AddressFault {
     /// The text is no site file.

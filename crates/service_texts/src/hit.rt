@@ -20,7 +20,7 @@ pub struct RefusedNumber {
     pub number: Option<i64>,
 }
 
-/// Registers side by side that are to hold these words.
+/// RegisterSpan side by side that are to hold these words.
 #[derive(Drop)]
 pub struct Written {
     pub first: u16,
@@ -29,7 +29,7 @@ pub struct Written {
 
 /// So many registers side by side.
 #[derive(Clone, Copy)]
-pub struct Registers {
+pub struct RegisterSpan {
     pub first: u16,
     pub count: usize,
 }
@@ -87,7 +87,7 @@ fn asked_by(request: &Request) -> Option<Written>
 }
 
 /// The registers of a `set` tag, by a request that sets it alone: to its least number, or to its greatest.
-fn registers_of(core: &Core<DEPTH>, tag: usize, own: &SiteTag) -> Option<Registers>
+fn registers_of(core: &Core<DEPTH>, tag: usize, own: &SiteTag) -> Option<RegisterSpan>
     ensures { IfSome result (IsPlaced core.now.site tag) }
 {
     if own.access != Access::Setting {
@@ -99,19 +99,19 @@ fn registers_of(core: &Core<DEPTH>, tag: usize, own: &SiteTag) -> Option<Registe
     }
 }
 
-fn placed_by(core: &Core<DEPTH>, tag: usize, number: i64) -> Option<Registers>
+fn placed_by(core: &Core<DEPTH>, tag: usize, number: i64) -> Option<RegisterSpan>
     ensures { IfSome result (IsPlaced core.now.site tag) }
 {
     let alone = core.request_to_set(tag, number)?;
     let asked = asked_by(&alone)?;
-    Some(Registers {
+    Some(RegisterSpan {
         first: asked.first,
         count: asked.words.as_slice().len(),
     })
 }
 
 /// What registers are to hold, where all of them are written.
-fn part(asked: &Written, registers: Registers) -> Option<&[u16]>
+fn part(asked: &Written, registers: RegisterSpan) -> Option<&[u16]>
     ensures { IfSome result (λ held. IsPart asked.now registers held.now) }
 {
     let skipped = usize::from(registers.first.checked_sub(asked.first)?);

@@ -29,7 +29,7 @@ mod writers;
 // where the devices are
 pub use addresses::{Addresses, has_port};
 pub use device_places::{AddressFault, DevicePlace, read_places};
-pub use reaching::{Devices, DevicesFault, addresses_of, devices_of, plant_addresses};
+pub use reaching::{DeviceSource, DevicesFault, addresses_of, devices_of, plant_addresses};
 // which devices sleep
 pub use sleeping::{SleepFault, sleeping_hours};
 // which clients may write
@@ -42,7 +42,7 @@ pub use retain_pace::RetainPace;
 pub use retaining::{
     KeptNumber, RetainFault, is_among, kept_by, kept_numbers, retained_names, variables_text,
 };
-pub use state_lines::{Setting, StateLine, setting_in, state_line, state_text, tag_named};
+pub use state_lines::{KeptSetting, StateLine, setting_in, state_line, state_text, tag_named};
 pub use write_record::WriteRecord;
 // what is told of a service
 pub use lines::{

@@ -16,7 +16,7 @@ const PLANT: &str = "127.0.0.1:0";
 
 /// Where the devices of a site are.
 #[derive(Clone, Copy)]
-pub enum Devices<'a> {
+pub enum DeviceSource<'a> {
     /// Each where the site file says.
     BySite,
     /// All behind this address.
@@ -38,13 +38,13 @@ pub enum DevicesFault {
 pub fn devices_of<'a>(
     address: Option<&'a str>,
     plant: Option<&'a str>,
-) -> Result<Devices<'a>, DevicesFault>
+) -> Result<DeviceSource<'a>, DevicesFault>
     ensures { AreDevices address.entry plant.entry result }
 {
     match (address, plant) {
-        (None, None) => Ok(Devices::BySite),
-        (None, Some(plant)) => Ok(Devices::Plant(plant)),
-        (Some(address), None) if has_port(address) => Ok(Devices::Behind(address)),
+        (None, None) => Ok(DeviceSource::BySite),
+        (None, Some(plant)) => Ok(DeviceSource::Plant(plant)),
+        (Some(address), None) if has_port(address) => Ok(DeviceSource::Behind(address)),
         (Some(_), None) => Err(DevicesFault::NoPort),
         (Some(_), Some(_)) => Err(DevicesFault::Both),
     }
@@ -54,7 +54,7 @@ pub fn devices_of<'a>(
 /// has, in order, or the one that is given.
 pub fn addresses_of(
     alloc: Global,
-    devices: Devices<'_>,
+    devices: DeviceSource<'_>,
     site: &TomlFile<'_>,
     listed: &[SiteDevice],
 ) -> Result<Addresses, AddressFault>
@@ -62,9 +62,9 @@ pub fn addresses_of(
     ensures refused { IfErr result (λ e. e ≢ fault.OutOfMemory → AreUnreached devices.entry site.now e) }
 {
     match devices {
-        Devices::BySite => addresses_in(alloc, site),
-        Devices::Behind(address) => Ok(Addresses::behind(alloc, address, listed)?),
-        Devices::Plant(_) => Ok(Addresses::behind(alloc, PLANT, listed)?),
+        DeviceSource::BySite => addresses_in(alloc, site),
+        DeviceSource::Behind(address) => Ok(Addresses::behind(alloc, address, listed)?),
+        DeviceSource::Plant(_) => Ok(Addresses::behind(alloc, PLANT, listed)?),
     }
 }
 

@@ -9,7 +9,7 @@ use point_types::Items;
 use std::alloc::{AllocError, Global};
 use toml::Value;
 
-/// Why it isn't known which devices sleep. Devices are told by their numbers.
+/// Why it isn't known which devices sleep. DeviceSource are told by their numbers.
 #[derive(Clone, Copy, PartialEq, Eq, Debug)]
 pub enum SleepFault {
     /// The text is no site file.

@@ -9,7 +9,7 @@ use std::alloc::{AllocError, Global};
 
 /// What a line of the text says.
 #[derive(Clone, Copy)]
-pub struct Setting<'a> {
+pub struct KeptSetting<'a> {
     /// What stands before the line's first equals sign.
     pub name: &'a str,
     /// The number behind it.
@@ -85,12 +85,12 @@ pub(crate) fn push_setting(
 }
 
 /// What a line says; none where it isn't `NAME=NUMBER`.
-pub fn setting_in(line: &str) -> Option<Setting<'_>>
+pub fn setting_in(line: &str) -> Option<KeptSetting<'_>>
     ensures { MatchOption result ((name : List ℕ) (number : ℤ) → Says line.now name number → ⊥) (λ s. Says line.now s.name.now s.number) }
 {
     let (name, number) = line.split_once('=')?;
     match number.parse::<i64>() {
-        Ok(number) => Some(Setting { name, number }),
+        Ok(number) => Some(KeptSetting { name, number }),
         Err(_) => None,
     }
 }

@@ -50,7 +50,7 @@ pub enum Alarm {
 
 /// What an alarm is of. Two alarms of one subject tell of one thing, for causes that may differ.
 #[derive(Clone, Copy, Debug, PartialEq, Eq, Hash)]
-pub enum Subject {
+pub enum AlarmSubject {
     /// The device of this number.
     Device(usize),
     /// A model of a device.
@@ -75,20 +75,22 @@ pub enum Subject {
 
 impl Alarm {
     /// What it is of.
-    pub fn subject(self) -> Subject
+    pub fn subject(self) -> AlarmSubject
         ensures { result ≡ subject_of self }
     {
         match self {
-            Alarm::DeviceLost(device, _) | Alarm::DeviceUnmapped(device) => Subject::Device(device),
-            Alarm::ModelMissing(want) => Subject::Model(want),
-            Alarm::InputMissing(tag, _) => Subject::Input(tag),
-            Alarm::OutputUnwritten(output, _) => Subject::Output(output),
-            Alarm::SetLapsed(tag) => Subject::Set(tag),
-            Alarm::SumHidden(entry, _) => Subject::Sum(entry),
-            Alarm::StoredHidden(tag, _) => Subject::Stored(tag),
-            Alarm::RoundLate => Subject::Rounds,
-            Alarm::StateUnwritten => Subject::State,
-            Alarm::ProgramRefused => Subject::Program,
+            Alarm::DeviceLost(device, _) | Alarm::DeviceUnmapped(device) => AlarmSubject::Device(
+                device,
+            ),
+            Alarm::ModelMissing(want) => AlarmSubject::Model(want),
+            Alarm::InputMissing(tag, _) => AlarmSubject::Input(tag),
+            Alarm::OutputUnwritten(output, _) => AlarmSubject::Output(output),
+            Alarm::SetLapsed(tag) => AlarmSubject::Set(tag),
+            Alarm::SumHidden(entry, _) => AlarmSubject::Sum(entry),
+            Alarm::StoredHidden(tag, _) => AlarmSubject::Stored(tag),
+            Alarm::RoundLate => AlarmSubject::Rounds,
+            Alarm::StateUnwritten => AlarmSubject::State,
+            Alarm::ProgramRefused => AlarmSubject::Program,
         }
     }
 }
@@ -101,7 +103,7 @@ pub(crate) fn is_one(one: Alarm, other: Alarm) -> bool
 }
 
 /// Whether two subjects are one.
-pub(crate) fn is_same(one: Subject, other: Subject) -> bool
+pub(crate) fn is_same(one: AlarmSubject, other: AlarmSubject) -> bool
     ensures { Decides result (one ≡ other) }
 {
     one == other

@@ -4,9 +4,9 @@ ghost use Rattle.site_alarms.specs.Changing.{AreBegun, AreOf, AreOver, IsChange,
 ghost use Rattle.site_alarms.specs.Finding.{TellOfAlarms, TellOfStood};
 ghost use Rattle.site_alarms.specs.declared.alarm.Alarm.{Alarm};
 
-use crate::alarm::{Alarm, Subject, is_one};
+use crate::alarm::{Alarm, AlarmSubject, is_one};
 use crate::places::Places;
-use crate::standing::{Standing, from_first};
+use crate::standing::{StandingAlarm, from_first};
 use point_types::Items;
 use std::alloc::{AllocError, Global};
 
@@ -34,7 +34,7 @@ impl Changes {
     /// From now on it is what changed from what stood, of which the places tell, to these alarms.
     pub(crate) fn see(
         &mut self,
-        stood: &[Standing],
+        stood: &[StandingAlarm],
         places: &Places,
         alarms: &[Alarm],
     ) -> Result<(), AllocError>
@@ -49,7 +49,7 @@ impl Changes {
 
 fn fill_begun(
     begun: &mut Items<Alarm>,
-    stood: &[Standing],
+    stood: &[StandingAlarm],
     places: &Places,
     alarms: &[Alarm],
 ) -> Result<(), AllocError>
@@ -63,7 +63,11 @@ fn fill_begun(
     Ok(())
 }
 
-fn fill_over(over: &mut Items<Alarm>, stood: &[Standing], places: &Places) -> Result<(), AllocError>
+fn fill_over(
+    over: &mut Items<Alarm>,
+    stood: &[StandingAlarm],
+    places: &Places,
+) -> Result<(), AllocError>
     ensures { (alarms : List Alarm) → TellOfAlarms places.now alarms → OnOk result (AreOver stood.now alarms (length stood.now) over.new) }
 {
     over.clear();
@@ -75,7 +79,7 @@ fn fill_over(over: &mut Items<Alarm>, stood: &[Standing], places: &Places) -> Re
 
 fn push_begun(
     begun: &mut Items<Alarm>,
-    stood: &[Standing],
+    stood: &[StandingAlarm],
     places: &Places,
     alarms: &[Alarm],
     i: usize,
@@ -91,7 +95,7 @@ fn push_begun(
 
 fn push_over(
     over: &mut Items<Alarm>,
-    stood: &[Standing],
+    stood: &[StandingAlarm],
     places: &Places,
     i: usize,
 ) -> Result<(), AllocError>
@@ -104,7 +108,7 @@ fn push_over(
 }
 
 /// Whether an alarm stood, with its cause.
-fn has_stood(stood: &[Standing], places: &Places, alarm: Alarm) -> bool
+fn has_stood(stood: &[StandingAlarm], places: &Places, alarm: Alarm) -> bool
     requires { TellOfStood places.now stood.now }
     ensures { Decides result (Stood stood.now alarm) }
 {
@@ -112,7 +116,7 @@ fn has_stood(stood: &[Standing], places: &Places, alarm: Alarm) -> bool
 }
 
 /// Whether an alarm is among these, with its cause. They begin with the first of its subject, which mostly is the one.
-fn is_among(stood: &[Standing], alarm: Alarm) -> bool
+fn is_among(stood: &[StandingAlarm], alarm: Alarm) -> bool
     ensures { Decides result (Stood stood.now alarm) }
 {
     for before in stood {
@@ -124,7 +128,7 @@ fn is_among(stood: &[Standing], alarm: Alarm) -> bool
 }
 
 /// Whether some alarm is of a subject, of those that the places tell of.
-fn are_of(places: &Places, subject: Subject) -> bool
+fn are_of(places: &Places, subject: AlarmSubject) -> bool
     ensures { (alarms : List Alarm) → TellOfAlarms places.now alarms → Decides result (AreOf alarms subject) }
 {
     places.first(subject).is_some()

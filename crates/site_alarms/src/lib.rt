@@ -22,14 +22,14 @@ mod words;
 mod wrong;
 
 // what is wrong
-pub use alarm::{Alarm, Hidden, Subject};
+pub use alarm::{Alarm, AlarmSubject, Hidden};
 pub use devices::{is_amiss, is_lacking};
-pub use met::{Met, met_at, met_of};
+pub use met::{MetNumber, met_at, met_of};
 pub use wrong::{Seen, missing_now, wrong_now};
 // what follows from the sleep of devices
 pub use sleeping::{Sleep, Slept, leave_out_sleepers};
 // since when
-pub use standing::{Standing, Watch};
+pub use standing::{StandingAlarm, Watch};
 // what changed
 pub use changes::Changes;
 // in words

@@ -3,7 +3,7 @@ ghost use Rattle.std.specs.Prelude.{◌≡◌, string_bytes, IfOk};
 ghost use Rattle.site_alarms.specs.Lines as told;
 
 use crate::alarm::Alarm;
-use crate::met::{Met, met_at};
+use crate::met::{MetNumber, met_at};
 use crate::names::tag_name;
 use crate::words::{cause_text, missing_word, point_text};
 use gateway::{Core, DEPTH};
@@ -66,7 +66,11 @@ fn again_line(alloc: Global, core: &Core<DEPTH>, alarm: Alarm) -> Result<String,
 }
 
 /// A cause, and where it is by the number that was met, ` raw R factor F` after it, or ` raw R` where there is no factor.
-pub fn missing_text(alloc: Global, cause: Cause, met: Option<Met>) -> Result<String, AllocError> {
+pub fn missing_text(
+    alloc: Global,
+    cause: Cause,
+    met: Option<MetNumber>,
+) -> Result<String, AllocError> {
     let mut text = String::from_str(alloc, missing_word(cause))?;
     if let (true, Some(met)) = (is_of_number(cause), met) {
         let met = met_text(alloc, met)?;
@@ -83,7 +87,7 @@ pub(crate) fn is_of_number(cause: Cause) -> bool {
     }
 }
 
-fn met_text(alloc: Global, met: Met) -> Result<String, AllocError> {
+fn met_text(alloc: Global, met: MetNumber) -> Result<String, AllocError> {
     let raw = met.raw;
     let text = match met.factor {
         Some(factor) => format!(in alloc; " raw {raw} factor {factor}")?,

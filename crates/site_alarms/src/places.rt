@@ -3,8 +3,8 @@ ghost use Rattle.std.specs.Prelude.{◌≡◌, OnOk};
 ghost use Rattle.std.specs.HashMap.{get};
 ghost use Rattle.site_alarms.specs.Finding.{TellOfAlarms, TellOfStood, same};
 
-use crate::alarm::{Alarm, Subject};
-use crate::standing::Standing;
+use crate::alarm::{Alarm, AlarmSubject};
+use crate::standing::StandingAlarm;
 use std::alloc::{AllocError, Global};
 use std::collections::HashMap;
 
@@ -12,7 +12,7 @@ use std::collections::HashMap;
 /// lists are compared in little time. It takes memory only where a list is longer than any before.
 #[derive(Drop)]
 pub(crate) struct Places {
-    numbers: HashMap<Subject, usize>,
+    numbers: HashMap<AlarmSubject, usize>,
 }
 
 impl Places {
@@ -38,7 +38,7 @@ impl Places {
     }
 
     /// From now on it tells of what stood, or of some of it only, where memory is refused.
-    pub(crate) fn note_stood(&mut self, stood: &[Standing]) -> Result<(), AllocError>
+    pub(crate) fn note_stood(&mut self, stood: &[StandingAlarm]) -> Result<(), AllocError>
         ensures { OnOk result (TellOfStood self.new stood.now) }
     {
         self.numbers.clear();
@@ -51,7 +51,7 @@ impl Places {
     }
 
     /// Where the first alarm of a subject is.
-    pub(crate) fn first(&self, subject: Subject) -> Option<usize>
+    pub(crate) fn first(&self, subject: AlarmSubject) -> Option<usize>
         ensures { result ≡ get same self.now.numbers subject }
     {
         self.numbers.get(&subject).copied()

@@ -2,12 +2,12 @@
 use crate::alarm::{Alarm, Hidden};
 use crate::devices::is_lacking;
 use crate::lines::is_of_number;
-use crate::met::{Met, met_at};
+use crate::met::{MetNumber, met_at};
 use crate::names::{device_name, output_name, tag_name};
 use crate::points::demand_at;
 use crate::words::{subject_text, unwritten_word};
-use escaped_text::escaped;
 use gateway::{Core, DEPTH};
+use note_text::escaped;
 use point_types::Cause;
 use register_map::Map;
 use served_ranges::Demand;
@@ -237,7 +237,12 @@ fn unset_text(alloc: Global, site: &Site, want: Want) -> Result<String, AllocErr
 }
 
 // Why the number of a point is none of its tag.
-fn number_text(alloc: Global, tag: &SiteTag, cause: Cause, met: Met) -> Result<String, AllocError> {
+fn number_text(
+    alloc: Global,
+    tag: &SiteTag,
+    cause: Cause,
+    met: MetNumber,
+) -> Result<String, AllocError> {
     let raw = met.raw;
     let Some(factor) = met.factor else {
         let text = format!(in alloc; "raw {raw} has no scale factor")?;

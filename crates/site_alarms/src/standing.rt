@@ -3,7 +3,7 @@ ghost use Rattle.std.specs.Prelude.{◌≡◌, [], OnErr, OnOk, length, slice_ge
 ghost use Rattle.site_alarms.specs.Changing.{AreStanding, IsChange, IsSince, NextStanding};
 ghost use Rattle.site_alarms.specs.Finding.{TellOfStood, from_first};
 
-use crate::alarm::{Alarm, Subject, is_same};
+use crate::alarm::{Alarm, AlarmSubject, is_same};
 use crate::changes::Changes;
 use crate::places::Places;
 use point_types::Items;
@@ -11,7 +11,7 @@ use std::alloc::{AllocError, Global};
 
 /// An alarm, and since when something is wrong with what it is of, in seconds of whoever looks; the cause may be a later one.
 #[derive(Clone, Copy, Debug, PartialEq, Eq)]
-pub struct Standing {
+pub struct StandingAlarm {
     pub alarm: Alarm,
     pub since: u64,
 }
@@ -20,9 +20,9 @@ pub struct Standing {
 /// list is longer than any before.
 #[derive(Drop)]
 pub struct Watch {
-    standing: Items<Standing>,
+    standing: Items<StandingAlarm>,
     /// Room for those that come next.
-    next: Items<Standing>,
+    next: Items<StandingAlarm>,
     /// Where the first of each subject was, of what stood before.
     places: Places,
     changes: Changes,
@@ -42,7 +42,7 @@ impl Watch {
     }
 
     /// What is wrong, in the order of the list that was seen last.
-    pub fn standing(&self) -> &[Standing]
+    pub fn standing(&self) -> &[StandingAlarm]
         ensures { result.now ≡ self.now.standing }
     {
         self.standing.as_slice()
@@ -78,8 +78,8 @@ impl Watch {
 
 /// These alarms, each since when its subject had one, or since now.
 fn fill_standing(
-    standing: &mut Items<Standing>,
-    stood: &[Standing],
+    standing: &mut Items<StandingAlarm>,
+    stood: &[StandingAlarm],
     places: &Places,
     alarms: &[Alarm],
     now: u64,
@@ -95,8 +95,8 @@ fn fill_standing(
 }
 
 fn push_standing(
-    standing: &mut Items<Standing>,
-    stood: &[Standing],
+    standing: &mut Items<StandingAlarm>,
+    stood: &[StandingAlarm],
     places: &Places,
     alarms: &[Alarm],
     now: u64,
@@ -106,7 +106,7 @@ fn push_standing(
     ensures { OnOk result (NextStanding stood.now now (slice_get alarms.now i) standing.old standing.new) }
 {
     match alarms.get(i) {
-        Some(alarm) => standing.push(Standing {
+        Some(alarm) => standing.push(StandingAlarm {
             alarm: *alarm,
             since: since_of(stood, places, alarm.subject(), now),
         }),
@@ -115,14 +115,14 @@ fn push_standing(
 }
 
 /// Since when the first of a subject stood, or from now on.
-fn since_of(stood: &[Standing], places: &Places, subject: Subject, now: u64) -> u64
+fn since_of(stood: &[StandingAlarm], places: &Places, subject: AlarmSubject, now: u64) -> u64
     requires { TellOfStood places.now stood.now }
     ensures { IsSince stood.now now subject result }
 {
     since_among(from_first(stood, places, subject), subject, now)
 }
 
-fn since_among(stood: &[Standing], subject: Subject, now: u64) -> u64
+fn since_among(stood: &[StandingAlarm], subject: AlarmSubject, now: u64) -> u64
     ensures { IsSince stood.now now subject result }
 {
     for before in stood {
@@ -135,10 +135,10 @@ fn since_among(stood: &[Standing], subject: Subject, now: u64) -> u64
 
 /// What stood, from the first of a subject on.
 pub(crate) fn from_first<'a>(
-    stood: &'a [Standing],
+    stood: &'a [StandingAlarm],
     places: &Places,
-    subject: Subject,
-) -> &'a [Standing]
+    subject: AlarmSubject,
+) -> &'a [StandingAlarm]
     requires { TellOfStood places.now stood.now }
     ensures { result.now ≡ from_first stood.now subject }
 {

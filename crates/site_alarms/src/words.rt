@@ -2,7 +2,7 @@
 use crate::alarm::{Alarm, Hidden};
 use crate::names::{device_name, output_name, tag_name};
 use crate::points::shown_point;
-use escaped_text::escaped;
+use note_text::escaped;
 use point_types::Cause;
 use service_core::{Loss, Unwritten};
 use site_model::Site;

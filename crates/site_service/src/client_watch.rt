@@ -1,5 +1,5 @@
 //! What is told of clients.
-use crate::journal::Journal;
+use crate::line_writer::LineWriter;
 use gateway::{Core, DEPTH};
 use modbus_frame::{Exception, Frame, parse_request};
 use service_texts::{
@@ -61,10 +61,10 @@ impl ClientWatch {
     pub(crate) fn tell_joined<W: Write>(
         &mut self,
         address: SocketAddr,
-        journal: &mut Journal<'_, W>,
+        line_writer: &mut LineWriter<'_, W>,
     ) {
-        if self.joined.ask(key_of(address.ip()), journal.now()) || self.tells_moves {
-            journal.tell_client(address, "joined");
+        if self.joined.ask(key_of(address.ip()), line_writer.now()) || self.tells_moves {
+            line_writer.tell_client(address, "joined");
         }
     }
 
@@ -72,10 +72,10 @@ impl ClientWatch {
     pub(crate) fn tell_left<W: Write>(
         &mut self,
         address: SocketAddr,
-        journal: &mut Journal<'_, W>,
+        line_writer: &mut LineWriter<'_, W>,
     ) {
-        if self.left.ask(key_of(address.ip()), journal.now()) || self.tells_moves {
-            journal.tell_client(address, "left");
+        if self.left.ask(key_of(address.ip()), line_writer.now()) || self.tells_moves {
+            line_writer.tell_client(address, "left");
         }
     }
 
@@ -86,13 +86,13 @@ impl ClientWatch {
         frame: &Frame,
         reply: &[u8],
         core: &Core<DEPTH>,
-        journal: &mut Journal<'_, W>,
+        line_writer: &mut LineWriter<'_, W>,
     ) {
         match outcome_of(&frame.pdu, reply) {
             WriteOutcome::NoWrite => {}
-            WriteOutcome::Done => self.tell_changes(address, core, journal),
+            WriteOutcome::Done => self.tell_changes(address, core, line_writer),
             WriteOutcome::Refused(refused) => {
-                self.tell_refused(address, frame, refused, core, journal);
+                self.tell_refused(address, frame, refused, core, line_writer);
             }
         }
     }
@@ -101,7 +101,7 @@ impl ClientWatch {
         &mut self,
         address: SocketAddr,
         core: &Core<DEPTH>,
-        journal: &mut Journal<'_, W>,
+        line_writer: &mut LineWriter<'_, W>,
     ) {
         for _ in 0..core.settings().len() {
             let Some(change) = self.known.next_change(core.settings()) else {
@@ -111,7 +111,7 @@ impl ClientWatch {
                 Some(_) => change_line(self.alloc, core.site(), change, address),
                 None => lapsed_line(self.alloc, tag_name(core.site(), change.tag)),
             };
-            journal.tell(line);
+            line_writer.tell(line);
         }
     }
 
@@ -119,14 +119,14 @@ impl ClientWatch {
     pub(crate) fn tell_lapsed<W: Write>(
         &mut self,
         core: &Core<DEPTH>,
-        journal: &mut Journal<'_, W>,
+        line_writer: &mut LineWriter<'_, W>,
     ) {
         for _ in 0..core.settings().len() {
             let Some(change) = self.known.next_change(core.settings()) else {
                 return;
             };
             let name = tag_name(core.site(), change.tag);
-            journal.tell(lapsed_line(self.alloc, name));
+            line_writer.tell(lapsed_line(self.alloc, name));
         }
     }
 
@@ -136,17 +136,17 @@ impl ClientWatch {
         frame: &Frame,
         refused: RefusedWrite,
         core: &Core<DEPTH>,
-        journal: &mut Journal<'_, W>,
+        line_writer: &mut LineWriter<'_, W>,
     ) {
-        if self.refused.ask(key_of(address.ip()), journal.now()) {
+        if self.refused.ask(key_of(address.ip()), line_writer.now()) {
             let what = refusal_text(self.alloc, frame, refused, core);
-            journal.tell_what(address, what);
+            line_writer.tell_what(address, what);
         }
     }
 
     /// Tells how many writes of an address weren't told, whose minute is over, and begins hours anew.
-    pub(crate) fn tell_over<W: Write>(&mut self, journal: &mut Journal<'_, W>) {
-        let now = journal.now();
+    pub(crate) fn tell_over<W: Write>(&mut self, line_writer: &mut LineWriter<'_, W>) {
+        let now = line_writer.now();
         forget_over(&mut self.joined, now);
         forget_over(&mut self.left, now);
         for _ in 0..MOST_OVER {
@@ -154,7 +154,7 @@ impl ClientWatch {
                 return;
             };
             if over.more > 0 {
-                journal.tell(more_line(self.alloc, over));
+                line_writer.tell(more_line(self.alloc, over));
             }
         }
     }

@@ -5,7 +5,7 @@ ghost use Rattle.site_service.specs.Admitting.{HasRight};
 use crate::client::Client;
 use crate::client_watch::ClientWatch;
 use crate::door::Door;
-use crate::journal::Journal;
+use crate::line_writer::LineWriter;
 use crate::tokens::Tokens;
 use gateway::{Core, DEPTH};
 use mio::net::TcpStream;
@@ -55,9 +55,9 @@ impl Clients {
     pub(crate) fn tell_lapsed<W: Write>(
         &mut self,
         core: &Core<DEPTH>,
-        journal: &mut Journal<'_, W>,
+        line_writer: &mut LineWriter<'_, W>,
     ) {
-        self.watch.tell_lapsed(core, journal);
+        self.watch.tell_lapsed(core, line_writer);
     }
 
     /// The system says of the client at a place that there is something to do.
@@ -86,14 +86,14 @@ impl Clients {
         door: &mut Door,
         writers: &[Writer],
         service: &mut Service,
-        journal: &mut Journal<'_, W>,
+        line_writer: &mut LineWriter<'_, W>,
     ) {
-        self.watch.tell_over(journal);
+        self.watch.tell_over(line_writer);
         for _ in 0..MOST_TAKEN {
             let Some((stream, address)) = door.next() else {
                 return;
             };
-            self.join(registry, stream, address, writers, service, journal);
+            self.join(registry, stream, address, writers, service, line_writer);
         }
     }
 
@@ -104,17 +104,17 @@ impl Clients {
         address: SocketAddr,
         writers: &[Writer],
         service: &mut Service,
-        journal: &mut Journal<'_, W>,
+        line_writer: &mut LineWriter<'_, W>,
     ) {
-        match admitted(service, writers, address.ip(), journal.now()) {
+        match admitted(service, writers, address.ip(), line_writer.now()) {
             Some(place) => {
                 // the first who was silent for over half a minute, where there was no free place
-                self.leave(place, journal);
+                self.leave(place, line_writer);
                 let token = Token(self.tokens.of_client(place));
                 let client = Client::new(registry, token, stream, address);
-                self.put(place, client, service, journal);
+                self.put(place, client, service, line_writer);
             }
-            None => journal.tell_client(address, "refused"),
+            None => line_writer.tell_client(address, "refused"),
         }
     }
 
@@ -124,10 +124,10 @@ impl Clients {
         place: usize,
         client: Option<Client>,
         service: &mut Service,
-        journal: &mut Journal<'_, W>,
+        line_writer: &mut LineWriter<'_, W>,
     ) {
         match &client {
-            Some(client) => self.watch.tell_joined(client.address, journal),
+            Some(client) => self.watch.tell_joined(client.address, line_writer),
             None => service.client_gone(place),
         }
         self.set(place, client);
@@ -140,10 +140,10 @@ impl Clients {
     }
 
     // Closes the connection at a place, where there is one.
-    fn leave<W: Write>(&mut self, place: usize, journal: &mut Journal<'_, W>) {
+    fn leave<W: Write>(&mut self, place: usize, line_writer: &mut LineWriter<'_, W>) {
         if let Some(address) = self.address_at(place) {
             self.set(place, None);
-            self.watch.tell_left(address, journal);
+            self.watch.tell_left(address, line_writer);
         }
     }
 
@@ -164,12 +164,12 @@ impl Clients {
     pub(crate) fn receive<W: Write>(
         &mut self,
         service: &mut Service,
-        journal: &mut Journal<'_, W>,
+        line_writer: &mut LineWriter<'_, W>,
     ) {
         let watch = &mut self.watch;
         for (place, client) in self.places.iter_mut().enumerate() {
             if let Some(client) = client {
-                receive_at(client, place, watch, service, journal);
+                receive_at(client, place, watch, service, line_writer);
             }
         }
     }
@@ -184,10 +184,14 @@ impl Clients {
     }
 
     /// Closes the connections that are over, or are to be closed.
-    pub(crate) fn close<W: Write>(&mut self, service: &mut Service, journal: &mut Journal<'_, W>) {
+    pub(crate) fn close<W: Write>(
+        &mut self,
+        service: &mut Service,
+        line_writer: &mut LineWriter<'_, W>,
+    ) {
         for place in 0..self.places.len() {
             if self.is_over(service, place) {
-                self.leave(place, journal);
+                self.leave(place, line_writer);
                 service.client_gone(place);
             }
         }
@@ -215,10 +219,10 @@ fn receive_at<W: Write>(
     place: usize,
     watch: &mut ClientWatch,
     service: &mut Service,
-    journal: &mut Journal<'_, W>,
+    line_writer: &mut LineWriter<'_, W>,
 ) {
-    if let Some(frame) = client.receive(service, place, journal.now()) {
+    if let Some(frame) = client.receive(service, place, line_writer.now()) {
         let reply = service.to_client(place);
-        watch.tell_frame(client.address, &frame, reply, service.core(), journal);
+        watch.tell_frame(client.address, &frame, reply, service.core(), line_writer);
     }
 }

@@ -1,8 +1,8 @@
 //! The files of a service, over its time.
-use crate::journal::Journal;
 use crate::keeping::Keeping;
+use crate::line_writer::LineWriter;
 use crate::restoring::restore;
-use crate::sockets::Taken;
+use crate::sockets::TurnTaken;
 use crate::state_file::StateFile;
 use crate::state_lock::StateLock;
 use crate::status_file::StatusFile;
@@ -36,11 +36,11 @@ impl<'a> KeptFiles<'a> {
         keeping: &Keeping<'a, '_>,
         lock: Option<StateLock>,
         service: &mut Service,
-        journal: &mut Journal<'_, W>,
+        line_writer: &mut LineWriter<'_, W>,
     ) -> Result<KeptFiles<'a>, AllocError> {
         let state = match keeping.state {
             Some(state) => {
-                restore(alloc, &state, service, journal);
+                restore(alloc, &state, service, line_writer);
                 Some(StateFile::new(alloc, &state, service.core())?)
             }
             None => None,
@@ -78,15 +78,15 @@ impl<'a> KeptFiles<'a> {
     /// that are kept.
     pub(crate) fn keep_state<R: Files, W: Write>(
         &mut self,
-        _taken: Taken,
+        _taken: TurnTaken,
         rt: &R,
         core: &Core<DEPTH>,
-        journal: &mut Journal<'_, W>,
+        line_writer: &mut LineWriter<'_, W>,
     ) -> Kept {
         let alloc = self.alloc;
         if let Some(state) = &mut self.state {
-            if let Some(word) = state.keep(rt, alloc, core, journal.now()) {
-                journal.tell(file_line(alloc, "state", word));
+            if let Some(word) = state.keep(rt, alloc, core, line_writer.now()) {
+                line_writer.tell(file_line(alloc, "state", word));
             }
         }
         Kept { _by_files: () }
@@ -113,12 +113,12 @@ impl<'a> KeptFiles<'a> {
         &mut self,
         rt: &R,
         text: Result<String, AllocError>,
-        journal: &mut Journal<'_, W>,
+        line_writer: &mut LineWriter<'_, W>,
     ) {
         let alloc = self.alloc;
         if let Some(status) = &mut self.status {
             if let Some(word) = status.keep(rt, alloc, text) {
-                journal.tell(file_line(alloc, "status", word));
+                line_writer.tell(file_line(alloc, "status", word));
             }
         }
     }

@@ -3,19 +3,17 @@
 //! is served in the same way. What is read and written as text stands in `service_texts`.
 #![tactic(auto)]
 
+mod alarm_watch;
 mod client;
 mod client_watch;
 mod clients;
-mod desk;
+mod device_socket;
+mod device_sockets;
 mod door;
-mod journal;
 mod keeping;
 mod kept_files;
-mod link;
+mod line_writer;
 mod link_bytes;
-mod link_state;
-mod links;
-mod looking;
 mod members;
 mod nights;
 mod paces;
@@ -25,7 +23,9 @@ mod program_watch;
 mod replacing;
 mod restoring;
 mod room;
+mod serve_loop;
 mod serving;
+mod socket_state;
 mod sockets;
 mod state_fault;
 mod state_file;
@@ -44,7 +44,7 @@ mod wall_clock;
 // what is kept over a restart
 pub use keeping::{Keeping, KeptState};
 // another program in place of the one that runs
-pub use program_watch::{Looked, OneProgram, ProgramWatch, Refusal};
+pub use program_watch::{Looked, OneProgram, ProgramRefusal, ProgramWatch};
 // the service itself
 pub use serving::{End, Serving};
 pub use state_fault::StateFault;

@@ -1,7 +1,7 @@
 //! A simulated plant behind a port.
-use crate::desk::milliseconds;
 use crate::door::Door;
 use crate::plant_client::{LatePlant, PlantClient};
+use crate::serve_loop::milliseconds;
 use crate::tokens::{DOOR, Owner, Tokens};
 use inverter_sim::Plant;
 use mio::net::TcpStream;

@@ -6,19 +6,19 @@ use std::time::Clock;
 
 /// Why another program doesn't run.
 #[derive(Drop)]
-pub enum Refusal {
+pub enum ProgramRefusal {
     /// It isn't accepted, or its file can't be read: the words that `check` prints of it.
     Cause(String),
     /// Memory was refused.
     Memory,
 }
 
-impl Refusal {
+impl ProgramRefusal {
     /// Its words, as they are told.
     pub(crate) fn words(&self) -> &str {
         match self {
-            Refusal::Cause(words) => words.as_str(),
-            Refusal::Memory => "memory",
+            ProgramRefusal::Cause(words) => words.as_str(),
+            ProgramRefusal::Memory => "memory",
         }
     }
 }
@@ -31,7 +31,7 @@ pub enum Looked {
     /// Another program was refused before, and now there is none but the one that runs.
     Settled,
     /// Another program is refused: the one that runs goes on.
-    Refused(Refusal),
+    Refused(ProgramRefusal),
     /// Another program runs from the next scan on, with so many instructions in a scan at most.
     Taken(u32),
 }

@@ -1,8 +1,8 @@
 //! What is set at the start.
 ghost use Rattle.site_service.specs.Setting.{SetsBy};
 
-use crate::journal::Journal;
 use crate::keeping::KeptState;
+use crate::line_writer::LineWriter;
 use crate::state_file::variables;
 use gateway::{Core, DEPTH, has_lapsed};
 use point_types::Name;
@@ -19,21 +19,21 @@ pub(crate) fn restore<W: Write>(
     alloc: Global,
     state: &KeptState<'_, '_>,
     service: &mut Service,
-    journal: &mut Journal<'_, W>,
+    line_writer: &mut LineWriter<'_, W>,
 ) {
     for line in state.text.lines() {
         if !is_taken(service, state.retained, line) {
-            journal.tell(left_out(alloc, line));
+            line_writer.tell(left_out(alloc, line));
         }
     }
-    tell_lapsed(alloc, service.core(), journal);
+    tell_lapsed(alloc, service.core(), line_writer);
 }
 
 /// Tells what of the file was set too long ago to hold still.
-fn tell_lapsed<W: Write>(alloc: Global, core: &Core<DEPTH>, journal: &mut Journal<'_, W>) {
+fn tell_lapsed<W: Write>(alloc: Global, core: &Core<DEPTH>, line_writer: &mut LineWriter<'_, W>) {
     for (tag, age) in core.site().tags().iter().zip(core.ages()) {
         if has_lapsed(tag.lapse, *age) {
-            journal.tell(lapsed_line(alloc, tag.name.as_str()));
+            line_writer.tell(lapsed_line(alloc, tag.name.as_str()));
         }
     }
 }

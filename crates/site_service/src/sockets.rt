@@ -1,9 +1,9 @@
 //! All sockets of a service, and the wait for them.
 use crate::clients::Clients;
+use crate::device_sockets::DeviceSockets;
 use crate::door::Door;
-use crate::journal::Journal;
 use crate::kept_files::Kept;
-use crate::links::Links;
+use crate::line_writer::LineWriter;
 use crate::serving::{End, Serving};
 use crate::tokens::{DOOR, Owner, Tokens};
 use mio::{Events, Poll, Token};
@@ -25,14 +25,14 @@ pub(crate) struct Sockets {
     poll: Poll,
     events: Events,
     door: Door,
-    links: Links,
+    links: DeviceSockets,
     clients: Clients,
     tokens: Tokens,
 }
 
 /// What came in this turn is taken. What is set is kept only after that.
 #[derive(Drop)]
-pub(crate) struct Taken {
+pub(crate) struct TurnTaken {
     _by_sockets: (),
 }
 
@@ -61,7 +61,7 @@ impl Sockets {
     ) -> io::Result<Sockets> {
         let tokens = Tokens::new(links.len());
         let most = tokens.of_client(serving.clients);
-        let links = Links::new(alloc, tokens, links)?;
+        let links = DeviceSockets::new(alloc, tokens, links)?;
         let clients = Clients::new(alloc, tokens, serving.clients, serving.is_verbose)?;
         Ok(Sockets {
             events: Events::with_capacity(alloc, most)?,
@@ -101,17 +101,23 @@ impl Sockets {
         rt: &R,
         serving: &Serving<'_>,
         service: &mut Service,
-        journal: &mut Journal<'_, W>,
-    ) -> Taken {
-        let now = journal.now();
+        line_writer: &mut LineWriter<'_, W>,
+    ) -> TurnTaken {
+        let now = line_writer.now();
         let registry = self.poll.registry();
-        self.clients.take_in(registry, &mut self.door, serving.writers, service, journal);
+        self.clients.take_in(
+            registry,
+            &mut self.door,
+            serving.writers,
+            service,
+            line_writer,
+        );
         // a scan may have been made, and a client may write again what lapsed before it
-        self.clients.tell_lapsed(service.core(), journal);
-        self.clients.receive(service, journal);
+        self.clients.tell_lapsed(service.core(), line_writer);
+        self.clients.receive(service, line_writer);
         self.links.hang_up(service, now);
         self.links.dial(rt, registry, service, now);
-        Taken { _by_sockets: () }
+        TurnTaken { _by_sockets: () }
     }
 
     /// Sends what waits, once what is set is kept, and closes clients' connections that are over.
@@ -119,11 +125,11 @@ impl Sockets {
         &mut self,
         _kept: Kept,
         service: &mut Service,
-        journal: &mut Journal<'_, W>,
+        line_writer: &mut LineWriter<'_, W>,
     ) {
         self.links.send(service);
         self.clients.send(service);
-        self.clients.close(service, journal);
+        self.clients.close(service, line_writer);
     }
 
     /// The longest wait, where there is something to do in so many milliseconds at the latest.

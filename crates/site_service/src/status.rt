@@ -1,6 +1,6 @@
 //! How a service stands, as JSON.
+use crate::alarm_watch::AlarmWatch;
 use crate::clients::Clients;
-use crate::looking::Lookout;
 use crate::members::{put_list, put_number, put_text};
 use crate::status_alarms::alarms_value;
 use crate::status_devices::devices_value;
@@ -20,22 +20,22 @@ pub(crate) fn status_text(
     service: &Service,
     addresses: &Addresses,
     clients: &Clients,
-    lookout: &Lookout,
+    alarm_watch: &AlarmWatch,
 ) -> Result<String, AllocError> {
     let mut status = Map::new(alloc);
-    let standing = lookout.standing()?;
+    let standing = alarm_watch.standing()?;
     put_list(
         &mut status,
         alloc,
         "alarms",
-        alarms_value(alloc, service.core(), standing, lookout.refused_for())?,
+        alarms_value(alloc, service.core(), standing, alarm_watch.refused_for())?,
     )?;
     put(&mut status, alloc, "started", started_value(alloc, start)?)?;
     put_text(&mut status, alloc, "time", time?.as_str())?;
     put_number(&mut status, alloc, "seconds", seconds)?;
     put_number(&mut status, alloc, "scans", service.scans())?;
     put_number(&mut status, alloc, "late", late)?;
-    put_site(&mut status, alloc, service, addresses, lookout)?;
+    put_site(&mut status, alloc, service, addresses, alarm_watch)?;
     put_list(
         &mut status,
         alloc,
@@ -63,14 +63,14 @@ fn put_site(
     alloc: Global,
     service: &Service,
     addresses: &Addresses,
-    lookout: &Lookout,
+    alarm_watch: &AlarmWatch,
 ) -> Result<(), AllocError> {
     let core = service.core();
     put_list(
         status,
         alloc,
         "devices",
-        devices_value(alloc, service, addresses, lookout)?,
+        devices_value(alloc, service, addresses, alarm_watch)?,
     )?;
     put(status, alloc, "tags", tags_value(alloc, core)?)?;
     put(status, alloc, "outputs", outputs_value(alloc, service)?)?;

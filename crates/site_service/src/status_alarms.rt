@@ -2,14 +2,14 @@
 use crate::members::{put_number, put_text};
 use gateway::{Core, DEPTH};
 use serde_json::{Map, Value};
-use site_alarms::{Alarm, Standing, cause_text, kind_word, name_text, sentence};
+use site_alarms::{Alarm, StandingAlarm, cause_text, kind_word, name_text, sentence};
 use std::alloc::{AllocError, Global};
 
 /// Each alarm, in the order of the list. A program that is refused is so for this cause.
 pub(crate) fn alarms_value(
     alloc: Global,
     core: &Core<DEPTH>,
-    standing: &[Standing],
+    standing: &[StandingAlarm],
     refused_for: &str,
 ) -> Result<Vec<Value>, AllocError> {
     let mut values = Vec::new(alloc);
@@ -22,7 +22,7 @@ pub(crate) fn alarms_value(
 fn alarm_value(
     alloc: Global,
     core: &Core<DEPTH>,
-    one: Standing,
+    one: StandingAlarm,
     refused_for: &str,
 ) -> Result<Value, AllocError> {
     let mut value = Map::new(alloc);

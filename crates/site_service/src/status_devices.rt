@@ -1,5 +1,5 @@
 //! How the devices of a service stand, as JSON.
-use crate::looking::Lookout;
+use crate::alarm_watch::AlarmWatch;
 use crate::members::{put_list, put_number, put_text, put_truth};
 use gateway::{Core, DEPTH};
 use serde_json::{Map, Value, put};
@@ -13,11 +13,11 @@ pub(crate) fn devices_value(
     alloc: Global,
     service: &Service,
     addresses: &Addresses,
-    lookout: &Lookout,
+    alarm_watch: &AlarmWatch,
 ) -> Result<Vec<Value>, AllocError> {
     let mut values = Vec::new(alloc);
     for device in 0..service.core().site().devices().len() {
-        values.push(device_value(alloc, service, addresses, lookout, device)?)?;
+        values.push(device_value(alloc, service, addresses, alarm_watch, device)?)?;
     }
     Ok(values)
 }
@@ -26,7 +26,7 @@ fn device_value(
     alloc: Global,
     service: &Service,
     addresses: &Addresses,
-    lookout: &Lookout,
+    alarm_watch: &AlarmWatch,
     device: usize,
 ) -> Result<Value, AllocError> {
     let mut value = Map::new(alloc);
@@ -52,7 +52,7 @@ fn device_value(
         "refused",
         refused_value(alloc, service.refusals(device))?,
     )?;
-    if let Some(is_asleep) = lookout.is_asleep(device) {
+    if let Some(is_asleep) = alarm_watch.is_asleep(device) {
         put_truth(&mut value, alloc, "asleep", is_asleep)?;
     }
     Ok(Value::Object(value))

@@ -1,6 +1,6 @@
 //! The turns of a survey: connections to devices alone, until each device is read or can't be, and then one scan.
-use crate::desk::milliseconds;
-use crate::links::Links;
+use crate::device_sockets::DeviceSockets;
+use crate::serve_loop::milliseconds;
 use crate::serving::End;
 use crate::tokens::{Owner, Tokens};
 use mio::{Events, Poll};
@@ -74,7 +74,7 @@ struct SurveyRound {
     poll: Poll,
     events: Events,
     tokens: Tokens,
-    links: Links,
+    links: DeviceSockets,
     start: Instant,
     /// By how many milliseconds the service's time is ahead of the clock: the scan comes as soon as each device is read, or can't
     /// be.
@@ -96,7 +96,7 @@ impl SurveyRound {
             poll: Poll::new(rt)?,
             events: Events::with_capacity(alloc, links.len().saturating_add(1))?,
             tokens,
-            links: Links::new(alloc, tokens, links)?,
+            links: DeviceSockets::new(alloc, tokens, links)?,
             start: Instant::now(rt)?,
             ahead: 0,
             unmapped: vec![in alloc; false; devices]?,

@@ -1,7 +1,7 @@
 //! What a service tells, as lines.
-use crate::journal::Journal;
-use escaped_text::escaped;
+use crate::line_writer::LineWriter;
 use gateway::{Core, DEPTH, Report};
+use note_text::escaped;
 use register_map::Map;
 use service_core::{Note, Refusal};
 use service_texts::{
@@ -23,13 +23,13 @@ pub(crate) fn tell<W: Write>(
     alloc: Global,
     note: &Note,
     core: &Core<DEPTH>,
-    journal: &mut Journal<'_, W>,
+    line_writer: &mut LineWriter<'_, W>,
 ) {
     if let Some(line) = line_of(alloc, note, core) {
-        journal.tell(line);
+        line_writer.tell(line);
     }
     if let Note::Found(device) = note {
-        tell_lacking(alloc, core, *device, journal);
+        tell_lacking(alloc, core, *device, line_writer);
     }
 }
 
@@ -38,11 +38,11 @@ fn tell_lacking<W: Write>(
     alloc: Global,
     core: &Core<DEPTH>,
     device: usize,
-    journal: &mut Journal<'_, W>,
+    line_writer: &mut LineWriter<'_, W>,
 ) {
     for want in core.site().wants() {
         if want.device == device && is_lacking(core.maps(), *want) {
-            journal.tell(lacks_line(alloc, core.site(), *want));
+            line_writer.tell(lacks_line(alloc, core.site(), *want));
         }
     }
 }
@@ -58,16 +58,16 @@ pub(crate) fn tell_changes<W: Write>(
     alloc: Global,
     changes: &Changes,
     core: &Core<DEPTH>,
-    journal: &mut Journal<'_, W>,
+    line_writer: &mut LineWriter<'_, W>,
 ) {
     for alarm in changes.begun.as_slice() {
         if let Some(line) = begun_line(alloc, core, *alarm) {
-            journal.tell(line);
+            line_writer.tell(line);
         }
     }
     for alarm in changes.over.as_slice() {
         if let Some(line) = over_line(alloc, core, *alarm) {
-            journal.tell(line);
+            line_writer.tell(line);
         }
     }
 }
@@ -168,12 +168,12 @@ pub(crate) fn tell_taken<W: Write>(
     alloc: Global,
     start: Option<&Start>,
     budget: u32,
-    journal: &mut Journal<'_, W>,
+    line_writer: &mut LineWriter<'_, W>,
 ) {
     if let Some(start) = start {
-        journal.tell(started_line(alloc, start));
+        line_writer.tell(started_line(alloc, start));
     }
-    journal.tell(program_taken_line(alloc, budget));
+    line_writer.tell(program_taken_line(alloc, budget));
 }
 
 // `started TIME sunsite VERSION site HASH program HASH`.
@@ -187,7 +187,7 @@ pub(crate) fn tell_scan<W: Write>(
     alloc: Global,
     scan: u64,
     report: &Report,
-    journal: &mut Journal<'_, W>,
+    line_writer: &mut LineWriter<'_, W>,
 ) {
-    journal.tell_plain(report.told(alloc, scan));
+    line_writer.tell_plain(report.told(alloc, scan));
 }

@@ -1,8 +1,8 @@
 //! The turns of a service: the clock, bytes in, bytes out, what is told, and a wait.
-use crate::desk::Desk;
 use crate::keeping::Keeping;
 use crate::kept_files::KeptFiles;
 use crate::program_watch::ProgramWatch;
+use crate::serve_loop::ServeLoop;
 use crate::serving::{End, Serving};
 use crate::state_lock::StateLock;
 use service_core::Service;
@@ -36,11 +36,11 @@ pub fn serve_site<
 ) -> Result<(), End> {
     let lock = lock_of(rt, alloc, keeping)?;
     let is_noting = program.looks_at().is_some();
-    let mut desk = Desk::new(rt, alloc, serving, addresses, is_noting, out)?;
-    desk.tell_address();
-    let mut files = desk.restore(keeping, lock, service)?;
-    let ended = turns(rt, serving, program, service, &mut desk, &mut files);
-    desk.end();
+    let mut serve_loop = ServeLoop::new(rt, alloc, serving, addresses, is_noting, out)?;
+    serve_loop.tell_address();
+    let mut files = serve_loop.restore(keeping, lock, service)?;
+    let ended = turns(rt, serving, program, service, &mut serve_loop, &mut files);
+    serve_loop.end();
     ended
 }
 
@@ -54,14 +54,14 @@ fn turns<
     serving: &Serving<'_>,
     program: &mut P,
     service: &mut Service,
-    desk: &mut Desk<'_, W>,
+    serve_loop: &mut ServeLoop<'_, W>,
     files: &mut KeptFiles<'_>,
 ) -> Result<(), End> {
     for _ in 0..u64::MAX {
-        if desk.turn(rt, serving, program, service, files)? {
+        if serve_loop.turn(rt, serving, program, service, files)? {
             return Ok(());
         }
-        desk.wait(rt, program.looks_at(), service)?;
+        serve_loop.wait(rt, program.looks_at(), service)?;
     }
     Ok(())
 }

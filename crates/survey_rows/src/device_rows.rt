@@ -4,10 +4,10 @@ use crate::identity::push_identity;
 use crate::row::Rows;
 use crate::seen::Wrongs;
 use crate::survey::Survey;
-use escaped_text::{escaped, push_escaped};
 use gateway::{Core, DEPTH};
+use note_text::{escaped, push_escaped};
 use site_alarms::{
-    Alarm, Subject, cause_text, device_name, is_lacking, lacks_text, push_models, refuses_text,
+    Alarm, AlarmSubject, cause_text, device_name, is_lacking, lacks_text, push_models, refuses_text,
 };
 use site_model::Want;
 use std::alloc::{AllocError, Global};
@@ -20,7 +20,7 @@ pub(crate) fn device_rows(
 ) -> Result<Rows, AllocError> {
     let mut rows = Rows::new(alloc);
     for device in 0..survey.site.devices().len() {
-        let wrong = wrongs.with(Subject::Device(device));
+        let wrong = wrongs.with(AlarmSubject::Device(device));
         let subject = device_subject(alloc, survey, device)?;
         let said = device_text(alloc, survey, device, wrong)?;
         rows.push(subject, said, wrong.is_some())?;

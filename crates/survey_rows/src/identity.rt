@@ -1,8 +1,8 @@
 //! Who made a device, and which one it is, by its common model (SunSpec Device Information Model Specification, model 1).
 use crate::point_name::definition_of;
 use crate::survey::Survey;
-use escaped_text::push_letter;
 use model_defs::ModelDef;
+use note_text::push_letter;
 use site_model::Want;
 use site_model::wants::place_of_want;
 use std::alloc::{AllocError, Global};

@@ -4,11 +4,12 @@ use crate::row::Rows;
 use crate::seen::Wrongs;
 use crate::survey::Survey;
 use crate::units::push_unit;
-use decimal_text::decimal;
-use escaped_text::{escaped, push_escaped};
 use gateway::{Core, DEPTH};
+use note_text::{decimal, escaped, push_escaped};
 use point_types::{Cause, Reading};
-use site_alarms::{Alarm, Met, Subject, device_name, is_lacking, mend, met_at, missing_text};
+use site_alarms::{
+    Alarm, AlarmSubject, MetNumber, device_name, is_lacking, mend, met_at, missing_text,
+};
 use site_model::{Access, SiteTag, Want};
 use std::alloc::{AllocError, Global};
 
@@ -37,7 +38,7 @@ fn push_input(
     tag: &SiteTag,
 ) -> Result<(), AllocError> {
     let subject = tag_subject(alloc, "input", survey, tag)?;
-    match wrongs.with(Subject::Input(number)) {
+    match wrongs.with(AlarmSubject::Input(number)) {
         Some(Alarm::InputMissing(_, cause)) => {
             let said = missing(alloc, survey, wrongs, number, tag, cause)?;
             rows.push(subject, said, true)
@@ -72,10 +73,10 @@ fn push_value(
 }
 
 /// Whether a device counts in finer steps than a tag that isn't rounded.
-fn is_finer(tag: &SiteTag, met: Option<Met>) -> bool {
+fn is_finer(tag: &SiteTag, met: Option<MetNumber>) -> bool {
     match met {
         Some(
-            Met {
+            MetNumber {
                 factor: Some(factor),
                 ..
             },
@@ -109,7 +110,7 @@ fn value_text(
     survey: &Survey<'_>,
     n: i128,
     tag: &SiteTag,
-    met: Option<Met>,
+    met: Option<MetNumber>,
 ) -> Result<String, AllocError> {
     let mut text = decimal(alloc, n, tag.exponent)?;
     push_unit(&mut text, survey, tag)?;
@@ -121,7 +122,7 @@ fn value_text(
 }
 
 /// ` raw R factor F`, or ` raw R` where there is no factor.
-pub(crate) fn met_text(alloc: Global, met: Met) -> Result<String, AllocError> {
+pub(crate) fn met_text(alloc: Global, met: MetNumber) -> Result<String, AllocError> {
     let raw = met.raw;
     match met.factor {
         Some(factor) => format!(in alloc; " raw {raw} factor {factor}"),
@@ -155,7 +156,8 @@ fn wrong_device(core: &Core<DEPTH>, wrongs: &Wrongs, tag: &SiteTag) -> Option<us
         device,
         model: tag.model,
     };
-    let is_wrong = wrongs.with(Subject::Device(device)).is_some() || is_lacking(core.maps(), want);
+    let is_wrong = wrongs.with(AlarmSubject::Device(device)).is_some()
+        || is_lacking(core.maps(), want);
     if is_wrong { Some(device) } else { None }
 }
 

@@ -27,4 +27,4 @@ pub use asked_text::{AskedFault, asked_site};
 pub use handed_defs::HandedDefs;
 // the table
 pub use survey::Survey;
-pub use table::{Table, table_of};
+pub use table::{SurveyTable, table_of};

@@ -5,12 +5,12 @@ use crate::row::Rows;
 use crate::seen::Wrongs;
 use crate::survey::Survey;
 use crate::units::push_unit;
-use decimal_text::decimal;
+use note_text::decimal;
 use point_types::Cause;
 use point_writer::factor;
 use served_notes::reason_of;
 use served_ranges::{Demand, is_always_met};
-use site_alarms::{Alarm, Met, Subject, met_at};
+use site_alarms::{Alarm, AlarmSubject, MetNumber, met_at};
 use site_model::SiteTag;
 use std::alloc::{AllocError, Global};
 
@@ -23,7 +23,7 @@ pub(crate) fn output_rows(
     let mut rows = Rows::new(alloc);
     for (output, number) in survey.site.outs().iter().enumerate() {
         if let Some(tag) = survey.site.tags().get(*number) {
-            let place = Place {
+            let place = PlacedOutput {
                 output,
                 number: *number,
                 tag,
@@ -36,7 +36,7 @@ pub(crate) fn output_rows(
 
 /// An output: its number among the outputs, and that of its tag.
 #[derive(Clone, Copy)]
-struct Place<'a> {
+struct PlacedOutput<'a> {
     output: usize,
     number: usize,
     tag: &'a SiteTag,
@@ -47,10 +47,10 @@ fn push_output(
     rows: &mut Rows,
     survey: &Survey<'_>,
     wrongs: &Wrongs,
-    place: Place<'_>,
+    place: PlacedOutput<'_>,
 ) -> Result<(), AllocError> {
     let subject = tag_subject(alloc, "output", survey, place.tag)?;
-    match unreached(wrongs.with(Subject::Input(place.number))) {
+    match unreached(wrongs.with(AlarmSubject::Input(place.number))) {
         Some(cause) => {
             let said = missing(alloc, survey, wrongs, place.number, place.tag, cause)?;
             rows.push(subject, said, true)
@@ -72,7 +72,7 @@ fn push_reached(
     alloc: Global,
     rows: &mut Rows,
     survey: &Survey<'_>,
-    place: Place<'_>,
+    place: PlacedOutput<'_>,
     subject: String,
 ) -> Result<(), AllocError> {
     let mut said = output_text(alloc, survey, place.tag)?;
@@ -96,7 +96,7 @@ fn output_text(alloc: Global, survey: &Survey<'_>, tag: &SiteTag) -> Result<Stri
     Ok(text)
 }
 
-fn now_text(alloc: Global, met: Option<Met>) -> Result<String, AllocError> {
+fn now_text(alloc: Global, met: Option<MetNumber>) -> Result<String, AllocError> {
     let Some(met) = met else {
         return String::from_str(alloc, "NotImplemented");
     };
@@ -120,7 +120,7 @@ fn exponent_of(factor: Option<i16>) -> Option<i8> {
 fn unsaid_text(
     alloc: Global,
     survey: &Survey<'_>,
-    place: Place<'_>,
+    place: PlacedOutput<'_>,
 ) -> Result<Option<String>, AllocError> {
     let tag = place.tag;
     let factor = factor_of(survey, place.output);

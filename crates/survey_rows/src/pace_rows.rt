@@ -1,7 +1,7 @@
 //! The rows of how often devices can be asked.
 use crate::row::Rows;
 use crate::survey::Survey;
-use escaped_text::escaped;
+use note_text::escaped;
 use service_core::Replies;
 use site_alarms::device_name;
 use std::alloc::{AllocError, Global};

@@ -1,5 +1,5 @@
 //! What of an output's range its point can't be told, in words.
-use decimal_text::decimal;
+use note_text::decimal;
 use served_notes::{Reason, kind_word};
 use served_ranges::Demand;
 use std::alloc::{AllocError, Global};

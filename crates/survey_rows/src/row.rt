@@ -3,7 +3,7 @@ use std::alloc::{AllocError, Global};
 
 /// A row: what it is of, what is said of that, and whether something is wrong with it.
 #[derive(Drop)]
-struct Row {
+struct SurveyRow {
     subject: String,
     said: String,
 }
@@ -11,7 +11,7 @@ struct Row {
 /// Rows in a group: what is said of them stands in one column.
 #[derive(Drop)]
 pub(crate) struct Rows {
-    rows: Vec<Row>,
+    rows: Vec<SurveyRow>,
     wrong: usize,
 }
 
@@ -38,7 +38,7 @@ impl Rows {
         if is_wrong {
             self.wrong = self.wrong.saturating_add(1);
         }
-        match self.rows.push(Row { subject, said }) {
+        match self.rows.push(SurveyRow { subject, said }) {
             Ok(()) => Ok(()),
             Err(_) => Err(AllocError),
         }

@@ -1,7 +1,7 @@
 //! What is wrong at a service after its scan.
 use point_types::Items;
 use service_core::{DeviceStatus, Service};
-use site_alarms::{Alarm, Seen, Subject, wrong_now};
+use site_alarms::{Alarm, AlarmSubject, Seen, wrong_now};
 use std::alloc::{AllocError, Global};
 
 /// All that is wrong at a service, as alarms tell it.
@@ -27,7 +27,7 @@ impl Wrongs {
     }
 
     /// What is wrong with this; None where nothing is.
-    pub(crate) fn with(&self, subject: Subject) -> Option<Alarm> {
+    pub(crate) fn with(&self, subject: AlarmSubject) -> Option<Alarm> {
         for alarm in self.alarms.as_slice() {
             if alarm.subject() == subject {
                 return Some(*alarm);

@@ -3,11 +3,10 @@ use crate::row::Rows;
 use crate::seen::Wrongs;
 use crate::survey::Survey;
 use crate::units::push_unit_of;
-use decimal_text::decimal;
-use escaped_text::escaped;
 use gateway::total_of;
+use note_text::{decimal, escaped};
 use served_ranges::point_of_entry;
-use site_alarms::{Alarm, Subject, cause_text, mend, why_hidden};
+use site_alarms::{Alarm, AlarmSubject, cause_text, mend, why_hidden};
 use site_model::{Served, SiteTag, Source};
 use std::alloc::{AllocError, Global};
 
@@ -20,7 +19,7 @@ pub(crate) fn served_rows(
     let mut rows = Rows::new(alloc);
     for (number, entry) in survey.site.served().iter().enumerate() {
         if let Source::Sum(parts) = &entry.source {
-            let wrong = wrongs.with(Subject::Sum(number));
+            let wrong = wrongs.with(AlarmSubject::Sum(number));
             let subject = served_subject(alloc, survey, number)?;
             let said = match wrong {
                 Some(alarm) => hidden(alloc, survey, alarm)?,

@@ -11,7 +11,7 @@ use std::alloc::{AllocError, Global};
 
 /// The table of a survey.
 #[derive(Drop)]
-pub struct Table {
+pub struct SurveyTable {
     /// Its rows, one a line; the last line says how many things are wrong.
     pub text: String,
     /// How many rows say that something is wrong.
@@ -19,9 +19,9 @@ pub struct Table {
 }
 
 /// The table of a survey whose service made a scan.
-pub fn table_of(alloc: Global, survey: &Survey<'_>) -> Result<Table, AllocError> {
+pub fn table_of(alloc: Global, survey: &Survey<'_>) -> Result<SurveyTable, AllocError> {
     let wrongs = Wrongs::of(alloc, survey.service)?;
-    let mut table = Table {
+    let mut table = SurveyTable {
         text: String::new(alloc),
         wrong: 0,
     };
@@ -35,7 +35,7 @@ pub fn table_of(alloc: Global, survey: &Survey<'_>) -> Result<Table, AllocError>
     Ok(table)
 }
 
-impl Table {
+impl SurveyTable {
     fn push(&mut self, rows: &Rows) -> Result<(), AllocError> {
         self.wrong = self.wrong.saturating_add(rows.wrong());
         rows.tell(&mut self.text)

@@ -1,7 +1,7 @@
 //! The units of the points of published models (SunSpec Device Information Model Specification, units of a point).
 use crate::point_name::point_name;
 use crate::survey::Survey;
-use escaped_text::push_escaped;
+use note_text::push_escaped;
 use site_model::SiteTag;
 use std::alloc::AllocError;
 

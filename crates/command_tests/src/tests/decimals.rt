@@ -1,6 +1,6 @@
 //! Values as decimal numbers.
 use crate::tests::assert_same;
-use decimal_text::decimal;
+use note_text::decimal;
 
 /// Numbers, their exponents, and how they are shown.
 const VALUES: &[(i128, i8, &str)] = &[

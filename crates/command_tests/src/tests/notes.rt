@@ -1,6 +1,6 @@
 //! Tests of the notes: their lines, by text, line and mark.
 use crate::tests::assert_same;
-use source_notes::{Mark, Note};
+use note_text::{Mark, Note};
 use std::process::Abort;
 
 /// The text that the notes are on.

@@ -1,6 +1,6 @@
 //! The page of a run of two scans.
 use crate::tests::assert_same;
-use run_report::{Report, Role, Sample, Series, Source, Unset, page_of};
+use run_report::{Role, RunFile, RunReport, Sample, ScanSeries, Unset, page_of};
 use std::alloc::{AllocError, Global};
 
 /// What a line is: its name, its role, the power of ten that it counts, its range, and what it was in two scans.
@@ -51,9 +51,9 @@ const STEPS: Line = (
     [Sample::Number(18), Sample::Number(7)],
 );
 
-fn series(alloc: Global, line: Line) -> Result<Series, AllocError> {
+fn series(alloc: Global, line: Line) -> Result<ScanSeries, AllocError> {
     let (name, role, exponent, low, high, samples) = line;
-    Ok(Series {
+    Ok(ScanSeries {
         name: String::from_str(alloc, name)?,
         role,
         exponent,
@@ -63,8 +63,8 @@ fn series(alloc: Global, line: Line) -> Result<Series, AllocError> {
     })
 }
 
-fn source(alloc: Global, path: &str) -> Result<Source, AllocError> {
-    Ok(Source {
+fn source(alloc: Global, path: &str) -> Result<RunFile, AllocError> {
+    Ok(RunFile {
         path: String::from_str(alloc, path)?,
         digits: String::from_str(alloc, "0a1b")?,
     })
@@ -81,7 +81,7 @@ fn page(alloc: Global) -> Result<String, AllocError> {
         said: String::from_str(alloc, "101")?,
         why: "it is outside the tag's range",
     };
-    let report = Report {
+    let report = RunReport {
         site: source(alloc, "a <b>&\"c\".toml")?,
         program: source(alloc, "p.il")?,
         plant: String::from_str(alloc, "plant.toml")?,

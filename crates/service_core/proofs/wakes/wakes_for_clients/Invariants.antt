@@ -1,6 +1,6 @@
 use Rattle.std.proofs.Common.{◌≡◌, ◌≤◌, ◌<◌, ◌&&◌, not, true, ℕ, Some, slice_get}
 use Rattle.service_parts.specs.declared.client_place.ClientPlace.{ClientPlace}
-use Rattle.service_parts.specs.Places.{after}
+use Rattle.service_parts.specs.Backing.{after}
 use Rattle.service_core.proofs.Waking.{IsOneOf}
 use Rattle.service_core.proofs.wakes.wakes_for_clients.Given as goal
 

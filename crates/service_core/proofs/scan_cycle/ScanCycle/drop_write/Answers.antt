@@ -2,6 +2,7 @@ use Rattle.std.proofs.Common.{refl}
 use Rattle.service_core.specs.Cycle.{stage_of}
 use Rattle.service_core.specs.Stages.{Ends}
 use Rattle.service_core.proofs.Courses.{goes_ends, reached_rounds}
+use Rattle.service_core.proofs.Going.{ends_due}
 use Rattle.service_core.proofs.Timing.{closes_at}
 use Rattle.service_core.proofs.scan_cycle.ScanCycle.drop_write.Goals as goal
 
@@ -13,4 +14,4 @@ invariant_of-self-clause-reached c =
 pub returns : goal.returns
 returns c =
     let is : Ends c.args.device (stage_of c.args.self.now) (record { core = c.args.self.now.core.value; round = c.close.new.self }) = record { closes = c.close.ensures.closes; core = refl } in
-    record { at = closes_at c.args.device c.args.self.now.round c.close.new.self c.close.ensures.closes; ends = is; goes = goes_ends _ _ c.args.device is }
+    record { at = closes_at c.args.device c.args.self.now.round c.close.new.self c.close.ensures.closes; due = ends_due c.args.device _ _ is; ends = is; goes = goes_ends _ _ c.args.device is }

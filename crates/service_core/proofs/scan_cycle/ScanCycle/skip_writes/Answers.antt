@@ -3,6 +3,7 @@ use Rattle.service_core.specs.Cycle.{stage_of}
 use Rattle.service_core.specs.Rounds.{Progress}
 use Rattle.service_core.specs.Stages.{Skips}
 use Rattle.service_core.proofs.Courses.{goes_skips, reached_rounds, same_stage}
+use Rattle.service_core.proofs.Going.{skips_due}
 use Rattle.service_core.proofs.scan_cycle.ScanCycle.skip_writes.Goals as goal
 
 pub invariant_of-self-clause-reached : goal.invariant_of-self-clause-reached
@@ -13,4 +14,4 @@ invariant_of-self-clause-reached c =
 pub returns : goal.returns
 returns c =
     let is : Skips c.args.device (stage_of c.args.self.now) (record { core = c.args.self.now.core.value; round = c.skip.new.self }) = same_stage _ _ refl c.skip.ensures.skips in
-    record { at = ap (λ (p : Progress). p.at) c.skip.ensures.skips; skips = is; goes = goes_skips _ _ c.args.device is }
+    record { at = ap (λ (p : Progress). p.at) c.skip.ensures.skips; due = skips_due c.args.device _ _ is; skips = is; goes = goes_skips _ _ c.args.device is }

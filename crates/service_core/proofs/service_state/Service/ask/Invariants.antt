@@ -1,8 +1,8 @@
-use Rattle.service_parts.specs.Frames.{LinesGo}
+use Rattle.service_core.specs.Going.{LinksGo}
 use Rattle.service_core.specs.Cycle.{LeadsOn}
 use Rattle.service_core.specs.Having.{HasNoMore, WritesHad}
 use Rattle.service_core.specs.Staying.{Stays}
 use Rattle.service_core.proofs.service_state.Service.ask.Given as goal
 
 abbrev pub invariant-loop : goal.invariant-loop
-invariant-loop l = Stays l.fn.self l.self × (WritesHad l.fn.self.sent l.fn.self.side l.self.side) × LinesGo l.fn.self.lines.lines.items l.self.lines.lines.items × LeadsOn l.fn.self.cycle l.self.cycle × HasNoMore l.fn.self.sent l.self.sent
+invariant-loop l = Stays l.fn.self l.self × (WritesHad l.fn.self.held l.fn.self.side l.self.side) × LinksGo l.fn.self l.self × LeadsOn l.fn.self.cycle l.self.cycle × HasNoMore l.fn.self.held l.self.held

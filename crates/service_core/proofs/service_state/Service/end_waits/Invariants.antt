@@ -1,5 +1,5 @@
 use Rattle.std.proofs.Common.{◌≡◌, ◌≤◌, ℕ, slice_get}
-use Rattle.service_parts.specs.Frames.{LinesGo}
+use Rattle.service_core.specs.Going.{LinksGo}
 use Rattle.service_core.specs.Cycle.{LeadsOn}
 use Rattle.service_core.specs.Having.{HasNoMore}
 use Rattle.service_core.specs.Losing.{LostByWait}
@@ -8,4 +8,4 @@ use Rattle.service_core.specs.Staying.{Stays}
 use Rattle.service_core.proofs.service_state.Service.end_waits.Given as goal
 
 abbrev pub invariant-loop-link : goal.invariant-loop-link
-invariant-loop-link l = Stays l.fn.self l.self × (LosesBy (LostByWait l.fn.self.lines.links.stations.items l.fn.self.lines.lines.items l.fn.self.side.now) l.fn.self.side l.self.side) × ((link : ℕ) → l.link ≤ link → slice_get l.self.lines.lines.items link ≡ slice_get l.fn.self.lines.lines.items link) × LinesGo l.fn.self.lines.lines.items l.self.lines.lines.items × LeadsOn l.fn.self.cycle l.self.cycle × HasNoMore l.fn.self.sent l.self.sent
+invariant-loop-link l = Stays l.fn.self l.self × (LosesBy (LostByWait l.fn.self.lines.links.stations.items l.fn.self.lines.lines.items l.fn.self.side.now) l.fn.self.side l.self.side) × ((link : ℕ) → l.link ≤ link → slice_get l.self.lines.lines.items link ≡ slice_get l.fn.self.lines.lines.items link) × LinksGo l.fn.self l.self × LeadsOn l.fn.self.cycle l.self.cycle × HasNoMore l.fn.self.held l.self.held

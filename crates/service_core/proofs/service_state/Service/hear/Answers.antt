@@ -2,29 +2,29 @@ use Rattle.std.proofs.Common.{Some, ap, subst, sym, ◌∙◌}
 use Rattle.std.specs.Prelude.{option_and_then}
 use Rattle.service_parts.specs.declared.line.Line.{Line}
 use Rattle.service_parts.specs.declared.links.Links.{Links}
-use Rattle.service_core.specs.Having.{HasMoreBy, IsHadBy, taken_if}
+use Rattle.service_core.specs.Having.{HasMoreBy, IsHeardBy, IsRefusedIf, taken_if}
 use Rattle.service_core.specs.Losing.{LostByHearing}
 use Rattle.service_core.specs.Told.{TellsBy}
-use Rattle.service_core.proofs.Carried.{heard_nothing, heard_so}
-use Rattle.service_core.proofs.Having.{had_within, unasked, unless_asked}
+use Rattle.service_core.proofs.Carried.{asked_own, heard_nothing, heard_so}
+use Rattle.service_core.proofs.Having.{told_within, unasked, unless_asked}
 use Rattle.service_core.proofs.service_state.Service.hear.Goals as goal
 
 pub returns-in-Some-clause-hears : goal.returns-in-Some-clause-hears
 returns-in-Some-clause-hears c line at =
     let now = c.settle.ensures.rest.time.side.now in
-    let tells = subst (λ t. TellsBy (LostByHearing c.args.self.now.lines.links.stations.items c.args.link c.asked-asked.result (Some c.in-Some.fate)) (IsHadBy (taken_if c.asked-asked.result (Some c.in-Some.fate) t) c.args.self.now.sent) c.args.self.now.side c.settle.new.self.side) (sym now)
-    (subst (λ (l : Links). TellsBy (LostByHearing l.stations.items c.args.link c.asked-asked.result (Some c.in-Some.fate)) (IsHadBy (taken_if c.asked-asked.result (Some c.in-Some.fate) c.args.self.now.side.now) c.args.self.now.sent) c.args.self.now.side c.settle.new.self.side) c.take-used.ensures.links c.settle.ensures.stands) in
-    let has = subst (λ t. HasMoreBy (taken_if c.asked-asked.result (Some c.in-Some.fate) t) c.args.self.now.sent c.settle.new.self.sent) (sym now) c.settle.ensures.sent in
-    heard_so _ c.args.link line _ _ _ c.in-Some.fate _ _ _ _ _ _ _ c.take-used.new.self.lines.items _ c.in-Some.is (c.asked-asked.ensures ∙ ap (option_and_then (λ (l : Line). l.asked)) at) (c.take-used.ensures.hears line at)
-    c.settle.ensures.lines c.settle.ensures.settles has tells
+    let tells = subst (λ t. TellsBy (LostByHearing c.args.self.now.lines.links.stations.items c.args.link c.take-used.result.asked (Some c.in-Some.fate)) (IsHeardBy (taken_if c.take-used.result.asked (Some c.in-Some.fate) t) (IsRefusedIf c.take-used.result.asked (Some c.in-Some.fate)) c.args.self.now.held) c.args.self.now.side c.settle.new.self.side) (sym now)
+    (subst (λ (l : Links). TellsBy (LostByHearing l.stations.items c.args.link c.take-used.result.asked (Some c.in-Some.fate)) (IsHeardBy (taken_if c.take-used.result.asked (Some c.in-Some.fate) c.args.self.now.side.now) (IsRefusedIf c.take-used.result.asked (Some c.in-Some.fate)) c.args.self.now.held) c.args.self.now.side c.settle.new.self.side) c.take-used.ensures.links c.settle.ensures.stands) in
+    let has = subst (λ t. HasMoreBy (taken_if c.take-used.result.asked (Some c.in-Some.fate) t) c.args.self.now.held c.settle.new.self.held) (sym now) c.settle.ensures.held in
+    heard_so _ c.args.link line _ _ _ c.in-Some.fate _ _ _ _ _ _ _ c.take-used.new.self.lines.items _ c.in-Some.is (asked_own c.take-used.result.fate c.in-Some.fate _ _ c.in-Some.is c.take-used.ensures.ended ∙ ap (option_and_then (λ (l : Line). l.asked)) at) (c.take-used.ensures.hears line at)
+    (c.settle.ensures.lines c.args.link) c.settle.ensures.settles has tells
 
 pub returns-in_default-clause-hears : goal.returns-in_default-clause-hears
 returns-in_default-clause-hears c line at = heard_nothing _ c.args.link line _ _ _ c.args.self.now.cycle _ _ c.take-used.new.self.lines.items c.in_default.is (c.take-used.ensures.hears line at)
 
 pub returns-in-Some-clause-stands : goal.returns-in-Some-clause-stands
 returns-in-Some-clause-stands c none first within may has =
-    c.settle.ensures.stands may (λ device why is. absurd (subst (λ a. LostByHearing c.take-used.new.self.links.stations.items c.args.link a (Some c.in-Some.fate) device why) (c.asked-asked.ensures ∙ ap (option_and_then (λ (l : Line). l.asked)) none) is))
-    (λ output is. has output (had_within first c.args.self.now.sent within output (unless_asked _ _ _ _ (c.asked-asked.ensures ∙ ap (option_and_then (λ (l : Line). l.asked)) none) output is)))
+    c.settle.ensures.stands may (λ device why is. absurd (subst (λ a. LostByHearing c.take-used.new.self.links.stations.items c.args.link a (Some c.in-Some.fate) device why) (asked_own c.take-used.result.fate c.in-Some.fate _ _ c.in-Some.is c.take-used.ensures.ended ∙ ap (option_and_then (λ (l : Line). l.asked)) none) is))
+    (λ output became is. has output became (told_within first c.args.self.now.held within output became (unless_asked _ _ _ _ (asked_own c.take-used.result.fate c.in-Some.fate _ _ c.in-Some.is c.take-used.ensures.ended ∙ ap (option_and_then (λ (l : Line). l.asked)) none) output became is)))
 
-pub returns-in-Some-clause-sent : goal.returns-in-Some-clause-sent
-returns-in-Some-clause-sent c none = unasked _ _ _ _ _ (c.asked-asked.ensures ∙ ap (option_and_then (λ (l : Line). l.asked)) none) c.settle.ensures.sent
+pub returns-in-Some-clause-held : goal.returns-in-Some-clause-held
+returns-in-Some-clause-held c none = unasked _ _ _ _ _ (asked_own c.take-used.result.fate c.in-Some.fate _ _ c.in-Some.is c.take-used.ensures.ended ∙ ap (option_and_then (λ (l : Line). l.asked)) none) c.settle.ensures.held

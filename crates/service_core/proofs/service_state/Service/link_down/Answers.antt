@@ -1,5 +1,12 @@
-use Rattle.service_core.proofs.Carried.{from_cut}
+use Rattle.std.proofs.Common.{max, subst}
+use Rattle.service_parts.specs.Frames.{GoesDown}
+use Rattle.service_core.specs.declared.device_side.DeviceSide.{DeviceSide}
+use Rattle.service_core.proofs.Carried.{goes_from}
 use Rattle.service_core.proofs.service_state.Service.link_down.Goals as goal
 
 pub returns-clause-ends : goal.returns-clause-ends
-returns-clause-ends c line at = from_cut c.args.link c.go_down.new.self.lines.items c.go_on.new.self.lines.lines.items (c.go_down.ensures.ends line at) (λ link from led. c.go_on.ensures.lines link from (c.lose_unless.ensures.lines link from led))
+returns-clause-ends c line at =
+    let (cut, there, is) = c.go_down.ensures.ends line at in
+    let at_time = subst (λ (x : DeviceSide). GoesDown x.now x.limits line cut) c.turn_to.ensures.now is in
+    goes_from (GoesDown (max c.args.self.now.side.now c.args.now) c.args.self.now.side.limits line) c.args.link c.args.self.now c.go_on.new.self c.go_down.new.self.lines.items (cut, there, at_time)
+    (λ most from led. c.go_on.ensures.lines c.args.link most from (c.lose_unless.ensures.lines c.args.link most from led))

@@ -1,5 +1,5 @@
 use Rattle.std.proofs.Common.{◌≡◌}
-use Rattle.service_parts.specs.Frames.{LinesGo}
+use Rattle.service_core.specs.Going.{LinksGo}
 use Rattle.service_core.specs.Cycle.{LeadsOn}
 use Rattle.service_core.specs.Having.{HasNoMore}
 use Rattle.service_core.specs.Losing.{AreLost}
@@ -8,4 +8,4 @@ use Rattle.service_core.specs.Staying.{Stays}
 use Rattle.service_core.proofs.service_state.Service.lose_all.Given as goal
 
 abbrev pub invariant-loop-device : goal.invariant-loop-device
-invariant-loop-device l = Stays l.fn.self l.self × (LosesBy (AreLost l.fn.self.lines.links.stations.items l.fn.link l.fn.loss) l.fn.self.side l.self.side) × (l.self.lines ≡ l.fn.self.lines) × LinesGo l.fn.self.lines.lines.items l.self.lines.lines.items × LeadsOn l.fn.self.cycle l.self.cycle × HasNoMore l.fn.self.sent l.self.sent
+invariant-loop-device l = Stays l.fn.self l.self × (LosesBy (AreLost l.fn.self.lines.links.stations.items l.fn.link l.fn.loss) l.fn.self.side l.self.side) × (l.self.lines ≡ l.fn.self.lines) × LinksGo l.fn.self l.self × LeadsOn l.fn.self.cycle l.self.cycle × HasNoMore l.fn.self.held l.self.held

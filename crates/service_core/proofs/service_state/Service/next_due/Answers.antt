@@ -1,9 +1,10 @@
 use Rattle.std.proofs.Common.{rules, subst, sym, ◌∙◌}
+use Rattle.service_parts.proofs.Frames.{not_begun}
 use Rattle.service_core.specs.Cycle.{stage_of}
 use Rattle.service_core.specs.Having.{IsHad}
 use Rattle.service_core.specs.LeftOut.{held_by}
 use Rattle.service_core.proofs.Courses.{right_rounds}
-use Rattle.service_core.proofs.Having.{had_within, held_had}
+use Rattle.service_core.proofs.Having.{held_had, told_had, told_within}
 use Rattle.service_core.proofs.LeftOut.{left_one, none_due, none_left, one_due}
 use Rattle.service_core.proofs.service_state.Service.next_due.Goals as goal
 
@@ -16,19 +17,26 @@ loop-preserved c = (
   search rules,
   search rules,
   (λ first within may has from before.
-      let had = held_had c.loop.self.sent c.args.device c.args.number _ c.loop.self.side.now _ _ c.in-Some-held_output.output (sym c.held_output.ensures ∙ c.in-Some-held_output.is) in
-      c.hold_back.ensures.stands may (λ which same. has which (had_within first c.args.self.now.sent within which (subst (λ k. IsHad c.args.self.now.sent k) (sym same) (subst (λ s. IsHad s c.in-Some-held_output.output) c.loop.invariant.1 had)))) from (c.loop.invariant.3 first within may has from before)),
-  left_one c.args.device c.args.number c.args.self.now.sent c.loop.self.sent c.args.self.now.side.now c.loop.self.side.now (stage_of c.args.self.now.cycle) (stage_of c.loop.self.cycle) (stage_of c.next_write.new.self) (stage_of c.hold_back.new.self.cycle) c.in-Some.wish c.in-Some-held_output.output c.loop.invariant.4 (c.in-Some.ensures).next c.loop.invariant.1 c.loop.invariant.2.time.side.now (sym c.held_output.ensures ∙ c.in-Some-held_output.is) c.hold_back.ensures.ends,
-  search rules,
+      let had = held_had c.loop.self.held c.args.device c.args.number _ c.loop.self.side.now _ _ c.in-Some-held_output.output (sym c.held_output.ensures ∙ c.in-Some-held_output.is) in
+      c.hold_back.ensures.stands may (λ which became this. has which became (told_within first c.args.self.now.held within which became (told_had c.args.self.now.held c.in-Some-held_output.output which became (subst (λ s. IsHad s c.in-Some-held_output.output) c.loop.invariant.1 had) this))) from (c.loop.invariant.3 first within may has from before)),
+  left_one c.args.device c.args.number c.args.self.now.held c.loop.self.held c.args.self.now.side.now c.loop.self.side.now (stage_of c.args.self.now.cycle) (stage_of c.loop.self.cycle) (stage_of c.next_write.new.self) (stage_of c.hold_back.new.self.cycle) c.in-Some.wish c.in-Some-held_output.output c.loop.invariant.4 (c.in-Some.ensures).next c.loop.invariant.1 c.loop.invariant.2.time.side.now (sym c.held_output.ensures ∙ c.in-Some-held_output.is) c.hold_back.ensures.ends,
+  (λ link most from led. c.hold_back.ensures.lines link most from (not_begun _ _ _ _ (c.in-Some.ensures).due link most from (c.loop.invariant.5 link most from led))),
   search rules,
   search rules,
 )
 
 pub returns-clause-left_out : goal.returns-clause-left_out
-returns-clause-left_out c = none_left c.args.device (held_by c.args.self.now.sent c.args.device c.args.number c.args.self.now.side.now) (stage_of c.args.self.now.cycle) (stage_of c.loop.self.cycle) (stage_of c.loop.self.cycle) c.loop.invariant.4
+returns-clause-left_out c = none_left c.args.device (held_by c.args.self.now.held c.args.device c.args.number c.args.self.now.side.now) (stage_of c.args.self.now.cycle) (stage_of c.loop.self.cycle) (stage_of c.loop.self.cycle) c.loop.invariant.4
 
 pub returns-in_default-clause-left_out : goal.returns-in_default-clause-left_out
-returns-in_default-clause-left_out c = none_due c.args.device (held_by c.args.self.now.sent c.args.device c.args.number c.args.self.now.side.now) (stage_of c.args.self.now.cycle) (stage_of c.loop.self.cycle) (stage_of c.next_write.new.self) c.loop.invariant.4 (c.in_default.ensures).next
+returns-in_default-clause-left_out c = none_due c.args.device (held_by c.args.self.now.held c.args.device c.args.number c.args.self.now.side.now) (stage_of c.args.self.now.cycle) (stage_of c.loop.self.cycle) (stage_of c.next_write.new.self) c.loop.invariant.4 (c.in_default.ensures).next
 
 pub returns-in_default-held_output-clause-left_out : goal.returns-in_default-held_output-clause-left_out
-returns-in_default-held_output-clause-left_out c = one_due c.args.device (held_by c.args.self.now.sent c.args.device c.args.number c.args.self.now.side.now) (stage_of c.args.self.now.cycle) (stage_of c.loop.self.cycle) (stage_of c.next_write.new.self) c.in-Some.wish c.loop.invariant.4 (c.in-Some.ensures).next
+returns-in_default-held_output-clause-left_out c = one_due c.args.device (held_by c.args.self.now.held c.args.device c.args.number c.args.self.now.side.now) (stage_of c.args.self.now.cycle) (stage_of c.loop.self.cycle) (stage_of c.next_write.new.self) c.in-Some.wish c.loop.invariant.4 (c.in-Some.ensures).next
+
+pub returns-in_default-held_output-clause-opens : goal.returns-in_default-held_output-clause-opens
+returns-in_default-held_output-clause-opens c = record {
+  before = c.loop.self.cycle.round.writes;
+  goes = c.loop.invariant.5;
+  takes = (c.in-Some.ensures).due;
+}

@@ -1,5 +1,5 @@
 use Rattle.std.proofs.Common.{◌≡◌}
-use Rattle.service_parts.specs.Frames.{LinesGo}
+use Rattle.service_core.specs.Going.{LinksGo}
 use Rattle.service_core.specs.Cycle.{LeadsOn, stage_of}
 use Rattle.service_core.specs.Having.{HasNoMore, WritesHad}
 use Rattle.service_core.specs.LeftOut.{LeavesOut, held_by}
@@ -9,10 +9,10 @@ use Rattle.service_core.proofs.service_state.Service.next_due.Given as goal
 abbrev pub invariant-loop : goal.invariant-loop
 invariant-loop l =
     (l.self.lines ≡ l.initial.self.lines)
-    × (l.self.sent ≡ l.initial.self.sent)
+    × (l.self.held ≡ l.initial.self.held)
     × Stays l.initial.self l.self
-    × WritesHad l.initial.self.sent l.initial.self.side l.self.side
-    × LeavesOut l.fn.device (held_by l.initial.self.sent l.fn.device l.fn.number l.initial.self.side.now) (stage_of l.initial.self.cycle) (stage_of l.self.cycle)
-    × LinesGo l.initial.self.lines.lines.items l.self.lines.lines.items
+    × WritesHad l.initial.self.held l.initial.self.side l.self.side
+    × LeavesOut l.fn.device (held_by l.initial.self.held l.fn.device l.fn.number l.initial.self.side.now) (stage_of l.initial.self.cycle) (stage_of l.self.cycle)
+    × LinksGo l.initial.self l.self
     × LeadsOn l.initial.self.cycle l.self.cycle
-    × HasNoMore l.initial.self.sent l.self.sent
+    × HasNoMore l.initial.self.held l.self.held

@@ -1,11 +1,16 @@
 use Rattle.std.proofs.Common.{subst, ◌∙◌}
 use Rattle.service_core.specs.Cycle.{stage_of}
-use Rattle.service_core.specs.Stages.{Scans}
+use Rattle.service_core.specs.Having.{WritesAt}
+use Rattle.service_core.specs.Stages.{Scans, Stage}
 use Rattle.service_core.proofs.Courses.{runs_once}
+use Rattle.service_core.proofs.Having.{writes_at}
 use Rattle.service_core.proofs.service_state.Service.scan.Goals as goal
 
 pub returns-clause-runs : goal.returns-clause-runs
 returns-clause-runs c =
     let now = c.expire.ensures.rest.time.side.now ∙ (c.note_devices.ensures.rest.time.side.now ∙ (c.plan_scan.ensures.time.now ∙ c.finish.ensures.rest.time.side.now)) in
-    runs_once c.args.self.now.side.now _ _ _ _ (λ from before. c.expire.ensures.goes from (c.note_devices.ensures.goes from (c.finish.ensures.goes from before)))
-    (subst (λ n. Scans n (stage_of c.expire.new.self.cycle) (stage_of c.run.new.self.cycle)) now c.run.ensures.scans) c.go_on.ensures.goes
+    let after = writes_at c.run.new.self.cycle.core.value c.args.self.now.held c.run.new.self.held c.args.self.now.side c.expire.new.self.side c.run.new.self.side c.go_on.new.self.side
+    (λ first within may has from led. c.expire.ensures.stands may from (c.note_devices.ensures.stands may from (c.plan_scan.ensures.stands may from (c.finish.ensures.stands first within may has from led)))) c.run.ensures.stands
+    (λ first within. c.run.ensures.held first (c.expire.ensures.held first (c.note_devices.ensures.held first (c.finish.ensures.held first within)))) c.go_on.ensures.stands in
+    runs_once (λ (scanned : Stage). WritesAt scanned.core c.args.self.now.held c.args.self.now.side c.go_on.new.self.side) c.args.self.now.side.now _ _ _ _ (λ from before. c.expire.ensures.goes from (c.note_devices.ensures.goes from (c.finish.ensures.goes from before)))
+    (subst (λ n. Scans n (stage_of c.expire.new.self.cycle) (stage_of c.run.new.self.cycle)) now c.run.ensures.scans) after c.go_on.ensures.goes

@@ -8,8 +8,8 @@ returns-in-Some-clause-goes c = own_of_settles c.args.fate c.in-Some.asked c.arg
 pub returns-in-None-clause-goes : goal.returns-in-None-clause-goes
 returns-in-None-clause-goes c = own_of_rounds _ _ c.go_on.ensures.goes
 
-pub returns-in-None-clause-sent : goal.returns-in-None-clause-sent
-returns-in-None-clause-sent c = none_more _ _ _ c.go_on.ensures.sent
+pub returns-in-None-clause-held : goal.returns-in-None-clause-held
+returns-in-None-clause-held c = none_more _ _ _ c.go_on.ensures.held
 
 pub returns-in-None-clause-stands : goal.returns-in-None-clause-stands
-returns-in-None-clause-stands c may lost = writes_by _ _ _ _ c.go_on.ensures.stands may
+returns-in-None-clause-stands c may lost = writes_by _ _ _ _ _ c.go_on.ensures.stands may

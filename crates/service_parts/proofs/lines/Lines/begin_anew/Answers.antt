@@ -1,9 +1,9 @@
 use Rattle.std.proofs.Common.{rules, ◌≡◌, ◌≤◌, ◌<◌, Some, length, refl, slice_get}
 use Rattle.std.proofs.lemmas.Option.{slice_get_read}
-use Rattle.service_parts.proofs.Frames.{cut_at, is_at, others_go}
+use Rattle.service_parts.proofs.Frames.{is_at, others_go, step_at}
 use Rattle.service_parts.proofs.Placed.{none_there}
 use Rattle.service_parts.proofs.Rightful.{with_cut}
-use Rattle.service_parts.specs.Frames.{IsCut}
+use Rattle.service_parts.specs.Frames.{ComesUp, IsCut}
 use Rattle.service_parts.proofs.lines.Lines.begin_anew.Goals as goal
 
 pub returns-in-Some-clause-rightful : goal.returns-in-Some-clause-rightful
@@ -12,14 +12,14 @@ returns-in-Some-clause-rightful c now before = with_cut now _ _ _ _ c.args.link 
 pub returns-in-Some-clause-others : goal.returns-in-Some-clause-others
 returns-in-Some-clause-others c = others_go c.args.self.now.lines.items c.args.link _
 
-pub returns-in-Some-clause-ends : goal.returns-in-Some-clause-ends
-returns-in-Some-clause-ends c =
+pub returns-in-Some-clause-anew : goal.returns-in-Some-clause-anew
+returns-in-Some-clause-anew c =
     let within : c.args.link < length c.args.self.now.lines.items = search rules in
     let at : slice_get c.args.self.now.lines.items c.args.link ≡ Some c.in-Some.line.now = slice_get_read _ _ c.args.link c.in-Some.line.now refl within c.in-Some.ensures.value in
-    cut_at _ c.args.link c.in-Some.line.now _ at c.come_up.ensures.cut
+    step_at ComesUp _ c.args.link c.in-Some.line.now _ at c.come_up.ensures
 
-pub returns-in_default-clause-ends : goal.returns-in_default-clause-ends
-returns-in_default-clause-ends c line at =
+pub returns-in_default-clause-anew : goal.returns-in_default-clause-anew
+returns-in_default-clause-anew c line at =
     let past : length c.args.self.now.lines.items ≤ c.args.link = search rules in
     none_there c.args.self.now.lines.items c.args.link past line at
 

@@ -1,8 +1,9 @@
 use Rattle.std.proofs.Common.{rules, ◌≡◌, ◌≤◌, ◌<◌, Some, length, refl, slice_get, sym, ◌∙◌}
 use Rattle.std.proofs.lemmas.Option.{none-some, slice_get_read}
-use Rattle.service_parts.proofs.Frames.{others_go, sends_at}
+use Rattle.service_parts.proofs.Frames.{others_go, step_at}
 use Rattle.service_parts.proofs.Placed.{none_there}
 use Rattle.service_parts.proofs.Rightful.{with_sent}
+use Rattle.service_parts.specs.Frames.{Sends}
 use Rattle.service_parts.proofs.lines.Lines.sent.Goals as goal
 
 pub returns-in-Some-clause-rightful : goal.returns-in-Some-clause-rightful
@@ -15,7 +16,7 @@ pub returns-in-Some-clause-sends : goal.returns-in-Some-clause-sends
 returns-in-Some-clause-sends c =
     let within : c.args.link < length c.args.self.now.lines.items = search rules in
     let at : slice_get c.args.self.now.lines.items c.args.link ≡ Some c.in-Some.line.now = slice_get_read _ _ c.args.link c.in-Some.line.now refl within c.in-Some.ensures.value in
-    sends_at _ c.args.link c.args.n c.in-Some.line.now _ at c.sent.ensures
+    step_at (Sends c.args.n) _ c.args.link c.in-Some.line.now _ at c.sent.ensures
 
 pub returns-in-Some-clause-others : goal.returns-in-Some-clause-others
 returns-in-Some-clause-others c = others_go c.args.self.now.lines.items c.args.link _

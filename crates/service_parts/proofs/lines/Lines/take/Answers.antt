@@ -1,21 +1,22 @@
 use Rattle.std.proofs.Common.{rules, ◌≡◌, ◌≤◌, ◌<◌, Some, length, refl, slice_get}
 use Rattle.std.proofs.lemmas.Option.{slice_get_read}
-use Rattle.service_parts.proofs.Frames.{hears_at, others_go}
+use Rattle.service_parts.proofs.Frames.{others_go, step_at}
 use Rattle.service_parts.proofs.Placed.{none_there}
 use Rattle.service_parts.proofs.Rightful.{with_heard}
+use Rattle.service_parts.specs.Frames.{Hears}
 use Rattle.service_parts.proofs.lines.Lines.take.Goals as goal
 
 pub returns-in-Some-clause-rightful : goal.returns-in-Some-clause-rightful
 returns-in-Some-clause-rightful c now before =
     let within : c.args.link < length c.args.self.now.lines.items = search rules in
     let at : slice_get c.args.self.now.lines.items c.args.link ≡ Some c.in-Some.line.now = slice_get_read _ _ c.args.link c.in-Some.line.now refl within c.in-Some.ensures.value in
-    with_heard now _ _ _ _ c.args.link _ _ c.in-Some.line.now _ before at c.take.ensures
+    with_heard now _ _ _ _ c.args.link _ _ c.in-Some.line.now _ before at c.take.ensures.hears
 
 pub returns-in-Some-clause-hears : goal.returns-in-Some-clause-hears
 returns-in-Some-clause-hears c =
     let within : c.args.link < length c.args.self.now.lines.items = search rules in
     let at : slice_get c.args.self.now.lines.items c.args.link ≡ Some c.in-Some.line.now = slice_get_read _ _ c.args.link c.in-Some.line.now refl within c.in-Some.ensures.value in
-    hears_at _ c.args.link _ _ c.in-Some.line.now _ at c.take.ensures
+    step_at (Hears _ _) _ c.args.link c.in-Some.line.now _ at c.take.ensures.hears
 
 pub returns-in-Some-clause-others : goal.returns-in-Some-clause-others
 returns-in-Some-clause-others c = others_go c.args.self.now.lines.items c.args.link _

@@ -1,0 +1,5 @@
+pub mod Opened
+pub mod Printing
+pub mod Probed
+pub mod Ran
+pub mod Tried

@@ -1,0 +1,13 @@
+//! What is warned of beside an acceptance, and what its warnings know.
+mod line;
+mod retained_names;
+mod short_lapses;
+mod shown;
+mod sleeping_hours;
+mod unreached;
+
+pub use line::device_fault;
+pub use retained_names::{variables_of, warn_of_names, why_unretained};
+pub use short_lapses::warn_of_short_lapses;
+pub use shown::{warn_beside, warn_of_site, warn_on_site};
+pub use sleeping_hours::why_no_hours;

@@ -1,4 +1,0 @@
-use Rattle.command_line.proofs.trial_input.trial_on.Goals as goal
-
-pub returns : goal.returns
-returns g c = c.obey-obeyed.ensures

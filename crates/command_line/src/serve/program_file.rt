@@ -1,0 +1,354 @@
+//! The program's file, looked at while a service runs its program.
+use crate::words::version;
+use command_files::{SourceFault, read_again, warn_of_names};
+use commands::{DEPTH, Outcome, accept_program};
+use gateway::CoreFault;
+use point_types::Name;
+use refusal_notes::{Cause, FileFault, Notes, escaped, explain_unusable};
+use served_site::replace_program;
+use service_core::Service;
+use service_texts::Start;
+use site_service::{Looked, ProgramRefusal, ProgramWatch, seconds_of_day};
+use std::alloc::{AllocError, Global};
+use std::rt::Files;
+use std::str;
+use std::time::Clock;
+use verifier::Verified;
+
+/// From one look to the next, in milliseconds.
+const BETWEEN: u64 = 1000;
+
+/// What stands in the line of a refusal before its cause.
+const REFUSED: &str = "refused: ";
+
+/// The program's file. What it has counts once two looks in a row found the same, and is judged once, or until there is memory
+/// for that.
+#[derive(Drop)]
+pub(crate) struct ProgramFile<'n> {
+    alloc: Global,
+    /// The files of the site, the program and the definitions as they were read at the start, and whether a refusal is
+    /// explained.
+    notes: Notes<'n>,
+    /// The names of the variables that are kept.
+    names: &'n [Name],
+    /// When it is looked at next, in milliseconds since the start.
+    looks_at: u64,
+    /// What the last look found.
+    seen: Option<Sight>,
+    /// What was refused since a program was taken, or since the start, and isn't settled.
+    refused: Option<Sight>,
+    /// Whether that was for want of memory: then it is judged again at each look.
+    lacked_memory: bool,
+    /// The text of the program that was taken last, and what is told of it; none where it is that of the start.
+    runs: Option<Sight>,
+    taken: Option<Start>,
+    /// What can be explained of the last judgement.
+    known: Known,
+}
+
+/// What a look finds.
+#[derive(Drop)]
+enum Sight {
+    Text(String),
+    /// There is none, for this cause.
+    NoText(SourceFault),
+}
+
+/// What can be explained of a judgement.
+#[derive(Drop)]
+enum Known {
+    Nothing,
+    /// Why the text that was refused last isn't accepted.
+    Cause(Option<Cause>),
+    /// Why there is no text.
+    NoText(FileFault),
+    /// The program that runs was taken.
+    Taken,
+}
+
+impl ProgramWatch for ProgramFile<'_> {
+    fn taken(&self) -> Option<&Start> {
+        match &self.taken {
+            Some(start) => Some(start),
+            None => None,
+        }
+    }
+
+    fn looks_at(&self) -> Option<u64> {
+        Some(self.looks_at)
+    }
+
+    fn look<R: Files + Clock + AllocGlobal>(
+        &mut self,
+        rt: &R,
+        now: u64,
+        service: &mut Service,
+    ) -> Looked {
+        if now < self.looks_at {
+            return Looked::Same;
+        }
+        self.looks_at = now.saturating_add(BETWEEN);
+        self.look_again(rt, service)
+    }
+
+    fn explain<R: Eprint + AllocGlobal>(&self, rt: &R, service: &Service) {
+        match &self.known {
+            Known::Nothing => {}
+            Known::Cause(cause) => self.explain_cause(rt, cause),
+            Known::NoText(fault) => self.explain_file(rt, *fault),
+            Known::Taken => self.warn(rt, service),
+        }
+    }
+}
+
+impl<'n> ProgramFile<'n> {
+    /// The file whose text runs from the start. Nothing was looked at yet.
+    pub(crate) fn new(alloc: Global, notes: &Notes<'n>, names: &'n [Name]) -> ProgramFile<'n> {
+        ProgramFile {
+            alloc,
+            notes: *notes,
+            names,
+            looks_at: 0,
+            seen: None,
+            refused: None,
+            lacked_memory: false,
+            runs: None,
+            taken: None,
+            known: Known::Nothing,
+        }
+    }
+
+    fn look_again<R: Files + Clock + AllocGlobal>(
+        &mut self,
+        rt: &R,
+        service: &mut Service,
+    ) -> Looked {
+        let sight = sight_of(rt, self.alloc, self.notes.program_path);
+        if !is_it(&self.seen, &sight) {
+            self.seen = Some(sight);
+            return Looked::Same;
+        }
+        if self.is_running(&sight) {
+            return self.settle();
+        }
+        let is_told = is_it(&self.refused, &sight);
+        if is_told && !self.lacked_memory {
+            return Looked::Same;
+        }
+        let looked = self.judge(rt, &sight, service);
+        self.keep(&looked, sight);
+        // a want of memory that goes on is told once
+        if is_told && self.lacked_memory {
+            Looked::Same
+        } else {
+            looked
+        }
+    }
+
+    /// Whether this is the text that runs.
+    fn is_running(&self, sight: &Sight) -> bool {
+        match &self.runs {
+            Some(runs) => is_same(runs, sight),
+            None => is_text(sight, self.notes.program),
+        }
+    }
+
+    /// The file has the text that runs.
+    fn settle(&mut self) -> Looked {
+        if self.refused.is_none() {
+            return Looked::Same;
+        }
+        self.refused = None;
+        Looked::Settled
+    }
+
+    /// Keeps what was judged.
+    fn keep(&mut self, looked: &Looked, sight: Sight) {
+        self.lacked_memory = matches!(looked, Looked::Refused(ProgramRefusal::Memory));
+        match looked {
+            Looked::Refused(_) => self.refused = Some(sight),
+            Looked::Taken(_) => {
+                self.refused = None;
+                self.runs = Some(sight);
+            }
+            Looked::Same | Looked::Settled => {}
+        }
+    }
+
+    fn judge<R: Files + Clock + AllocGlobal>(
+        &mut self,
+        rt: &R,
+        sight: &Sight,
+        service: &mut Service,
+    ) -> Looked {
+        match sight {
+            Sight::Text(text) => self.judge_text(rt, text.as_str(), service),
+            Sight::NoText(fault) => Looked::Refused(self.unread(*fault)),
+        }
+    }
+
+    /// Why there is no text.
+    fn unread(&mut self, fault: SourceFault) -> ProgramRefusal {
+        match fault {
+            SourceFault::OutOfMemory => {
+                self.known = Known::Nothing;
+                ProgramRefusal::Memory
+            }
+            SourceFault::Unusable(fault) => {
+                self.known = Known::NoText(fault);
+                refusal_for(file_words(self.alloc, self.notes.program_path))
+            }
+        }
+    }
+
+    fn judge_text<R: Files + Clock + AllocGlobal>(
+        &mut self,
+        rt: &R,
+        text: &str,
+        service: &mut Service,
+    ) -> Looked {
+        self.known = Known::Nothing;
+        let seconds = seconds_of_day(rt);
+        match Start::of(self.alloc, seconds, version(), self.notes.site.text(), text) {
+            Ok(start) => self.judge_from(text, start, service),
+            Err(AllocError) => Looked::Refused(ProgramRefusal::Memory),
+        }
+    }
+
+    /// Judges a text, for the site that is served, of which this is told where it is taken.
+    fn judge_from(&mut self, text: &str, start: Start, service: &mut Service) -> Looked {
+        match accept_program(self.alloc, service.core().site(), text) {
+            Ok(Ok(verified)) => self.take(verified, start, service),
+            Ok(Err(outcome)) => self.refuse(outcome),
+            Err(AllocError) => Looked::Refused(ProgramRefusal::Memory),
+        }
+    }
+
+    fn refuse(&mut self, outcome: Outcome) -> Looked {
+        let words = cause_words(self.alloc, &outcome);
+        self.known = Known::Cause(outcome.cause);
+        Looked::Refused(refusal_for(words))
+    }
+
+    /// Puts an accepted program in.
+    fn take(&mut self, verified: Verified<DEPTH>, start: Start, service: &mut Service) -> Looked {
+        let budget = verified.budget();
+        match replace_program(self.alloc, service, verified) {
+            Ok(()) => {
+                self.taken = Some(start);
+                self.known = Known::Taken;
+                Looked::Taken(budget)
+            }
+            Err(fault) => Looked::Refused(refusal_by(self.alloc, fault)),
+        }
+    }
+
+    fn explain_cause<R: Eprint + AllocGlobal>(&self, rt: &R, cause: &Option<Cause>) {
+        if let Some(Sight::Text(text)) = &self.refused {
+            let notes = Notes {
+                program: text.as_str(),
+                ..self.notes
+            };
+            notes.explain(rt, cause);
+        }
+    }
+
+    fn explain_file<R: Eprint + AllocGlobal>(&self, rt: &R, fault: FileFault) {
+        if !self.notes.quiet {
+            explain_unusable(rt, self.notes.program_path, fault);
+        }
+    }
+
+    /// Warns of the program that was taken, as at the start.
+    fn warn<R: Eprint + AllocGlobal>(&self, rt: &R, service: &Service) {
+        let machine = service.core().machine();
+        let vars = machine.verified().image().vars.as_slice();
+        warn_of_names(rt, &self.notes, self.names, vars);
+    }
+}
+
+fn sight_of<R: Files + AllocGlobal>(rt: &R, alloc: Global, path: &str) -> Sight {
+    match read_again(rt, alloc, path) {
+        Ok(text) => Sight::Text(text),
+        Err(fault) => Sight::NoText(fault),
+    }
+}
+
+/// Whether what was found before is just this.
+fn is_it(before: &Option<Sight>, sight: &Sight) -> bool {
+    match before {
+        Some(before) => is_same(before, sight),
+        None => false,
+    }
+}
+
+fn is_same(one: &Sight, other: &Sight) -> bool {
+    match one {
+        Sight::Text(text) => is_text(other, text.as_str()),
+        Sight::NoText(fault) => is_fault(other, *fault),
+    }
+}
+
+fn is_text(sight: &Sight, text: &str) -> bool {
+    match sight {
+        Sight::Text(found) => found.as_str() == text,
+        Sight::NoText(_) => false,
+    }
+}
+
+fn is_fault(sight: &Sight, fault: SourceFault) -> bool {
+    match sight {
+        Sight::Text(_) => false,
+        Sight::NoText(found) => is_same_fault(*found, fault),
+    }
+}
+
+fn is_same_fault(one: SourceFault, other: SourceFault) -> bool {
+    match (one, other) {
+        (SourceFault::Unusable(one), SourceFault::Unusable(other)) => one == other,
+        (SourceFault::OutOfMemory, SourceFault::OutOfMemory) => true,
+        _ => false,
+    }
+}
+
+fn refusal_for(words: Result<String, AllocError>) -> ProgramRefusal {
+    match words {
+        Ok(words) => ProgramRefusal::Cause(words),
+        Err(AllocError) => ProgramRefusal::Memory,
+    }
+}
+
+fn refusal_by(alloc: Global, fault: CoreFault) -> ProgramRefusal {
+    match fault {
+        CoreFault::OutOfMemory => ProgramRefusal::Memory,
+        _ => refusal_for(core_words(alloc, fault.word())),
+    }
+}
+
+fn core_words(alloc: Global, word: &str) -> Result<String, AllocError> {
+    let text = format!(in alloc; "core {word}")?;
+    Ok(text)
+}
+
+// `file PATH`.
+fn file_words(alloc: Global, path: &str) -> Result<String, AllocError> {
+    let path = escaped(alloc, path)?;
+    let text = format!(in alloc; "file {path}")?;
+    Ok(text)
+}
+
+// What the line of a refusal says after `refused: `.
+fn cause_words(alloc: Global, outcome: &Outcome) -> Result<String, AllocError> {
+    match str::from_utf8(outcome.lines.as_slice()) {
+        Ok(line) => String::from_str(alloc, cause_in(line)),
+        Err(_) => Ok(String::new(alloc)),
+    }
+}
+
+fn cause_in(line: &str) -> &str {
+    let line = line.trim_end();
+    match line.strip_prefix(REFUSED) {
+        Some(cause) => cause,
+        None => line,
+    }
+}

@@ -1,0 +1,293 @@
+//! The command `serve`: a program on a site, scan by scan, by the clock.
+use crate::runtimes::LoopRuntime;
+use crate::serve::program_file::ProgramFile;
+use crate::serve::refusing::{tell_no_core, tell_no_hours, tell_unreachable, tell_unretained};
+use crate::serve::retained::Retained;
+use crate::serve::unkept::tell_unkept;
+use command_files::{
+    no_start, start_plant, tell_lost, tell_no_port, tell_unserved, told_port, variables_of,
+    warn_of_names, warn_of_short_lapses, warn_on_site,
+};
+use commands::{Accepted, Outcome, accept, tell_no_memory, write_lines};
+use modbus_frame::LinkFault;
+use point_types::Name;
+use refusal_notes::Notes;
+use served_site::service_of;
+use service_core::{Limits, Service};
+use service_texts::{Addresses, DeviceSource, addresses_of, plant_addresses, sleeping_hours};
+use site_service::{End, Keeping, OneProgram, Serving, serve_site};
+use std::alloc::{AllocError, Global};
+use std::fs::File;
+use std::io::{Read, Write};
+use std::rt::Files;
+
+/// What is told at the start where set values aren't kept.
+const UNKEPT: &str =
+    "set values begin at the tags' defaults and aren't kept over a restart: '--state PATH' keeps them\n";
+
+/// What is told beside it where variables were to be kept.
+const UNRETAINED: &str =
+    "variables begin at their start values and aren't kept over a restart: '--state PATH' keeps those of 'retain'\n";
+
+/// What a service is of.
+#[derive(Clone, Copy)]
+pub struct ServiceRun<'n, 'a, 's, 'k, 't> {
+    /// The files of the site, the program and the definitions, and whether a refusal is explained.
+    pub notes: Notes<'n>,
+    pub devices: DeviceSource<'a>,
+    /// The path of the program that is started for a plant.
+    pub exe: &'a str,
+    pub limits: Limits,
+    pub serving: Serving<'s>,
+    /// The files that it keeps.
+    pub keeping: Keeping<'k, 't>,
+    /// Whether the program's file is looked at while it runs, for another program.
+    pub reloads: bool,
+    /// The names of the variables that are kept, once they are known.
+    pub names: &'k [Name],
+}
+
+/// Serves a site, and gives the status: 0 after the last scan that was asked for, 1 for a refusal or a failed write, 2
+/// where it isn't said where a device is, 3 where the clock or a socket can't be had.
+pub fn run_service<R: LoopRuntime + Print + Files<File = File>, W: Write>(
+    rt: &R,
+    alloc: Global,
+    run: &ServiceRun<'_, '_, '_, '_, '_>,
+    out: &mut W,
+) -> u8 {
+    let notes = &run.notes;
+    match accept(alloc, notes.site, notes.program, notes.defs) {
+        Ok(Ok(given)) => serve_accepted(rt, alloc, run, given, out),
+        Ok(Err(outcome)) => {
+            let status = outcome.tell(out);
+            notes.explain(rt, &outcome.cause);
+            status
+        }
+        Err(AllocError) => tell_no_memory(out),
+    }
+}
+
+fn serve_accepted<R: LoopRuntime + Print + Files<File = File>, W: Write>(
+    rt: &R,
+    alloc: Global,
+    run: &ServiceRun<'_, '_, '_, '_, '_>,
+    given: Accepted,
+    out: &mut W,
+) -> u8 {
+    let retained = match Retained::of(alloc, &run.notes, &run.keeping, &given) {
+        Ok(retained) => retained,
+        Err(fault) => return tell_unretained(rt, alloc, fault, out),
+    };
+    let hours = match sleeping_hours(alloc, run.notes.site) {
+        Ok(hours) => hours,
+        Err(fault) => return tell_no_hours(rt, alloc, &given.site, fault, out),
+    };
+    match prepared(rt, alloc, run, &given, &retained, out) {
+        Ok(addresses) => {
+            let run = ServiceRun {
+                serving: Serving {
+                    sleeps: hours.as_slice(),
+                    ..run.serving
+                },
+                keeping: retained.keeping(&run.keeping),
+                names: retained.names.as_slice(),
+                ..*run
+            };
+            serve_made(rt, alloc, &run, given, &retained, &addresses, out)
+        }
+        Err(status) => status,
+    }
+}
+
+/// Makes the service, and serves the site by it.
+fn serve_made<R: LoopRuntime + Files<File = File>, W: Write>(
+    rt: &R,
+    alloc: Global,
+    run: &ServiceRun<'_, '_, '_, '_, '_>,
+    given: Accepted,
+    retained: &Retained,
+    addresses: &Addresses,
+    out: &mut W,
+) -> u8 {
+    match service_of(
+        alloc,
+        given,
+        retained.kept.as_slice(),
+        addresses.links.len(),
+        addresses.stations.as_slice(),
+        run.limits,
+    ) {
+        Ok(mut service) => serve_begun(rt, alloc, run, addresses, &mut service, out),
+        Err(fault) => tell_no_core(alloc, fault, out),
+    }
+}
+
+/// Serves a site of which nothing was asked yet.
+fn serve_begun<R: LoopRuntime + Files<File = File>, W: Write>(
+    rt: &R,
+    alloc: Global,
+    run: &ServiceRun<'_, '_, '_, '_, '_>,
+    addresses: &Addresses,
+    service: &mut Service,
+    out: &mut W,
+) -> u8 {
+    match run.devices {
+        DeviceSource::Plant(plant) => serve_plant(rt, alloc, run, plant, service, out),
+        _ => serve_over(rt, alloc, run, addresses, service, out),
+    }
+}
+
+/// Prints on standard error that set values and variables aren't kept, where they aren't.
+fn warn_unkept<R: Eprint>(rt: &R, run: &ServiceRun<'_, '_, '_, '_, '_>, retained: &Retained) {
+    if run.keeping.state.is_none() && !run.notes.quiet {
+        let _ = rt.eprint(UNKEPT);
+        if retained.names.len() > 0 {
+            let _ = rt.eprint(UNRETAINED);
+        }
+    }
+}
+
+/// The addresses of the devices, once it is told that the program is accepted; or the status.
+fn prepared<R: Print + Eprint + AllocGlobal, W: Write>(
+    rt: &R,
+    alloc: Global,
+    run: &ServiceRun<'_, '_, '_, '_, '_>,
+    given: &Accepted,
+    retained: &Retained,
+    out: &mut W,
+) -> Result<Addresses, u8> {
+    match addresses_of(alloc, run.devices, run.notes.site, given.site.devices()) {
+        Ok(addresses) => match tell_begun(alloc, &run.serving, given.verified.budget(), out) {
+            0 => {
+                warn_unkept(rt, run, retained);
+                warn_of_names(
+                    rt,
+                    &run.notes,
+                    retained.names.as_slice(),
+                    variables_of(given),
+                );
+                warn_on_site(rt, &run.notes, &given.site);
+                warn_of_short_lapses(rt, &run.notes, &given.site, run.limits.period);
+                Ok(addresses)
+            }
+            status => Err(status),
+        },
+        Err(fault) => Err(tell_unreachable(rt, alloc, &given.site, fault, out)),
+    }
+}
+
+/// Tells which program begins with what, and that it is accepted, and gives the status.
+fn tell_begun<W: Write>(alloc: Global, serving: &Serving<'_>, budget: u32, out: &mut W) -> u8 {
+    let told = match serving.start.line(alloc) {
+        Ok(line) => write_lines(out, line.as_bytes(), 0),
+        Err(AllocError) => tell_no_memory(out),
+    };
+    match told {
+        0 => tell_accepted(alloc, budget, out),
+        status => status,
+    }
+}
+
+fn tell_accepted<W: Write>(alloc: Global, budget: u32, out: &mut W) -> u8 {
+    match Outcome::accepted(alloc, budget) {
+        Ok(outcome) => outcome.tell(out),
+        Err(AllocError) => tell_no_memory(out),
+    }
+}
+
+/// Serves a site over connections to these addresses.
+fn serve_over<R: LoopRuntime + Files<File = File>, W: Write>(
+    rt: &R,
+    alloc: Global,
+    run: &ServiceRun<'_, '_, '_, '_, '_>,
+    addresses: &Addresses,
+    service: &mut Service,
+    out: &mut W,
+) -> u8 {
+    match serve_programs(rt, alloc, run, addresses, service, out) {
+        Ok(()) => 0,
+        Err(End::OutOfMemory) => tell_no_memory(out),
+        Err(End::System) => tell_lost(rt, alloc, &run.notes, LinkFault::Read, out),
+        Err(End::Listen(kind)) => {
+            tell_unserved(rt, alloc, &run.notes, run.serving.listen, kind, out)
+        },
+        Err(End::State(fault)) => {
+            tell_unkept(rt, alloc, &run.notes, state_path(&run.keeping), fault, out)
+        },
+    }
+}
+
+/// Serves a site by the program that it begins with, or by those that come after it in its file.
+fn serve_programs<R: LoopRuntime + Files<File = File>, W: Write>(
+    rt: &R,
+    alloc: Global,
+    run: &ServiceRun<'_, '_, '_, '_, '_>,
+    addresses: &Addresses,
+    service: &mut Service,
+    out: &mut W,
+) -> Result<(), End> {
+    let (serving, keeping) = (&run.serving, &run.keeping);
+    if run.reloads {
+        let mut file = ProgramFile::new(alloc, &run.notes, run.names);
+        serve_site(
+            rt, alloc, serving, keeping, addresses, &mut file, service, out,
+        )
+    } else {
+        serve_site(
+            rt,
+            alloc,
+            serving,
+            keeping,
+            addresses,
+            &mut OneProgram,
+            service,
+            out,
+        )
+    }
+}
+
+/// The path of the file of set values.
+fn state_path<'k>(keeping: &Keeping<'k, '_>) -> &'k str {
+    match keeping.state {
+        Some(state) => state.path,
+        None => "",
+    }
+}
+
+/// Starts a plant, serves the site over it, and ends it: one that nobody came to would wait for ever.
+fn serve_plant<R: LoopRuntime + Files<File = File>, W: Write>(
+    rt: &R,
+    alloc: Global,
+    run: &ServiceRun<'_, '_, '_, '_, '_>,
+    plant: &str,
+    service: &mut Service,
+    out: &mut W,
+) -> u8 {
+    match start_plant(rt, alloc, &run.notes, plant, run.exe) {
+        Ok(mut plant) => {
+            let status = serve_started(rt, alloc, run, &mut plant.stdout, service, out);
+            let _ = plant.kill();
+            let _ = plant.wait();
+            status
+        }
+        Err(fault) => no_start(rt, alloc, &run.notes, run.exe, &fault, out),
+    }
+}
+
+/// Serves the site over the plant that says its port in the first of these lines, which stay open to its end.
+fn serve_started<R: LoopRuntime + Files<File = File>, P: Read, W: Write>(
+    rt: &R,
+    alloc: Global,
+    run: &ServiceRun<'_, '_, '_, '_, '_>,
+    lines: &mut Option<P>,
+    service: &mut Service,
+    out: &mut W,
+) -> u8 {
+    match told_port(alloc, lines) {
+        Ok(port) => match plant_addresses(alloc, port, service.core().site().devices()) {
+            Ok(addresses) => serve_over(rt, alloc, run, &addresses, service, out),
+            Err(AllocError) => tell_no_memory(out),
+        },
+        Err(why) => tell_no_port(rt, alloc, &run.notes, run.exe, &why, out),
+    }
+}

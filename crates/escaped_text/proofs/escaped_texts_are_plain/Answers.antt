@@ -1,5 +1,0 @@
-use Rattle.escaped_text.proofs.Plain.{escaped_texts_are_plain}
-use Rattle.escaped_text.proofs.escaped_texts_are_plain.Goals as goal
-
-pub returns : goal.returns
-returns c = escaped_texts_are_plain

@@ -1,0 +1,162 @@
+//! What breaks a rule in the words of a tag.
+use super::tags::{access, is_of_device, kind};
+use crate::finding::Finding;
+use file_keys::text_at;
+use note_text::nearest_of;
+use point_types::IlType;
+use site_model::Access;
+use site_model::rules::tag_name;
+use toml::Value;
+
+const ACCESSES: &[&str] = &["in", "out", "set", "site", "time"];
+
+const TYPES: &[&str] = &[
+    "BOOL", "SINT", "INT", "DINT", "LINT", "USINT", "UINT", "UDINT",
+];
+
+/// The word that isn't allowed, or the key that doesn't go with the others.
+pub(super) fn bad_word(entry: &Value) -> Finding<'_> {
+    if let Some(finding) = no_name(entry) {
+        return finding;
+    }
+    if access(entry).is_none() {
+        let finding = Finding::at(entry, "access", "is none of in, out, set, site, time");
+        return finding.meaning(meant(entry, "access", ACCESSES));
+    }
+    match no_type(entry) {
+        Some(finding) => finding,
+        None => unlike_others(entry),
+    }
+}
+
+/// A name that is none of a tag.
+pub(super) fn no_name(entry: &Value) -> Option<Finding<'_>> {
+    if is_name(entry) {
+        return None;
+    }
+    Some(Finding::advised(
+        entry,
+        "name",
+        "is no name of a tag",
+        "write it in lower case, with letters, digits and single underscores, 32 at most; it is no word of Instruction List and doesn't end in _ok",
+    ))
+}
+
+/// A type that is none.
+pub(super) fn no_type(entry: &Value) -> Option<Finding<'_>> {
+    if kind(entry).is_some() {
+        return None;
+    }
+    let words = "is none of BOOL, SINT, INT, DINT, LINT, USINT, UINT, UDINT";
+    let finding = Finding::at(entry, "type", words);
+    Some(finding.meaning(meant(entry, "type", TYPES)))
+}
+
+fn is_name(entry: &Value) -> bool {
+    match text_at(entry, "name") {
+        Some(name) => tag_name(name).is_some(),
+        None => false,
+    }
+}
+
+/// The one of some words that is nearest to the one at a key.
+fn meant(entry: &Value, key: &str, words: &[&'static str]) -> Option<&'static str> {
+    nearest_of(words, text_at(entry, key)?)
+}
+
+/// Why a key doesn't go with the others.
+#[derive(Clone, Copy)]
+enum Misfit {
+    DeviceOfGateway,
+    BitOfOther,
+    RoundOfOther,
+    RoundWord,
+    LapseOfOther,
+    LapseAlone,
+    Point,
+}
+
+/// The key that doesn't go with the others.
+fn unlike_others(entry: &Value) -> Finding<'_> {
+    let (key, words, help) = told_of(misfit_in(entry));
+    Finding::advised(entry, key, words, help)
+}
+
+fn misfit_in(entry: &Value) -> Misfit {
+    if has(entry, "device") && !is_of_device(entry) {
+        Misfit::DeviceOfGateway
+    } else if has(entry, "bit") && !may_have_bit(entry) {
+        Misfit::BitOfOther
+    } else if has(entry, "round") && !may_round(entry) {
+        Misfit::RoundOfOther
+    } else if has(entry, "round") && text_at(entry, "round") != Some("down") {
+        Misfit::RoundWord
+    } else if has(entry, "lapse") && !is_setting(entry) {
+        Misfit::LapseOfOther
+    } else if has(entry, "lapse") && !has(entry, "default") {
+        Misfit::LapseAlone
+    } else {
+        Misfit::Point
+    }
+}
+
+/// The key, the rule that it breaks, and what to do.
+fn told_of(misfit: Misfit) -> (&'static str, &'static str, &'static str) {
+    match misfit {
+        Misfit::DeviceOfGateway => (
+            "device",
+            "is for tags on devices, in and out",
+            "take the key away: a tag set or site is on the gateway",
+        ),
+        Misfit::BitOfOther => (
+            "bit",
+            "is for tags in of type BOOL",
+            "take the key away, or write access in and type BOOL",
+        ),
+        Misfit::RoundOfOther => (
+            "round",
+            "is for tags in without a bit",
+            "take the key away: only what is read of a device is rounded",
+        ),
+        Misfit::RoundWord => (
+            "round",
+            "isn't down",
+            "write \"down\", or take the key away",
+        ),
+        Misfit::LapseOfOther => (
+            "lapse",
+            "is for tags set",
+            "take the key away: only what clients set lapses",
+        ),
+        Misfit::LapseAlone => (
+            "lapse",
+            "needs a default",
+            "add default: what the program works with once what a client set has lapsed",
+        ),
+        Misfit::Point => (
+            "point",
+            "is of a kind that such a tag can't have",
+            "take a point that has a number; a scale factor is for in and out, and a bit for bitfields",
+        ),
+    }
+}
+
+pub(super) fn has(entry: &Value, key: &str) -> bool {
+    entry.get(key).is_some()
+}
+
+fn may_have_bit(entry: &Value) -> bool {
+    is_input(entry) && matches!(kind(entry), Some(IlType::Bool))
+}
+
+fn is_input(entry: &Value) -> bool {
+    matches!(access(entry), Some(Access::Input))
+}
+
+fn is_setting(entry: &Value) -> bool {
+    matches!(access(entry), Some(Access::Setting))
+}
+
+fn may_round(entry: &Value) -> bool {
+    is_input(entry) && !has(entry, "bit")
+}
