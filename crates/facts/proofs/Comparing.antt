@@ -10,9 +10,6 @@ le_true a b h = grind (arith, ints)
 pub true_le : (a b : ℤ) → int_le a b ≡ true → a ≤ℤ b
 true_le a b h = omega (arith, ints)
 
-pub lt_true : (a b : ℤ) → a <ℤ b → int_lt a b ≡ true
-lt_true a b h = grind (arith, ints)
-
 pub true_lt : (a b : ℤ) → int_lt a b ≡ true → a <ℤ b
 true_lt a b h = omega (arith, ints)
 

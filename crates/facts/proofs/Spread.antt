@@ -2,15 +2,11 @@
 use Rattle.std.proofs.Common.{◌≡◌, ◌∙◌, ℕ, zero, suc, ◌+◌, ◌≤◌, List, [], ◌∷◌, ◌++◌, length, replicate, Option, Some, None, refl, ap, sym, append_assoc, length-append, arith}
 use Rattle.std.proofs.lemmas.Grind.{replicate_next}
 use Rattle.std.proofs.lemmas.List.{length-replicate}
-use Rattle.facts.specs.Places.{places, places_left, empty_before, filled}
+use Rattle.facts.specs.Places.{places, filled}
 
 append_nil : {A : Type 0} (xs : List A) → xs ++ [] ≡ xs
 append_nil [] = refl
 append_nil (x ∷ xs) = ap (λ rest. x ∷ rest) (append_nil xs)
-
-pub places_first : {A : Type 0} (ks : List (ℕ × A)) (at_end : ℕ) → places_left (empty_before ks at_end) ks at_end ≡ places ks at_end
-places_first [] at_end = append_nil (replicate at_end None)
-places_first (k ∷ ks) at_end = refl
 
 pub push_empty : {A : Type 0} (ks : List (ℕ × A)) (at_end : ℕ) → places ks (at_end + 1) ≡ places ks at_end ++ None ∷ []
 push_empty {A} [] at_end = replicate_next {X = Option A} at_end None

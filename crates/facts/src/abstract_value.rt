@@ -174,7 +174,7 @@ impl AbstractValue {
     }
 
     /// The same where it is this truth.
-    pub fn being(&self, alloc: Global, truth: bool) -> Result<AbstractValue, AllocError>
+    pub(crate) fn being(&self, alloc: Global, truth: bool) -> Result<AbstractValue, AllocError>
         ensures { IfOk result (λ value. value ≡ record self.now { span = only (number_of truth) }) }
     {
         let mut value = self.copied(alloc)?;

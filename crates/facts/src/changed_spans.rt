@@ -138,7 +138,7 @@ impl ChangedSpans {
     }
 
     /// What is left of the spans where those that follow, if any, hold too.
-    pub fn narrowed(
+    pub(crate) fn narrowed(
         &self,
         alloc: Global,
         follows: &SparseList<Span>,

@@ -93,7 +93,7 @@ impl Consequences {
     }
 
     /// What still follows once a variable has another value.
-    pub fn without(self, alloc: Global, v: usize) -> Result<Consequences, AllocError>
+    pub(crate) fn without(self, alloc: Global, v: usize) -> Result<Consequences, AllocError>
         ensures { IfOk result (λ c. c ≡ without v self) }
     {
         let mut left = self;
@@ -110,7 +110,7 @@ impl Consequences {
     }
 
     /// Whether the same follows from another truth.
-    pub fn same(&self, other: &Consequences) -> bool
+    pub(crate) fn same(&self, other: &Consequences) -> bool
         ensures { result ≡ same_consequences self.now other.now }
     {
         same_spans(&self.variables, &other.variables)

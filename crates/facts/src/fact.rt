@@ -76,7 +76,7 @@ impl Fact {
     }
 
     /// The fact where consequences hold.
-    pub fn under(&self, alloc: Global, follows: &Consequences) -> Result<Fact, AllocError>
+    pub(crate) fn under(&self, alloc: Global, follows: &Consequences) -> Result<Fact, AllocError>
         ensures { IfOk result (λ fact. fact ≡ under follows.now self.now) }
     {
         let variables = self.variables.narrowed(alloc, &follows.variables)?;
@@ -144,7 +144,7 @@ impl Fact {
     }
 
     /// What is still known of values once a variable has another value.
-    pub fn forgotten(self, alloc: Global, v: usize) -> Result<Fact, AllocError>
+    pub(crate) fn forgotten(self, alloc: Global, v: usize) -> Result<Fact, AllocError>
         ensures { IfOk result (λ fact. fact ≡ forgotten v self) }
     {
         let mut fact = self;

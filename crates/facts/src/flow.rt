@@ -19,7 +19,7 @@ mod stores;
 
 /// The numbers of the instructions that follow, each with what is known on the way there; or why the
 /// instruction is refused; or memory was.
-pub type Ways = Result<Result<Items<(usize, Fact)>, RefusalKind>, AllocError>;
+pub(crate) type Ways = Result<Result<Items<(usize, Fact)>, RefusalKind>, AllocError>;
 
 /// What an instruction comes to: the next one follows with the fact as it is now, or these ways do; or why
 /// it is refused.

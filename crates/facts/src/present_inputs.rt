@@ -91,7 +91,7 @@ impl PresentInputs {
     }
 
     /// Whether the same are present by both.
-    pub fn same(&self, other: &PresentInputs) -> bool
+    pub(crate) fn same(&self, other: &PresentInputs) -> bool
         ensures { result ≡ same_list same_bool self.now other.now }
     {
         same_marks(&self.kept, &other.kept)

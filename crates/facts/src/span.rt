@@ -73,7 +73,7 @@ impl Span {
     }
 
     /// Whether both have the same members.
-    pub fn same(self, other: Span) -> bool
+    pub(crate) fn same(self, other: Span) -> bool
         ensures { result ≡ same_span self other }
     {
         match (self.left, other.left) {

@@ -1,7 +1,6 @@
 -- Frames that came for a request, and don't decide it.
 use Rattle.std.proofs.Common.{◌≡◌, ℕ, zero, suc, ◌-◌, ◌<◌, false, true, List, [], ◌∷◌, ◌++◌, Option, None, Ok, Err, refl, sym, ap, ◌∙◌, subst, arith, append_assoc, inl, inr}
 use Rattle.std.proofs.lemmas.List.{append-nil}
-use Rattle.std.proofs.KnownBytes.{Consumes-nil}
 use Rattle.std.specs.Io.KnownBytes.{Consumes}
 use Rattle.std.specs.List.{flat_map, AllByRecursion}
 use Rattle.modbus_frame.specs.declared.fault.FrameFault.{FrameFault}
@@ -28,15 +27,6 @@ pub record DroppedSoFar (coming rest : Option (List ℕ)) (asked : Asked) (may_d
   pub dropped : (more : List Frame) → decided_by asked (frames ++ more) ≡ decided_within asked may_drop more
   pub came : Consumes coming rest (flat_map frame_bytes frames)
   pub fresh : fault ≡ None
-
-pub dropped_none : (coming : Option (List ℕ)) (asked : Asked) (fault : Option FrameFault) → fault ≡ None → DroppedSoFar coming coming asked 17 fault
-dropped_none coming asked fault fresh = record {
-  frames = [];
-  each = tt;
-  dropped = λ more. refl;
-  came = Consumes-nil coming;
-  fresh = fresh;
-}
 
 dropped_next : (coming rest after : Option (List ℕ)) (asked : Asked) (may_drop : ℕ) (fault held : Option FrameFault) (frame : Frame)
     → DroppedSoFar coming rest asked (suc may_drop) fault → IsFrame frame → Consumes rest after (frame_bytes frame) → is_reply asked frame ≡ false → held ≡ None

@@ -19,10 +19,10 @@ use Rattle.register_map.specs.Layout.{Layout}
 use Rattle.scan_vm.specs.Machine.{Running}
 use Rattle.verifier.specs.Verified.{Acceptance, HasLinks}
 use Rattle.gateway.specs.declared.event_core.opening.Opening.{Opening}
-use Rattle.gateway.specs.event_core.Core.{Gateway, IsCore, IsKnown, IsOpening, IsReady, IsSame, numbers_of, standing_of}
+use Rattle.gateway.specs.event_core.Core.{Gateway, IsCore, IsKnown, IsOpening, IsReady, IsSame, numbers_of}
 use Rattle.gateway.specs.served.Points.{own_points}
 use Rattle.gateway.specs.served.ServedImage.{AreServed, IsServedImage}
-use Rattle.gateway.specs.event_core.SiteRun.{Standing, Steps, none_of, opened, unread}
+use Rattle.gateway.specs.event_core.SiteRun.{Standing, Steps, none_of, unread}
 use Rattle.gateway.proofs.Scanning.{none_in}
 
 pub served_again : (site : Site) (outputs : List (Option ℤ)) (readings : List Reading) (sets : List (Option ℤ)) (points given : List OwnPoint) (image kept : List ℕ) → given ≡ points → points ≡ own_points site → kept ≡ image →
@@ -60,14 +60,6 @@ ready_core site maps machine o matched linked mapped h = record {
   roomy = h.roomy;
   fed = h.fed;
 }
-
-pub ready_standing : (site : Site) (m : Running) (k : Memory) → IsOpening site k → standing_of m k ≡ opened site m.variables
-ready_standing site m k h =
-    let blocks = h.blocks in
-    let sets = h.sets in
-    let ages = h.ages in
-    let elapsed = h.elapsed in
-    let last = h.last in cc
 
 -- a link for each tag of an image
 pub links_length : (site : List SiteTag) (n : ℕ) (tags : List Tag) (links : List TagLink) → links_from site n tags ≡ Ok links → length links ≡ length tags

@@ -1,7 +1,7 @@
 -- Time that goes by: what was set grows older, and lapses.
-use Rattle.std.proofs.Common.{◌≡◌, ◌⊎◌, inl, inr, ℕ, suc, ◌+◌, ◌<◌, ◌≤◌, Bool, true, false, List, [], ◌∷◌, ◌++◌, length, map, take, drop, get_or, Option, Some, None, refl, sym, ap, ◌∙◌, arith, append_assoc}
+use Rattle.std.proofs.Common.{◌≡◌, ◌⊎◌, inl, inr, ℕ, suc, ◌+◌, ◌<◌, ◌≤◌, Bool, true, false, List, [], ◌∷◌, ◌++◌, length, take, drop, get_or, Option, Some, None, refl, sym, ap, ◌∙◌, arith, append_assoc}
 use Rattle.std.specs.Prelude.{ℤ, ◌≤ℤ◌, slice_get, slice_set, if◌then◌else◌}
-use Rattle.std.proofs.lemmas.List.{drop_more, drop_all, drop-set-lt, take_all, take_more_set, append-nil, length-map}
+use Rattle.std.proofs.lemmas.List.{drop_more, drop-set-lt, take_more_set, length-map}
 use Rattle.std.proofs.lemmas.Option.{slice_get-get_or}
 use Rattle.site_model.specs.declared.tag.SiteTag.{SiteTag}
 use Rattle.site_model.specs.Readings.{AreSettings}
@@ -9,17 +9,6 @@ use Rattle.gateway.specs.Laws.{SitesWithoutLapsesKeepWhatIsSet}
 use Rattle.gateway.specs.event_core.SiteRun.{all_held, all_older, has_lapsed, held}
 use Rattle.gateway.proofs.Scanning.{kept_none}
 use Rattle.gateway.proofs.Settled.{set-cases}
-
--- each item of a list is replaced by what comes of it
-pub replaced_more : {X : Type 0} (f : X → X) (xs : List X) (i : ℕ) (d : X) → i < length xs →
-    take i xs ++ map f (drop i xs) ≡ take (i + 1) (slice_set xs i (f (get_or xs i d))) ++ map f (drop (i + 1) (slice_set xs i (f (get_or xs i d))))
-replaced_more f xs i d h =
-    let y = f (get_or xs i d) in
-    rw (take_more_set xs i y h) (rw (drop-set-lt (i + 1) xs i y (omega arith))
-    (ap (λ zs. take i xs ++ map f zs) (drop_more xs i d h) ∙ sym (append_assoc (take i xs) (y ∷ []) (map f (drop (i + 1) xs)))))
-
-pub replaced_whole : {X : Type 0} (f : X → X) (xs : List X) (i : ℕ) → length xs ≤ i → take i xs ++ map f (drop i xs) ≡ xs
-replaced_whole f xs i h = ap (λ zs. take i xs ++ map f zs) (drop_all i xs h) ∙ append-nil (take i xs) ∙ take_all i xs h
 
 -- ---- what lapses
 
@@ -51,10 +40,6 @@ module _ (tags : List SiteTag) (ages : List (Option ℕ)) (sets : List (Option �
                   let here = slice_get-get_or sets i set (omega (arith, inside, each)) in
                   ranged k u m p (ap (λ j. slice_get sets j) h.0 ∙ here ∙ ap Some (sym h.1))
               go (inr h) = ranged k u m p h
-
-pub held_whole : (tags : List SiteTag) (ages : List (Option ℕ)) (sets : List (Option ℤ)) (i : ℕ) → length tags ≤ i → length sets ≡ length tags → take i sets ++ all_held (drop i tags) (drop i ages) (drop i sets) ≡ sets
-held_whole tags ages sets i h each =
-    ap (λ ts. take i sets ++ all_held ts (drop i ages) (drop i sets)) (drop_all i tags h) ∙ append-nil (take i sets) ∙ take_all i sets (omega (arith, h, each))
 
 -- ---- nothing lapses where no tag says so
 

@@ -66,10 +66,6 @@ pub labels_after : (x : Bool) (ys : List Declaration) (d : Draft) → (after x d
 labels_after x [] d = refl
 labels_after x (y ∷ ys) d = labels_after x ys (after_one x d y) ∙ labels_closed (listed x d (entries_of y)) y.nature ∙ labels_listed x (entries_of y) d
 
-pub labels_blocks : (bs : List Block) (d : Draft) → (after_blocks d bs).labels ≡ d.labels
-labels_blocks [] d = refl
-labels_blocks (b ∷ bs) d = labels_blocks bs (after b.external d b.declarations) ∙ labels_after b.external b.declarations d
-
 -- What a program has of its draft.
 
 -- a draft with nothing pending

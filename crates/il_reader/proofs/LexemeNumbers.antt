@@ -7,11 +7,10 @@ use Rattle.point_types.specs.declared.il_type.IlType.TheVariants as il
 use Rattle.point_types.specs.Name.{folded, is_between, is_digit, is_letter}
 use Rattle.point_types.specs.Value.{low_of, high_of, is_within}
 use Rattle.il_reader.specs.declared.lexer.Mode.TheVariants as mode
-use Rattle.il_reader.specs.declared.numeral.Base.{Base}
 use Rattle.il_reader.specs.declared.numeral.Base.TheVariants as base
 use Rattle.il_reader.specs.declared.numeral.Spelling.{Spelling}
 use Rattle.il_reader.specs.declared.numeral.Spelling.TheVariants as spelling
-use Rattle.il_reader.specs.Tokens.{base_named, below, digit_in, digit_of, grown, limits_of, number_stands, number_token, radix, spelled_on, stands}
+use Rattle.il_reader.specs.Tokens.{below, digit_in, digit_of, grown, limits_of, number_stands, number_token, radix, spelled_on, stands}
 use Rattle.il_reader.specs.Lexemes.{is_word_byte, line_ends}
 use Rattle.il_reader.specs.Literals.{AreDigits, AreFurther, Based, Bare, Front, Signed, front_bytes, front_radix, literal_token, number_from, with_sign}
 use Rattle.il_reader.proofs.Scans.{and_left, and_right, differs, taken}
@@ -65,12 +64,6 @@ parted spelling.Plain = refl
 parted spelling.Decimal = refl
 parted (spelling.Signed negative) = refl
 parted (spelling.Based x) = refl
-
-pub no_base_behind : (s : Spelling) (v : ℤ) (x : Base) → base_named (spelled_on s) v ≡ Some x → ⊥
-no_base_behind spelling.Plain v x h = cc
-no_base_behind spelling.Decimal v x h = cc
-no_base_behind (spelling.Signed negative) v x h = cc
-no_base_behind (spelling.Based y) v x h = cc
 
 -- Ranges.
 

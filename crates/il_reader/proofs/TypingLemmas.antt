@@ -1,5 +1,5 @@
 -- Typings and variables with the same numbers are one.
-use Rattle.std.proofs.Common.{◌≡◌, Bool, true, false, ℤ, Option, Some, None, refl, sym, subst, ◌∙◌}
+use Rattle.std.proofs.Common.{◌≡◌, Bool, true, false, ℤ, Option, Some, refl, sym, subst, ◌∙◌}
 use Rattle.std.proofs.Math.Bool.{Bool-set}
 use mathlib.Core.HLevel.{is_prop→PathP}
 use Rattle.std.specs.Prelude.{IsTrue}
@@ -26,16 +26,6 @@ typing_is kind low high start r l h n a b c = moved ∙ decided (is_ranged kind 
     decided : (b : Bool) (e : is_ranged kind l h n ≡ b) (q : IsTrue (is_ranged kind l h n)) → ◌≡◌ {A = Option Typing} (Some (record { kind = kind; low = l; high = h; start = n; ranged = q })) (ranged_typing kind l h n b e)
     decided true e q = λ i. Some (record { kind = kind; low = l; high = h; start = n; ranged = Bool-set (is_ranged kind l h n) true q e i })
     decided false e q = absurd (no (sym q ∙ e))
-      where
-        no : true ≡ false → ⊥
-        no h = cc
-
-pub no_typing : (kind : IlType) (l h n : ℤ) → is_ranged kind l h n ≡ false → None ≡ typing_of kind l h n
-no_typing kind l h n g = decided (is_ranged kind l h n) refl
-  where
-    decided : (b : Bool) (e : is_ranged kind l h n ≡ b) → ◌≡◌ {A = Option Typing} None (ranged_typing kind l h n b e)
-    decided false e = refl
-    decided true e = absurd (no (sym e ∙ g))
       where
         no : true ≡ false → ⊥
         no h = cc

@@ -45,7 +45,7 @@ impl Computation {
     }
 
     /// An operator whose operand is what these lines give.
-    pub fn defer(
+    pub(crate) fn defer(
         operator: Operator,
         negated: bool,
         operand: Option<Operand>,
@@ -67,7 +67,7 @@ impl Computation {
 
 /// Lines inside parentheses, as far as they have been read. Contracts see them as they are written.
 #[derive(Drop)]
-pub struct InnerLines {
+pub(crate) struct InnerLines {
     lines: Vec<InnerLine>,
 }
 

@@ -18,7 +18,12 @@ use point_types::{Condition, Name, Operator};
 use std::alloc::{AllocError, Global};
 
 /// Reads the first token of an instruction of the body.
-pub fn begin(alloc: Global, draft: Draft, head: Head, token: Token) -> Result<Move, AllocError>
+pub(crate) fn begin(
+    alloc: Global,
+    draft: Draft,
+    head: Head,
+    token: Token,
+) -> Result<Move, AllocError>
     ensures { IfOk result (λ m. m ≡ begin_step draft head token) }
 {
     match token {
@@ -141,7 +146,7 @@ impl PartStage {
 }
 
 /// On at another place of the instruction.
-pub fn goes_on(nest: Nest, head: Head, part: PartStage, draft: Draft) -> Move
+pub(crate) fn goes_on(nest: Nest, head: Head, part: PartStage, draft: Draft) -> Move
     ensures { result ≡ continues nest head part draft }
 {
     Ok(State::Within(Stage::Part(nest, head, part), draft))

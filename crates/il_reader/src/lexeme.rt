@@ -9,7 +9,7 @@ const WORD_CAPACITY: usize = 32;
 
 /// A word of at most 32 characters. Contracts see its bytes.
 #[derive(Drop)]
-pub struct Lexeme {
+pub(crate) struct Lexeme {
     bytes: [u8; 32],
     length: usize,
 }

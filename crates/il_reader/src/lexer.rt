@@ -9,13 +9,13 @@ use crate::fault::ReadFaultKind;
 use crate::keyword::{find_keyword, token_of_word};
 use crate::lexeme::Lexeme;
 use crate::numeral::Spelling;
-use crate::text::{is_decimal_digit, is_word_letter, lower_case};
+use crate::text::{is_decimal_digit, is_word_letter};
 use crate::token::{Keyword, Token};
-use point_types::{IlType, Operator};
+use point_types::{IlType, Operator, lower_case};
 
 /// What stands open between two bytes of a text.
 #[derive(Drop)]
-pub enum Mode {
+pub(crate) enum Mode {
     /// Nothing.
     Clear,
     /// An opening parenthesis, which may begin a comment.
@@ -46,7 +46,7 @@ pub enum Mode {
 /// What a byte makes of a text: the token that it ends, the token that is whole with it, and what
 /// stands open behind it.
 #[derive(Drop)]
-pub struct Lexed {
+pub(crate) struct Lexed {
     pub ended: Option<Token>,
     pub own: Option<Token>,
     pub mode: Mode,
@@ -54,7 +54,7 @@ pub struct Lexed {
 
 /// Why a byte can't follow: the token that it has ended, and the fault where that token can stand.
 #[derive(Clone, Copy)]
-pub struct ByteFault {
+pub(crate) struct ByteFault {
     pub ended: Option<Token>,
     pub kind: ReadFaultKind,
 }

@@ -133,7 +133,7 @@ impl OpenParenthesis {
     ghost use Rattle.il_reader.specs.Nesting.{is_filled, with_line};
 
     /// Whether an operand or a line stands inside.
-    pub fn is_filled(&self) -> bool
+    pub(crate) fn is_filled(&self) -> bool
         ensures { result ≡ is_filled self.now.operand self.now.inner }
     {
         match self.operand {

@@ -3,11 +3,12 @@ ghost use Rattle.std.specs.Prelude.{◌≡◌, pos};
 ghost use Rattle.point_types.specs.Name.{folded, is_digit};
 ghost use Rattle.il_reader.specs.Tokens.{base_named, below, digit_in, digit_of, grown, radix, spelled_on};
 
-use crate::text::{is_decimal_digit, lower_case};
+use crate::text::is_decimal_digit;
+use point_types::lower_case;
 
 /// A base other than ten (IEC 61131-3 edition 2, 2.2.1).
 #[derive(Clone, Copy)]
-pub enum Base {
+pub(crate) enum Base {
     Two,
     Eight,
     Sixteen,
@@ -15,7 +16,7 @@ pub enum Base {
 
 /// How a number is spelled, as far as it has been read (IEC 61131-3 edition 2, 2.2.1).
 #[derive(Clone, Copy)]
-pub enum Spelling {
+pub(crate) enum Spelling {
     /// Decimal digits that `#` can still make a base: no sign, no leading zero, no underscore.
     Plain,
     /// Decimal digits without a sign.

@@ -28,7 +28,7 @@ impl Scope {
     }
 
     /// Whether one more variable, or external, may be declared.
-    pub fn has_room(&self, external: bool) -> bool
+    pub(crate) fn has_room(&self, external: bool) -> bool
         ensures { result ≡ has_room external self.now }
     {
         if external {
@@ -39,7 +39,7 @@ impl Scope {
     }
 
     /// Whether the name is declared, or is at odds with the name of an external's presence.
-    pub fn is_taken(&self, external: bool, name: &Name) -> bool
+    pub(crate) fn is_taken(&self, external: bool, name: &Name) -> bool
         ensures { result ≡ is_taken external name.now self.now }
     {
         let name = name.as_bytes();

@@ -3,7 +3,8 @@ ghost use Rattle.std.specs.Prelude.{◌≡◌, ◌+◌, ◌<◌, ◌≤◌, ◌^
 ghost use Rattle.il_reader.specs.Tracing.{AreCovered, AreInOrder, IsCovered, IsMoved};
 
 use crate::lexer::{Lexed, Mode};
-use crate::text::{is_decimal_digit, is_word_letter, lower_case};
+use crate::text::{is_decimal_digit, is_word_letter};
+use point_types::lower_case;
 
 /// Bytes of a text: the number of the first one, and the number of the byte behind them.
 #[derive(Clone, Copy)]

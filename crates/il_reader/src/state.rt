@@ -18,7 +18,7 @@ use std::alloc::{AllocError, Global};
 
 /// Where a text stands, with what has been read.
 #[derive(Drop)]
-pub enum State {
+pub(crate) enum State {
     /// Before PROGRAM.
     Start,
     /// Behind PROGRAM.

@@ -42,14 +42,14 @@ impl Typing {
 
     /// The subrange with its high end; none where that isn't a number of the type, or is below the low
     /// end.
-    pub fn bounded(&self, high: i64) -> Option<Typing>
+    pub(crate) fn bounded(&self, high: i64) -> Option<Typing>
         ensures { result ≡ bounded self.now high }
     {
         Typing::new(self.kind, self.low, high, self.low)
     }
 
     /// The range with a start value; none where that lies outside it.
-    pub fn started(&self, start: i64) -> Option<Typing>
+    pub(crate) fn started(&self, start: i64) -> Option<Typing>
         ensures { result ≡ started self.now start }
     {
         Typing::new(self.kind, self.low, self.high, start)

@@ -3,7 +3,6 @@ pub mod Refused
 pub mod Powers
 pub mod Lists
 pub mod Meters
-pub mod Answering
 pub mod Entries
 pub mod Devices
 pub mod Images

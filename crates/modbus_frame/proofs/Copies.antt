@@ -2,15 +2,15 @@
 use Rattle.std.proofs.Common.{◌≡◌, ℕ, zero, suc, ◌+◌, ◌-◌, ◌<◌, ◌≤◌, List, [], ◌∷◌, ◌++◌, length, take, Option, Result, Ok, Err, sym, ap, ◌∙◌, subst, arith, append_assoc, length-append, add-one}
 use Rattle.std.proofs.lemmas.List.{append-nil, take-append-le}
 use Rattle.std.proofs.Math.Seq.{take-append-add}
-use Rattle.std.proofs.KnownBytes.{Appends-trans, Appends-nil, Keeps-trans, Keeps-refl}
+use Rattle.std.proofs.KnownBytes.{Appends-trans, Keeps-trans}
 use Rattle.std.specs.Prelude.{OnOk}
 use Rattle.std.specs.Io.KnownBytes.{Appends}
 use Rattle.modbus_frame.specs.declared.link.LinkFault.{LinkFault}
 use Rattle.modbus_frame.specs.declared.link.LinkFault.TheVariants as link
 use Rattle.modbus_frame.specs.Exchange.{SendsFront, CountsSent}
-use Rattle.modbus_frame.specs.Link.{LinkState, Failures, CountsBy, FailsBy}
+use Rattle.modbus_frame.specs.Link.{LinkState, Failures, FailsBy}
 use Rattle.modbus_frame.specs.Serving.{Sends, copies}
-use Rattle.modbus_frame.proofs.Sending.{CountsBy-none, CountsBy-trans, FailsBy-none, FailsBy-then}
+use Rattle.modbus_frame.proofs.Sending.{CountsBy-trans, FailsBy-then}
 
 abbrev pub Sent : Type 0
 Sent = Result (Unit {0}) LinkFault
@@ -61,17 +61,6 @@ sends_less a b fault x y turns spare sent = record {
   called = sent.called;
   within = sent.within;
   used = sent.used;
-}
-
--- nothing is sent
-pub sends_none : (a : LinkState) (turns : ℕ) → Sends a a (Ok tt) [] turns turns
-sends_none a turns = record {
-  sends = Appends-nil a.sent;
-  keeps = Keeps-refl a.coming;
-  failed = FailsBy-none a.failures;
-  called = subst (λ n. CountsBy n a.calls a.calls) (omega arith) (CountsBy-none a.calls);
-  within = omega arith;
-  used = λ some. absurd (omega arith);
 }
 
 copies_next : (n : ℕ) (bytes : List ℕ) → copies (suc n) bytes ≡ copies n bytes ++ bytes

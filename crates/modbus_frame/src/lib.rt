@@ -14,6 +14,7 @@ mod reply;
 mod request;
 mod response;
 mod serving;
+mod stream_link;
 mod words;
 
 // frames in a stream
@@ -30,6 +31,7 @@ pub use words::Words;
 pub use exchange::{FrameReader, send};
 pub use link::{Down, Link, LinkFault};
 pub use mem_link::MemLink;
+pub use stream_link::StreamLink;
 // a served link
 pub use reply::FrameReply;
 pub use serving::{MOST_CALLS, Responder, serve};

@@ -46,6 +46,14 @@ impl Words {
         Some(Words { items })
     }
 
+    /// These registers, of which there are at most 125.
+    pub fn from_few(words: &[u16]) -> Words
+        requires { length words.now ≤ 125 }
+        ensures { result ≡ words.now }
+    {
+        Words::from_slice(words).unwrap()
+    }
+
     /// Adds a register at the end.
     pub fn push(&mut self, word: u16)
         requires { length self.old < 125 }

@@ -1,5 +1,5 @@
 -- The points of a model, one by one: looked up, and read in order.
-use Rattle.std.proofs.Common.{◌≡◌, ℕ, suc, zero, ◌+◌, ◌<◌, Bool, true, false, cond, ◌||◌, ◌&&◌, List, [], ◌∷◌, ◌++◌, length, get_or, drop, Option, None, Some, is_some, option_map, Ok, Err, refl, sym, ap, ◌∙◌, append_assoc, drop-cons, add-one, true≢false, Bor}
+use Rattle.std.proofs.Common.{◌≡◌, ℕ, suc, zero, ◌+◌, ◌<◌, Bool, true, false, cond, ◌||◌, ◌&&◌, List, [], ◌∷◌, ◌++◌, length, get_or, drop, Option, None, Some, is_some, option_map, Ok, refl, sym, ap, ◌∙◌, append_assoc, drop-cons, add-one, true≢false, Bor}
 use Rattle.std.proofs.lemmas.Option.{slice_get-map}
 use Rattle.std.proofs.lemmas.List.{map-append}
 use Rattle.std.proofs.lemmas.Slice.Eq.{bytes_eq-Decides}
@@ -14,14 +14,13 @@ use Rattle.std.specs.Str.{bytes_eq}
 use Rattle.std.specs.Map.{keys_of, lookup, lookup_key}
 use Rattle.serde_json.specs.View.{view, items_view}
 use Rattle.serde_json.specs.declared.value.Value.{Value}
-use Rattle.model_defs.specs.Definition.{description_of, descriptions_of, broken_among, broken_from, has_name, is_heading, is_uint16, is_sunssf, is_factor, joined}
+use Rattle.model_defs.specs.Definition.{description_of, descriptions_of, broken_among, has_name, is_heading, is_uint16, is_sunssf, is_factor}
 use Rattle.model_defs.specs.Definition as told
 use Rattle.model_defs.specs.Descriptions.{factor_view, description_view, descriptions_view}
 use Rattle.model_defs.specs.declared.description.Factor.{Factor}
 use Rattle.model_defs.specs.declared.description.Factor.TheVariants as factors
 use Rattle.model_defs.specs.declared.point.Sf.TheVariants as places
 use Rattle.model_defs.specs.declared.description.Description.{Description}
-use Rattle.model_defs.specs.declared.fault.DefFault.{DefFault}
 use Rattle.model_defs.specs.declared.fault.DefFault.TheVariants as fault
 
 abbrev pub Entries : Type 0
@@ -78,13 +77,6 @@ pub read_more : (seen : List told.Description) (vs : List Value) (i : ℕ) (v : 
 read_more seen vs i v d within is good new =
     let here : drop i vs ≡ v ∷ drop (i + 1) vs = rw (drop-cons vs i v, add-one) (rw (← is) refl) in
     rw here (rw good (rw new refl, rw append_assoc refl))
-
--- a tree that is no point
-pub read_broken : (seen : List told.Description) (vs : List Value) (i : ℕ) (v : Value) (e : DefFault)
-    → i < length vs → v ≡ get_or vs i v → description_of (view v) ≡ Err e → broken_among seen (items_view (drop i vs)) ≡ Some e
-read_broken seen vs i v e within is bad =
-    let here : drop i vs ≡ v ∷ drop (i + 1) vs = rw (drop-cons vs i v, add-one) (rw (← is) refl) in
-    rw here (rw bad refl)
 
 -- a point whose name is there
 pub read_twice : (seen : List told.Description) (vs : List Value) (i : ℕ) (v : Value) (d : told.Description)

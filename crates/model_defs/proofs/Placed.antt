@@ -1,19 +1,14 @@
 -- Points laid out one after another: what is placed, and what remains.
-use Rattle.std.proofs.Common.{◌≡◌, ℕ, suc, zero, ◌+◌, ◌≤◌, ◌≢◌, true, false, ◌&&◌, List, [], ◌∷◌, ◌++◌, length, map, Some, option_map, refl, sym, ap, ◌∙◌, arith, append_assoc, append-nil, Bor}
+use Rattle.std.proofs.Common.{◌≡◌, ℕ, suc, zero, ◌+◌, ◌≤◌, ◌≢◌, true, ◌&&◌, List, [], ◌∷◌, ◌++◌, length, map, Some, option_map, refl, sym, ap, ◌∙◌, arith, append_assoc, append-nil, Bor}
 use Rattle.std.proofs.lemmas.Option.{slice_get_within}
-use Rattle.std.proofs.lemmas.List.{length-map, map-append, take-append-le, take_all}
+use Rattle.std.proofs.lemmas.List.{map-append, take-append-le, take_all}
 use Rattle.std.proofs.lemmas.List.Sums.{sum_by-append, sum_by-cons}
 use Rattle.std.specs.Prelude.{Bool, slice_get}
 use Rattle.std.specs.List.{list_all}
 use Rattle.point_types.proofs.Truths.{both}
-use Rattle.model_defs.specs.Parts.{IsUnscaled}
-use Rattle.model_defs.specs.declared.part.DefPart.TheVariants as parts
-use Rattle.std.proofs.lemmas.Bool.Decides.{nat_tests}
-use Rattle.point_types.specs.Point.{size_of}
-use Rattle.point_types.specs.declared.kind.Kind.{Kind}
 use Rattle.point_types.specs.declared.kind.Kind.TheVariants as kinds
 use Rattle.model_defs.specs.Layout.{registers_of, IsInOrder}
-use Rattle.model_defs.specs.Definition.{Description, is_size, is_factor, all_registers, has_all_factors, factor_told, description_told, ArePoints, HasFactorsAmong}
+use Rattle.model_defs.specs.Definition.{Description, is_factor, all_registers, has_all_factors, factor_told, description_told, ArePoints, HasFactorsAmong}
 use Rattle.model_defs.specs.Descriptions.{factor_view, description_view, descriptions_view}
 use Rattle.model_defs.specs.declared.description.Description as Read
 use Rattle.model_defs.proofs.Entries.{Entries}
@@ -29,17 +24,6 @@ pub record IsPlaced (ds : List Description) (placed : List Point) (rest : List D
   pub among : HasFactorsAmong ds placed
   pub scaled : has_all_factors ds ds ≡ has_all_factors ds rest
   pub are_scaled : has_all_factors ds (map (description_told ds) placed) ≡ true
-
-pub placed_start : (ds : List Description) → IsPlaced ds [] ds 0
-placed_start ds = record {
-  told = refl;
-  in_order = λ i p h. absurd (cc);
-  ends = refl;
-  fits = omega arith;
-  among = λ i j p h e. absurd (cc);
-  scaled = refl;
-  are_scaled = refl;
-}
 
 -- the element of a list with one more at its end
 last_or : {X : Type 0} (xs : List X) (x y : X) (i : ℕ) {P : Type 0} → slice_get (xs ++ x ∷ []) i ≡ Some y → (slice_get xs i ≡ Some y → P) → (i ≡ length xs → x ≡ y → P) → P
@@ -96,16 +80,6 @@ module _ (ds : List Description) (placed : List Point) (d : Description) (rest :
     are_scaled = scaled_more good;
   }
 
--- a factor that is none
-pub placed_broken : (ds : List Description) (placed : List Point) (d : Description) (rest : List Description) (offset : ℕ) → IsPlaced ds placed (d ∷ rest) offset
-    → is_factor ds d.factor ≡ false → has_all_factors ds ds ≡ false
-placed_broken ds placed d rest offset so_far bad = so_far.scaled ∙ ap (λ b. b && has_all_factors ds rest) bad
-
--- a size that is the kind's
-pub size_facts : (k : Kind) (n : ℕ) → is_size k n ≡ true → (k ≢ kinds.String → n ≡ size_of k) × (1 ≤ n)
-size_facts kinds.String n h = ((λ other. absurd (other refl)), grind (arith, nat_tests))
-size_facts k n h = let e : n ≡ size_of k = grind (arith, nat_tests) in ((λ _. e), omega arith)
-
 -- the next entry has been placed
 pub placed_step : (ds : List Description) (placed placed' : List Point) (r r' : Entries) (k : Bor (List ℕ)) (d : Read.Description) (offset : ℕ) (p : Point)
     → IsPlaced ds placed (descriptions_view r) offset → r ≡ (k, d) ∷ r' → placed' ≡ placed ++ p ∷ []
@@ -117,21 +91,6 @@ placed_step ds placed placed' r r' k d offset p so_far step push here name kind 
     let next : IsPlaced ds placed (description_view k.now d ∷ descriptions_view r') offset = rw step at so_far in
     let told : description_told ds p ≡ description_view k.now d = λ i. record { name = name i; kind = kind i; size = size i; factor = factor i; writable = writable i } in
     rw push (placed_more ds placed (description_view k.now d) (descriptions_view r') offset p next here told among good)
-
--- the next entry's factor is none
-pub unscaled_here : (ds : List Description) (placed : List Point) (r r' : Entries) (k : Bor (List ℕ)) (d : Read.Description) (offset n : ℕ)
-    → IsPlaced ds placed (descriptions_view r) offset → r ≡ (k, d) ∷ r' → n ≡ length placed → is_factor ds (factor_view d.factor) ≡ false → IsUnscaled ds (parts.Point n)
-unscaled_here ds placed r r' k d offset n so_far step same bad =
-    let next : IsPlaced ds placed (description_view k.now d ∷ descriptions_view r') offset = rw step at so_far in
-    record {
-      front = map (description_told ds) placed;
-      point = description_view k.now d;
-      behind = descriptions_view r';
-      stands = next.told;
-      told = ap parts.Point (same ∙ sym (length-map placed (description_told ds)));
-      front_is_scaled = next.are_scaled;
-      is_unscaled = bad;
-    }
 
 -- all entries have been placed
 pub placed_end : (ds : List Description) (placed : List Point) (r : Entries) (offset : ℕ) → IsPlaced ds placed (descriptions_view r) offset → r ≡ [] → ArePoints ds placed

@@ -1,5 +1,5 @@
 -- Trees of JSON: an empty list, and what a text breaks by its tree.
-use Rattle.std.proofs.Common.{◌≡◌, ℕ, inl, inr, Bool, not, List, [], ◌∷◌, length, nat_eq, None, Some, Result, Ok, Err, refl, sym, ap, ◌∙◌, IfErr, arith}
+use Rattle.std.proofs.Common.{◌≡◌, ℕ, inr, Bool, not, List, [], ◌∷◌, length, nat_eq, Some, Result, Ok, Err, refl, ap, ◌∙◌, IfErr, arith}
 use Rattle.std.proofs.lemmas.Bool.Decides.{nat_tests}
 use Rattle.std.specs.Prelude.{◌≢◌, codes}
 use Rattle.serde_json.specs.Data.{Data}
@@ -25,10 +25,3 @@ pub refused_by : (text : List ℕ) (tree : Data) (r : Result ModelDef DefFault) 
     → IfErr r (λ e. e ≢ fault.OutOfMemory → first_broken tree ≡ Some e) → IfErr r (λ e. e ≢ fault.OutOfMemory → Breaks text e)
 refused_by text tree (Ok model) is h = h
 refused_by text tree (Err e) is h = λ other. inr (tree, is, h other)
-
--- what no tree breaks, no text breaks
-pub unbroken_by : (text : List ℕ) (tree : Data) → IsTree text tree → first_broken tree ≡ None → (e : DefFault) → Breaks text e → ⊥
-unbroken_by text tree is none e (inl h) = let at : None ≡ Some tree = sym (h.1 is.0) ∙ is.1 in cc
-unbroken_by text tree is none e (inr h) =
-    let at : Some h.0 ≡ Some tree = sym h.1.1 ∙ is.1 in let same : h.0 ≡ tree = cc in
-    let broken : None ≡ Some e = sym none ∙ ap first_broken (sym same) ∙ h.2 in cc

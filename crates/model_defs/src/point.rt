@@ -24,7 +24,7 @@ impl Model for PointName {
 
 impl PointName {
     /// A copy of a text.
-    pub fn new(alloc: Global, text: &str) -> Result<PointName, AllocError>
+    pub(crate) fn new(alloc: Global, text: &str) -> Result<PointName, AllocError>
         ensures { IfOk result (λ n. n ≡ text.now) }
     {
         Ok(PointName {

@@ -23,7 +23,7 @@ impl Form {
             return None;
         }
         let number = i128::from(number);
-        let modulus = numbers_in(size);
+        let modulus = numbers_held(size);
         let has_top_bit = 2 * number >= modulus;
         match self {
             Form::Signed if has_top_bit => Some(number - modulus),
@@ -52,11 +52,11 @@ fn wrapped(value: i128, size: u32) -> u64
     ensures remainder { int_rem_euclid value (pos (65536 ^ size)) ≡ pos result }
     ensures bound { result < 65536 ^ size }
 {
-    value.rem_euclid(numbers_in(size)) as u64
+    value.rem_euclid(numbers_held(size)) as u64
 }
 
 /// How many numbers so many registers can hold.
-fn numbers_in(size: u32) -> i128
+pub fn numbers_held(size: u32) -> i128
     requires { size ≤ 4 }
     ensures value { result ≡ pos (65536 ^ size) }
     ensures positive { pos 0 <ℤ result }

@@ -17,13 +17,14 @@ mod words;
 
 // a point: its kind, its words, its value, and what it reads as
 pub use encoding::{Unencodable, encode};
+pub use form::numbers_held;
 pub use kind::Kind;
 pub use reading::{Cause, Reading};
 pub use scaling::{scaled, scaled_down};
 pub use words::{number, value};
 // a variable of Instruction List, its type and its name
 pub use il_type::IlType;
-pub use name::Name;
+pub use name::{Name, lower_case};
 pub use operator::{Condition, Operator};
 pub use variable::Var;
 // lists of what has a name

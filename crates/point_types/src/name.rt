@@ -90,8 +90,8 @@ impl fmt::Display for Name {
     }
 }
 
-// A letter in lower case.
-fn lower_case(byte: u8) -> u8
+/// A letter in lower case; any other byte as it is.
+pub fn lower_case(byte: u8) -> u8
     ensures { result ≡ folded byte }
 {
     if byte >= b'A' && byte <= b'Z' {

@@ -89,26 +89,16 @@ pub fn words_for(
 {
     match kind.size() {
         1 => match encode::<1>(kind, v, exponent, factor) {
-            Ok(words) => Ok(few_words(&words)),
+            Ok(words) => Ok(Words::from_few(&words)),
             Err(fault) => Err(fault),
         },
         2 => match encode::<2>(kind, v, exponent, factor) {
-            Ok(words) => Ok(few_words(&words)),
+            Ok(words) => Ok(Words::from_few(&words)),
             Err(fault) => Err(fault),
         },
         _ => match encode::<4>(kind, v, exponent, factor) {
-            Ok(words) => Ok(few_words(&words)),
+            Ok(words) => Ok(Words::from_few(&words)),
             Err(fault) => Err(fault),
         },
-    }
-}
-
-fn few_words(words: &[u16]) -> Words
-    requires { length words.now ≤ 4 }
-    ensures { result ≡ words.now }
-{
-    match Words::from_slice(words) {
-        Some(words) => words,
-        None => unreachable!(),
     }
 }

@@ -1,5 +1,5 @@
 //! Why a command refuses, and the note that tells it on standard error.
-use crate::kind_texts::{link_help, link_meaning};
+use crate::explained::Explained;
 use il_assemble::AsmFault;
 use il_reader::{FaultPlace, Program, ReadFault, fault_at};
 use inverter_sim::PlantFault;
@@ -199,7 +199,7 @@ impl Cause {
 
     /// The link to the devices failed.
     pub fn unlinked(alloc: Global, fault: LinkFault) -> Cause {
-        let texts = Texts(fault.word(), link_meaning(fault), link_help(fault));
+        let texts = Texts(fault.word(), fault.meaning(), fault.help());
         Cause::of_file(alloc, NotedFile::Link, texts)
     }
 

@@ -3,18 +3,19 @@
 #![tactic(auto)]
 
 mod cause;
+mod explained;
 mod file_causes;
 mod file_fault;
-mod kind_texts;
 mod listen_fault;
 mod notes;
+mod texts;
 mod verdict_cause;
 
 pub use cause::{Cause, NotedFile};
 pub use file_causes::{cause_of_definition, cause_of_plant, cause_of_site};
 pub use file_fault::FileFault;
-pub use kind_texts::unwritten_help;
 pub use listen_fault::ListenFault;
 pub use note_text::escaped;
 pub use notes::{Notes, explain_program, explain_unserved, explain_unusable};
+pub use texts::unwritten_help;
 pub use verdict_cause::cause_of_refusal;

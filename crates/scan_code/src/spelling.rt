@@ -104,7 +104,7 @@ fn append_number(code: &mut Vec<u8>, byte: u8, kind: IlType, n: i64) -> Result<(
 }
 
 /// The number of a type in code and images.
-pub fn number_of(kind: IlType) -> u8
+pub(crate) fn number_of(kind: IlType) -> u8
     ensures { result ≡ code_of kind }
 {
     kind as u8

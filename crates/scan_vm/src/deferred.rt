@@ -9,7 +9,7 @@ const CAPACITY: usize = 128;
 
 /// The values that wait for their operator, 128 at most; contracts see the last one first.
 #[derive(Drop)]
-pub struct Deferred {
+pub(crate) struct Deferred {
     values: [Value; 128],
     count: usize,
 }

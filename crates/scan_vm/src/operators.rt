@@ -12,7 +12,7 @@ use crate::value::Value;
 use point_types::{IlType, Operator};
 
 /// The left value, the operator, the right value.
-pub fn apply(operator: Operator, left: Value, right: Value) -> Result<Value, TrapKind>
+pub(crate) fn apply(operator: Operator, left: Value, right: Value) -> Result<Value, TrapKind>
     ensures { result ≡ told (applied operator left right) }
 {
     match operator {
@@ -36,7 +36,7 @@ pub fn apply(operator: Operator, left: Value, right: Value) -> Result<Value, Tra
 }
 
 /// NOT of a BOOL.
-pub fn invert(value: Value) -> Result<Value, TrapKind>
+pub(crate) fn invert(value: Value) -> Result<Value, TrapKind>
     ensures { result ≡ told (inverted value) }
 {
     if value.kind() == IlType::Bool {
@@ -47,7 +47,7 @@ pub fn invert(value: Value) -> Result<Value, TrapKind>
 }
 
 /// ABS of a whole number.
-pub fn absolute(value: Value) -> Result<Value, TrapKind>
+pub(crate) fn absolute(value: Value) -> Result<Value, TrapKind>
     ensures { result ≡ told (absolute_of value) }
 {
     if value.kind() == IlType::Bool {
@@ -57,7 +57,7 @@ pub fn absolute(value: Value) -> Result<Value, TrapKind>
 }
 
 /// A conversion between two whole-number types.
-pub fn convert(from: IlType, to: IlType, value: Value) -> Result<Value, TrapKind>
+pub(crate) fn convert(from: IlType, to: IlType, value: Value) -> Result<Value, TrapKind>
     ensures { result ≡ told (converted from to value) }
 {
     if value.kind() == from {
@@ -68,7 +68,7 @@ pub fn convert(from: IlType, to: IlType, value: Value) -> Result<Value, TrapKind
 }
 
 /// SEL: the first of two values where the chooser is FALSE, else the second.
-pub fn select(chooser: Value, first: Value, second: Value) -> Result<Value, TrapKind>
+pub(crate) fn select(chooser: Value, first: Value, second: Value) -> Result<Value, TrapKind>
     ensures { result ≡ told (selected chooser first second) }
 {
     if chooser.kind() != IlType::Bool || first.kind() != second.kind() {

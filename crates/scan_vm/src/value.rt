@@ -6,7 +6,7 @@ use std::marker::Model;
 
 /// A number with its type: a result, or a deferred value. BOOL counts FALSE as 0, TRUE as 1.
 #[derive(Clone, Copy, PartialEq, Eq, Debug)]
-pub struct Value {
+pub(crate) struct Value {
     kind: IlType,
     number: i64,
 }

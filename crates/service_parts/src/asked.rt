@@ -1,5 +1,5 @@
 //! The request that is under way on a line.
-ghost use Rattle.std.specs.Prelude.{◌≡◌, ◌≤◌, length};
+ghost use Rattle.std.specs.Prelude.{◌≡◌};
 ghost use Rattle.modbus_frame.specs.Message.{address_of};
 ghost use Rattle.service_parts.specs.Requests.{words_of};
 
@@ -48,14 +48,7 @@ pub fn words_of(request: &Request) -> Words
 {
     match request {
         Request::Read { .. } => Words::new(),
-        Request::WriteOne { value, .. } => copied(&[*value]),
-        Request::WriteMany { words, .. } => copied(words.as_slice()),
+        Request::WriteOne { value, .. } => Words::from_few(&[*value]),
+        Request::WriteMany { words, .. } => Words::from_few(words.as_slice()),
     }
-}
-
-fn copied(words: &[u16]) -> Words
-    requires { length words.now ≤ 125 }
-    ensures { result ≡ words.now }
-{
-    Words::from_slice(words).unwrap()
 }

@@ -1,13 +1,12 @@
 //! What was met at a point.
 ghost use Rattle.std.specs.Prelude.{◌≡◌, option_copied};
 ghost use Rattle.site_alarms.specs.Meeting.{met_by, met_in, met_of};
-ghost use Rattle.site_model.specs.Readings.{scale_for};
 
 use gateway::{Core, DEPTH};
 use point_types::value;
+use site_model::SiteTag;
 use site_model::readings::known_block;
-use site_model::registers::{registers_at, scale_at};
-use site_model::{Sf, SiteTag};
+use site_model::registers::{registers_at, scale_for};
 
 /// What was met at a point: its raw number, and the factor by which that counts, as the device gives it; None where it gives
 /// none.
@@ -40,14 +39,4 @@ fn met_in(tag: &SiteTag, words: &[u16]) -> Option<MetNumber>
     let raw = value(tag.point, registers)?;
     let factor = scale_for(tag.bit, words, tag.sf)?;
     Some(MetNumber { raw, factor })
-}
-
-/// What scales a tag's point; a bit has no factor.
-fn scale_for(bit: Option<u8>, words: &[u16], sf: Sf) -> Option<Option<i16>>
-    ensures { result ≡ scale_for bit words.now sf }
-{
-    match bit {
-        Some(_) => Some(Some(0)),
-        None => scale_at(words, sf),
-    }
 }

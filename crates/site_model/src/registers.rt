@@ -20,7 +20,7 @@ pub fn registers_at(words: &[u16], offset: u16, size: usize) -> Option<&[u16]>
 
 /// What scales a tag's point, by the words of the same block; None where the factor's register lies past them, and in it
 /// None where the factor is absent. A bit has no factor.
-pub(crate) fn scale_for(bit: Option<u8>, words: &[u16], sf: Sf) -> Option<Option<i16>>
+pub fn scale_for(bit: Option<u8>, words: &[u16], sf: Sf) -> Option<Option<i16>>
     ensures { result ≡ scale_for bit words.now sf }
 {
     match bit {

@@ -122,9 +122,6 @@ pub ok_is : {A E : Type 0} (a b : A) → ◌≡◌ {A = Result A E} (Ok a) (Ok b
 ok_is a b e = cc
 
 -- the listing of an image
-same_places : Image → Op → Type 0
-same_places image i = (jumps : ℕ) × (is_placed image jumps i ≡ true)
-
 abbrev ArePlaced : Image → List Entry → Type 0
 ArePlaced image [] = Unit {0}
 ArePlaced image (e ∷ es) = ((jumps : ℕ) × (is_placed image jumps e.1 ≡ true)) × ArePlaced image es

@@ -76,12 +76,6 @@ length_out (l ∷ ls) (suc n) h = length_out ls n (omega arith)
 dropped : {A : Type 0} (xs : List A) (n : ℕ) (d : A) → n < length xs → drop n xs ≡ get_or xs n d ∷ drop (n + 1) xs
 dropped xs n d h = let p : suc n ≡ n + 1 = omega arith in subst (λ (k : ℕ). drop n xs ≡ get_or xs n d ∷ drop k xs) p (drop-cons xs n d h)
 
--- one instruction more, before those that are done
-pub one_length : (listing entries : List (ℕ × Op)) (n : ℕ) (reached : List Bool) (r : Bool) (e : ℕ × Op) → n < length entries → n < length reached
-    → lengths_from listing n (drop n reached) (drop n entries)
-    ≡ (if get_or reached n r then length_from listing n (get_or entries n e).1 (lengths_from listing (n + 1) (drop (n + 1) reached) (drop (n + 1) entries)) else None) ∷ lengths_from listing (n + 1) (drop (n + 1) reached) (drop (n + 1) entries)
-one_length listing entries n reached r e h k = rw (dropped reached n r k, dropped entries n e h) refl
-
 pub one_start : (listing entries : List (ℕ × Op)) (n : ℕ) (lengths : List Length) (l : Length) (e : ℕ × Op) → n < length entries → n < length lengths
     → greatest_from listing n (drop n lengths) (drop n entries)
     ≡ max (if is_start listing n (get_or entries n e) then count_of (get_or lengths n l) else 0) (greatest_from listing (n + 1) (drop (n + 1) lengths) (drop (n + 1) entries))

@@ -1,5 +1,5 @@
 -- Instructions are listed one after the other.
-use Rattle.std.proofs.Common.{◌≡◌, ℕ, zero, suc, ◌+◌, ◌-◌, ◌<◌, ◌≤◌, List, [], ◌∷◌, ◌++◌, length, Result, Ok, Err, Some, None, Bool, true, false, nat_le, refl, sym, ap, subst, ◌∙◌, arith, length-append, if◌then◌else◌}
+use Rattle.std.proofs.Common.{◌≡◌, ℕ, zero, suc, ◌+◌, ◌-◌, ◌<◌, ◌≤◌, List, [], ◌∷◌, ◌++◌, length, Result, Ok, Err, Some, Bool, true, false, nat_le, refl, sym, ap, ◌∙◌, arith, length-append, if◌then◌else◌}
 use Rattle.std.proofs.lemmas.List.{append_assoc}
 use Rattle.point_types.specs.Value.{◌>>=◌}
 use Rattle.scan_code.specs.Image.{Image}
@@ -7,12 +7,8 @@ use Rattle.scan_code.specs.declared.op.Op.{Op}
 use Rattle.scan_code.specs.declared.op.Op.TheVariants as does
 use Rattle.scan_code.specs.Instruction.{decoded_at}
 use Rattle.facts.specs.declared.refusal.Refusal.{Refusal}
-use Rattle.verifier.specs.Listing.{Entry, is_placed, jumps_after, is_end, listed_with, listed_from, listing_of, wrong_at}
+use Rattle.verifier.specs.Listing.{Entry, is_placed, jumps_after, is_end, listed_with, listed_from, wrong_at}
 use Rattle.verifier.proofs.Linking.{behind}
-
-pub behind_nothing : (r : Result (List Entry) Refusal) → behind [] r ≡ r
-behind_nothing (Ok rest) = refl
-behind_nothing (Err refusal) = refl
 
 behind_one : (before : List Entry) (x : Entry) (r : Result (List Entry) Refusal) → behind (before ++ x ∷ []) r ≡ behind before (r >>= λ rest. Ok (x ∷ rest))
 behind_one before x (Ok rest) = ap Ok (append_assoc before (x ∷ []) rest)
@@ -28,10 +24,6 @@ above n m h = grind arith
 abbrev pub left : Image → List Entry → (at jumps : ℕ) → Bool → Result (List Entry) Refusal
 left image before at jumps ended = behind before (listed_from image (length image.code - length before) at (length before) jumps ended)
 
-pub left_at_first : (image : Image) → left image [] 0 0 false ≡ listing_of image
-left_at_first image = let e : length image.code - 0 ≡ length image.code = omega arith in
-    subst (λ (m : ℕ). behind [] (listed_from image m 0 0 0 false) ≡ listing_of image) (sym e) (behind_nothing (listing_of image))
-
 listed_here : (image : Image) (most at n jumps : ℕ) (ended : Bool) → 0 < most → at < length image.code → listed_from image most at n jumps ended ≡ listed_with image at n jumps (decoded_at image.code at) (λ i next. listed_from image (most - 1) next (n + 1) (jumps_after jumps i) (is_end i))
 listed_here image zero at n jumps ended p h = absurd (omega arith)
 listed_here image (suc most) at n jumps ended p h =
@@ -45,11 +37,6 @@ left_after image before at jumps next ended i h k d p =
     let long : length (before ++ (at, i) ∷ []) ≡ length before + 1 = omega (arith, length-append before ((at, i) ∷ [])) in
     let fewer : length image.code - (length before + 1) ≡ length image.code - length before - 1 = omega arith in
     rw (here, d, p, long, fewer) (sym (behind_one before (at, i) (listed_from image (length image.code - length before - 1) next (length before + 1) (jumps_after jumps i) (is_end i))))
-
-pub left_undecoded : (image : Image) (before : List Entry) (at jumps : ℕ) (ended : Bool) → at < length image.code → length before ≤ at → decoded_at image.code at ≡ None → left image before at jumps ended ≡ wrong_at (length before)
-left_undecoded image before at jumps ended h k d =
-    let here = listed_here image (length image.code - length before) at (length before) jumps ended (omega arith) h in
-    rw (here, d) refl
 
 pub left_misplaced : (image : Image) (before : List Entry) (at jumps next : ℕ) (ended : Bool) (i : Op) → at < length image.code → length before ≤ at → decoded_at image.code at ≡ Some (i, next) → is_placed image jumps i ≡ false → left image before at jumps ended ≡ wrong_at (length before)
 left_misplaced image before at jumps next ended i h k d p =

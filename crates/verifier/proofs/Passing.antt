@@ -46,15 +46,6 @@ all_delivered_at (way ∷ ways) ss m =
     ∙ ap (option_map (arriving m ways)) (delivered_at way.0 way.1 ss m)
     ∙ option_twice (λ s. if nat_eq way.0 m then meets s way.1 else s) (arriving m ways) (slice_get ss m)
 
-delivered_long : (n : ℕ) (f : Fact) (ss : List Slot) → length (delivered n f ss) ≡ length ss
-delivered_long n f [] = refl
-delivered_long zero f (s ∷ ss) = refl
-delivered_long (suc n) f (s ∷ ss) = ap suc (delivered_long n f ss)
-
-pub all_delivered_long : (ways : List Way) (ss : List Slot) → length (all_delivered ways ss) ≡ length ss
-all_delivered_long [] ss = refl
-all_delivered_long (way ∷ ways) ss = all_delivered_long ways (delivered way.0 way.1 ss) ∙ delivered_long way.0 way.1 ss
-
 pub delivered_past : (n : ℕ) (f : Fact) (ss : List Slot) → length ss ≤ n → delivered n f ss ≡ ss
 delivered_past n f [] h = refl
 delivered_past zero f (s ∷ ss) h = absurd (omega arith)

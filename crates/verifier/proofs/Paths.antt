@@ -28,12 +28,6 @@ abbrev value_or_zero : Option ℕ → ℕ
 value_or_zero None = 0
 value_or_zero (Some l) = l
 
--- an element of a list of lengths, none past its end
-at_in : (ls : List Length) (n : ℕ) (l : Length) → slice_get ls n ≡ Some l → length_at ls n ≡ l
-at_in [] n l e = absurd (cc)
-at_in (x ∷ ls) zero l e = head_is x l e
-at_in (x ∷ ls) (suc n) l e = at_in ls n l e
-
 -- the length at an instruction that is reached, and those of the later ones
 length_there : (c : List (ℕ × Op)) (at n : ℕ) (ss : List Bool) (es : List (ℕ × Op)) (e : ℕ × Op) → slice_get ss n ≡ Some true → slice_get es n ≡ Some e → (later : List Length) × (length_at (lengths_from c at ss es) n ≡ length_from c (at + n) e.1 later) × ((j : ℕ) → length_at later j ≡ length_at (lengths_from c at ss es) (suc n + j))
 length_there c at n [] es e p q = absurd (cc)

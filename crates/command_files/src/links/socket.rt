@@ -1,10 +1,10 @@
 //! Links over sockets.
 ghost use Rattle.std.specs.Prelude.{◌≡◌, IfOk};
 
+use modbus_frame::StreamLink;
 use std::io;
 use std::io::{Read, Write};
 use std::net::{Ipv4Addr, OpenStream, SocketAddr, SocketAddrV4};
-use stream_link::StreamLink;
 
 /// A link over a connection, whose halves are two handles of it.
 pub(crate) type SocketLink<S> = StreamLink<S, S>;

@@ -284,18 +284,8 @@ fn write_request(function: WriteFunction, addr: u16, words: &[u16]) -> Request
         },
         _ => Request::WriteMany {
             addr,
-            words: sent_words(words),
+            words: Words::from_few(words),
         },
-    }
-}
-
-fn sent_words(words: &[u16]) -> Words
-    requires { length words.now ≤ 125 }
-    ensures { result ≡ words.now }
-{
-    match Words::from_slice(words) {
-        Some(words) => words,
-        None => unreachable!(),
     }
 }
 

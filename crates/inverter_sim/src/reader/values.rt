@@ -16,7 +16,7 @@ use crate::fault::PlantFault;
 use crate::part::PlantPart;
 use file_keys::{number_at, section_at, text_at};
 use model_defs::{ModelDef, Point};
-use point_types::Kind;
+use point_types::{Kind, numbers_held};
 use std::alloc::Global;
 use toml::Value;
 
@@ -171,7 +171,7 @@ pub fn numbers_of(point: &Point) -> Option<(i128, i128)> {
     if point.offset < 2 || matches!(point.kind, Kind::String) {
         return None;
     }
-    let words = numbers_in(point.kind.size() as u32);
+    let words = numbers_held(point.kind.size() as u32);
     if is_signed(point.kind) {
         Some((-words / 2, words / 2 - 1))
     } else {
@@ -207,7 +207,7 @@ fn is_spelled(signed: bool, size: u32, raw: i64) -> bool
     requires { size ≤ 4 }
     ensures { result ≡ is_spelled signed (pos (65536 ^ size)) raw }
 {
-    is_one_of(signed, numbers_in(size), i128::from(raw))
+    is_one_of(signed, numbers_held(size), i128::from(raw))
 }
 
 fn is_one_of(signed: bool, words: i128, raw: i128) -> bool
@@ -226,17 +226,7 @@ fn remainder(size: u32, raw: i64) -> u64
     requires { size ≤ 4 }
     ensures { int_rem_euclid raw (pos (65536 ^ size)) ≡ pos result }
 {
-    i128::from(raw).rem_euclid(numbers_in(size)) as u64
-}
-
-/// How many numbers so many registers can hold.
-fn numbers_in(size: u32) -> i128
-    requires { size ≤ 4 }
-    ensures value { result ≡ pos (65536 ^ size) }
-    ensures positive { pos 0 <ℤ result }
-    ensures bound { result ≤ℤ pos (2 ^ 64) }
-{
-    65536i128.pow(size)
+    i128::from(raw).rem_euclid(numbers_held(size)) as u64
 }
 
 /// Writes a number into 1, 2 or 4 registers, the most significant first.

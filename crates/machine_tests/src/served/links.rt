@@ -2,9 +2,8 @@
 
 use crate::served::assert_same;
 use gateway::{Outcome, Poller};
-use modbus_frame::{Down, Link, LinkFault, Request, Words};
+use modbus_frame::{Down, Link, LinkFault, Request, StreamLink, Words};
 use std::process::Abort;
-use stream_link::StreamLink;
 
 const W: Request = Request::Read {
     addr: 40084,

@@ -1,7 +1,7 @@
 use Rattle.std.proofs.Common.{◌^◌, ◌≤◌, ◌<◌, arith, lit<}
 use Rattle.std.proofs.Math.Nat.{pow-le-pow_right, one-le-pow}
 use Rattle.std.proofs.lemmas.Int.{ints}
-use Rattle.point_types.proofs.form.numbers_in.Goals as goal
+use Rattle.point_types.proofs.form.numbers_held.Goals as goal
 
 pub pow-requires : goal.pow-requires
 pow-requires c =

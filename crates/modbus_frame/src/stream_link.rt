@@ -1,9 +1,7 @@
 //! A link over the two halves of a stream, as a connection has them.
-#![tactic(auto)]
-
 ghost use Rattle.std.specs.Prelude.{◌≡◌};
 
-use modbus_frame::{Down, Link};
+use crate::link::{Down, Link};
 use std::io::{Read, Write};
 
 /// A link over a stream's two halves: what one gives comes, and what goes out is written to the other (MODBUS Messaging on
