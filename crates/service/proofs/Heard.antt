@@ -1,19 +1,26 @@
 -- Frames that came for a request and were dropped.
-use Rattle.std.proofs.Common.{◌≡◌, ℕ, zero, suc, ◌+◌, ◌-◌, ◌<◌, false, true, List, [], ◌∷◌, ◌++◌, length, None, Some, Ok, Err, refl, sym, ap, ◌∙◌, subst, arith, append_assoc, length-append}
-use Rattle.std.proofs.lemmas.List.{append-nil}
+use Rattle.std.proofs.Common.{◌≡◌, ℕ, zero, suc, ◌+◌, ◌-◌, ◌<◌, false, true, List, [], ◌∷◌, ◌++◌, length, drop, take, Option, None, Some, Ok, Err, refl, sym, ap, ◌∙◌, subst, arith, append_assoc, length-append}
+use Rattle.std.proofs.lemmas.List.{append-nil, drop_all, take-append-drop}
 use Rattle.std.specs.List.{flat_map, AllByRecursion}
 use Rattle.modbus_frame.specs.declared.fault.FrameFault.{FrameFault}
 use Rattle.modbus_frame.specs.declared.frame.Frame.{Frame}
-use Rattle.modbus_frame.specs.Exchange.{FeedsUnfed}
 use Rattle.modbus_frame.specs.Frame.{frame_bytes, IsFrame, stream_of}
-use Rattle.modbus_frame.specs.Framing.{empty}
+use Rattle.modbus_frame.specs.Framing.{GivesOrKeeps, empty}
 use Rattle.modbus_frame.specs.Held.{Held}
 use Rattle.modbus_frame.specs.Message.{response_of}
 use Rattle.modbus_frame.specs.Reading.{Reading}
 use Rattle.modbus_frame.proofs.Streams.{AllByRecursion-more as each_more}
 use Rattle.gateway.specs.declared.poller.outcome.Outcome.TheVariants as outcome
 use Rattle.gateway.specs.poller.LinkRun.{is_reply, outcome_by, decided_within}
-use Rattle.service.specs.Hearing.{Wait, unused, Settles, MeetsFault}
+use Rattle.service.specs.Hearing.{FeedsNext, Wait, unused, Settles, MeetsFault}
+
+-- One feed, told of the bytes after what it used.
+pub feeds_next : (held : Held) (piece : List ℕ) (used : ℕ) (frame : Option Frame) (new : Held) (unfed : List ℕ) → GivesOrKeeps held.kept piece used frame new → unfed ≡ drop used piece
+    → FeedsNext (record { held = held; unfed = piece }) (Ok frame) (record { held = new; unfed = unfed })
+feeds_next held piece used (Some frame) new unfed gives rest =
+    let parts : held.kept ++ piece ≡ (held.kept ++ take used piece) ++ drop used piece = ap (λ l. held.kept ++ l) (sym (take-append-drop used piece)) ∙ sym (append_assoc held.kept (take used piece) (drop used piece)) in
+    (gives.is_frame, parts ∙ (ap (λ l. l ++ drop used piece) gives.spelled ∙ ap (λ l. frame_bytes frame ++ l) (sym rest)), gives.after)
+feeds_next held piece used None new unfed keeps rest = (keeps.partial, keeps.after, rest ∙ drop_all used piece (omega (arith, keeps.all)))
 
 -- These frames were dropped, and so many more may be.
 pub record HeardSoFar (old : Reading) (wait : Wait) (may_drop : ℕ) (now : Reading) : Type 0 where
@@ -41,7 +48,7 @@ came_next old now then frames frame came next held =
 
 -- one frame more is dropped
 heard_next : (old now then : Reading) (wait : Wait) (n : ℕ) (frame : Frame) → HeardSoFar old wait (suc n) now
-    → FeedsUnfed now (Ok (Some frame)) then → is_reply wait.asked frame ≡ false → HeardSoFar old wait n then
+    → FeedsNext now (Ok (Some frame)) then → is_reply wait.asked frame ≡ false → HeardSoFar old wait n then
 heard_next old now then wait n frame so_far feeds other = record {
   frames = so_far.frames ++ frame ∷ [];
   each = each_more so_far.frames frame so_far.each feeds.0;
@@ -53,7 +60,7 @@ heard_next old now then wait n frame so_far feeds other = record {
 }
 
 pub heard_more : (old now then : Reading) (wait : Wait) (may_drop : ℕ) (frame : Frame) → 0 < may_drop → HeardSoFar old wait may_drop now
-    → FeedsUnfed now (Ok (Some frame)) then → is_reply wait.asked frame ≡ false → HeardSoFar old wait (may_drop - 1) then
+    → FeedsNext now (Ok (Some frame)) then → is_reply wait.asked frame ≡ false → HeardSoFar old wait (may_drop - 1) then
 heard_more old now then wait zero frame some so_far feeds other = absurd (omega (arith, some))
 heard_more old now then wait (suc n) frame some so_far feeds other =
     let e : suc n - 1 ≡ n = omega arith in
@@ -61,7 +68,7 @@ heard_more old now then wait (suc n) frame some so_far feeds other =
 
 -- the reply came
 pub settles_by_reply : (old now then : Reading) (wait : Wait) (may_drop : ℕ) (frame : Frame) → 0 < may_drop → HeardSoFar old wait may_drop now
-    → FeedsUnfed now (Ok (Some frame)) then → is_reply wait.asked frame ≡ true → Settles old wait (outcome_by (response_of wait.asked.request frame.pdu)) then
+    → FeedsNext now (Ok (Some frame)) then → is_reply wait.asked frame ≡ true → Settles old wait (outcome_by (response_of wait.asked.request frame.pdu)) then
 settles_by_reply old now then wait zero frame some so_far feeds reply = absurd (omega (arith, some))
 settles_by_reply old now then wait (suc n) frame some so_far feeds reply = record {
   frames = so_far.frames ++ frame ∷ [];
@@ -90,9 +97,9 @@ reading_parts r held unfed one two = ap (λ h. reading_of h r.unfed) one ∙ ap 
 
 -- what came is no frame
 pub meets_fault : (old now then : Reading) (wait : Wait) (may_drop : ℕ) (fault : FrameFault) → 0 < may_drop → HeardSoFar old wait may_drop now
-    → FeedsUnfed now (Err fault) then → then.unfed ≡ [] → MeetsFault old wait then
-meets_fault old now then wait zero fault some so_far feeds fed = absurd (omega (arith, some))
-meets_fault old now then wait (suc n) fault some so_far feeds fed = record {
+    → FeedsNext now (Err fault) then → MeetsFault old wait then
+meets_fault old now then wait zero fault some so_far feeds = absurd (omega (arith, some))
+meets_fault old now then wait (suc n) fault some so_far feeds = record {
   frames = so_far.frames;
   each = so_far.each;
   undecided = ap (decided_within wait.asked wait.may_drop) (sym (append-nil so_far.frames)) ∙ so_far.undecided [];
@@ -100,5 +107,5 @@ meets_fault old now then wait (suc n) fault some so_far feeds fed = record {
   came = so_far.came;
   fault = fault;
   faulty = feeds.0;
-  after = reading_parts then (record { kept = []; fault = Some fault }) [] feeds.1 fed;
+  after = reading_parts then (record { kept = []; fault = Some fault }) [] feeds.1 feeds.2;
 }

@@ -4,7 +4,6 @@
 
 mod fate;
 mod guard;
-mod inbox;
 mod inquiry;
 pub mod laws;
 mod replay;
@@ -16,7 +15,7 @@ mod turn;
 
 // one request on one connection
 pub use fate::Fate;
-pub use inquiry::Inquiry;
+pub use inquiry::{BytesTaken, Inquiry};
 // the search for a device's map
 pub use search::{Search, Step};
 // the requests of one scan, over all connections

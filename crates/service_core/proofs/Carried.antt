@@ -1,5 +1,5 @@
 -- What becomes of a link by a call, of what its parts say.
-use Rattle.std.proofs.Common.{◌≡◌, inl, inr, ℕ, zero, suc, Bool, true, false, List, [], take, Option, None, Some, slice_get, refl, ap, subst, ◌∙◌, arith}
+use Rattle.std.proofs.Common.{◌≡◌, inl, ℕ, Bool, true, false, List, Option, None, Some, slice_get, refl, ap, subst, ◌∙◌, arith}
 use Rattle.service.specs.declared.fate.Fate.{Fate}
 use Rattle.service_parts.specs.declared.limits.Station.{Station}
 use Rattle.service_parts.specs.declared.line.Line.{Line}
@@ -11,10 +11,10 @@ use Rattle.service_core.specs.declared.device_side.DeviceSide.{DeviceSide}
 use Rattle.service_core.specs.declared.scan_cycle.ScanCycle.{ScanCycle}
 use Rattle.service_core.specs.declared.held_writes.HeldWrites.{HeldWrites}
 use Rattle.service_core.specs.declared.service_state.Service.{Service}
-use Rattle.service_core.specs.Connections.{GoesAfterSent, GoesFrom, HearsOver}
-use Rattle.service_core.specs.Cycle.{LeadsOn, SettlesIf}
+use Rattle.service_core.specs.Connections.{GoesFrom, HearsOver}
+use Rattle.service_core.specs.Cycle.{SettlesIf}
 use Rattle.service_core.specs.Going.{tasks_of}
-use Rattle.service_core.specs.Having.{HasMoreBy, HasNoMore, IsHeardBy, IsRefusedIf, WritesHad, taken_if}
+use Rattle.service_core.specs.Having.{HasMoreBy, IsHeardBy, IsRefusedIf, taken_if}
 use Rattle.service_core.specs.Losing.{LostByHearing}
 use Rattle.service_core.specs.Told.{Goes, TellsBy}
 
@@ -27,40 +27,33 @@ stands_led tasks lines link line at = record { line = line; there = at; course =
 carried : (tasks left : List Task) (before lines : List Line) (link : ℕ) (line : Line) → slice_get before link ≡ Some line → LinkGoes link tasks before left lines → ∥ IsLed (λ output. due_at output tasks) line left lines link ∥₁
 carried tasks left before lines link line at goes = goes (λ output. due_at output tasks) line ∣ stands_led tasks before link line at ∣₁
 
-pub goes_from : (Is : Line → Type 0) (link : ℕ) (old new : Service) (before : List Line) → ((cut : Line) × (slice_get before link ≡ Some cut) × Is cut)
+pub goes_from : (Is : Line → Type 0) (link : ℕ) (old new : Service) (before : List Line) → ((became : Line) × (slice_get before link ≡ Some became) × Is became)
     → LinkGoes link (tasks_of old) before (tasks_of new) new.lines.lines.items → GoesFrom Is link old new
-goes_from Is link old new before (cut, at, is) goes = record { cut = cut; is = is; goes = carried (tasks_of old) (tasks_of new) before new.lines.lines.items link cut at goes }
-
-abbrev nothing : List ℕ
-nothing = []
-
-take_none : (n : ℕ) → take n nothing ≡ nothing
-take_none zero = refl
-take_none (suc n) = refl
+goes_from Is link old new before (became, at, is) goes = record { became = became; is = is; goes = carried (tasks_of old) (tasks_of new) before new.lines.lines.items link became at goes }
 
 -- what became of a request is of the one that was under way
 pub asked_own : (result : Option Fate) (fate : Fate) (asked own : Option Asked) → result ≡ Some fate → asked ≡ frames.ended_by result own → asked ≡ own
 asked_own result fate asked own told ended = ended ∙ ap (λ f. frames.ended_by f own) told
 
-pub heard_so : (stations : List Station) (link : ℕ) (line : Line) (bytes : List ℕ) (now : ℕ) (result : Option Fate) (fate : Fate) (asked : Option Asked) (old new : ScanCycle) (side next : DeviceSide) (held left : HeldWrites) (before lines : List Line) → result ≡ Some fate → asked ≡ line.asked
-    → ((heard : Line) × (slice_get before link ≡ Some heard) × frames.Hears bytes result line heard) → LinkGoes link old.round.writes before new.round.writes lines → SettlesIf asked fate old new → HasMoreBy (taken_if asked (Some fate) now) held left → TellsBy (LostByHearing stations link asked (Some fate)) (IsHeardBy (taken_if asked (Some fate) now) (IsRefusedIf asked (Some fate)) held) side next
-    → HearsOver stations link line bytes now old new side next held left lines
-heard_so stations link line bytes now result fate asked old new side next held left before lines told own (heard, at, hears) goes settles has tells = record {
+pub heard_so : (stations : List Station) (link : ℕ) (line : Line) (bytes unused : List ℕ) (now : ℕ) (result : Option Fate) (fate : Fate) (asked : Option Asked) (old new : ScanCycle) (side next : DeviceSide) (held left : HeldWrites) (before lines : List Line) → result ≡ Some fate → asked ≡ line.asked
+    → ((heard : Line) × (slice_get before link ≡ Some heard) × frames.Hears bytes unused result line heard) → LinkGoes link old.round.writes before new.round.writes lines → SettlesIf asked fate old new → HasMoreBy (taken_if asked (Some fate) now) held left → TellsBy (LostByHearing stations link asked (Some fate)) (IsHeardBy (taken_if asked (Some fate) now) (IsRefusedIf asked (Some fate)) held) side next
+    → HearsOver stations link line bytes unused now old new side next held left lines
+heard_so stations link line bytes unused now result fate asked old new side next held left before lines told own (heard, at, hears) goes settles has tells = record {
   fate = Some fate;
   heard = heard;
-  hears = subst (λ f. frames.Hears bytes f line heard) told hears;
+  hears = subst (λ f. frames.Hears bytes unused f line heard) told hears;
   goes = carried old.round.writes new.round.writes before lines link heard at goes;
   settles = subst (λ a. SettlesIf a fate old new) own settles;
   has = subst (λ a. HasMoreBy (taken_if a (Some fate) now) held left) own has;
   tells = subst (λ a. TellsBy (LostByHearing stations link a (Some fate)) (IsHeardBy (taken_if a (Some fate) now) (IsRefusedIf a (Some fate)) held) side next) own tells;
 }
 
-pub heard_nothing : (stations : List Station) (link : ℕ) (line : Line) (bytes : List ℕ) (now : ℕ) (result : Option Fate) (cycle : ScanCycle) (side : DeviceSide) (held : HeldWrites) (lines : List Line) → result ≡ None
-    → ((heard : Line) × (slice_get lines link ≡ Some heard) × frames.Hears bytes result line heard) → HearsOver stations link line bytes now cycle cycle side side held held lines
-heard_nothing stations link line bytes now result cycle side held lines told (heard, at, hears) = record {
+pub heard_nothing : (stations : List Station) (link : ℕ) (line : Line) (bytes unused : List ℕ) (now : ℕ) (result : Option Fate) (cycle : ScanCycle) (side : DeviceSide) (held : HeldWrites) (lines : List Line) → result ≡ None
+    → ((heard : Line) × (slice_get lines link ≡ Some heard) × frames.Hears bytes unused result line heard) → HearsOver stations link line bytes unused now cycle cycle side side held held lines
+heard_nothing stations link line bytes unused now result cycle side held lines told (heard, at, hears) = record {
   fate = None;
   heard = heard;
-  hears = subst (λ f. frames.Hears bytes f line heard) told hears;
+  hears = subst (λ f. frames.Hears bytes unused f line heard) told hears;
   goes = ∣ stands_led cycle.round.writes lines link heard at ∣₁;
   settles = refl;
   has = λ output write has. inl has;
@@ -68,9 +61,9 @@ heard_nothing stations link line bytes now result cycle side held lines told (he
 }
 
 -- what is heard after nothing was told
-pub heard_after : (stations : List Station) (link : ℕ) (line : Line) (bytes : List ℕ) (now : ℕ) (old new : ScanCycle) (side middle next : DeviceSide) (held left : HeldWrites) (lines : List Line) → Goes side middle → HearsOver stations link line bytes now old new middle next held left lines
-    → HearsOver stations link line bytes now old new side next held left lines
-heard_after stations link line bytes now old new side middle next held left lines goes heard = record {
+pub heard_after : (stations : List Station) (link : ℕ) (line : Line) (bytes unused : List ℕ) (now : ℕ) (old new : ScanCycle) (side middle next : DeviceSide) (held left : HeldWrites) (lines : List Line) → Goes side middle → HearsOver stations link line bytes unused now old new middle next held left lines
+    → HearsOver stations link line bytes unused now old new side next held left lines
+heard_after stations link line bytes unused now old new side middle next held left lines goes heard = record {
   fate = heard.fate;
   heard = heard.heard;
   hears = heard.hears;
@@ -79,21 +72,3 @@ heard_after stations link line bytes now old new side middle next held left line
   has = heard.has;
   tells = λ may lost written from before. heard.tells may lost written from (goes may from before);
 }
-
-module _ (link n : ℕ) (line : Line) (old new : Service) (before : List Line) (sends : (left : Line) × (slice_get before link ≡ Some left) × Sends n line left) where
-  pub sent_and_on : LeadsOn old.cycle new.cycle → LinkGoes link (tasks_of old) before (tasks_of new) new.lines.lines.items → WritesHad old.held old.side new.side → HasNoMore old.held new.held → GoesAfterSent link n line old new
-  sent_and_on led goes tells has = record { left = sends.0; sends = sends.2; goes = inl (led, carried (tasks_of old) (tasks_of new) before new.lines.lines.items link sends.0 sends.1 goes, tells, has) }
-
-  pub sent_and_heard : (used : ℕ) → ((left : Line) → slice_get before link ≡ Some left → left.out.items ≡ [])
-      → ((left : Line) → slice_get before link ≡ Some left → HearsOver old.lines.links.stations.items link left (take used []) new.side.now old.cycle new.cycle old.side new.side old.held new.held new.lines.lines.items)
-      → GoesAfterSent link n line old new
-  sent_and_heard used quiet hears =
-      let left = sends.0 in
-      record {
-        left = left;
-        sends = sends.2;
-        goes = inr (
-          quiet left sends.1,
-          subst (λ (bytes : List ℕ). HearsOver old.lines.links.stations.items link left bytes new.side.now old.cycle new.cycle old.side new.side old.held new.held new.lines.lines.items) (take_none used) (hears left sends.1),
-        );
-      }

@@ -1,13 +1,13 @@
 //! Connections to devices, and what comes over them.
-ghost use Rattle.std.specs.Prelude.{◌≡◌, ◌+◌, ◌<◌, ◌^◌, ◌↔◌, ℕ, IsTrue, None, Some, max, set, slice_get, take, true};
+ghost use Rattle.std.specs.Prelude.{◌≡◌, ◌+◌, ◌<◌, ◌≤◌, ◌^◌, ◌↔◌, ℕ, IsTrue, None, Some, drop, length, max, set, slice_get, true};
 ghost use Rattle.service_parts.specs.declared.line.Line.{Line as LineValue};
-ghost use Rattle.service_parts.specs.Frames.{ComesUp, GoesDown};
+ghost use Rattle.service_parts.specs.Frames.{ComesUp, GoesDown, Sends};
 ghost use Rattle.service_parts.specs.Requests.{IsRightfulOn};
 ghost use Rattle.service_parts.specs.Waking.{IsToDial, IsToHangUp};
 ghost use Rattle.service_core.specs.declared.note.Loss.TheVariants.{Down as down, Frame as frame};
 ghost use Rattle.service_core.specs.Losing.{AreLost, IsLost};
 ghost use Rattle.service_core.specs.Told.{Goes, LosesBy};
-ghost use Rattle.service_core.specs.Connections.{GoesAfterSent, GoesFrom, Hears};
+ghost use Rattle.service_core.specs.Connections.{GoesFrom, Hears};
 ghost use Rattle.service_core.specs.Cycle.{DevicesLeadOn, LeadsOn};
 ghost use Rattle.service_core.specs.Timing.{TurnsTo};
 ghost use Rattle.service_core.specs.Going.{LinksGo, OtherLinksGo};
@@ -128,10 +128,11 @@ impl Service {
         self.lines.wants_hang_up(link, self.side.now)
     }
 
-    /// Bytes of a connection; how many of them were used. The rest is to be given again. Of what they answer the core is told
-    /// as of the request that is under way there, and of no other.
+    /// Bytes of a connection; how many of them were used: none where no request is under way. The rest is to be given again, before
+    /// those that come. Of what they answer the core is told as of the request that is under way there, and of no other.
     pub fn from_link(&mut self, link: usize, bytes: &[u8], now: u64) -> usize
-        ensures hears { (line : LineValue) → slice_get self.old.lines.lines.items link ≡ Some line → Hears link line (take result bytes.now) self.old self.new }
+        ensures used { result ≤ length bytes.now }
+        ensures hears { (line : LineValue) → slice_get self.old.lines.lines.items link ≡ Some line → Hears link line bytes.now (drop result bytes.now) self.old self.new }
         ensures links { self.new.lines.links ≡ self.old.lines.links }
         ensures others { OtherLinksGo link self.old self.new }
         ensures goes { DevicesLeadOn self.old.cycle self.new.cycle }
@@ -145,7 +146,8 @@ impl Service {
     }
 
     fn hear(&mut self, link: usize, bytes: &[u8]) -> usize
-        ensures hears { (line : LineValue) → slice_get self.old.lines.lines.items link ≡ Some line → Hears link line (take result bytes.now) self.old self.new }
+        ensures used { result ≤ length bytes.now }
+        ensures hears { (line : LineValue) → slice_get self.old.lines.lines.items link ≡ Some line → Hears link line bytes.now (drop result bytes.now) self.old self.new }
         ensures rest { Stays self.old self.new }
         ensures others { OtherLinksGo link self.old self.new }
         ensures goes { DevicesLeadOn self.old.cycle self.new.cycle }
@@ -169,20 +171,18 @@ impl Service {
         self.lines.to_send(link)
     }
 
-    /// So many bytes are written to a connection, and the rest of them waits. Once a request is written whole, what came
-    /// before is looked at.
+    /// So many bytes are written to a connection, and the rest of them waits. Once a request is written, bytes that came before it
+    /// are to be given again.
     pub fn sent_to_link(&mut self, link: usize, n: usize)
-        ensures sends { (line : LineValue) → slice_get self.old.lines.lines.items link ≡ Some line → GoesAfterSent link n line self.old self.new }
+        ensures sends { (line : LineValue) → slice_get self.old.lines.lines.items link ≡ Some line → GoesFrom (Sends n line) link self.old self.new }
         ensures rest { Stays self.old self.new }
         ensures others { OtherLinksGo link self.old self.new }
-        ensures goes { DevicesLeadOn self.old.cycle self.new.cycle }
-        ensures held { slice_get self.old.lines.lines.items link ≡ None → HasNoMore self.old.held self.new.held }
-        ensures stands { slice_get self.old.lines.lines.items link ≡ None → WritesHad self.old.held self.old.side self.new.side }
+        ensures goes { LeadsOn self.old.cycle self.new.cycle }
+        ensures held { HasNoMore self.old.held self.new.held }
+        ensures stands { WritesHad self.old.held self.old.side self.new.side }
     {
         self.lines.sent(link, n);
-        if self.lines.is_asked(link) {
-            self.hear(link, &[]);
-        } else if self.lines.is_free(link) {
+        if self.lines.is_free(link) {
             // the request was given up before all of it was written
             self.go_on();
         }

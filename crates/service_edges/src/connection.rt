@@ -87,18 +87,18 @@ impl<S: Read + Write + Drop> Connection<S> {
         if self.is_broken || waiting > 0 && self.is_writable {
             return true;
         }
-        if self.piece.is_empty() {
-            self.is_readable
-        } else {
-            !self.is_stalled
+        if self.is_readable && self.piece.has_room() {
+            return true;
         }
+        !self.piece.is_empty() && !self.is_stalled
     }
 
-    /// Reads a piece, where all of the last one is used: of what was to come nothing is lost, nothing added.
+    /// Reads more, as far as there is room, also where what came before isn't wanted yet: so the end of the stream is seen. Of what
+    /// was to come nothing is lost, nothing added.
     pub fn fill(&mut self)
         ensures { Conserves self.old.piece (S.remaining self.old.stream) self.new.piece (S.remaining self.new.stream) }
     {
-        if !self.piece.is_empty() || !self.is_readable {
+        if !self.piece.has_room() || !self.is_readable {
             return;
         }
         match self.piece.fill_from(&mut self.stream) {

@@ -53,15 +53,29 @@ impl Piece {
         &self.bytes[self.start..self.end]
     }
 
-    /// Reads the next ones, where all of the last ones were used. Gives how many came.
+    /// Whether more can be read.
+    pub(crate) fn has_room(&self) -> bool {
+        self.end < PIECE || self.is_empty()
+    }
+
+    /// Reads the next ones, after those that weren't used. Gives how many came; none also where there is no room.
     pub(crate) fn fill_from<S: Read>(&mut self, stream: &mut S) -> io::Result<usize>
-        requires { self.old ≡ [] }
         ensures { Conserves self.old (S.remaining stream.old) self.new (S.remaining stream.new) }
     {
-        let n = stream.read(&mut self.bytes)?;
-        self.start = 0;
-        self.end = n;
+        self.begin_anew();
+        let n = stream.read(&mut self.bytes[self.end..])?;
+        self.end += n;
         Ok(n)
+    }
+
+    // Where all were used there is room for a whole piece.
+    fn begin_anew(&mut self)
+        ensures { self.new ≡ self.old }
+    {
+        if self.is_empty() {
+            self.start = 0;
+            self.end = 0;
+        }
     }
 
     /// So many of them were used.

@@ -119,7 +119,7 @@ one_step requests gone old new (inl (begins step)) sending =
     (step.request ∷ [], ap (λ l. gone ++ l) step.frame ∙ (ap (λ l. l ++ frame_bytes (frame_of step.request)) all ∙ sym (joined requests step.request)), (step.numbered, step.next))
 one_step requests gone old new (inl (gives_up step)) sending = same_out requests gone old new step.same step.next sending
 one_step requests gone old new (inl (keeps step)) sending = same_out requests gone old new step.same step.next sending
-one_step requests gone old new (inr (bytes, fate, step)) sending = same_out requests gone old new step.same step.next sending
+one_step requests gone old new (inr (bytes, left, fate, step)) sending = same_out requests gone old new step.same step.next sending
 
 and_more : (requests more others : List Request) (gone : List ℕ) (new : Line) → IsSending ((requests ++ more) ++ others) gone new → IsSending (requests ++ (more ++ others)) gone new
 and_more requests more others gone new sending = sending ∙ ap (λ (l : List Request). flat_map (λ (x : Request). frame_bytes (frame_of x)) l) (append_assoc requests more others)

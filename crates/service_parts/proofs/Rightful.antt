@@ -19,7 +19,7 @@ use Rattle.gateway.specs.event_core.Core.{Gateway, adopting}
 use Rattle.gateway.specs.poller.LinkRun.{Asked as FrameRequest, frame_of, most_dropped}
 use Rattle.service.specs.declared.fate.Fate.{Fate}
 use Rattle.modbus_frame.specs.declared.fault.FrameFault.{FrameFault}
-use Rattle.service.specs.Hearing.{HearsFor, Takes, TakesUnless, Wait, Wire as Hearing, lost_by, with_bytes}
+use Rattle.service.specs.Hearing.{HearsFor, Pending, Takes, TakesUnless, Wait, lost_by, with_rest}
 use Rattle.service.specs.declared.search.Step.{Step}
 use Rattle.service.specs.declared.search.Step.TheVariants as step
 use Rattle.service_parts.specs.declared.limits.Station.{Station}
@@ -81,16 +81,16 @@ some_within found_on device x v at = set_there found_on device x v at
 
 -- ---- what bytes leave under way
 
-still_waits : (old new : Hearing) (bytes : List ℕ) (wait : Wait) → old.wait ≡ Some wait → Takes old bytes None new → (w : Wait) × (new.wait ≡ Some w) × (w.asked ≡ wait.asked)
-still_waits old new bytes wait is takes = go old.reading.held.fault takes
+still_waits : (old new : Pending) (bytes left : List ℕ) (wait : Wait) → old.wait ≡ Some wait → Takes (with_rest old []) bytes None (with_rest new left) → (w : Wait) × (new.wait ≡ Some w) × (w.asked ≡ wait.asked)
+still_waits old new bytes left wait is takes = go old.held.fault takes
   where
-    go : (f : Option FrameFault) → TakesUnless f old bytes None new → (w : Wait) × (new.wait ≡ Some w) × (w.asked ≡ wait.asked)
+    go : (f : Option FrameFault) → TakesUnless f (with_rest old []) bytes None (with_rest new left) → (w : Wait) × (new.wait ≡ Some w) × (w.asked ≡ wait.asked)
     go (Some fault) lost = absurd (none lost.0 is)
       where
         none : {o : Option Wait} → None ≡ lost_by o → o ≡ Some wait → ⊥
         none e at = cc
     go None heard =
-        let open_still = subst (λ o. HearsFor o (with_bytes old.reading bytes) None new) is heard in
+        let open_still = subst (λ o. HearsFor o (record { held = old.held; unfed = bytes }) None (with_rest new left)) is heard in
         (record { asked = wait.asked; may_drop = open_still.0 }, open_still.2, refl)
 
 -- ---- one line, by the state of now
@@ -124,7 +124,7 @@ module _ (now : Gateway) (stations : List Station) (found_on : List (Option ℕ)
       go (Some asked) noted = record {
         over = noted.over;
         wait = noted.wait;
-        waits = ap (λ (h : Hearing). h.wait) keeps.heard ∙ noted.waits;
+        waits = ap (λ (h : Pending). h.wait) keeps.heard ∙ noted.waits;
         made = noted.made;
         address = noted.address;
         words = noted.words;
@@ -159,8 +159,8 @@ module _ (now : Gateway) (stations : List Station) (found_on : List (Option ℕ)
             ∙ (ap (λ l. noted.gone ++ l) (take-append-drop (min n (length old.out.items)) old.out.items) ∙ noted.whole));
       }
 
-  heard_line : (old new : Line) (bytes : List ℕ) (fate : Option Fate) → Hears bytes fate old new → IsRightfulLine now stations found_on link number old → IsRightfulLine now stations found_on link number new
-  heard_line old new bytes fate hears right = record {
+  heard_line : (old new : Line) (bytes left : List ℕ) (fate : Option Fate) → Hears bytes left fate old new → IsRightfulLine now stations found_on link number old → IsRightfulLine now stations found_on link number new
+  heard_line old new bytes left fate hears right = record {
     waits = subst (λ l. IsRightful now stations found_on link number l) (sym hears.same) right.waits;
     noted = subst (λ o. IsNotedIf now stations found_on link number o new) (sym hears.asked) (go fate old.asked (old.is_up && not old.is_bad) hears.takes right.noted);
   }
@@ -177,14 +177,14 @@ module _ (now : Gateway) (stations : List Station) (found_on : List (Option ℕ)
         whole = ap (λ l. noted.gone ++ l) hears.same ∙ (noted.whole ∙ ap (λ (r : FrameRequest). frame_bytes (frame_of r)) (sym same));
       }
 
-      go : (f : Option Fate) (o : Option Asked) (well : Bool) → TakesWhere well old.inquiry bytes f new.inquiry → IsNotedIf now stations found_on link number o old
+      go : (f : Option Fate) (o : Option Asked) (well : Bool) → TakesWhere well old.inquiry bytes left f new.inquiry → IsNotedIf now stations found_on link number o old
           → IsNotedIf now stations found_on link number (left_under_way f o) new
       go (Some told) o well takes noted = tt
       go None None well takes noted = tt
       go None (Some asked) true takes noted =
-          let after = still_waits old.inquiry new.inquiry bytes noted.wait noted.waits takes in
+          let after = still_waits old.inquiry new.inquiry bytes left noted.wait noted.waits takes in
           goes_on asked after.0 after.1 noted after.2
-      go None (Some asked) false takes noted = goes_on asked noted.wait (ap (λ (h : Hearing). h.wait) takes.1 ∙ noted.waits) noted refl
+      go None (Some asked) false takes noted = goes_on asked noted.wait (ap (λ (h : Pending). h.wait) takes.2 ∙ noted.waits) noted refl
 
   begun_line : (old new : Line) (begins : Begins old new) → begins.asked.number ≡ number → slice_get stations begins.asked.device ≡ Some (record { link = link; unit = begins.request.unit })
       → Reached now → MayBeAsked now found_on number begins.asked.aim begins.asked.device begins.request.request
@@ -202,7 +202,7 @@ module _ (now : Gateway) (stations : List Station) (found_on : List (Option ℕ)
         noted = subst (λ o. IsNotedIf now stations found_on link number o new) (sym begins.noted) (record {
           over = over;
           wait = record { asked = begins.request; may_drop = most_dropped };
-          waits = ap (λ (h : Hearing). h.wait) begins.under_way;
+          waits = ap (λ (h : Pending). h.wait) begins.under_way;
           made = made;
           address = address;
           words = words;
@@ -240,9 +240,9 @@ module _ (now : Gateway) (stations : List Station) (numbers : List ℕ) (found_o
   pub with_sent : (link n : ℕ) (old new : Line) → AreRightful now stations numbers found_on lines → slice_get lines link ≡ Some old → Sends n old new → AreRightful now stations numbers found_on (set lines link new)
   with_sent link n old new before at sends = with_step link old new before at (λ number right. sent_line now stations found_on link number old new n sends right)
 
-  pub with_heard : (link : ℕ) (bytes : List ℕ) (fate : Option Fate) (old new : Line) → AreRightful now stations numbers found_on lines → slice_get lines link ≡ Some old → Hears bytes fate old new
+  pub with_heard : (link : ℕ) (bytes left : List ℕ) (fate : Option Fate) (old new : Line) → AreRightful now stations numbers found_on lines → slice_get lines link ≡ Some old → Hears bytes left fate old new
       → AreRightful now stations numbers found_on (set lines link new)
-  with_heard link bytes fate old new before at hears = with_step link old new before at (λ number right. heard_line now stations found_on link number old new bytes fate hears right)
+  with_heard link bytes left fate old new before at hears = with_step link old new before at (λ number right. heard_line now stations found_on link number old new bytes left fate hears right)
 
   pub with_cut : (link : ℕ) (new : Line) → AreRightful now stations numbers found_on lines → IsCut new → AreRightful now stations numbers found_on (set lines link new)
   with_cut link new before cut = with_line link new before (λ number has. ∣ cut_line now stations found_on link number new cut ∣₁)

@@ -6,7 +6,7 @@ use Rattle.std.specs.Option.{option_map_or}
 use Rattle.modbus_frame.specs.Frame.{frame_bytes}
 use Rattle.gateway.specs.poller.LinkRun.{Asked as Request, frame_of, next_id}
 use Rattle.service.specs.declared.fate.Fate.{Fate}
-use Rattle.service.specs.Hearing.{Takes, Wire as Hearing, asking, fresh}
+use Rattle.service.specs.Hearing.{Pending, Takes, asking, fresh, with_rest}
 use Rattle.service.specs.declared.task.Mark.{Mark}
 use Rattle.service.specs.declared.task.Mark.TheVariants as mark
 use Rattle.service.specs.declared.task.Task.{Task}
@@ -72,15 +72,15 @@ abbrev pub ended_by : Option Fate → Option Asked → Option Asked
 ended_by None asked = None
 ended_by (Some fate) asked = asked
 
--- Over a connection that is well they are taken; over any other one nothing is heard.
-abbrev pub TakesWhere : Bool → Hearing → List ℕ → Option Fate → Hearing → Type 0
-TakesWhere true old bytes fate new = Takes old bytes fate new
-TakesWhere false old bytes fate new = (fate ≡ None) × (new ≡ old)
+-- Over a connection that is well they are taken, and some are left; over any other one they are lost, and nothing is heard.
+abbrev pub TakesWhere : Bool → Pending → (bytes left : List ℕ) → Option Fate → Pending → Type 0
+TakesWhere true old bytes left fate new = Takes (with_rest old []) bytes fate (with_rest new left)
+TakesWhere false old bytes left fate new = (left ≡ []) × (fate ≡ None) × (new ≡ old)
 
--- These bytes are taken of its stream; what they tell became of the request ends it, and nothing else does. An answer ends its
--- back-off.
-pub record Hears (bytes : List ℕ) (fate : Option Fate) (old new : Line) : Type 0 where
-  pub takes : TakesWhere (old.is_up && not old.is_bad) old.inquiry bytes fate new.inquiry
+-- These bytes are taken of its stream, except those that are left; what they tell became of the request ends it, and nothing else
+-- does. An answer ends its back-off.
+pub record Hears (bytes left : List ℕ) (fate : Option Fate) (old new : Line) : Type 0 where
+  pub takes : TakesWhere (old.is_up && not old.is_bad) old.inquiry bytes left fate new.inquiry
   pub asked : new.asked ≡ left_under_way fate old.asked
   pub next : new.id ≡ old.id
   pub same : new.out.items ≡ old.out.items
@@ -129,7 +129,7 @@ pub data OwnStep (old new : Line) : Type 0 where
 
 -- That, and what is heard over this connection.
 abbrev pub HearingStep : Line → Line → Type 0
-HearingStep old new = OwnStep old new ⊎ ((bytes : List ℕ) × (fate : Option Fate) × Hears bytes fate old new)
+HearingStep old new = OwnStep old new ⊎ ((bytes : List ℕ) × (left : List ℕ) × (fate : Option Fate) × Hears bytes left fate old new)
 
 -- That, and its stream ends or begins anew.
 abbrev pub CuttingStep : Line → Line → Type 0

@@ -1,5 +1,5 @@
 //! A line to devices: a connection, and what goes out over it.
-ghost use Rattle.std.specs.Prelude.{◌≡◌, ◌≤◌, ◌↔◌, ◌&&◌, not, is_none, IsTrue, drop, length, take, true, false};
+ghost use Rattle.std.specs.Prelude.{◌≡◌, ◌≤◌, ◌↔◌, ◌&&◌, not, is_none, IsTrue, drop, length, true, false};
 ghost use Rattle.modbus_frame.specs.Message.{HasQuantity};
 ghost use Rattle.service_parts.specs.Frames.{Begins, ComesUp, GivesUp, GoesDown, Hears, IsCut, Keeps, Sends, ended_by, is_idle, left_under_way};
 ghost use Rattle.service_parts.specs.Overdue.{is_over};
@@ -11,7 +11,7 @@ use crate::limits::Limits;
 use crate::times::longer;
 use arrayvec::ArrayVec;
 use modbus_frame::Request;
-use service::{Fate, Inquiry};
+use service::{BytesTaken, Fate, Inquiry};
 
 /// A line to devices: its connection, up or down, with the request that is under way on it and what is still to be written.
 #[derive(Drop)]
@@ -42,7 +42,7 @@ pub struct Line {
 /// What was taken of a line's stream.
 #[derive(Drop)]
 pub struct Intake {
-    /// So many bytes were used.
+    /// So many bytes were used; the others are to be given again, before those that come.
     pub used: usize,
     /// The request that was under way, where it is over now.
     pub asked: Option<Asked>,
@@ -90,11 +90,6 @@ impl Line {
         ensures { result ≡ (self.now.is_up && self.now.is_bad) }
     {
         self.is_up && self.is_bad
-    }
-
-    /// Whether a request is under way.
-    pub fn is_asked(&self) -> bool {
-        self.asked.is_some()
     }
 
     /// Whether the time of the request that is under way is over.
@@ -204,10 +199,11 @@ impl Line {
         self.out = rest_after(&self.out, n);
     }
 
-    /// Takes bytes of its stream, as many as have room, and tells how many, and what became of the request that is under
-    /// way, which is over then and given away. Over a connection that isn't well nothing is heard.
+    /// Takes bytes of its stream, and tells how many, and what became of the request that is under way, which is over then and
+    /// given away. Where none is under way none are taken. Over a connection that isn't well nothing is heard.
     pub fn take(&mut self, bytes: &[u8]) -> Intake
-        ensures hears { Hears (take result.used bytes.now) result.fate self.old self.new }
+        ensures hears { Hears bytes.now (drop result.used bytes.now) result.fate self.old self.new }
+        ensures used { result.used ≤ length bytes.now }
         ensures ended { result.asked ≡ ended_by result.fate self.old.asked }
     {
         if !self.is_well() {
@@ -217,8 +213,7 @@ impl Line {
                 fate: None,
             };
         }
-        let used = self.inquiry.room().min(bytes.len());
-        let fate = self.inquiry.take(bytes.split_at(used).0);
+        let BytesTaken { used, fate } = self.inquiry.take(bytes);
         if is_answered(&fate) {
             self.answered();
         }

@@ -1,5 +1,5 @@
 //! Requests to devices, and what comes of them.
-ghost use Rattle.std.specs.Prelude.{◌≡◌, ◌⊎◌, ◌≤◌, ℕ, IsTrue, List, None, Some, [], slice_get, take};
+ghost use Rattle.std.specs.Prelude.{◌≡◌, ◌⊎◌, ◌≤◌, ℕ, List, None, Some, drop, length, slice_get};
 ghost use Rattle.modbus_frame.specs.Message.{HasQuantity, address_of};
 ghost use Rattle.gateway.specs.event_core.Core.{Gateway};
 ghost use Rattle.service_parts.specs.declared.line.Line.{Line as LineValue};
@@ -68,22 +68,13 @@ impl Lines {
         }
     }
 
-    /// Whether a request is under way on a link that is written whole.
-    pub fn is_asked(&self, link: usize) -> bool
-        ensures { IsTrue result → (line : LineValue) → slice_get self.now.lines.items link ≡ Some line → line.out.items ≡ [] }
-    {
-        match self.lines.get(link) {
-            Some(line) => line.is_sent() && line.is_asked(),
-            None => false,
-        }
-    }
-
     /// Takes bytes of a link's stream, and tells how many, and what became of the request that is under way, which is over
     /// then and given away.
     pub fn take(&mut self, link: usize, bytes: &[u8]) -> Intake
         ensures rightful { StayRightful self.old self.new }
         ensures links { self.new.links ≡ self.old.links }
-        ensures hears { (line : LineValue) → slice_get self.old.lines.items link ≡ Some line → (new : LineValue) × (slice_get self.new.lines.items link ≡ Some new) × Hears (take result.used bytes.now) result.fate line new }
+        ensures hears { (line : LineValue) → slice_get self.old.lines.items link ≡ Some line → (new : LineValue) × (slice_get self.new.lines.items link ≡ Some new) × Hears bytes.now (drop result.used bytes.now) result.fate line new }
+        ensures used { result.used ≤ length bytes.now }
         ensures ended { result.asked ≡ ended_by result.fate (asked_at self.old.lines.items link) }
         ensures others { OthersGo link self.old.lines.items self.new.lines.items }
     {

@@ -22,6 +22,7 @@ mod stream_bench;
 mod stream_step;
 mod text_bench;
 mod texts;
+mod wire;
 
 use crate::case_file::CaseFile;
 use crate::fault::{Fault, Shown};

@@ -217,6 +217,7 @@ impl ServiceBench {
     fn reply(&mut self, link: usize) -> Shown<Vec<u8>> {
         let request = Vec::from_slice(self.alloc, self.service.to_link(link))?;
         self.service.sent_to_link(link, request.len());
+        self.offer(link)?;
         self.devices.reply(link, &request)
     }
 

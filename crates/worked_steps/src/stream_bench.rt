@@ -5,10 +5,11 @@ use crate::devices::bytes_of_frame;
 use crate::fault::Shown;
 use crate::page::Page;
 use crate::stream_step::StreamStep;
+use crate::wire::Wire;
 use modbus_frame::{
     Fed, Frame, Framer, Pdu, Request, exception_pdu, parse_request, parse_response, request_pdu,
 };
-use service::{Fate, Inquiry, Session, is_write, refusal};
+use service::{Fate, Session, is_write, refusal};
 use std::alloc::Global;
 
 /// One register, W of an inverter.
@@ -22,7 +23,7 @@ const W: Request = Request::Read {
 pub(crate) struct StreamBench {
     alloc: Global,
     framer: Framer<260>,
-    inquiry: Inquiry,
+    wire: Wire,
     session: Session,
     counter: Counter,
 }
@@ -32,7 +33,7 @@ impl StreamBench {
         StreamBench {
             alloc,
             framer: Framer::new(),
-            inquiry: Inquiry::new(),
+            wire: Wire::new(alloc),
             session: Session::new(),
             counter: Counter::new(0),
         }
@@ -50,7 +51,7 @@ impl StreamBench {
             StreamStep::Ask(id, unit, pdu) => self.ask(page, id, unit, pdu),
             StreamStep::Hear(bytes) => self.hear(page, bytes),
             StreamStep::HangUp => {
-                let fate = self.inquiry.end();
+                let fate = self.wire.inquiry.end();
                 page.tell(format_args!("{fate:?}"))
             }
             StreamStep::HearCut(bytes) => self.hear_cut(page, bytes),
@@ -139,14 +140,14 @@ impl StreamBench {
         let Ok(request) = parse_request(&pdu_of(self.alloc, pdu)?) else {
             return needed(None);
         };
-        let frame = self.inquiry.begin(id, unit, request);
+        let frame = self.wire.inquiry.begin(id, unit, request);
         page.tell(hex_of(self.alloc, frame.as_slice())?)
     }
 
     fn hear(&mut self, page: &mut Page, bytes: &[&str]) -> Shown<()> {
-        let fate = heard(&mut self.inquiry, &bytes_of(self.alloc, bytes)?);
+        let fate = self.wire.hear(&bytes_of(self.alloc, bytes)?)?;
         page.tell(format_args!("{fate:?}"))?;
-        if self.inquiry.is_open() {
+        if self.wire.inquiry.is_open() {
             page.tell("still under way")?;
         }
         Ok(())
@@ -156,7 +157,7 @@ impl StreamBench {
         let bytes = bytes_of(self.alloc, bytes)?;
         for second in 0..=bytes.len() {
             for first in 0..=second {
-                let (one, two) = fates_of(cut(&bytes, first, second));
+                let (one, two) = fates_of(self.alloc, cut(&bytes, first, second))?;
                 page.tell(format_args!("{one:?}, then {two:?}"))?;
             }
         }
@@ -164,22 +165,16 @@ impl StreamBench {
     }
 }
 
-/// What comes of as many bytes as there is room for.
-fn heard(inquiry: &mut Inquiry, bytes: &[u8]) -> Option<Fate> {
-    let n = inquiry.room().min(bytes.len());
-    inquiry.take(bytes.split_at(n).0)
-}
-
 /// What three pieces make of one request, and what is left of them of the next one.
-fn fates_of(pieces: [&[u8]; 3]) -> (Option<Fate>, Option<Fate>) {
-    let mut inquiry = Inquiry::new();
-    inquiry.begin(7, 1, W);
+fn fates_of(alloc: Global, pieces: [&[u8]; 3]) -> Shown<(Option<Fate>, Option<Fate>)> {
+    let mut wire = Wire::new(alloc);
+    wire.inquiry.begin(7, 1, W);
     let mut first = None;
     for piece in pieces {
-        first = first.or(heard(&mut inquiry, piece));
+        first = first.or(wire.hear(piece)?);
     }
-    inquiry.begin(8, 1, W);
-    (first, heard(&mut inquiry, &[]))
+    wire.inquiry.begin(8, 1, W);
+    Ok((first, wire.hear(&[])?))
 }
 
 /// A stream in three pieces, cut at two places.

@@ -15,11 +15,11 @@ returns-in-Some-clause-hears c line at =
     let tells = subst (λ t. TellsBy (LostByHearing c.args.self.now.lines.links.stations.items c.args.link c.take-used.result.asked (Some c.in-Some.fate)) (IsHeardBy (taken_if c.take-used.result.asked (Some c.in-Some.fate) t) (IsRefusedIf c.take-used.result.asked (Some c.in-Some.fate)) c.args.self.now.held) c.args.self.now.side c.settle.new.self.side) (sym now)
     (subst (λ (l : Links). TellsBy (LostByHearing l.stations.items c.args.link c.take-used.result.asked (Some c.in-Some.fate)) (IsHeardBy (taken_if c.take-used.result.asked (Some c.in-Some.fate) c.args.self.now.side.now) (IsRefusedIf c.take-used.result.asked (Some c.in-Some.fate)) c.args.self.now.held) c.args.self.now.side c.settle.new.self.side) c.take-used.ensures.links c.settle.ensures.stands) in
     let has = subst (λ t. HasMoreBy (taken_if c.take-used.result.asked (Some c.in-Some.fate) t) c.args.self.now.held c.settle.new.self.held) (sym now) c.settle.ensures.held in
-    heard_so _ c.args.link line _ _ _ c.in-Some.fate _ _ _ _ _ _ _ c.take-used.new.self.lines.items _ c.in-Some.is (asked_own c.take-used.result.fate c.in-Some.fate _ _ c.in-Some.is c.take-used.ensures.ended ∙ ap (option_and_then (λ (l : Line). l.asked)) at) (c.take-used.ensures.hears line at)
+    heard_so _ c.args.link line _ _ _ _ c.in-Some.fate _ _ _ _ _ _ _ c.take-used.new.self.lines.items _ c.in-Some.is (asked_own c.take-used.result.fate c.in-Some.fate _ _ c.in-Some.is c.take-used.ensures.ended ∙ ap (option_and_then (λ (l : Line). l.asked)) at) (c.take-used.ensures.hears line at)
     (c.settle.ensures.lines c.args.link) c.settle.ensures.settles has tells
 
 pub returns-in_default-clause-hears : goal.returns-in_default-clause-hears
-returns-in_default-clause-hears c line at = heard_nothing _ c.args.link line _ _ _ c.args.self.now.cycle _ _ c.take-used.new.self.lines.items c.in_default.is (c.take-used.ensures.hears line at)
+returns-in_default-clause-hears c line at = heard_nothing _ c.args.link line _ _ _ _ c.args.self.now.cycle _ _ c.take-used.new.self.lines.items c.in_default.is (c.take-used.ensures.hears line at)
 
 pub returns-in-Some-clause-stands : goal.returns-in-Some-clause-stands
 returns-in-Some-clause-stands c none first within may has =

@@ -10,13 +10,13 @@ pub returns-in-Some-clause-rightful : goal.returns-in-Some-clause-rightful
 returns-in-Some-clause-rightful c now before =
     let within : c.args.link < length c.args.self.now.lines.items = search rules in
     let at : slice_get c.args.self.now.lines.items c.args.link ≡ Some c.in-Some.line.now = slice_get_read _ _ c.args.link c.in-Some.line.now refl within c.in-Some.ensures.value in
-    with_heard now _ _ _ _ c.args.link _ _ c.in-Some.line.now _ before at c.take.ensures.hears
+    with_heard now _ _ _ _ c.args.link _ _ _ c.in-Some.line.now _ before at c.take.ensures.hears
 
 pub returns-in-Some-clause-hears : goal.returns-in-Some-clause-hears
 returns-in-Some-clause-hears c =
     let within : c.args.link < length c.args.self.now.lines.items = search rules in
     let at : slice_get c.args.self.now.lines.items c.args.link ≡ Some c.in-Some.line.now = slice_get_read _ _ c.args.link c.in-Some.line.now refl within c.in-Some.ensures.value in
-    step_at (Hears _ _) _ c.args.link c.in-Some.line.now _ at c.take.ensures.hears
+    step_at (Hears _ _ _) _ c.args.link c.in-Some.line.now _ at c.take.ensures.hears
 
 pub returns-in-Some-clause-others : goal.returns-in-Some-clause-others
 returns-in-Some-clause-others c = others_go c.args.self.now.lines.items c.args.link _
