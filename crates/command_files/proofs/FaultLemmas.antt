@@ -15,7 +15,7 @@ use Rattle.commands.specs.Opening.{IsUnfound, TellsNoCore}
 use Rattle.commands.specs.Printed.{EndsEarly, IsUnprinted, LineLost, LinkDown}
 use Rattle.commands.specs.Report.{no_memory_line}
 use Rattle.commands.specs.Series.{Moment, Scan, Series, at_core, waited}
-use Rattle.commands.specs.declared.pace.Pace.{Pace}
+use Rattle.commands.specs.declared.pace.RunPace.{RunPace}
 use Rattle.commands.specs.Stopped.{StopsScan}
 use Rattle.commands.specs.Told.{IsTold, Told, refused_with}
 use Rattle.commands.proofs.CheckLemmas.{refused_status}
@@ -40,7 +40,7 @@ stops_at : (call : Option Call) (p : Polling) (fault : LinkFault) (q : Polling) 
 stops_at None p fault q h = absurd h
 stops_at (Some call) p fault q h = (fault, h.kept)
 
-module _ (Does : ℕ → Scan → Type 0) (site : Site) (pace : Pace) where
+module _ (Does : ℕ → Scan → Type 0) (site : Site) (pace : RunPace) where
   stops_scan : (first : Moment) (fault : LinkFault) (last : Moment) → StopsScan Does site first fault last → KeepsFault last.link
   stops_scan first fault last (inl h) = stops_at (read_of site (first.core).maps h.want) h.middle fault last.link h.stops
   stops_scan first fault last (inr h) = stops_at (write_of site.devices h.plan) ((h.scan).behind).link fault last.link h.stops
@@ -72,7 +72,7 @@ module _ (p q : Polling) (old new : Option (List ℕ)) (told : Told) (status : �
   unstarted site program texts (inl (inr (s, tree, a, accepts, inr (maps, found, foreign, is)))) = absurd (not_failed old new told status (ap (λ (t : Told). t.status) is) tells three)
   unstarted site program texts (inr (leaves, is)) = absurd (not_failed old new told status (ap (λ (t : Told). t.status) is) tells three)
 
-failed_keeps : (site program : List ℕ) (texts : List (List ℕ)) (n : Pace) (p q : Polling) (old new : Option (List ℕ)) (core : Option Gateway) (status : ℕ)
+failed_keeps : (site program : List ℕ) (texts : List (List ℕ)) (n : RunPace) (p q : Polling) (old new : Option (List ℕ)) (core : Option Gateway) (status : ℕ)
     → Runs site program texts n p q old new core status → status ≡ 3 → KeepsFault q
 failed_keeps site program texts n p q old new (Some core) status (whole, accepted, run) three =
     ended (DoesScan core.site core.machine.accepted run.program) core.site n _ run.told three
@@ -80,7 +80,7 @@ failed_keeps site program texts n p q old new None status (told, tells, is) thre
     unstarted p q old new told status is three site program texts tells
 
 -- whoever touches such a poller only where it keeps no fault leaves it
-pub scans_kept : (site program : List ℕ) (texts : List (List ℕ)) (n : Pace) (p q r : Polling) (old new : Option (List ℕ)) (core : Option Gateway) (status : ℕ)
+pub scans_kept : (site program : List ℕ) (texts : List (List ℕ)) (n : RunPace) (p q r : Polling) (old new : Option (List ℕ)) (core : Option Gateway) (status : ℕ)
     → Runs site program texts n p q old new core status → status ≡ 3 → IfSome q.fault (λ fault. r ≡ q) → Runs site program texts n p r old new core status
 scans_kept site program texts n p q r old new core status runs three asked =
     let keeps : KeepsFault q = failed_keeps site program texts n p q old new core status runs three in

@@ -8,7 +8,7 @@ use Rattle.refusal_notes.specs.declared.notes.Notes.{Notes}
 use Rattle.commands.specs.Probe.{IsProbe}
 use Rattle.command_files.specs.Opened.{left_of, opened}
 use Rattle.command_files.specs.Probed.{ProbesLink}
-use Rattle.commands.specs.declared.pace.Pace.{Pace}
+use Rattle.commands.specs.declared.pace.RunPace.{RunPace}
 use Rattle.command_files.specs.Ran.{ScansBy, ScansLink}
 
 left : (q : Polling) (coming sent : Option (List ℕ)) (failures : Failures) (calls : Option ℕ) → coming ≡ q.coming → sent ≡ q.sent → failures ≡ q.failures → calls ≡ q.calls
@@ -24,7 +24,7 @@ probes_link a p q coming sent failures calls old new status unit models is c s f
   left = sym (left q coming sent failures calls c s f n);
 }
 
-pub scans_link : (a : LinkState) (p q : Polling) (coming sent : Option (List ℕ)) (failures : Failures) (calls : Option ℕ) (files : Notes) (n : Pace) (old new : Option (List ℕ)) (core : Option Gateway) (status : ℕ)
+pub scans_link : (a : LinkState) (p q : Polling) (coming sent : Option (List ℕ)) (failures : Failures) (calls : Option ℕ) (files : Notes) (n : RunPace) (old new : Option (List ℕ)) (core : Option Gateway) (status : ℕ)
     → p ≡ opened a → coming ≡ q.coming → sent ≡ q.sent → failures ≡ q.failures → calls ≡ q.calls → ScansBy files n p q old new core status
     → ScansLink files n a (record { coming = coming; sent = sent; failures = failures; calls = calls }) old new core status
 scans_link a p q coming sent failures calls files n old new core status is c s f k scans = record {

@@ -4,7 +4,7 @@ ghost use Rattle.command_files.specs.Printing.{Fails};
 use commands::{FAILED_LINK, tell_no_memory, tell_unlinked, tell_unusable, write_lines};
 use modbus_frame::LinkFault;
 use refusal_notes::{
-    Cause, FileFault, ListenFault, Notes, escaped, explain_unserved, explain_unusable,
+    FileFault, ListenFault, Notes, RefusalNote, escaped, explain_unserved, explain_unusable,
 };
 use std::alloc::{AllocError, Global};
 use std::io;
@@ -74,7 +74,7 @@ pub fn tell_lost<R: Eprint + AllocGlobal, W: Write>(
     ensures { Fails (W.contents out.old) (W.contents out.new) result }
 {
     let status = tell_unlinked(alloc, fault, out);
-    notes.explain(rt, &Some(Cause::unlinked(alloc, fault)));
+    notes.explain(rt, &Some(RefusalNote::unlinked(alloc, fault)));
     status
 }
 

@@ -4,7 +4,7 @@ use crate::file_command::obey_on;
 use crate::run_command::run_on;
 use crate::runtimes::{CommandRuntime, LoopRuntime};
 use crate::serve::{ServiceRun, run_service};
-use crate::sources::{Refusal, Sources, read_sources, read_state};
+use crate::sources::{SourceRefusal, Sources, read_sources, read_state};
 use crate::survey::{SurveyRun, run_survey};
 use crate::words::{
     Misuse, command, file_command, keeping_of, misuse, misuse_of_definitions, misuse_of_files,
@@ -222,11 +222,11 @@ fn unread<W: Write>(
     rt: &(impl Eprint + AllocGlobal),
     alloc: Global,
     matches: &ArgMatches<'_>,
-    refusal: &Refusal,
+    refusal: &SourceRefusal,
     out: &mut W,
 ) -> u8 {
     let status = refusal.tell(alloc, out);
-    if let Refusal::File(path, fault) = refusal {
+    if let SourceRefusal::File(path, fault) = refusal {
         if !matches.get_flag("quiet") {
             explain_unusable(rt, path.as_str(), *fault);
         }

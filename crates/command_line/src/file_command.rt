@@ -7,7 +7,7 @@ use crate::plant_server::{PlantPort, simulate};
 use command_files::{
     PlantRun, ProbeRun, RunRuntime, probe_over, run_plant, warn_beside, warn_of_site,
 };
-use commands::{Pace, TextCommand, judge};
+use commands::{RunPace, TextCommand, judge};
 use refusal_notes::Notes;
 use std::alloc::Global;
 use std::io::Write;
@@ -25,7 +25,7 @@ pub enum FileCommand<'a> {
     },
     Run {
         plant: &'a str,
-        pace: Pace,
+        pace: RunPace,
         /// The program that is started, where it isn't this one.
         exe: Option<&'a str>,
     },

@@ -46,17 +46,17 @@ impl Definitions {
 
 /// Why the files' texts aren't had: the first file that can't be used, or want of memory.
 #[derive(Drop)]
-pub(crate) enum Refusal {
+pub(crate) enum SourceRefusal {
     File(String, FileFault),
     OutOfMemory,
 }
 
-impl Refusal {
+impl SourceRefusal {
     /// Why the text at a path isn't had.
-    fn of(alloc: Global, path: &str, fault: SourceFault) -> Refusal {
+    fn of(alloc: Global, path: &str, fault: SourceFault) -> SourceRefusal {
         match (fault, path.to_string(alloc)) {
-            (SourceFault::Unusable(fault), Ok(path)) => Refusal::File(path, fault),
-            _ => Refusal::OutOfMemory,
+            (SourceFault::Unusable(fault), Ok(path)) => SourceRefusal::File(path, fault),
+            _ => SourceRefusal::OutOfMemory,
         }
     }
 
@@ -65,21 +65,21 @@ impl Refusal {
         ensures { Fails (W.contents out.old) (W.contents out.new) result }
     {
         match self {
-            Refusal::OutOfMemory => tell_no_memory(out),
-            Refusal::File(path, _) => tell_file(alloc, path.as_str(), out),
+            SourceRefusal::OutOfMemory => tell_no_memory(out),
+            SourceRefusal::File(path, _) => tell_file(alloc, path.as_str(), out),
         }
     }
 }
 
-impl From<AllocError> for Refusal {
+impl From<AllocError> for SourceRefusal {
     fn from(_refused: AllocError) -> Self {
-        Refusal::OutOfMemory
+        SourceRefusal::OutOfMemory
     }
 }
 
-impl<T: Drop> From<AllocFailed<T>> for Refusal {
+impl<T: Drop> From<AllocFailed<T>> for SourceRefusal {
     fn from(_refused: AllocFailed<T>) -> Self {
-        Refusal::OutOfMemory
+        SourceRefusal::OutOfMemory
     }
 }
 
@@ -88,7 +88,7 @@ pub(crate) fn read_sources(
     rt: &(impl Input + AllocGlobal + Files),
     alloc: Global,
     matches: &ArgMatches<'_>,
-) -> Result<Sources, Refusal> {
+) -> Result<Sources, SourceRefusal> {
     let site = named_text(rt, alloc, matches.get_str("SITE"))?;
     let program = named_text(rt, alloc, matches.get_str("PROGRAM"))?;
     let plant = named_text(rt, alloc, matches.get_str("PLANT"))?;
@@ -110,7 +110,7 @@ pub(crate) fn read_state(
     rt: &(impl AllocGlobal + Files),
     alloc: Global,
     matches: &ArgMatches<'_>,
-) -> Result<String, Refusal> {
+) -> Result<String, SourceRefusal> {
     match matches.get_str("state") {
         Some(path) => taken(alloc, path, read_kept(rt, alloc, path)),
         None => Ok(String::new(alloc)),
@@ -122,7 +122,7 @@ fn read_definitions(
     rt: &(impl Input + AllocGlobal + Files),
     alloc: Global,
     paths: &[&str],
-) -> Result<Definitions, Refusal> {
+) -> Result<Definitions, SourceRefusal> {
     let mut read = Definitions {
         paths: Vec::new(alloc),
         texts: Vec::new(alloc),
@@ -140,7 +140,7 @@ fn push_named(
     alloc: Global,
     read: &mut Definitions,
     path: &str,
-) -> Result<(), Refusal> {
+) -> Result<(), SourceRefusal> {
     match read_file(rt, alloc, path) {
         Err(SourceFault::Unusable(FileFault::Folder)) => push_folder(rt, alloc, read, path),
         text => push_text(alloc, read, path, text),
@@ -153,14 +153,14 @@ fn push_folder(
     alloc: Global,
     read: &mut Definitions,
     folder: &str,
-) -> Result<(), Refusal> {
+) -> Result<(), SourceRefusal> {
     match definitions_in(rt, alloc, folder) {
         Ok(paths) if paths.is_empty() => {
             read.bare_folders.push(folder.to_string(alloc)?)?;
             Ok(())
         }
         Ok(paths) => push_files(rt, alloc, read, paths.as_slice()),
-        Err(fault) => Err(Refusal::of(alloc, folder, fault)),
+        Err(fault) => Err(SourceRefusal::of(alloc, folder, fault)),
     }
 }
 
@@ -170,7 +170,7 @@ fn push_files(
     alloc: Global,
     read: &mut Definitions,
     paths: &[String],
-) -> Result<(), Refusal> {
+) -> Result<(), SourceRefusal> {
     for path in paths {
         let text = read_file(rt, alloc, path.as_str());
         push_text(alloc, read, path.as_str(), text)?;
@@ -184,7 +184,7 @@ fn push_text(
     read: &mut Definitions,
     path: &str,
     text: Result<String, SourceFault>,
-) -> Result<(), Refusal> {
+) -> Result<(), SourceRefusal> {
     let text = taken(alloc, path, text)?;
     read.paths.push(path.to_string(alloc)?)?;
     read.texts.push(text)?;
@@ -196,7 +196,7 @@ fn named_text(
     rt: &(impl Input + AllocGlobal + Files),
     alloc: Global,
     path: Option<&str>,
-) -> Result<String, Refusal> {
+) -> Result<String, SourceRefusal> {
     match path {
         Some(path) => taken(alloc, path, read_file(rt, alloc, path)),
         None => Ok(String::new(alloc)),
@@ -204,9 +204,13 @@ fn named_text(
 }
 
 /// The text that was read at a path, or why there is none.
-fn taken(alloc: Global, path: &str, text: Result<String, SourceFault>) -> Result<String, Refusal> {
+fn taken(
+    alloc: Global,
+    path: &str,
+    text: Result<String, SourceFault>,
+) -> Result<String, SourceRefusal> {
     match text {
         Ok(text) => Ok(text),
-        Err(fault) => Err(Refusal::of(alloc, path, fault)),
+        Err(fault) => Err(SourceRefusal::of(alloc, path, fault)),
     }
 }

@@ -10,7 +10,7 @@ use Rattle.point_types.specs.Name.{is_digit, is_underscore, name_of}
 use Rattle.point_types.specs.Value.{low_of, high_of, is_within}
 use Rattle.scan_code.specs.declared.image.Tag.{Tag}
 use Rattle.il_assemble.specs.Correct.{AreReadings, IsReading}
-use Rattle.commands.specs.declared.given.Entry.{Entry}
+use Rattle.commands.specs.declared.given.GivenEntry.{GivenEntry}
 use Rattle.commands.specs.Input.{before_end, is_blank_line}
 use Rattle.commands.specs.Given.{absent, at_place, digits, entry_given, equals_from, grown, held, if_some, input_from, joined_at, line_given, no_slots, number_given, or_refused, reading_given, reading_in, readings_given, readings_in, slots_given, truth_given, value_given}
 
@@ -73,18 +73,18 @@ reading_is t text r e = go (bytes_eq text (codes "absent")) (value_given t.kind 
     go false None f e = absurd (cc)
 
 -- an entry's reading is one of its tag
-abbrev IsEntry : List Tag → Entry → Type 0
+abbrev IsEntry : List Tag → GivenEntry → Type 0
 IsEntry tags e = (t : Tag) × (slice_get tags e.place ≡ Some t) × IsReading t e.reading
 
 if_some_is : {A B : Type 0} (o : Option A) (f : A → Option B) (b : B) → if_some o f ≡ Some b → (a : A) × (o ≡ Some a) × (f a ≡ Some b)
 if_some_is (Some a) f b e = (a, refl, e)
 if_some_is None f b e = absurd (cc)
 
-at_place_is : (i : ℕ) (o : Option Reading) (x : Entry) → at_place i o ≡ Some x → (r : Reading) × (o ≡ Some r) × (record { place = i; reading = r } ≡ x)
+at_place_is : (i : ℕ) (o : Option Reading) (x : GivenEntry) → at_place i o ≡ Some x → (r : Reading) × (o ≡ Some r) × (record { place = i; reading = r } ≡ x)
 at_place_is i (Some r) x e = (r, refl, cc)
 at_place_is i None x e = absurd (cc)
 
-entry_is : (tags : List Tag) (line : List ℕ) (x : Entry) → entry_given tags line ≡ Some x → IsEntry tags x
+entry_is : (tags : List Tag) (line : List ℕ) (x : GivenEntry) → entry_given tags line ≡ Some x → IsEntry tags x
 entry_is tags line x h = at_sign (if_some_is (equals_from 0 line) _ x h)
   where
     at_tag : (e i : ℕ) (t : Tag) → slice_get tags i ≡ Some t → (r : Reading) × (reading_given t.kind (drop (e + 1) line) ≡ Some r) × (record { place = i; reading = r } ≡ x) → IsEntry tags x
@@ -126,7 +126,7 @@ set_are zero (u ∷ ts) (s ∷ ss) t r (h, hs) e w =
     (subst (λ z. IsReading z r) (sym same) w, hs)
 set_are (suc i) (u ∷ ts) (s ∷ ss) t r (h, hs) e w = (h, set_are i ts ss t r hs e w)
 
-joined_are : (tags : List Tag) (slots more : List (Option Reading)) (x : Entry) → AreSlots tags slots → IsEntry tags x → joined_at slots x (slice_get slots x.place) ≡ Some more → AreSlots tags more
+joined_are : (tags : List Tag) (slots more : List (Option Reading)) (x : GivenEntry) → AreSlots tags slots → IsEntry tags x → joined_at slots x (slice_get slots x.place) ≡ Some more → AreSlots tags more
 joined_are tags slots more x h (t, g, w) e = go (slice_get slots x.place) e
   where
     go : (o : Option (Option Reading)) → joined_at slots x o ≡ Some more → AreSlots tags more
@@ -137,7 +137,7 @@ joined_are tags slots more x h (t, g, w) e = go (slice_get slots x.place) e
 line_are : (tags : List Tag) (slots more : List (Option Reading)) (line : List ℕ) → AreSlots tags slots → line_given tags slots line ≡ Some more → AreSlots tags more
 line_are tags slots more line h e = go (if_some_is (entry_given tags line) _ more e)
   where
-    go : (x : Entry) × (entry_given tags line ≡ Some x) × (joined_at slots x (slice_get slots x.place) ≡ Some more) → AreSlots tags more
+    go : (x : GivenEntry) × (entry_given tags line ≡ Some x) × (joined_at slots x (slice_get slots x.place) ≡ Some more) → AreSlots tags more
     go (x, g, w) = joined_are tags slots more x h (entry_is tags line x g) w
 
 slots_are : (lines : List (List ℕ)) (tags : List Tag) (slots more : List (Option Reading)) (k : ℕ) → AreSlots tags slots → slots_given tags slots k lines ≡ Ok more → AreSlots tags more

@@ -47,7 +47,7 @@ use Rattle.commands.specs.Printed.{EndsEarly, LineLost, LinkDown}
 use Rattle.commands.specs.Scans.{AreScans, DoesScans, End, IsBroken, IsWhole, PartsAreTheRun, RunsScans, series_of}
 use Rattle.commands.specs.Clients.{ClientsAsk}
 use Rattle.commands.specs.Series.{AreInOrder, Moment, Scan, at_core, waited}
-use Rattle.commands.specs.declared.pace.Pace.{Pace}
+use Rattle.commands.specs.declared.pace.RunPace.{RunPace}
 use Rattle.commands.specs.Sources.{AreTextsOf, HasTexts}
 use Rattle.commands.specs.Stopped.{StopsScan}
 use Rattle.commands.proofs.ClientLemmas.{held_asked, same_asked}
@@ -172,12 +172,12 @@ module _ (site : Site) (a : Acceptance) (p : Program) where
     }
 
   -- a whole scan from this moment on, with the time that went by before it
-  abbrev IsWholeFrom : Pace → Scan → Moment → Type 0
+  abbrev IsWholeFrom : RunPace → Scan → Moment → Type 0
   IsWholeFrom pace scan m =
       (own : List Event) × (whole : Scans (TakesEvent most_deferred) IsPlanned steps_of (m.core).site (m.core).maps m.link m.core (scan.behind).link (scan.behind).core scan.report)
       × (own ≡ event.Time pace.every ∷ ((whole.taken).events ++ event.Scan ∷ []))
 
-  whole_again : (pace : Pace) (scan : Scan) → IsOf (scan.before).core → DoesScan site a p (length site.outs) scan → IsWholeFrom pace scan scan.before
+  whole_again : (pace : RunPace) (scan : Scan) → IsOf (scan.before).core → DoesScan site a p (length site.outs) scan → IsWholeFrom pace scan scan.before
   whole_again pace scan of h =
       let n = length site.outs in
       let whole : Scans (TakesEvent most_deferred) IsPlanned steps_of ((scan.before).core).site ((scan.before).core).maps (scan.before).link (scan.before).core (scan.behind).link (scan.behind).core scan.report = record {
@@ -195,7 +195,7 @@ module _ (site : Site) (a : Acceptance) (p : Program) where
   reports_of scans = map (λ (scan : Scan). scan.report) scans
 
   -- time that went by changes neither site nor program
-  waited_of : (pace : Pace) (m : Moment) → IsOf m.core → IsOf (waited pace.every m).core
+  waited_of : (pace : RunPace) (m : Moment) → IsOf m.core → IsOf (waited pace.every m).core
   waited_of pace m of = record { on_site = of.on_site; on_program = of.on_program; held = of.held }
 
   asked_of : (asked : Bool) (g h : Gateway) → ClientsAsk asked g h → IsOf g → IsOf h
@@ -203,7 +203,7 @@ module _ (site : Site) (a : Acceptance) (p : Program) where
       let same = same_asked asked g h asks in
       record { on_site = same.site ∙ of.on_site; on_program = same.accepted ∙ of.on_program; held = held_asked asked g h asks of.held }
 
-  scans_again : (pace : Pace) (first : Moment) (scans : List Scan) (last : Moment) → IsOf first.core → AreInOrder pace (DoesScan site a p (length site.outs)) first scans last
+  scans_again : (pace : RunPace) (first : Moment) (scans : List Scan) (last : Moment) → IsOf first.core → AreInOrder pace (DoesScan site a p (length site.outs)) first scans last
       → ((events : List Event) × AreScans (TakesEvent most_deferred) pace first.link first.core (reports_of scans) events last.link last.core) × IsOf last.core
   scans_again pace first [] last of h = (([], (refl, ap (λ (m : Moment). m.link) h, ap (λ (m : Moment). m.core) h)), subst (λ (m : Moment). IsOf m.core) (sym h) of)
   scans_again pace first (scan ∷ scans) last of (heard, asks, here, does, rest) =
@@ -213,16 +213,16 @@ module _ (site : Site) (a : Acceptance) (p : Program) where
       let all : List Event = asks.events ++ own in
       ((all ++ m.0.0, ((scan.behind).link, (scan.behind).core, all, m.0.0, refl, (heard, asks.events, asks.own, asks.runs, whole, ap (λ es. asks.events ++ es) is), m.0.1)), m.1)
 
-  abbrev Stops : Pace → Moment → LinkFault → Moment → Type 0
+  abbrev Stops : RunPace → Moment → LinkFault → Moment → Type 0
   Stops pace = StopsAfter pace (DoesScan site a p) site
 
   -- it failed from this moment on, with the time that went by before it
-  abbrev IsBrokenFrom : Pace → Moment → LinkFault → Polling → Gateway → Type 0
+  abbrev IsBrokenFrom : RunPace → Moment → LinkFault → Polling → Gateway → Type 0
   IsBrokenFrom pace m fault q t =
       (events : List Event) × (((stop : gateway.StopsTaking (TakesEvent most_deferred) (m.core).site (m.core).maps m.link m.core fault q t) × (events ≡ event.Time pace.every ∷ (stop.taken).events))
       ⊎ ((stop : gateway.StopsBehind (TakesEvent most_deferred) IsPlanned (m.core).site (m.core).maps m.link m.core fault q t) × (events ≡ event.Time pace.every ∷ ((stop.taken).events ++ event.Scan ∷ []))))
 
-  broken_again : (pace : Pace) (first : Moment) (fault : LinkFault) (last : Moment) → IsOf first.core → StopsScan (DoesScan site a p) site first fault last → IsBrokenFrom pace first fault last.link last.core
+  broken_again : (pace : RunPace) (first : Moment) (fault : LinkFault) (last : Moment) → IsOf first.core → StopsScan (DoesScan site a p) site first fault last → IsBrokenFrom pace first fault last.link last.core
   broken_again pace first fault last of (inl h) =
       let s = first.core in
       let here : gateway.StopsTaking (TakesEvent most_deferred) site s.maps first.link s fault last.link last.core = record {
@@ -264,17 +264,17 @@ module _ (site : Site) (a : Acceptance) (p : Program) where
       subst (λ (t : Gateway). IsBrokenFrom pace first fault last.link t) (sym h.core) (subst (λ (m : Moment). IsBrokenFrom pace m fault last.link (scan.behind).core) h.before here)
 
   -- with what clients asked before it
-  broken_from : (pace : Pace) (last : Moment) (heard : Gateway) (asks : ClientsAsk pace.asked last.core heard) (fault : LinkFault) (q : Polling) (t : Gateway) (own : List Event)
+  broken_from : (pace : RunPace) (last : Moment) (heard : Gateway) (asks : ClientsAsk pace.asked last.core heard) (fault : LinkFault) (q : Polling) (t : Gateway) (own : List Event)
       → ((stop : gateway.StopsTaking (TakesEvent most_deferred) heard.site heard.maps last.link (after_wait pace.every heard) fault q t) × (own ≡ event.Time pace.every ∷ (stop.taken).events))
       ⊎ ((stop : gateway.StopsBehind (TakesEvent most_deferred) IsPlanned heard.site heard.maps last.link (after_wait pace.every heard) fault q t) × (own ≡ event.Time pace.every ∷ ((stop.taken).events ++ event.Scan ∷ [])))
       → (events : List Event) × IsBroken (TakesEvent most_deferred) pace last.link last.core fault q t events
   broken_from pace last heard asks fault q t own (inl (stop, is)) = (asks.events ++ own, (heard, asks.events, asks.own, asks.runs, inl (stop, ap (λ es. asks.events ++ es) is)))
   broken_from pace last heard asks fault q t own (inr (stop, is)) = (asks.events ++ own, (heard, asks.events, asks.own, asks.runs, inr (stop, ap (λ es. asks.events ++ es) is)))
 
-  abbrev Ends : Pace → List Report → Moment → Polling → Gateway → Option (List ℕ) → Option (List ℕ) → ℕ → Type 0
+  abbrev Ends : RunPace → List Report → Moment → Polling → Gateway → Option (List ℕ) → Option (List ℕ) → ℕ → Type 0
   Ends n reports last q t old new status = (events : List Event) × End (TakesEvent most_deferred) n reports events last.link last.core q t old new status
 
-  early_again : (n : Pace) (reports : List Report) (last : Moment) (q : Polling) (t : Gateway) (old new : Option (List ℕ)) (status : ℕ) → IsOf last.core
+  early_again : (n : RunPace) (reports : List Report) (last : Moment) (q : Polling) (t : Gateway) (old new : Option (List ℕ)) (status : ℕ) → IsOf last.core
       → EndsEarly (Stops n) (series_of n.scans reports last.link last.core q t old new status) → Ends n reports last q t old new status
   early_again n reports last q t old new status of (LineLost h) = ([], inr (inl (refl, h)))
   early_again n reports last q t old new status of (LinkDown h) =
@@ -283,7 +283,7 @@ module _ (site : Site) (a : Acceptance) (p : Program) where
       let broken = broken_from n last heard asks h.fault q t own stops in
       (broken.0, inr (inr (record { within = h.within; fault = h.fault; broken = broken.1; written = h.written; printed = h.printed; told = h.told })))
 
-  end_again : (n : Pace) (reports : List Report) (last : Moment) (q : Polling) (t : Gateway) (old new : Option (List ℕ)) (status : ℕ) → IsOf last.core
+  end_again : (n : RunPace) (reports : List Report) (last : Moment) (q : Polling) (t : Gateway) (old new : Option (List ℕ)) (status : ℕ) → IsOf last.core
       → Tells (Stops n) (series_of n.scans reports last.link last.core q t old new status) → Ends n reports last q t old new status
   end_again n reports last q t old new status of h = by_status status refl
     where
@@ -321,7 +321,7 @@ accepts_again site program texts s a p verified of safe =
       };
     }
 
-run_again : (site program : List ℕ) (texts : List (List ℕ)) (n : Pace) (p q : Polling) (old new : Option (List ℕ)) (s : Site) (a : Acceptance) (maps : List (Option Layout)) (core : Gateway) (status : ℕ)
+run_again : (site program : List ℕ) (texts : List (List ℕ)) (n : RunPace) (p q : Polling) (old new : Option (List ℕ)) (s : Site) (a : Acceptance) (maps : List (Option Layout)) (core : Gateway) (status : ℕ)
     → IsVerified most_deferred a → HasTexts site program texts s a → NeverGoesWrong a → DoesRun (gateway_of s maps (opened a)) program n (record { link_before = p; link_behind = q; out_before = old; out_behind = new; status = status }) core → RunsScans site program texts n p q old new core status
 run_again site program texts n p q old new s a maps core status verified (tree, of) safe r =
     let start = gateway_of s maps (opened a) in

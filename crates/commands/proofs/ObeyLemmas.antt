@@ -14,7 +14,7 @@ use Rattle.commands.specs.Accepted.{Accepts, most_deferred}
 use Rattle.commands.specs.Check.{IsCheck}
 use Rattle.commands.specs.Defined.{AreDefined}
 use Rattle.commands.specs.Headline.{IsAccepted, RunsProgram}
-use Rattle.commands.specs.declared.pace.Pace.{Pace}
+use Rattle.commands.specs.declared.pace.RunPace.{RunPace}
 use Rattle.commands.specs.Obeyed.{Checks, IsSound, ProbesBy, ProbesOver, Runs}
 use Rattle.commands.specs.Opening.{IsRefused}
 use Rattle.commands.specs.Printed.{IsUnlinked}
@@ -37,7 +37,7 @@ checks_by site program texts old new told status is same = subst (Checks site pr
   sound = prints_where site program texts old new told IsSound (sound_of site program texts) is;
 })
 
-pub runs_by : (site program : List ℕ) (texts : List (List ℕ)) (n : Pace) (p q : Polling) (old new : Option (List ℕ)) (core : Option Gateway) (status : ℕ)
+pub runs_by : (site program : List ℕ) (texts : List (List ℕ)) (n : RunPace) (p q : Polling) (old new : Option (List ℕ)) (core : Option Gateway) (status : ℕ)
     → IfSome core (λ core. HasTexts site program texts core.site core.machine.accepted)
     → IfSome core (λ core. IsAccepted site program texts core.site core.machine.accepted)
     → IfSome core (λ core. RunsProgram program n (record { link_before = p; link_behind = q; out_before = old; out_behind = new; status = status }) core)

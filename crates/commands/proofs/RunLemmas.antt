@@ -32,7 +32,7 @@ use Rattle.commands.specs.Printed.{LineLost, LinkDown}
 use Rattle.commands.specs.Meant.{AdvancesAsMeant, StepsAsMeant}
 use Rattle.commands.specs.Scans.{AreScans, DoesScans, End, IsBroken, IsWhole, series_of}
 use Rattle.commands.specs.Series.{AreInOrder, Course, Moment, Scan, waited}
-use Rattle.commands.specs.declared.pace.Pace.{Pace}
+use Rattle.commands.specs.declared.pace.RunPace.{RunPace}
 use Rattle.commands.specs.Stopped.{StopsScan}
 use Rattle.commands.proofs.MeaningLemmas.{IsKept, left_variables, means_end, opening_kept, step_meant, stored_ranged}
 use Rattle.commands.proofs.ScanLemmas.{unlinked_never_well, unprinted_never_well}
@@ -70,10 +70,10 @@ module _ (site : Site) (p : Program) (a : Acceptance) (right : DoesWhatItMeans p
       record { es = h.es; events = h.events; blocks = h.blocks; talks = h.talks; runs = (runs s h.events t on h.runs).0; counted = h.counted }
 
   -- time that went by changes nothing of that
-  abbrev waited_on : (pace : Pace) (s : Gateway) → IsOn s → IsOn (after_wait pace.every s)
+  abbrev waited_on : (pace : RunPace) (s : Gateway) → IsOn s → IsOn (after_wait pace.every s)
   waited_on pace s on = (advance s (event.Time pace.every) answer.None (after_wait pace.every s) on (waits_so most_deferred s pace.every)).1
 
-  whole_meant : (pace : Pace) (o : Polling) (s : Gateway) (q : Polling) (t : Gateway) (report : Report) (own : List Event) → IsOn s → IsWhole (TakesEvent most_deferred) pace o s q t report own
+  whole_meant : (pace : RunPace) (o : Polling) (s : Gateway) (q : Polling) (t : Gateway) (report : Report) (own : List Event) → IsOn s → IsWhole (TakesEvent most_deferred) pace o s q t report own
       → IsWhole (AdvancesAsMeant p) pace o s q t report own × IsOn t
   whole_meant pace o s q t report own on (heard, asked, of, asks, scan, e) =
       let first = runs s asked heard on asks in
@@ -99,7 +99,7 @@ module _ (site : Site) (p : Program) (a : Acceptance) (right : DoesWhatItMeans p
         last.1,
       )
 
-  broken_meant : (pace : Pace) (o : Polling) (s : Gateway) (fault : LinkFault) (q : Polling) (t : Gateway) (events : List Event) → IsOn s → IsBroken (TakesEvent most_deferred) pace o s fault q t events
+  broken_meant : (pace : RunPace) (o : Polling) (s : Gateway) (fault : LinkFault) (q : Polling) (t : Gateway) (events : List Event) → IsOn s → IsBroken (TakesEvent most_deferred) pace o s fault q t events
       → IsBroken (AdvancesAsMeant p) pace o s fault q t events
   broken_meant pace o s fault q t events on (heard, asked, of, asks, inl (stop, e)) =
       let first = runs s asked heard on asks in (
@@ -144,7 +144,7 @@ module _ (site : Site) (p : Program) (a : Acceptance) (right : DoesWhatItMeans p
         ),
       )
 
-  scans_meant : (pace : Pace) (o : Polling) (s : Gateway) (reports : List Report) (events : List Event) (q : Polling) (t : Gateway) → IsOn s → AreScans (TakesEvent most_deferred) pace o s reports events q t
+  scans_meant : (pace : RunPace) (o : Polling) (s : Gateway) (reports : List Report) (events : List Event) (q : Polling) (t : Gateway) → IsOn s → AreScans (TakesEvent most_deferred) pace o s reports events q t
       → AreScans (AdvancesAsMeant p) pace o s reports events q t × IsOn t
   scans_meant pace o s [] events q t on (none, here, there) = ((none, here, there), subst IsOn (sym there) on)
   scans_meant pace o s (r ∷ rs) events q t on (middle, between, own, more, split, one, rest) =
@@ -152,7 +152,7 @@ module _ (site : Site) (p : Program) (a : Acceptance) (right : DoesWhatItMeans p
       let m = scans_meant pace middle between rs more q t k.1 rest in
       ((middle, between, own, more, split, k.0, m.0), m.1)
 
-  end_meant : (n : Pace) (reports : List Report) (events : List Event) (o : Polling) (s : Gateway) (q : Polling) (t : Gateway) (old new : Option (List ℕ)) (status : ℕ) → IsOn s
+  end_meant : (n : RunPace) (reports : List Report) (events : List Event) (o : Polling) (s : Gateway) (q : Polling) (t : Gateway) (old new : Option (List ℕ)) (status : ℕ) → IsOn s
       → End (TakesEvent most_deferred) n reports events o s q t old new status → End (AdvancesAsMeant p) n reports events o s q t old new status
   end_meant n reports events o s q t old new status on (inl h) = inl h
   end_meant n reports events o s q t old new status on (inr (inl h)) = inr (inl h)
@@ -165,7 +165,7 @@ module _ (site : Site) (p : Program) (a : Acceptance) (right : DoesWhatItMeans p
     told = h.told;
   }))
 
-  does_meant : (n : Pace) (o : Polling) (s : Gateway) (events : List Event) (q : Polling) (t : Gateway) (old new : Option (List ℕ)) (status : ℕ) → IsOn s
+  does_meant : (n : RunPace) (o : Polling) (s : Gateway) (events : List Event) (q : Polling) (t : Gateway) (old new : Option (List ℕ)) (status : ℕ) → IsOn s
       → DoesScans (TakesEvent most_deferred) n o s events q t old new status → DoesScans (AdvancesAsMeant p) n o s events q t old new status
   does_meant n o s events q t old new status on h =
       let all = scans_meant n o s h.reports h.before h.middle h.between on h.whole in
@@ -180,7 +180,7 @@ module _ (site : Site) (p : Program) (a : Acceptance) (right : DoesWhatItMeans p
         end = end_meant n h.reports h.behind h.middle h.between q t old new status all.1 h.end;
       }
 
-  pub scans_from_opening : (maps : List (Option Layout)) (n : Pace) (o : Polling) (events : List Event) (q : Polling) (t : Gateway) (old new : Option (List ℕ)) (status : ℕ)
+  pub scans_from_opening : (maps : List (Option Layout)) (n : RunPace) (o : Polling) (events : List Event) (q : Polling) (t : Gateway) (old new : Option (List ℕ)) (status : ℕ)
       → DoesScans (TakesEvent most_deferred) n o (gateway_of site maps (vm.opened a)) events q t old new status → DoesScans (AdvancesAsMeant p) n o (gateway_of site maps (vm.opened a)) events q t old new status
   scans_from_opening maps n o events q t old new status h =
       does_meant n o (gateway_of site maps (vm.opened a)) events q t old new status
@@ -188,7 +188,7 @@ module _ (site : Site) (p : Program) (a : Acceptance) (right : DoesWhatItMeans p
 
   -- ---- in the parts of the headline
 
-  abbrev asked_by : (pace : Pace) (s heard : Gateway) (asked : List Event) → AreOfClients pace.asked asked → RunsTo (TakesEvent most_deferred) s asked heard → ClientsAsk pace.asked s heard
+  abbrev asked_by : (pace : RunPace) (s heard : Gateway) (asked : List Event) → AreOfClients pace.asked asked → RunsTo (TakesEvent most_deferred) s asked heard → ClientsAsk pace.asked s heard
   asked_by pace s heard asked of asks = record { events = asked; own = of; runs = asks }
 
   -- what the program does at a scan, on this site
@@ -271,7 +271,7 @@ module _ (site : Site) (p : Program) (a : Acceptance) (right : DoesWhatItMeans p
         held = held_behind before t h.readings h.steps h.end behind.core;
       }
 
-  whole_scan : (pace : Pace) (o : Polling) (s : Gateway) (q : Polling) (t : Gateway) (report : Report) (own : List Event) → IsOn s → IsHeld s → IsWhole (TakesEvent most_deferred) pace o s q t report own
+  whole_scan : (pace : RunPace) (o : Polling) (s : Gateway) (q : Polling) (t : Gateway) (report : Report) (own : List Event) → IsOn s → IsHeld s → IsWhole (TakesEvent most_deferred) pace o s q t report own
       → (heard : Gateway) × ClientsAsk pace.asked s heard × IsPart o (after_wait pace.every heard) q t (length site.outs) report
   whole_scan pace o s q t report own on held (heard, asked, of, asks, scan, e) =
       let all = asked_by pace s heard asked of asks in
@@ -283,7 +283,7 @@ module _ (site : Site) (p : Program) (a : Acceptance) (right : DoesWhatItMeans p
       )
 
   -- scans, one after another
-  record ArePart (pace : Pace) (o : Polling) (s : Gateway) (reports : List Report) (q : Polling) (t : Gateway) : Type 0 where
+  record ArePart (pace : RunPace) (o : Polling) (s : Gateway) (reports : List Report) (q : Polling) (t : Gateway) : Type 0 where
     pub scans : List Scan
     pub done : AreInOrder pace (DoesScan site a p (length site.outs)) (record { link = o; core = s }) scans (record { link = q; core = t })
     pub reported : map (λ (scan : Scan). scan.report) scans ≡ reports
@@ -293,7 +293,7 @@ module _ (site : Site) (p : Program) (a : Acceptance) (right : DoesWhatItMeans p
   abbrev moment : Polling → Gateway → Moment
   moment q t = record { link = q; core = t }
 
-  whole_scans : (pace : Pace) (o : Polling) (s : Gateway) (reports : List Report) (events : List Event) (q : Polling) (t : Gateway) → IsOn s → IsHeld s → AreScans (TakesEvent most_deferred) pace o s reports events q t
+  whole_scans : (pace : RunPace) (o : Polling) (s : Gateway) (reports : List Report) (events : List Event) (q : Polling) (t : Gateway) → IsOn s → IsHeld s → AreScans (TakesEvent most_deferred) pace o s reports events q t
       → ArePart pace o s reports q t
   whole_scans pace o s [] events q t on held (none, here, there) = record {
     scans = [];
@@ -313,10 +313,10 @@ module _ (site : Site) (p : Program) (a : Acceptance) (right : DoesWhatItMeans p
         held = m.held;
       }
 
-  abbrev Stops : Pace → Moment → LinkFault → Moment → Type 0
+  abbrev Stops : RunPace → Moment → LinkFault → Moment → Type 0
   Stops pace = StopsAfter pace (DoesScan site a p) site
 
-  stopped_scan : (pace : Pace) (o : Polling) (s : Gateway) (fault : LinkFault) (q : Polling) (t : Gateway) (events : List Event) → IsOn s → IsHeld s → IsBroken (TakesEvent most_deferred) pace o s fault q t events
+  stopped_scan : (pace : RunPace) (o : Polling) (s : Gateway) (fault : LinkFault) (q : Polling) (t : Gateway) (events : List Event) → IsOn s → IsHeld s → IsBroken (TakesEvent most_deferred) pace o s fault q t events
       → Stops pace (moment o s) fault (moment q t)
   stopped_scan pace o s fault q t events on held (heard, asked, of, asks, inl (stop, e)) =
       let all = asked_by pace s heard asked of asks in
@@ -356,7 +356,7 @@ module _ (site : Site) (p : Program) (a : Acceptance) (right : DoesWhatItMeans p
         }),
       )
 
-  tells : (n : Pace) (reports : List Report) (events : List Event) (o : Polling) (s : Gateway) (q : Polling) (t : Gateway) (old new : Option (List ℕ)) (status : ℕ) → IsOn s → IsHeld s
+  tells : (n : RunPace) (reports : List Report) (events : List Event) (o : Polling) (s : Gateway) (q : Polling) (t : Gateway) (old new : Option (List ℕ)) (status : ℕ) → IsOn s → IsHeld s
       → End (TakesEvent most_deferred) n reports events o s q t old new status → Tells (Stops n) (series_of n.scans reports o s q t old new status)
   tells n reports events o s q t old new status on held (inl h) = record { well = λ e. h.1; badly = λ bad. absurd (bad (h.1.well)) }
   tells n reports events o s q t old new status on held (inr (inl h)) = record {
@@ -375,7 +375,7 @@ module _ (site : Site) (p : Program) (a : Acceptance) (right : DoesWhatItMeans p
     });
   }
 
-  pub run_from_opening : (maps : List (Option Layout)) (text : List ℕ) (n : Pace) (o : Polling) (events : List Event) (t : Gateway) (c : Course)
+  pub run_from_opening : (maps : List (Option Layout)) (text : List ℕ) (n : RunPace) (o : Polling) (events : List Event) (t : Gateway) (c : Course)
       → Spells text p → FindsAll site.devices c.link_before maps o → DoesScans (TakesEvent most_deferred) n o (gateway_of site maps (vm.opened a)) events c.link_behind t c.out_before c.out_behind c.status
       → DoesRun (gateway_of site maps (vm.opened a)) text n c t
   run_from_opening maps text n o events t c spelled found h =

@@ -25,7 +25,7 @@ use Rattle.commands.specs.Printed.{IsUnlinked, IsUnprinted}
 use Rattle.commands.specs.Scans.{AreScans, DoesScans, End, IsBroken, IsLast, IsPrinted, IsWhole, LeavesOff}
 use Rattle.commands.specs.Series.{Moment}
 use Rattle.commands.specs.Told.{IsCut, IsTold, refused_with}
-use Rattle.commands.specs.declared.pace.Pace.{Pace}
+use Rattle.commands.specs.declared.pace.RunPace.{RunPace}
 
 -- ---- what is told
 
@@ -43,7 +43,7 @@ lines_more k j (r ∷ rs) report e = ap (λ l. scan_line k r ++ l) (lines_more (
 
 -- ---- one scan more
 
-scans_more : (pace : Pace) (p : Polling) (s : Gateway) (reports : List Report) (events : List Event) (q : Polling) (t : Gateway) (u : Polling) (v : Gateway) (report : Report) (own : List Event)
+scans_more : (pace : RunPace) (p : Polling) (s : Gateway) (reports : List Report) (events : List Event) (q : Polling) (t : Gateway) (u : Polling) (v : Gateway) (report : Report) (own : List Event)
     → AreScans (TakesEvent most_deferred) pace p s reports events q t → IsWhole (TakesEvent most_deferred) pace q t u v report own → AreScans (TakesEvent most_deferred) pace p s (reports ++ report ∷ []) (events ++ own) u v
 scans_more pace p s [] events q t u v report own (none, here, there) w = (
   u,
@@ -58,7 +58,7 @@ scans_more pace p s (r ∷ rs) events q t u v report own (middle, between, first
     (middle, between, first, more ++ own, ap (λ es. es ++ own) split ∙ append_assoc first more own, one, scans_more pace middle between rs more q t u v report own rest w)
 
 -- so many scans were done, and their lines are printed
-pub record SoFar (pace : Pace) (k : ℕ) (p : Polling) (s : Gateway) (q : Polling) (t : Gateway) (old new : Option (List ℕ)) : Type 0 where
+pub record SoFar (pace : RunPace) (k : ℕ) (p : Polling) (s : Gateway) (q : Polling) (t : Gateway) (old new : Option (List ℕ)) : Type 0 where
   pub reports : List Report
   pub events : List Event
   pub all : length reports ≡ k
@@ -66,10 +66,10 @@ pub record SoFar (pace : Pace) (k : ℕ) (p : Polling) (s : Gateway) (q : Pollin
   pub printed : Appends old new (scan_lines 1 reports)
   pub unfailed : q.fault ≡ None
 
-pub none_so_far : (pace : Pace) (p : Polling) (s : Gateway) (old : Option (List ℕ)) → p.fault ≡ None → SoFar pace 0 p s p s old old
+pub none_so_far : (pace : RunPace) (p : Polling) (s : Gateway) (old : Option (List ℕ)) → p.fault ≡ None → SoFar pace 0 p s p s old old
 none_so_far pace p s old h = record { reports = []; events = []; all = refl; whole = (refl, refl, refl); printed = Appends-nil old; unfailed = h }
 
-pub one_more : (pace : Pace) (k : ℕ) (p : Polling) (s : Gateway) (q : Polling) (t : Gateway) (u : Polling) (v : Gateway) (old middle new : Option (List ℕ))
+pub one_more : (pace : RunPace) (k : ℕ) (p : Polling) (s : Gateway) (q : Polling) (t : Gateway) (u : Polling) (v : Gateway) (old middle new : Option (List ℕ))
     → SoFar pace k p s q t old middle → IsPrinted pace (k + 1) q t u v middle new → SoFar pace (k + 1) p s u v old new
 one_more pace k p s q t u v old middle new h (report, own, whole, printed) = record {
   reports = h.reports ++ report ∷ [];
@@ -81,7 +81,7 @@ one_more pace k p s q t u v old middle new h (report, own, whole, printed) = rec
 }
 
 -- all were done
-pub done_all : (n : Pace) (k : ℕ) (p : Polling) (s : Gateway) (q : Polling) (t : Gateway) (old new : Option (List ℕ)) → SoFar n k p s q t old new → k ≡ n.scans → LeavesOff n p s q t old new 0
+pub done_all : (n : RunPace) (k : ℕ) (p : Polling) (s : Gateway) (q : Polling) (t : Gateway) (old new : Option (List ℕ)) → SoFar n k p s q t old new → k ≡ n.scans → LeavesOff n p s q t old new 0
 done_all n k p s q t old new h e = (
   h.events,
   record {
@@ -97,7 +97,7 @@ done_all n k p s q t old new h e = (
 )
 
 -- one was the last
-pub done_before : (n : Pace) (k : ℕ) (p : Polling) (s : Gateway) (q : Polling) (t : Gateway) (u : Polling) (v : Gateway) (old middle new : Option (List ℕ)) (status : ℕ)
+pub done_before : (n : RunPace) (k : ℕ) (p : Polling) (s : Gateway) (q : Polling) (t : Gateway) (u : Polling) (v : Gateway) (old middle new : Option (List ℕ)) (status : ℕ)
     → SoFar n k p s q t old middle → k < n.scans → IsLast n (k + 1) q t u v middle new status → LeavesOff n p s u v old new status
 done_before n k p s q t u v old middle new status h within (inl (report, own, whole, told)) = (
   h.events ++ own,
@@ -147,17 +147,17 @@ done_before n k p s q t u v old middle new status h within (inr (fault, own, bro
 
 -- ---- one scan
 
-broken_by : (pace : Pace) (p : Polling) (s heard : Gateway) (fault : LinkFault) (q : Polling) (t : Gateway) → ClientsAsk pace.asked s heard → StopsScan (TakesEvent most_deferred) IsPlanned heard.site heard.maps p (after_wait pace.every heard) fault q t → (events : List Event) × IsBroken (TakesEvent most_deferred) pace p s fault q t events
+broken_by : (pace : RunPace) (p : Polling) (s heard : Gateway) (fault : LinkFault) (q : Polling) (t : Gateway) → ClientsAsk pace.asked s heard → StopsScan (TakesEvent most_deferred) IsPlanned heard.site heard.maps p (after_wait pace.every heard) fault q t → (events : List Event) × IsBroken (TakesEvent most_deferred) pace p s fault q t events
 broken_by pace p s heard fault q t asks (inl stop) = (asks.events ++ (event.Time pace.every ∷ (stop.taken).events), (heard, asks.events, asks.own, asks.runs, inl (stop, refl)))
 broken_by pace p s heard fault q t asks (inr stop) = (asks.events ++ (event.Time pace.every ∷ ((stop.taken).events ++ event.Scan ∷ [])), (heard, asks.events, asks.own, asks.runs, inr (stop, refl)))
 
 -- a whole scan whose line was to be printed
-pub printed_by : (pace : Pace) (k : ℕ) (p : Polling) (s heard : Gateway) (q : Polling) (t : Gateway) (report : Report) (old new : Option (List ℕ)) (lines : List ℕ) (status : ℕ)
+pub printed_by : (pace : RunPace) (k : ℕ) (p : Polling) (s heard : Gateway) (q : Polling) (t : Gateway) (report : Report) (old new : Option (List ℕ)) (lines : List ℕ) (status : ℕ)
     → ClientsAsk pace.asked s heard → Scans (TakesEvent most_deferred) IsPlanned steps_of heard.site heard.maps p (after_wait pace.every heard) q t report → lines ≡ scan_line k report → IsTold old new (record { lines = lines; status = 0 }) status
     → status ≡ 0 → IsPrinted pace k p s q t old new
 printed_by pace k p s heard q t report old new lines status asks scan e told well = (report, asks.events ++ (event.Time pace.every ∷ ((scan.taken).events ++ event.Scan ∷ [])), (heard, asks.events, asks.own, asks.runs, scan, refl), subst (Appends old new) e (told_well old new lines status told well))
 
-pub unprinted_by : (pace : Pace) (k : ℕ) (p : Polling) (s heard : Gateway) (q : Polling) (t : Gateway) (report : Report) (old new : Option (List ℕ)) (lines : List ℕ) (status : ℕ)
+pub unprinted_by : (pace : RunPace) (k : ℕ) (p : Polling) (s heard : Gateway) (q : Polling) (t : Gateway) (report : Report) (old new : Option (List ℕ)) (lines : List ℕ) (status : ℕ)
     → ClientsAsk pace.asked s heard → Scans (TakesEvent most_deferred) IsPlanned steps_of heard.site heard.maps p (after_wait pace.every heard) q t report → lines ≡ scan_line k report → IsTold old new (record { lines = lines; status = 0 }) status
     → status ≢ 0 → IsLast pace k p s q t old new status
 unprinted_by pace k p s heard q t report old new lines status asks scan e told bad =
@@ -165,7 +165,7 @@ unprinted_by pace k p s heard q t report old new lines status asks scan e told b
     inl (report, asks.events ++ (event.Time pace.every ∷ ((scan.taken).events ++ event.Scan ∷ [])), (heard, asks.events, asks.own, asks.runs, scan, refl), inl (subst (IsCut old new) e cut.0, cut.1))
 
 -- a whole scan for whose line there was no memory
-pub unsaid_by : (pace : Pace) (k : ℕ) (p : Polling) (s heard : Gateway) (q : Polling) (t : Gateway) (report : Report) (old new : Option (List ℕ)) (status : ℕ)
+pub unsaid_by : (pace : RunPace) (k : ℕ) (p : Polling) (s heard : Gateway) (q : Polling) (t : Gateway) (report : Report) (old new : Option (List ℕ)) (status : ℕ)
     → ClientsAsk pace.asked s heard → Scans (TakesEvent most_deferred) IsPlanned steps_of heard.site heard.maps p (after_wait pace.every heard) q t report → IsTold old new (refused_with no_memory_line) status → IsLast pace k p s q t old new status
 unsaid_by pace k p s heard q t report old new status asks scan told = inl (report, asks.events ++ (event.Time pace.every ∷ ((scan.taken).events ++ event.Scan ∷ [])), (heard, asks.events, asks.own, asks.runs, scan, refl), inr told)
 
@@ -182,7 +182,7 @@ pub unprinted_never_well : {W : Type 0} (k : ℕ) (report : Report) (old new : O
 unprinted_never_well k report old new status (inl h) e = absurd (let one = h.1 in omega (arith, one, e))
 unprinted_never_well k report old new status (inr h) e = refused_never_well old new _ status h e
 
-pub unlinked_by : (pace : Pace) (k : ℕ) (p : Polling) (s heard : Gateway) (fault : LinkFault) (q : Polling) (t : Gateway) (old new : Option (List ℕ)) (status : ℕ)
+pub unlinked_by : (pace : RunPace) (k : ℕ) (p : Polling) (s heard : Gateway) (fault : LinkFault) (q : Polling) (t : Gateway) (old new : Option (List ℕ)) (status : ℕ)
     → ClientsAsk pace.asked s heard → StopsScan (TakesEvent most_deferred) IsPlanned heard.site heard.maps p (after_wait pace.every heard) fault q t → IsUnlinked fault old new status → IsLast pace k p s q t old new status
 unlinked_by pace k p s heard fault q t old new status asks stops told = let b = broken_by pace p s heard fault q t asks stops in inr (fault, b.0, b.1, told)
 
@@ -232,23 +232,23 @@ follows_as : (g s t : Gateway) (es fs : List Event) → es ≡ fs → Follows g 
 follows_as g s t es fs e h = subst (λ (xs : List Event). Follows g s xs t) (sym e) h
 
 -- time that went by is one event of it
-same_waited : (pace : Pace) (g s : Gateway) → IsSame g s → IsSame g (after_wait pace.every s)
+same_waited : (pace : RunPace) (g s : Gateway) → IsSame g s → IsSame g (after_wait pace.every s)
 same_waited pace g s same = record { site = same.site; maps = same.maps; accepted = same.accepted }
 
-follows_waited : (pace : Pace) (g s : Gateway) → IsSame g s → (es : List Event) (t : Gateway) → Follows g (after_wait pace.every s) es t → Follows g s (event.Time pace.every ∷ es) t
+follows_waited : (pace : RunPace) (g s : Gateway) → IsSame g s → (es : List Event) (t : Gateway) → Follows g (after_wait pace.every s) es t → Follows g s (event.Time pace.every ∷ es) t
 follows_waited pace g s same es t h = record {
   answers = answer.None ∷ h.answers;
   runs = (answer.None, h.answers, (after_wait pace.every s).standing, (refl, ap (λ (x : Site). after_time x pace.every s.standing) same.site), refl, h.runs);
   same = h.same;
 }
 
-follows_whole : (pace : Pace) (g s : Gateway) → IsSame g s → (p q : Polling) (t : Gateway) (report : Report) (own : List Event) → IsWhole (TakesEvent most_deferred) pace p s q t report own → Follows g s own t
+follows_whole : (pace : RunPace) (g s : Gateway) → IsSame g s → (p q : Polling) (t : Gateway) (report : Report) (own : List Event) → IsWhole (TakesEvent most_deferred) pace p s q t report own → Follows g s own t
 follows_whole pace g s same p q t report own (heard, asked, of, asks, scan, e) =
     let first = runs_to g s same asked heard asks in
     let rest = follows_waited pace g heard first.same ((scan.taken).events ++ event.Scan ∷ []) t (follows_scan g (after_wait pace.every heard) (same_waited pace g heard first.same) (scan.taken).events scan.before t scan.answer (scan.taken).runs scan.scan) in
     follows_as g s t own _ e (follows_then g s heard t asked (event.Time pace.every ∷ ((scan.taken).events ++ event.Scan ∷ [])) first rest)
 
-follows_broken : (pace : Pace) (g s : Gateway) → IsSame g s → (p q : Polling) (t : Gateway) (fault : LinkFault) (own : List Event) → IsBroken (TakesEvent most_deferred) pace p s fault q t own → Follows g s own t
+follows_broken : (pace : RunPace) (g s : Gateway) → IsSame g s → (p q : Polling) (t : Gateway) (fault : LinkFault) (own : List Event) → IsBroken (TakesEvent most_deferred) pace p s fault q t own → Follows g s own t
 follows_broken pace g s same p q t fault own (heard, asked, of, asks, inl (stop, e)) =
     let first = runs_to g s same asked heard asks in
     let rest = follows_waited pace g heard first.same (stop.taken).events t (runs_to g (after_wait pace.every heard) (same_waited pace g heard first.same) (stop.taken).events t (stop.taken).runs) in
@@ -261,13 +261,13 @@ follows_broken pace g s same p q t fault own (heard, asked, of, asks, inr (stop,
 follows_still : (g s t : Gateway) → IsSame g s → t ≡ s → (events : List Event) → events ≡ [] → Follows g s events t
 follows_still g s t same e events none = follows_as g s t events [] none (subst (λ (x : Gateway). Follows g s [] x) (sym e) (record { answers = []; runs = (refl, refl); same = same }))
 
-follows_scans : (pace : Pace) (g s : Gateway) → IsSame g s → (p : Polling) (reports : List Report) (events : List Event) (q : Polling) (t : Gateway) → AreScans (TakesEvent most_deferred) pace p s reports events q t → Follows g s events t
+follows_scans : (pace : RunPace) (g s : Gateway) → IsSame g s → (p : Polling) (reports : List Report) (events : List Event) (q : Polling) (t : Gateway) → AreScans (TakesEvent most_deferred) pace p s reports events q t → Follows g s events t
 follows_scans pace g s same p [] events q t (none, here, there) = follows_still g s t same there events none
 follows_scans pace g s same p (r ∷ rs) events q t (middle, between, own, more, split, one, rest) =
     let first = follows_whole pace g s same p middle between r own one in
     follows_as g s t events (own ++ more) split (follows_then g s between t own more first (follows_scans pace g between first.same middle rs more q t rest))
 
-follows_end : (g s : Gateway) → IsSame g s → (n : Pace) (reports : List Report) (events : List Event) (p q : Polling) (t : Gateway) (old new : Option (List ℕ)) (status : ℕ)
+follows_end : (g s : Gateway) → IsSame g s → (n : RunPace) (reports : List Report) (events : List Event) (p q : Polling) (t : Gateway) (old new : Option (List ℕ)) (status : ℕ)
     → End (TakesEvent most_deferred) n reports events p s q t old new status → Follows g s events t
 follows_end g s same n reports events p q t old new status (inl (none, h)) = follows_still g s t same (ap (λ (m : Moment). m.core) h.still) events none
 follows_end g s same n reports events p q t old new status (inr (inl (none, h))) = follows_still g s t same (ap (λ (m : Moment). m.core) h.still) events none
@@ -276,7 +276,7 @@ follows_end g s same n reports events p q t old new status (inr (inr h)) = follo
 pub same_self : (g : Gateway) → IsSame g g
 same_self g = record { site = refl; maps = refl; accepted = refl }
 
-pub follows_all : (n : Pace) (p : Polling) (s : Gateway) (events : List Event) (q : Polling) (t : Gateway) (old new : Option (List ℕ)) (status : ℕ) → DoesScans (TakesEvent most_deferred) n p s events q t old new status
+pub follows_all : (n : RunPace) (p : Polling) (s : Gateway) (events : List Event) (q : Polling) (t : Gateway) (old new : Option (List ℕ)) (status : ℕ) → DoesScans (TakesEvent most_deferred) n p s events q t old new status
     → ((answers : List Answer) × RunsFrom s s.standing events answers t.standing) × IsSame s t
 follows_all n p s events q t old new status h =
     let first = follows_scans n s s (same_self s) p h.reports h.before h.middle h.between h.whole in

@@ -20,7 +20,7 @@ use Rattle.commands.specs.Opening.{OpensCore, StartsCore}
 use Rattle.commands.specs.Scans.{DoesScans, LeavesOff}
 use Rattle.commands.specs.Series.{Course}
 use Rattle.commands.specs.Sources.{AreTextsOf, HasTexts}
-use Rattle.commands.specs.declared.pace.Pace.{Pace}
+use Rattle.commands.specs.declared.pace.RunPace.{RunPace}
 use Rattle.commands.specs.Accepted.{Accepts, most_deferred}
 use Rattle.commands.proofs.ForLemmas.{for_its_texts, spells}
 use Rattle.commands.proofs.RunLemmas.{run_from_opening}
@@ -50,12 +50,12 @@ abbrev course_of : Polling → Polling → Option (List ℕ) → Option (List �
 course_of p q old new status = record { link_before = p; link_behind = q; out_before = old; out_behind = new; status = status }
 
 -- a core that was opened for a program, and what it did
-pub record HasRun (site program : List ℕ) (defs : List (List ℕ)) (n : Pace) (p q : Polling) (old new : Option (List ℕ)) (core : Gateway) (status : ℕ) : Type 0 where
+pub record HasRun (site program : List ℕ) (defs : List (List ℕ)) (n : RunPace) (p q : Polling) (old new : Option (List ℕ)) (core : Gateway) (status : ℕ) : Type 0 where
   pub texts : HasTexts site program defs core.site core.machine.accepted
   pub accepted : IsAccepted site program defs core.site core.machine.accepted
   pub run : RunsProgram program n (course_of p q old new status) core
 
-has_run_opened : (site program : List ℕ) (texts : List (List ℕ)) (n : Pace) (p middle q : Polling) (old new : Option (List ℕ)) (first core : Gateway) (status : ℕ) (s : Site) (tree : Program) (a : Acceptance)
+has_run_opened : (site program : List ℕ) (texts : List (List ℕ)) (n : RunPace) (p middle q : Polling) (old new : Option (List ℕ)) (first core : Gateway) (status : ℕ) (s : Site) (tree : Program) (a : Acceptance)
     → Accepts site program texts s tree a → OpensCore s a p middle (Ok first) → (events : List Event) → DoesScans (TakesEvent most_deferred) n middle first events q core old new status → HasRun site program texts n p q old new core status
 has_run_opened site program texts n p middle q old new first core status s tree a accepts (maps, works, found, linked, is) events does =
     let start = gateway_of s maps (opened a) in
@@ -73,7 +73,7 @@ has_run_opened site program texts n p middle q old new first core status s tree 
           (run_from_opening s tree a right of.linked proper verdict linked maps program n middle events core (course_of p q old new status) (spells program tree of.of_program) found from_start);
     }
 
-pub has_run : (site program : List ℕ) (texts : List (List ℕ)) (n : Pace) (p middle q : Polling) (old new : Option (List ℕ)) (first core : Gateway) (status : ℕ)
+pub has_run : (site program : List ℕ) (texts : List (List ℕ)) (n : RunPace) (p middle q : Polling) (old new : Option (List ℕ)) (first core : Gateway) (status : ℕ)
     → StartsCore site program texts p middle (Ok first) → LeavesOff n middle first q core old new status → HasRun site program texts n p q old new core status
 has_run site program texts n p middle q old new first core status (s, tree, a, accepts, opens) (events, does) =
     has_run_opened site program texts n p middle q old new first core status s tree a accepts opens events does

@@ -9,7 +9,7 @@ use Rattle.point_types.specs.declared.reading.Cause.TheVariants as cause
 use Rattle.point_types.specs.Name.{is_digit, is_underscore, name_of}
 use Rattle.point_types.specs.Value.{low_of, high_of, is_within, is_bool}
 use Rattle.scan_code.specs.declared.image.Tag.{Tag}
-use Rattle.commands.specs.declared.given.Entry.{Entry}
+use Rattle.commands.specs.declared.given.GivenEntry.{GivenEntry}
 use Rattle.commands.specs.Input.{before_end, is_blank_line}
 
 -- The value that a line gives.
@@ -77,20 +77,20 @@ abbrev pub input_from : ℕ → List Tag → List ℕ → Option ℕ
 input_from i [] n = None
 input_from i (t ∷ ts) n = if is_input t n then Some i else input_from (suc i) ts n
 
-abbrev pub at_place : ℕ → Option Reading → Option Entry
+abbrev pub at_place : ℕ → Option Reading → Option GivenEntry
 at_place i (Some r) = Some (record { place = i; reading = r })
 at_place i None = None
 
 -- NAME=VALUE or NAME=absent, without blanks: the entry that the line gives; none where its form, its name or its value
 -- isn't that of an input
-abbrev pub entry_given : List Tag → List ℕ → Option Entry
+abbrev pub entry_given : List Tag → List ℕ → Option GivenEntry
 entry_given tags line =
     if_some (equals_from 0 line) (λ e. if_some (name_of (take e line)) (λ n. if_some (input_from 0 tags n) (λ i. if_some (slice_get tags i) (λ t. at_place i (reading_given t.kind (drop (e + 1) line))))))
 
 -- The lines.
 
 -- an entry joins those of the lines before it, where none of them was for its input
-abbrev pub joined_at : List (Option Reading) → Entry → Option (Option Reading) → Option (List (Option Reading))
+abbrev pub joined_at : List (Option Reading) → GivenEntry → Option (Option Reading) → Option (List (Option Reading))
 joined_at slots e (Some None) = Some (slice_set slots e.place (Some e.reading))
 joined_at slots e (Some (Some r)) = None
 joined_at slots e None = None

@@ -27,7 +27,7 @@ use Rattle.commands.specs.Printed.{AreAllDone, EndsEarly}
 use Rattle.commands.specs.Clients.{ClientsAsk}
 use Rattle.commands.specs.Series.{AreInOrder, Course, Moment, Scan, Series, at_core, waited}
 use Rattle.commands.specs.Stopped.{StopsScan}
-use Rattle.commands.specs.declared.pace.Pace.{Pace}
+use Rattle.commands.specs.declared.pace.RunPace.{RunPace}
 
 -- the site is the one that its text describes, the program the one that its text spells; the image has the program's variables
 -- and tags, each of which is the site's tag of its name (that its code is the program's too stands in the clause `texts`)
@@ -74,11 +74,11 @@ pub record Tells (Fails : Moment → LinkFault → Moment → Type 0) (series : 
   pub badly : series.status ≢ 0 → EndsEarly Fails series
 
 -- the link fails at a scan that begins so, once clients asked and time went by
-abbrev pub StopsAfter : Pace → (ℕ → Scan → Type 0) → Site → Moment → LinkFault → Moment → Type 0
+abbrev pub StopsAfter : RunPace → (ℕ → Scan → Type 0) → Site → Moment → LinkFault → Moment → Type 0
 StopsAfter pace Does site first fault last = (heard : Gateway) × ClientsAsk pace.asked first.core heard × StopsScan Does site (waited pace.every (at_core first heard)) fault last
 
 -- from this start on, with the maps that were found, at most so many scans are done, one after another, so far apart
-pub record DoesRun (start : Gateway) (program_text : List ℕ) (pace : Pace) (course : Course) (core : Gateway) : Type 0 where
+pub record DoesRun (start : Gateway) (program_text : List ℕ) (pace : RunPace) (course : Course) (core : Gateway) : Type 0 where
   pub program : Program
   pub spelled : Spells program_text program
   pub found_by : Polling
@@ -97,5 +97,5 @@ pub record DoesRun (start : Gateway) (program_text : List ℕ) (pace : Pace) (co
   })
 
 -- of the core's own site, program and maps
-abbrev pub RunsProgram : List ℕ → Pace → Course → Gateway → Type 0
+abbrev pub RunsProgram : List ℕ → RunPace → Course → Gateway → Type 0
 RunsProgram program_text pace course core = DoesRun (gateway_of core.site core.maps (vm.opened core.machine.accepted)) program_text pace course core

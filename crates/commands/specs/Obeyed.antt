@@ -20,7 +20,7 @@ use Rattle.commands.specs.Check.{IsCheck, PrintsAccepted}
 use Rattle.commands.specs.Defined.{AreDefined}
 use Rattle.commands.specs.Explained.{IsExplained}
 use Rattle.commands.specs.Headline.{IsAccepted, RunsProgram}
-use Rattle.commands.specs.declared.pace.Pace.{Pace}
+use Rattle.commands.specs.declared.pace.RunPace.{RunPace}
 use Rattle.commands.specs.Opening.{IsRefused}
 use Rattle.commands.specs.Outcome.{IsTrial}
 use Rattle.commands.specs.Printed.{IsUnlinked}
@@ -51,7 +51,7 @@ Obeys (Explain site program defs listing) old new status = IsExplained site.now 
 -- ---- over a link
 
 -- at most so many scans of the program of these texts, so far apart, which is accepted for the site; or what is told where there is no core
-abbrev pub Runs : List ℕ → List ℕ → List (List ℕ) → Pace → Polling → Polling → Option (List ℕ) → Option (List ℕ) → Option Gateway → ℕ → Type 0
+abbrev pub Runs : List ℕ → List ℕ → List (List ℕ) → RunPace → Polling → Polling → Option (List ℕ) → Option (List ℕ) → Option Gateway → ℕ → Type 0
 Runs site program texts n p q old new (Some core) status =
     HasTexts site program texts core.site core.machine.accepted × IsAccepted site program texts core.site core.machine.accepted
     × RunsProgram program n (record { link_before = p; link_behind = q; out_before = old; out_behind = new; status = status }) core

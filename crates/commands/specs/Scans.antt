@@ -29,12 +29,12 @@ use Rattle.commands.specs.Report.{scan_lines}
 use Rattle.gateway.specs.poller.Telling.{scan_line}
 use Rattle.commands.specs.Series.{Series}
 use Rattle.commands.specs.Sources.{HasTexts}
-use Rattle.commands.specs.declared.pace.Pace.{Pace}
+use Rattle.commands.specs.declared.pace.RunPace.{RunPace}
 
 -- ---- scans, one after another
 
 -- `Steps` says what an event does to the core; so many milliseconds lie between two scans, and clients ask or not.
-module _ (Steps : Gateway → Event → Answer → Gateway → Type 0) (pace : Pace) where
+module _ (Steps : Gateway → Event → Answer → Gateway → Type 0) (pace : RunPace) where
   -- A whole scan over a link: clients asked, so much time went by, the core took what came of the wanted blocks, and then the
   -- scan; and what it then plans went out.
   abbrev pub IsWhole : Polling → Gateway → Polling → Gateway → Report → List Event → Type 0
@@ -59,7 +59,7 @@ module _ (Steps : Gateway → Event → Answer → Gateway → Type 0) (pace : P
 -- ---- how they end
 
 -- The link failed at the next scan, which took these events so far; the lines of all scans before it are printed.
-pub record IsLinkLost (Steps : Gateway → Event → Answer → Gateway → Type 0) (pace : Pace) (reports : List Report) (events : List Event) (p : Polling) (s : Gateway) (q : Polling) (t : Gateway) (old new : Option (List ℕ)) (status : ℕ) : Type 0 where
+pub record IsLinkLost (Steps : Gateway → Event → Answer → Gateway → Type 0) (pace : RunPace) (reports : List Report) (events : List Event) (p : Polling) (s : Gateway) (q : Polling) (t : Gateway) (old new : Option (List ℕ)) (status : ℕ) : Type 0 where
   pub within : length reports < pace.scans
   pub fault : LinkFault
   pub broken : IsBroken Steps pace p s fault q t events
@@ -79,14 +79,14 @@ series_of n reports p s q t old new status = record {
   status = status;
 }
 
-abbrev pub End : (Gateway → Event → Answer → Gateway → Type 0) → Pace → List Report → List Event → Polling → Gateway → Polling → Gateway → Option (List ℕ) → Option (List ℕ) → ℕ → Type 0
+abbrev pub End : (Gateway → Event → Answer → Gateway → Type 0) → RunPace → List Report → List Event → Polling → Gateway → Polling → Gateway → Option (List ℕ) → Option (List ℕ) → ℕ → Type 0
 End Steps pace reports events p s q t old new status =
     ((events ≡ []) × AreAllDone (series_of pace.scans reports p s q t old new status))
     ⊎ ((events ≡ []) × IsLineLost (series_of pace.scans reports p s q t old new status))
     ⊎ IsLinkLost Steps pace reports events p s q t old new status
 
 -- At most so many scans, so far apart, with all their events, what is printed of them, and the status.
-pub record DoesScans (Steps : Gateway → Event → Answer → Gateway → Type 0) (pace : Pace) (p : Polling) (s : Gateway) (events : List Event) (q : Polling) (t : Gateway) (old new : Option (List ℕ)) (status : ℕ) : Type 0 where
+pub record DoesScans (Steps : Gateway → Event → Answer → Gateway → Type 0) (pace : RunPace) (p : Polling) (s : Gateway) (events : List Event) (q : Polling) (t : Gateway) (old new : Option (List ℕ)) (status : ℕ) : Type 0 where
   pub reports : List Report
   pub before : List Event
   pub behind : List Event
@@ -96,17 +96,17 @@ pub record DoesScans (Steps : Gateway → Event → Answer → Gateway → Type 
   pub whole : AreScans Steps pace p s reports before middle between
   pub end : End Steps pace reports behind middle between q t old new status
 
-abbrev pub LeavesOff : Pace → Polling → Gateway → Polling → Gateway → Option (List ℕ) → Option (List ℕ) → ℕ → Type 0
+abbrev pub LeavesOff : RunPace → Polling → Gateway → Polling → Gateway → Option (List ℕ) → Option (List ℕ) → ℕ → Type 0
 LeavesOff pace p s q t old new status = (events : List Event) × DoesScans (TakesEvent most_deferred) pace p s events q t old new status
 
 -- ---- one scan
 
 -- Its line is printed.
-abbrev pub IsPrinted : Pace → (k : ℕ) → Polling → Gateway → Polling → Gateway → Option (List ℕ) → Option (List ℕ) → Type 0
+abbrev pub IsPrinted : RunPace → (k : ℕ) → Polling → Gateway → Polling → Gateway → Option (List ℕ) → Option (List ℕ) → Type 0
 IsPrinted pace k p s q t old new = (report : Report) × (events : List Event) × IsWhole (TakesEvent most_deferred) pace p s q t report events × Appends old new (scan_line k report)
 
 -- Its line isn't printed, or the link failed: no scan comes behind it.
-abbrev pub IsLast : Pace → (k : ℕ) → Polling → Gateway → Polling → Gateway → Option (List ℕ) → Option (List ℕ) → ℕ → Type 0
+abbrev pub IsLast : RunPace → (k : ℕ) → Polling → Gateway → Polling → Gateway → Option (List ℕ) → Option (List ℕ) → ℕ → Type 0
 IsLast pace k p s q t old new status =
     ((report : Report) × (events : List Event) × IsWhole (TakesEvent most_deferred) pace p s q t report events × IsUnprinted k report old new status)
     ⊎ ((fault : LinkFault) × (events : List Event) × IsBroken (TakesEvent most_deferred) pace p s fault q t events × IsUnlinked fault old new status)
@@ -117,7 +117,7 @@ IsLast pace k p s q t old new status =
 -- with what clients asked between them: each on the readings of the blocks that came, without a trap and within the budget, with the variables and outputs that the program
 -- means on them; and what went out for its outputs are the set points of just these. The core stands at the site run of
 -- all their events.
-pub record RunsScans (site_text program_text : List ℕ) (texts : List (List ℕ)) (pace : Pace) (p q : Polling) (old new : Option (List ℕ)) (core : Gateway) (status : ℕ) : Type 0 where
+pub record RunsScans (site_text program_text : List ℕ) (texts : List (List ℕ)) (pace : RunPace) (p q : Polling) (old new : Option (List ℕ)) (core : Gateway) (status : ℕ) : Type 0 where
   pub site : Site
   pub program : Program
   pub accepted : Acceptance
@@ -134,7 +134,7 @@ pub record RunsScans (site_text program_text : List ℕ) (texts : List (List ℕ
 -- The parts of the headline say all of this, with the clause `texts`, of a core's program (that it was verified is said of each one).
 abbrev pub PartsAreTheRun : Type 0
 PartsAreTheRun =
-    (site program : List ℕ) (texts : List (List ℕ)) (pace : Pace) (p q : Polling) (old new : Option (List ℕ)) (core : Gateway) (status : ℕ)
+    (site program : List ℕ) (texts : List (List ℕ)) (pace : RunPace) (p q : Polling) (old new : Option (List ℕ)) (core : Gateway) (status : ℕ)
     → IsVerified most_deferred core.machine.accepted → HasTexts site program texts core.site core.machine.accepted
     → IsAccepted site program texts core.site core.machine.accepted
     → RunsProgram program pace (record { link_before = p; link_behind = q; out_before = old; out_behind = new; status = status }) core

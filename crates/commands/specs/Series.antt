@@ -7,7 +7,7 @@ use Rattle.gateway.specs.event_core.Control.{after_wait}
 use Rattle.gateway.specs.event_core.Core.{Gateway}
 use Rattle.gateway.specs.poller.Polling.{Polling}
 use Rattle.commands.specs.Clients.{ClientsAsk}
-use Rattle.commands.specs.declared.pace.Pace.{Pace}
+use Rattle.commands.specs.declared.pace.RunPace.{RunPace}
 use Rattle.gateway.specs.declared.poller.cycle.Report.{Report}
 
 -- a moment: the link, and the core
@@ -35,7 +35,7 @@ at_core m g = record m { core = g }
 
 -- scans of which each begins where the one before it left off, once clients asked, where they are asked at all, and so many
 -- milliseconds later
-abbrev pub AreInOrder : Pace → (Scan → Type 0) → Moment → List Scan → Moment → Type 0
+abbrev pub AreInOrder : RunPace → (Scan → Type 0) → Moment → List Scan → Moment → Type 0
 AreInOrder pace Does first [] last = last ≡ first
 AreInOrder pace Does first (scan ∷ scans) last =
     (heard : Gateway) × ClientsAsk pace.asked first.core heard × (scan.before ≡ waited pace.every (at_core first heard)) × Does scan × AreInOrder pace Does scan.behind scans last

@@ -10,7 +10,7 @@ ghost use Rattle.commands.specs.Report.{unverified_line};
 ghost use Rattle.commands.specs.Told.{refused_with};
 
 use crate::definitions::definitions;
-use crate::outcome::Outcome;
+use crate::outcome::CommandOutcome;
 use crate::report::{no_site, undefined, unverified};
 use file_keys::{Placed, TomlFile};
 pub use gateway::DEPTH;
@@ -18,7 +18,7 @@ use il_assemble::assemble;
 use il_assemble::laws::texts_keep_the_limits;
 use il_reader::{Program, read};
 use model_defs::{DefFault, ModelDef};
-use refusal_notes::{Cause, cause_of_definition, cause_of_refusal, cause_of_site};
+use refusal_notes::{RefusalNote, cause_of_definition, cause_of_refusal, cause_of_site};
 use scan_code::Image;
 use site_model::{Site, SiteFault};
 use std::alloc::{AllocError, Global};
@@ -40,7 +40,7 @@ pub fn accept(
     site: &TomlFile<'_>,
     program: &str,
     defs: &[String],
-) -> Result<Result<Accepted, Outcome>, AllocError>
+) -> Result<Result<Accepted, CommandOutcome>, AllocError>
     ensures { IfOk result (Gives site.now program.now (map string_bytes defs.now)) }
 {
     match definitions(alloc, defs) {
@@ -49,7 +49,7 @@ pub fn accept(
         Err(fault) => {
             let line = undefined(alloc, fault.word())?;
             let cause = cause_of_definition(alloc, defs, fault);
-            Ok(Err(Outcome::caused(line, cause)))
+            Ok(Err(CommandOutcome::caused(line, cause)))
         }
     }
 }
@@ -60,7 +60,7 @@ fn accept_over(
     site: &TomlFile<'_>,
     program: &str,
     models: &[ModelDef],
-) -> Result<Result<Accepted, Outcome>, AllocError>
+) -> Result<Result<Accepted, CommandOutcome>, AllocError>
     ensures { IfOk result (GivesSite models.now site.now program.now) }
 {
     match Site::read_file(alloc, site, models) {
@@ -74,13 +74,17 @@ fn accept_over(
         Err(placed) => {
             let line = no_site(alloc, placed.fault.word())?;
             let cause = cause_of_site(alloc, site, models, placed);
-            Ok(Err(Outcome::caused(line, cause)))
+            Ok(Err(CommandOutcome::caused(line, cause)))
         }
     }
 }
 
 /// The same on a site.
-fn accept_on(alloc: Global, site: Site, text: &str) -> Result<Result<Accepted, Outcome>, AllocError>
+fn accept_on(
+    alloc: Global,
+    site: Site,
+    text: &str,
+) -> Result<Result<Accepted, CommandOutcome>, AllocError>
     ensures { IfOk result (GivesProgram site (reading text.now)) }
 {
     match accept_program(alloc, &site, text) {
@@ -95,13 +99,13 @@ pub fn accept_program(
     alloc: Global,
     site: &Site,
     text: &str,
-) -> Result<Result<Verified<DEPTH>, Outcome>, AllocError>
+) -> Result<Result<Verified<DEPTH>, CommandOutcome>, AllocError>
     ensures { IfOk result (GivesVerified site.now (reading text.now)) }
 {
     texts_keep_the_limits();
     match read(alloc, text) {
         Ok(program) => verified_program(alloc, site, &program),
-        Err(fault) => Ok(Err(Outcome::unread(alloc, text, fault)?)),
+        Err(fault) => Ok(Err(CommandOutcome::unread(alloc, text, fault)?)),
     }
 }
 
@@ -110,13 +114,13 @@ fn verified_program(
     alloc: Global,
     site: &Site,
     program: &Program,
-) -> Result<Result<Verified<DEPTH>, Outcome>, AllocError>
+) -> Result<Result<Verified<DEPTH>, CommandOutcome>, AllocError>
     requires { elaborated program.now ≡ elaborated_text program.now }
     ensures { IfOk result (GivesVerified site.now (Ok program.now)) }
 {
     match assemble(alloc, program) {
         Ok(image) => judged(alloc, site, program, image),
-        Err(fault) => Ok(Err(Outcome::unassembled(alloc, program, fault)?)),
+        Err(fault) => Ok(Err(CommandOutcome::unassembled(alloc, program, fault)?)),
     }
 }
 
@@ -126,7 +130,7 @@ fn judged(
     site: &Site,
     program: &Program,
     image: Image,
-) -> Result<Result<Verified<DEPTH>, Outcome>, AllocError>
+) -> Result<Result<Verified<DEPTH>, CommandOutcome>, AllocError>
     ensures { IfOk result (GivesVerdict site.now image) }
 {
     match verify::<DEPTH>(alloc, image, site) {
@@ -143,13 +147,13 @@ fn not_accepted(
     alloc: Global,
     kind: RefusalKind,
     at: RefusedAt,
-    cause: Cause,
-) -> Result<Result<Verified<DEPTH>, Outcome>, AllocError>
+    cause: RefusalNote,
+) -> Result<Result<Verified<DEPTH>, CommandOutcome>, AllocError>
     ensures { IfOk result (λ none. (kind ≢ refusal.OutOfMemory) × (none ≡ Err (refused_with (unverified_line (verdict_word.word_of kind) (verdict_word.number_of at))))) }
 {
     if let RefusalKind::OutOfMemory = kind {
         return Err(AllocError);
     }
     let told = unverified(alloc, kind.word(), at.number())?;
-    Ok(Err(Outcome::caused(told, cause)))
+    Ok(Err(CommandOutcome::caused(told, cause)))
 }

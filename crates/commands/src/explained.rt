@@ -7,7 +7,7 @@ ghost use Rattle.commands.specs.Explained.{EndsRefused, ExplainsImage, ExplainsP
 
 use crate::accepted::DEPTH;
 use crate::definitions::definitions;
-use crate::outcome::{Outcome, tell_no_memory};
+use crate::outcome::{CommandOutcome, tell_no_memory};
 use crate::report::{no_site, undefined, unverified};
 use file_keys::{Placed, TomlFile};
 use il_assemble::assemble;
@@ -15,7 +15,7 @@ use il_assemble::laws::texts_keep_the_limits;
 use il_reader::{Program, read};
 use model_defs::{DefFault, ModelDef};
 use program_notes::{Beside, table_of};
-use refusal_notes::{Cause, cause_of_definition, cause_of_refusal, cause_of_site};
+use refusal_notes::{RefusalNote, cause_of_definition, cause_of_refusal, cause_of_site};
 use scan_code::Image;
 use site_model::{Site, SiteFault};
 use std::alloc::{AllocError, Global};
@@ -33,7 +33,7 @@ pub fn explain<W: Write>(
     defs: &[String],
     beside: Beside,
     out: &mut W,
-) -> (u8, Option<Cause>)
+) -> (u8, Option<RefusalNote>)
     ensures { IsExplained site.now program.now (map string_bytes defs.now) (W.contents out.old) (W.contents out.new) result.0 }
 {
     match outcome_of(alloc, site, program, defs, beside) {
@@ -49,7 +49,7 @@ fn outcome_of(
     program: &str,
     defs: &[String],
     beside: Beside,
-) -> Result<Outcome, AllocError>
+) -> Result<CommandOutcome, AllocError>
     ensures { IfOk result (ExplainsTexts site.now program.now (map string_bytes defs.now)) }
 {
     match definitions(alloc, defs) {
@@ -57,7 +57,7 @@ fn outcome_of(
         Err(DefFault::OutOfMemory) => Err(AllocError),
         Err(fault) => {
             let line = undefined(alloc, fault.word())?;
-            Ok(Outcome::caused(line, cause_of_definition(alloc, defs, fault)))
+            Ok(CommandOutcome::caused(line, cause_of_definition(alloc, defs, fault)))
         }
     }
 }
@@ -69,7 +69,7 @@ fn outcome_over(
     program: &str,
     models: &[ModelDef],
     beside: Beside,
-) -> Result<Outcome, AllocError>
+) -> Result<CommandOutcome, AllocError>
     ensures { IfOk result (ExplainsSite models.now site.now program.now) }
 {
     match Site::read_file(alloc, site, models) {
@@ -83,19 +83,24 @@ fn outcome_over(
         Err(placed) => {
             let line = no_site(alloc, placed.fault.word())?;
             let cause = cause_of_site(alloc, site, models, placed);
-            Ok(Outcome::caused(line, cause))
+            Ok(CommandOutcome::caused(line, cause))
         }
     }
 }
 
 /// The same on a site.
-fn outcome_on(alloc: Global, site: &Site, text: &str, beside: Beside) -> Result<Outcome, AllocError>
+fn outcome_on(
+    alloc: Global,
+    site: &Site,
+    text: &str,
+    beside: Beside,
+) -> Result<CommandOutcome, AllocError>
     ensures { IfOk result (ExplainsProgram site.now (reading text.now)) }
 {
     texts_keep_the_limits();
     match read(alloc, text) {
         Ok(program) => outcome_of_program(alloc, site, text, &program, beside),
-        Err(fault) => Outcome::unread(alloc, text, fault),
+        Err(fault) => CommandOutcome::unread(alloc, text, fault),
     }
 }
 
@@ -106,13 +111,13 @@ fn outcome_of_program(
     text: &str,
     program: &Program,
     beside: Beside,
-) -> Result<Outcome, AllocError>
+) -> Result<CommandOutcome, AllocError>
     requires { elaborated program.now ≡ elaborated_text program.now }
     ensures { IfOk result (ExplainsProgram site.now (Ok program.now)) }
 {
     match assemble(alloc, program) {
         Ok(image) => outcome_of_image(alloc, site, text, program, image, beside),
-        Err(fault) => Outcome::unassembled(alloc, program, fault),
+        Err(fault) => CommandOutcome::unassembled(alloc, program, fault),
     }
 }
 
@@ -124,7 +129,7 @@ fn outcome_of_image(
     program: &Program,
     image: Image,
     beside: Beside,
-) -> Result<Outcome, AllocError>
+) -> Result<CommandOutcome, AllocError>
     ensures { IfOk result (ExplainsImage site.now image) }
 {
     match verify::<DEPTH>(alloc, image, site) {
@@ -141,11 +146,11 @@ fn outcome_of_accepted(
     program: &Program,
     image: &Image,
     beside: Beside,
-) -> Result<Outcome, AllocError>
+) -> Result<CommandOutcome, AllocError>
     ensures { IfOk result (λ told. told.status ≡ 0) }
 {
     let table = table_of(alloc, text, program, image, site, None, beside)?;
-    Ok(Outcome::listed(table))
+    Ok(CommandOutcome::listed(table))
 }
 
 /// What is told of a program that the verdict refuses: the table to there, and the line of the refusal.
@@ -156,7 +161,7 @@ fn outcome_of_refused(
     program: &Program,
     refused: &Refused,
     beside: Beside,
-) -> Result<Outcome, AllocError>
+) -> Result<CommandOutcome, AllocError>
     ensures { IfOk result (EndsRefused refused.now.kind refused.now.at) }
 {
     if let RefusalKind::OutOfMemory = refused.kind {
@@ -167,7 +172,7 @@ fn outcome_of_refused(
     let line = unverified(alloc, refused.kind.word(), refused.at.number())?;
     lines.push_str(line.as_str())?;
     let cause = cause_of_refusal(alloc, program, site, refused);
-    Ok(Outcome::caused(lines, cause))
+    Ok(CommandOutcome::caused(lines, cause))
 }
 
 /// The number of the instruction that is refused; None where it isn't one that is refused.

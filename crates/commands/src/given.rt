@@ -12,7 +12,7 @@ use std::alloc::{AllocError, Global};
 
 /// What an input line gives: the place of its input among the tags, and its reading.
 #[derive(Clone, Copy)]
-pub struct Entry {
+pub struct GivenEntry {
     pub place: usize,
     pub reading: Reading,
 }
@@ -121,7 +121,7 @@ fn join(slots: &mut [Option<Reading>], tags: &[Tag], line: &[u8]) -> bool
 }
 
 // What a line without its end gives; none where it gives nothing to an input.
-fn entry_of(tags: &[Tag], line: &[u8]) -> Option<Entry>
+fn entry_of(tags: &[Tag], line: &[u8]) -> Option<GivenEntry>
     ensures entry { result ≡ given.entry_given tags.now line.now }
     ensures within { IfSome result (λ entry. entry.place < length tags.now) }
 {
@@ -131,7 +131,7 @@ fn entry_of(tags: &[Tag], line: &[u8]) -> Option<Entry>
     let place = input_place(tags, &name)?;
     let (_, value) = rest.split_at(1);
     match reading_of(tags[place].kind, value) {
-        Some(reading) => Some(Entry { place, reading }),
+        Some(reading) => Some(GivenEntry { place, reading }),
         None => None,
     }
 }

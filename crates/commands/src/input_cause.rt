@@ -5,7 +5,7 @@ use il_reader::Program;
 use note_text::nearer;
 use point_types::{IlType, Name};
 use program_notes::type_word;
-use refusal_notes::Cause;
+use refusal_notes::RefusalNote;
 use scan_code::Image;
 use std::alloc::{AllocError, Global};
 
@@ -17,9 +17,9 @@ pub(crate) fn cause_of_input(
     image: &Image,
     inputs: &[u8],
     number: usize,
-) -> Cause {
+) -> RefusalNote {
     let place = input_line(inputs, number).saturating_add(program.end_line);
-    let mut cause = Cause::no_input(alloc, place);
+    let mut cause = RefusalNote::no_input(alloc, place);
     let line = line_of_number(inputs, number);
     if let Ok(text) = broken_rule(alloc, program, image, inputs, line) {
         cause.detail = text;

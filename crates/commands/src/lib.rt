@@ -44,7 +44,7 @@ pub use site_scans::{DEPTH, scans, scans_noting};
 
 // how many scans, and how far apart
 pub use clients::{ClientTurn, MOST_TURNS, ScanClients};
-pub use pace::{Pace, USUAL_PERIOD};
+pub use pace::{RunPace, USUAL_PERIOD};
 // a device
 pub use model_texts::models_told;
 pub use unit_points::probe;
@@ -53,6 +53,6 @@ pub use obeyed::{Obeyed, TextCommand, obey};
 pub use obeyed_over::{LinkCommand, ObeyedOver, obey_over};
 // what is printed, and its status
 pub use outcome::{
-    FAILED_LINK, Outcome, tell_no_memory, tell_unlinked, tell_unusable, write_lines,
+    CommandOutcome, FAILED_LINK, tell_no_memory, tell_unlinked, tell_unusable, write_lines,
 };
 pub use report::{listening, no_core};

@@ -6,7 +6,7 @@ ghost use Rattle.commands.specs.Obeyed.{TellsNoModels};
 
 use crate::definitions::definitions;
 use crate::obeyed::Obeyed;
-use crate::outcome::{Outcome, tell_no_memory};
+use crate::outcome::{CommandOutcome, tell_no_memory};
 use crate::report::undefined;
 use model_defs::{DefFault, ModelDef};
 use refusal_notes::cause_of_definition;
@@ -32,7 +32,10 @@ pub fn models_told<W: Write>(
 }
 
 /// The shipped definitions and those of the texts, or what is told of the first text that is none.
-fn models_of(alloc: Global, defs: &[String]) -> Result<Result<Vec<ModelDef>, Outcome>, AllocError>
+fn models_of(
+    alloc: Global,
+    defs: &[String],
+) -> Result<Result<Vec<ModelDef>, CommandOutcome>, AllocError>
     ensures defined { IfOk result (λ given. IfOk given (λ models. AreDefined (map string_bytes defs.now) models.items)) }
     ensures told { IfOk result (λ given. IfErr given (TellsUndefined (map string_bytes defs.now))) }
 {
@@ -42,7 +45,7 @@ fn models_of(alloc: Global, defs: &[String]) -> Result<Result<Vec<ModelDef>, Out
         Err(fault) => {
             let line = undefined(alloc, fault.word())?;
             let cause = cause_of_definition(alloc, defs, fault);
-            Ok(Err(Outcome::caused(line, cause)))
+            Ok(Err(CommandOutcome::caused(line, cause)))
         }
     }
 }

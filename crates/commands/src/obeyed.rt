@@ -7,7 +7,7 @@ use crate::trial_scan::try_input;
 use crate::verdict::judge;
 use file_keys::TomlFile;
 use program_notes::Beside;
-use refusal_notes::Cause;
+use refusal_notes::RefusalNote;
 use std::alloc::Global;
 use std::io::Write;
 
@@ -37,11 +37,11 @@ pub enum TextCommand<'a> {
 #[derive(Drop)]
 pub struct Obeyed {
     pub status: u8,
-    pub cause: Option<Cause>,
+    pub cause: Option<RefusalNote>,
 }
 
 impl Obeyed {
-    pub(crate) fn of(told: (u8, Option<Cause>)) -> Obeyed
+    pub(crate) fn of(told: (u8, Option<RefusalNote>)) -> Obeyed
         ensures { result.status ≡ told.0 }
     {
         let (status, cause) = told;

@@ -5,14 +5,14 @@ ghost use Rattle.commands.specs.Obeyed.{ObeysOver, ProbesBy, Runs};
 use crate::accepted::DEPTH;
 use crate::clients::ScanClients;
 use crate::model_texts::models_told;
-use crate::pace::Pace;
+use crate::pace::RunPace;
 use crate::scan_watch::ScanWatch;
 use crate::site_scans::scans_noting;
 use crate::unit_points::probe;
 use file_keys::TomlFile;
 use gateway::{Core, Poller};
 use modbus_frame::Link;
-use refusal_notes::Cause;
+use refusal_notes::RefusalNote;
 use std::alloc::Global;
 use std::io::Write;
 
@@ -24,7 +24,7 @@ pub enum LinkCommand<'a> {
         site: &'a TomlFile<'a>,
         program: &'a str,
         defs: &'a [String],
-        pace: Pace,
+        pace: RunPace,
     },
     /// The points of a unit, by the shipped definitions and those of the texts.
     Probe {
@@ -38,7 +38,7 @@ pub enum LinkCommand<'a> {
 pub struct ObeyedOver {
     pub core: Option<Core<DEPTH>>,
     pub status: u8,
-    pub cause: Option<Cause>,
+    pub cause: Option<RefusalNote>,
 }
 
 /// Does what a command asks for, on just its texts and over the poller's link, and prints what comes of it: as
@@ -78,7 +78,7 @@ fn run_by<L: Link, V: ScanWatch + ScanClients, W: Write>(
     site: &TomlFile<'_>,
     program: &str,
     defs: &[String],
-    pace: Pace,
+    pace: RunPace,
     watch: &mut V,
     out: &mut W,
 ) -> ObeyedOver
@@ -102,7 +102,7 @@ fn probe_by<L: Link, W: Write>(
     unit: u8,
     defs: &[String],
     out: &mut W,
-) -> (u8, Option<Cause>)
+) -> (u8, Option<RefusalNote>)
     ensures { ProbesBy unit (map string_bytes defs.now) poller.old poller.new (W.contents out.old) (W.contents out.new) result.0 }
 {
     match models_told(alloc, defs, out) {

@@ -14,7 +14,7 @@ use crate::writing::write_bytes;
 use il_assemble::{AsmFault, AsmFaultKind};
 use il_reader::{Program, ReadFault, ReadFaultKind};
 use modbus_frame::LinkFault;
-use refusal_notes::Cause;
+use refusal_notes::RefusalNote;
 use std::alloc::{AllocError, Global};
 use std::io::Write;
 use std::marker::Model;
@@ -24,14 +24,14 @@ pub const FAILED_LINK: u8 = 3;
 
 /// Lines to print, and the status that goes with them.
 #[derive(Drop, Debug)]
-pub struct Outcome {
+pub struct CommandOutcome {
     pub lines: Vec<u8>,
     pub status: u8,
     /// Why a command refuses; contracts don't see it.
-    pub cause: Option<Cause>,
+    pub cause: Option<RefusalNote>,
 }
 
-impl Model for Outcome {
+impl Model for CommandOutcome {
     ghost use Rattle.commands.specs.Told.{Told};
 
     ghost Value = { Told };
@@ -39,12 +39,12 @@ impl Model for Outcome {
     ghost view = { λ o. record { lines = o.lines.items; status = o.status } };
 }
 
-impl Outcome {
+impl CommandOutcome {
     /// The line of a refusal, with status 1.
-    pub fn refused(line: String) -> Outcome
+    pub fn refused(line: String) -> CommandOutcome
         ensures { result ≡ refused_with (string_bytes line) }
     {
-        Outcome {
+        CommandOutcome {
             lines: line.into_bytes(),
             status: 1,
             cause: None,
@@ -52,19 +52,19 @@ impl Outcome {
     }
 
     /// The line of a refusal that is noted, with status 1.
-    pub(crate) fn caused(line: String, cause: Cause) -> Outcome
+    pub(crate) fn caused(line: String, cause: RefusalNote) -> CommandOutcome
         ensures { result ≡ refused_with (string_bytes line) }
     {
-        let mut outcome = Outcome::refused(line);
+        let mut outcome = CommandOutcome::refused(line);
         outcome.cause = Some(cause);
         outcome
     }
 
     /// The lines of a text that is printed, with status 0.
-    pub(crate) fn listed(text: String) -> Outcome
+    pub(crate) fn listed(text: String) -> CommandOutcome
         ensures { result ≡ record { lines = string_bytes text; status = 0 } }
     {
-        Outcome {
+        CommandOutcome {
             lines: text.into_bytes(),
             status: 0,
             cause: None,
@@ -72,11 +72,11 @@ impl Outcome {
     }
 
     /// The lines `accepted` and `budget N`, with status 0.
-    pub fn accepted(alloc: Global, budget: u32) -> Result<Outcome, AllocError>
+    pub fn accepted(alloc: Global, budget: u32) -> Result<CommandOutcome, AllocError>
         ensures { IfOk result (λ o. o ≡ record { lines = accepted_lines budget; status = 0 }) }
     {
         let lines = accepted(alloc, budget)?;
-        Ok(Outcome {
+        Ok(CommandOutcome {
             lines: lines.into_bytes(),
             status: 0,
             cause: None,
@@ -84,7 +84,7 @@ impl Outcome {
     }
 
     /// The line of a text that is no program, with status 1; none where memory was refused.
-    pub fn unread(alloc: Global, text: &str, fault: ReadFault) -> Result<Outcome, AllocError>
+    pub fn unread(alloc: Global, text: &str, fault: ReadFault) -> Result<CommandOutcome, AllocError>
         ensures real { OnOk result (fault.kind ≢ read_fault.OutOfMemory) }
         ensures told { IfOk result (λ o. o ≡ refused_with (unread_line (reading.word_of fault.kind) fault.line)) }
     {
@@ -92,7 +92,7 @@ impl Outcome {
             return Err(AllocError);
         }
         let line = unread(alloc, fault.kind.word(), fault.line)?;
-        Ok(Outcome::caused(line, Cause::unread(alloc, text, fault)))
+        Ok(CommandOutcome::caused(line, RefusalNote::unread(alloc, text, fault)))
     }
 
     /// The line of a program without code, with status 1; none where memory was refused.
@@ -100,7 +100,7 @@ impl Outcome {
         alloc: Global,
         program: &Program,
         fault: AsmFault,
-    ) -> Result<Outcome, AllocError>
+    ) -> Result<CommandOutcome, AllocError>
         ensures real { OnOk result (fault.kind ≢ asm_fault.OutOfMemory) }
         ensures told { IfOk result (λ o. o ≡ refused_with (unassembled_line (assembling.word_of fault.kind) fault.line)) }
     {
@@ -108,15 +108,15 @@ impl Outcome {
             return Err(AllocError);
         }
         let line = unassembled(alloc, fault.kind.word(), fault.line)?;
-        Ok(Outcome::caused(line, Cause::unassembled(alloc, program, fault)))
+        Ok(CommandOutcome::caused(line, RefusalNote::unassembled(alloc, program, fault)))
     }
 
     /// The line `link: KIND`, with status 3.
-    pub(crate) fn unlinked(alloc: Global, fault: LinkFault) -> Result<Outcome, AllocError>
+    pub(crate) fn unlinked(alloc: Global, fault: LinkFault) -> Result<CommandOutcome, AllocError>
         ensures { IfOk result (λ o. o ≡ record { lines = link_line (link_fault_word fault); status = FAILED_LINK }) }
     {
         let line = link_failed(alloc, fault.word())?;
-        Ok(Outcome {
+        Ok(CommandOutcome {
             lines: line.into_bytes(),
             status: FAILED_LINK,
             cause: None,
@@ -163,7 +163,7 @@ pub fn tell_unusable<W: Write>(alloc: Global, path: &str, out: &mut W) -> u8
 pub fn tell_unlinked<W: Write>(alloc: Global, fault: LinkFault, out: &mut W) -> u8
     ensures { IsUnlinked fault (W.contents out.old) (W.contents out.new) result }
 {
-    match Outcome::unlinked(alloc, fault) {
+    match CommandOutcome::unlinked(alloc, fault) {
         Ok(outcome) => outcome.tell(out),
         Err(AllocError) => tell_no_memory(out),
     }

@@ -3,7 +3,7 @@ ghost use Rattle.std.specs.Prelude.{◌≡◌, false};
 
 /// How the scans of a run follow one another.
 #[derive(Clone, Copy, Debug, PartialEq, Eq)]
-pub struct Pace {
+pub struct RunPace {
     /// How many.
     pub scans: u32,
     /// The milliseconds from each to the next one, as the program is told them.
@@ -15,12 +15,12 @@ pub struct Pace {
 /// The milliseconds between two scans where nothing else is said.
 pub const USUAL_PERIOD: u32 = 1_000;
 
-impl Pace {
+impl RunPace {
     /// So many scans, a second apart, between which nobody asks.
-    pub fn usual(scans: u32) -> Pace
+    pub fn usual(scans: u32) -> RunPace
         ensures { result ≡ record { scans = scans; every = 1000; asked = false } }
     {
-        Pace {
+        RunPace {
             scans,
             every: USUAL_PERIOD,
             asked: false,

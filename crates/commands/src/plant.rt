@@ -4,7 +4,7 @@ ghost use Rattle.commands.specs.Simulate.{GivesDefined, GivesPlant, TellsNoPlant
 
 use crate::definitions::definitions;
 use crate::obeyed::Obeyed;
-use crate::outcome::{Outcome, tell_no_memory};
+use crate::outcome::{CommandOutcome, tell_no_memory};
 use crate::report::{no_plant, undefined};
 use file_keys::{Placed, TomlFile};
 use inverter_sim::{Plant, PlantFault};
@@ -18,7 +18,7 @@ pub fn plant_of(
     alloc: Global,
     plant: &TomlFile<'_>,
     defs: &[String],
-) -> Result<Result<Plant, Outcome>, AllocError>
+) -> Result<Result<Plant, CommandOutcome>, AllocError>
     ensures { IfOk result (TellsPlant plant.now (map string_bytes defs.now)) }
 {
     match definitions(alloc, defs) {
@@ -27,7 +27,7 @@ pub fn plant_of(
         Err(fault) => {
             let line = undefined(alloc, fault.word())?;
             let cause = cause_of_definition(alloc, defs, fault);
-            Ok(Err(Outcome::caused(line, cause)))
+            Ok(Err(CommandOutcome::caused(line, cause)))
         }
     }
 }
@@ -55,7 +55,7 @@ fn plant_over(
     alloc: Global,
     plant: &TomlFile<'_>,
     models: &[ModelDef],
-) -> Result<Result<Plant, Outcome>, AllocError>
+) -> Result<Result<Plant, CommandOutcome>, AllocError>
     ensures { IfOk result (GivesPlant models.now plant.now) }
 {
     match Plant::read_file(alloc, plant, models) {
@@ -69,7 +69,7 @@ fn plant_over(
         Err(placed) => {
             let line = no_plant(alloc, placed.fault.word())?;
             let cause = cause_of_plant(alloc, plant, models, placed);
-            Ok(Err(Outcome::caused(line, cause)))
+            Ok(Err(CommandOutcome::caused(line, cause)))
         }
     }
 }

@@ -5,12 +5,12 @@ ghost use Rattle.scan_vm.specs.Trial.{started};
 ghost use Rattle.commands.specs.Outcome.{TellsImage, ending_line, ending_status, standing_lines};
 ghost use Rattle.commands.specs.Report as report;
 
-use crate::outcome::Outcome;
+use crate::outcome::CommandOutcome;
 use crate::report::{push_named, push_steps, push_trap, shown};
 use crate::trap_cause::cause_of_trap;
 use il_reader::Program;
 use point_types::Reading;
-use refusal_notes::Cause;
+use refusal_notes::RefusalNote;
 use scan_code::Tag;
 use scan_vm::{Scan, Trap, Trial};
 use std::alloc::{AllocError, Global};
@@ -21,13 +21,13 @@ pub(crate) fn scan_outcome(
     program: &Program,
     trial: &mut Trial,
     readings: &[Reading],
-) -> Result<Outcome, AllocError>
+) -> Result<CommandOutcome, AllocError>
     ensures { (image : Image) → trial.old ≡ started image → IfOk result (TellsImage image readings.now) }
 {
     let ending = trial.scan(readings);
     let mut lines = Vec::new(alloc);
     let status = push_scan(&mut lines, alloc, trial, ending)?;
-    Ok(Outcome {
+    Ok(CommandOutcome {
         lines,
         status,
         cause: cause_of_ending(alloc, program, trial, ending),
@@ -40,7 +40,7 @@ fn cause_of_ending(
     program: &Program,
     trial: &Trial,
     ending: Result<Scan, Trap>,
-) -> Option<Cause> {
+) -> Option<RefusalNote> {
     match ending {
         Ok(_) => None,
         Err(trap) => Some(cause_of_trap(alloc, program, trial, trap)),

@@ -19,14 +19,14 @@ ghost use Rattle.commands.specs.Told.{refused_with};
 pub use crate::accepted::DEPTH;
 use crate::accepted::{Accepted, accept};
 use crate::clients::{ScanClients, ask};
-use crate::outcome::{Outcome, tell_no_memory, tell_unlinked, write_lines};
-use crate::pace::Pace;
+use crate::outcome::{CommandOutcome, tell_no_memory, tell_unlinked, write_lines};
+use crate::pace::RunPace;
 use crate::report::no_core;
 use crate::scan_watch::{ScanWatch, Unwatched};
 use file_keys::TomlFile;
 use gateway::{Core, CoreFault, Event, Poller, run_scan};
 use modbus_frame::{Link, LinkFault};
-use refusal_notes::Cause;
+use refusal_notes::RefusalNote;
 use register_map::Map;
 use scan_vm::Machine;
 use site_model::Site;
@@ -55,7 +55,7 @@ pub fn scans<L: Link, W: Write>(
 {
     let mut cause = None;
     let watch = &mut Unwatched;
-    let pace = Pace::usual(n);
+    let pace = RunPace::usual(n);
     scans_noting(
         alloc, site, program, defs, pace, poller, watch, &mut cause, out,
     )
@@ -68,10 +68,10 @@ pub fn scans_noting<L: Link, V: ScanWatch + ScanClients, W: Write>(
     site: &TomlFile<'_>,
     program: &str,
     defs: &[String],
-    pace: Pace,
+    pace: RunPace,
     poller: &mut Poller<L>,
     watch: &mut V,
-    cause: &mut Option<Cause>,
+    cause: &mut Option<RefusalNote>,
     out: &mut W,
 ) -> (Option<Core<DEPTH>>, u8)
     ensures accepted { IfSome result.0 (λ core. IsAccepted site.now program.now (map string_bytes defs.now) core.site core.machine.accepted) }
@@ -99,7 +99,7 @@ fn scan_times<L: Link, V: ScanWatch + ScanClients, W: Write>(
     alloc: Global,
     core: &mut Core<DEPTH>,
     poller: &mut Poller<L>,
-    pace: Pace,
+    pace: RunPace,
     watch: &mut V,
     out: &mut W,
 ) -> u8
@@ -122,7 +122,7 @@ fn scan_once<L: Link, W: Write>(
     alloc: Global,
     core: &mut Core<DEPTH>,
     poller: &mut Poller<L>,
-    pace: Pace,
+    pace: RunPace,
     k: u32,
     out: &mut W,
 ) -> u8
@@ -154,7 +154,7 @@ fn core_of<L: Link>(
     program: &str,
     defs: &[String],
     poller: &mut Poller<L>,
-) -> Result<Result<Core<DEPTH>, Outcome>, AllocError>
+) -> Result<Result<Core<DEPTH>, CommandOutcome>, AllocError>
     ensures starts { IfOk result (StartsCore site.now program.now (map string_bytes defs.now) poller.old poller.new) }
     ensures left { OnErr result (LeavesPoller site.now program.now (map string_bytes defs.now) poller.old poller.new) }
 {
@@ -170,7 +170,7 @@ fn opened<L: Link>(
     alloc: Global,
     given: Accepted,
     poller: &mut Poller<L>,
-) -> Result<Result<Core<DEPTH>, Outcome>, AllocError>
+) -> Result<Result<Core<DEPTH>, CommandOutcome>, AllocError>
     ensures opens { IfOk result (OpensCore given.site given.verified poller.old poller.new) }
     ensures left { OnErr result (IsSearched given.site.devices poller.old poller.new) }
 {
@@ -181,13 +181,16 @@ fn opened<L: Link>(
 }
 
 /// What is told where the devices' maps aren't found.
-fn unfound(alloc: Global, fault: LinkFault) -> Result<Result<Core<DEPTH>, Outcome>, AllocError>
+fn unfound(
+    alloc: Global,
+    fault: LinkFault,
+) -> Result<Result<Core<DEPTH>, CommandOutcome>, AllocError>
     ensures { IfOk result (λ none. (fault ≢ link.OutOfMemory) × (none ≡ Err (unlinked_with (link_line (link_fault_word fault))))) }
 {
     if let LinkFault::OutOfMemory = fault {
         return Err(AllocError);
     }
-    Ok(Err(Outcome::unlinked(alloc, fault)?))
+    Ok(Err(CommandOutcome::unlinked(alloc, fault)?))
 }
 
 /// The core of an accepted program over the maps of its site's devices.
@@ -195,7 +198,7 @@ fn core_over(
     alloc: Global,
     given: Accepted,
     maps: Vec<Option<Map>>,
-) -> Result<Result<Core<DEPTH>, Outcome>, AllocError>
+) -> Result<Result<Core<DEPTH>, CommandOutcome>, AllocError>
     requires { length maps.items ≡ length given.site.devices }
     ensures { IfOk result (MakesCore given.site (vm.opened given.verified) maps.items) }
 {
@@ -212,7 +215,7 @@ fn core_with(
     site: Site,
     machine: Machine<DEPTH>,
     maps: Vec<Option<Map>>,
-) -> Result<Result<Core<DEPTH>, Outcome>, AllocError>
+) -> Result<Result<Core<DEPTH>, CommandOutcome>, AllocError>
     requires { length maps.items ≡ length site.devices }
     ensures { IfOk result (MakesCore site machine maps.items) }
 {
@@ -223,12 +226,15 @@ fn core_with(
 }
 
 /// What is told where no core is made.
-fn unmade(alloc: Global, fault: CoreFault) -> Result<Result<Core<DEPTH>, Outcome>, AllocError>
+fn unmade(
+    alloc: Global,
+    fault: CoreFault,
+) -> Result<Result<Core<DEPTH>, CommandOutcome>, AllocError>
     ensures { IfOk result (λ none. (fault ≡ Foreign) × (none ≡ Err (refused_with (bad_core_line (core_fault_word Foreign))))) }
 {
     if let CoreFault::OutOfMemory = fault {
         return Err(AllocError);
     }
     let line = no_core(alloc, fault.word())?;
-    Ok(Err(Outcome::refused(line)))
+    Ok(Err(CommandOutcome::refused(line)))
 }

@@ -3,7 +3,7 @@ use crate::report::shown;
 use il_reader::Program;
 use point_types::{IlType, Operator};
 use program_notes::{instruction_line, name_in, number_at, type_word};
-use refusal_notes::Cause;
+use refusal_notes::RefusalNote;
 use scan_code::{Image, Op, decode};
 use scan_vm::{Trap, TrapKind, Trial};
 use std::alloc::{AllocError, Global};
@@ -12,7 +12,12 @@ use std::alloc::{AllocError, Global};
 type Typed = (IlType, i64);
 
 /// The cause of a trap. Where memory for a part of it is refused, it goes without.
-pub(crate) fn cause_of_trap(alloc: Global, program: &Program, trial: &Trial, trap: Trap) -> Cause {
+pub(crate) fn cause_of_trap(
+    alloc: Global,
+    program: &Program,
+    trial: &Trial,
+    trap: Trap,
+) -> RefusalNote {
     let code = trial.image().code.as_slice();
     let address = trial.stopped_at();
     let number = number_at(code, address);
@@ -20,7 +25,7 @@ pub(crate) fn cause_of_trap(alloc: Global, program: &Program, trial: &Trial, tra
         Some(number) => instruction_line(alloc, program, number),
         None => 0,
     };
-    let mut cause = Cause::trapped(alloc, trap.kind, line);
+    let mut cause = RefusalNote::trapped(alloc, trap.kind, line);
     if let Some((op, _)) = decode(code, address) {
         if let Some(name) = name_in(trial.image(), op) {
             let _ = cause.name.push_str(name.as_str());

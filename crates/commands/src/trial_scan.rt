@@ -12,13 +12,13 @@ ghost use Rattle.commands.specs.Told.{refused_with};
 use crate::given::readings_given;
 use crate::input::program_length;
 use crate::input_cause::cause_of_input;
-use crate::outcome::{Outcome, tell_no_memory};
+use crate::outcome::{CommandOutcome, tell_no_memory};
 use crate::report::bad_input;
 use crate::scan::scan_outcome;
 use il_assemble::assemble;
 use il_assemble::laws::texts_keep_the_limits;
 use il_reader::{Program, read};
-use refusal_notes::Cause;
+use refusal_notes::RefusalNote;
 use scan_code::Image;
 use scan_vm::Trial;
 use std::alloc::{AllocError, Global};
@@ -34,7 +34,7 @@ pub fn trial<W: Write>(alloc: Global, input: &str, out: &mut W) -> u8
 }
 
 /// The same, and the cause where the text of the program is refused or the scan traps.
-pub fn try_input<W: Write>(alloc: Global, input: &str, out: &mut W) -> (u8, Option<Cause>)
+pub fn try_input<W: Write>(alloc: Global, input: &str, out: &mut W) -> (u8, Option<RefusalNote>)
     ensures { IsTrial input.now (W.contents out.old) (W.contents out.new) result.0 }
 {
     match outcome_of(alloc, input) {
@@ -44,14 +44,14 @@ pub fn try_input<W: Write>(alloc: Global, input: &str, out: &mut W) -> (u8, Opti
 }
 
 /// What is told of the program that the input begins with.
-fn outcome_of(alloc: Global, input: &str) -> Result<Outcome, AllocError>
+fn outcome_of(alloc: Global, input: &str) -> Result<CommandOutcome, AllocError>
     ensures { IfOk result (TellsInput input.now) }
 {
     texts_keep_the_limits();
     let (text, inputs) = input.split_at(program_length(input.as_bytes()));
     match read(alloc, text) {
         Ok(program) => outcome_of_program(alloc, &program, inputs.as_bytes()),
-        Err(fault) => Outcome::unread(alloc, text, fault),
+        Err(fault) => CommandOutcome::unread(alloc, text, fault),
     }
 }
 
@@ -60,13 +60,13 @@ fn outcome_of_program(
     alloc: Global,
     program: &Program,
     inputs: &[u8],
-) -> Result<Outcome, AllocError>
+) -> Result<CommandOutcome, AllocError>
     requires { elaborated program.now ≡ elaborated_text program.now }
     ensures { IfOk result (TellsTree program.now (input.lines_of inputs.now)) }
 {
     match assemble(alloc, program) {
         Ok(image) => outcome_of_image(alloc, program, image, inputs),
-        Err(fault) => Outcome::unassembled(alloc, program, fault),
+        Err(fault) => CommandOutcome::unassembled(alloc, program, fault),
     }
 }
 
@@ -76,7 +76,7 @@ fn outcome_of_image(
     program: &Program,
     image: Image,
     inputs: &[u8],
-) -> Result<Outcome, AllocError>
+) -> Result<CommandOutcome, AllocError>
     ensures { IfOk result (TellsGivenImage image (input.lines_of inputs.now)) }
 {
     let mut trial = Trial::new(alloc, image)?;
@@ -89,7 +89,7 @@ fn outcome_of_trial(
     program: &Program,
     trial: &mut Trial,
     inputs: &[u8],
-) -> Result<Outcome, AllocError>
+) -> Result<CommandOutcome, AllocError>
     ensures { (image : Image) → trial.old ≡ started image → IfOk result (TellsGivenImage image (input.lines_of inputs.now)) }
 {
     match readings_given(alloc, trial.image().tags.as_slice(), inputs) {
@@ -106,10 +106,10 @@ fn refused_input(
     image: &Image,
     inputs: &[u8],
     number: usize,
-) -> Result<Outcome, AllocError>
+) -> Result<CommandOutcome, AllocError>
     ensures { IfOk result (λ o. o ≡ refused_with (bad_input_line number)) }
 {
     let line = bad_input(alloc, number)?;
     let cause = cause_of_input(alloc, program, image, inputs, number);
-    Ok(Outcome::caused(line, cause))
+    Ok(CommandOutcome::caused(line, cause))
 }

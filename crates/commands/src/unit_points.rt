@@ -6,7 +6,7 @@ ghost use Rattle.site_model.specs.Tagging.{is_numeric};
 ghost use Rattle.commands.specs.Printed.{IsUnlinked};
 ghost use Rattle.commands.specs.Probe.{IsProbe, LeavesOff, PointsRead, Probes, ReadsMap, StopsBy, TellsMap, definition_of, model_line, point_lines, points_by, points_request, shown_line, shown_number, unlinked};
 
-use crate::outcome::{Outcome, tell_no_memory};
+use crate::outcome::{CommandOutcome, tell_no_memory};
 use crate::report::{no_map, push_end, push_model, push_point};
 use gateway::{Outcome as Answer, Poller};
 use modbus_frame::{Link, LinkFault, Request};
@@ -50,15 +50,15 @@ fn outcome_of<L: Link>(
     poller: &mut Poller<L>,
     unit: u8,
     models: &[ModelDef],
-) -> Result<Outcome, AllocError>
+) -> Result<CommandOutcome, AllocError>
     ensures told { poller.old.fault ≡ None → IfOk result (λ told. Probes unit models.now poller.old told poller.new) }
     ensures left { poller.old.fault ≡ None → OnErr result (LeavesOff unit poller.old poller.new) }
     ensures stands { IfSome poller.old.fault (λ fault. IfOk result (λ told. told ≡ unlinked fault) × (poller.new ≡ poller.old)) }
 {
     match poller.search(unit, None) {
         Ok(Ok(map)) => outcome_by(alloc, poller, unit, models, &map),
-        Ok(Err(fault)) => Ok(Outcome::refused(no_map(alloc, fault.word())?)),
-        Err(fault) => Outcome::unlinked(alloc, fault),
+        Ok(Err(fault)) => Ok(CommandOutcome::refused(no_map(alloc, fault.word())?)),
+        Err(fault) => CommandOutcome::unlinked(alloc, fault),
     }
 }
 
@@ -69,18 +69,18 @@ fn outcome_by<L: Link>(
     unit: u8,
     models: &[ModelDef],
     map: &Map,
-) -> Result<Outcome, AllocError>
+) -> Result<CommandOutcome, AllocError>
     requires { poller.old.fault ≡ None }
     ensures told { IfOk result (λ told. TellsMap unit models.now map.now poller.old told poller.new) }
     ensures left { OnErr result (LeavesOff unit poller.old poller.new) }
 {
     match lines_of(alloc, poller, unit, models, map) {
-        Ok(lines) => Ok(Outcome {
+        Ok(lines) => Ok(CommandOutcome {
             lines,
             status: 0,
             cause: None,
         }),
-        Err(NoLines::Link(fault)) => Outcome::unlinked(alloc, fault),
+        Err(NoLines::Link(fault)) => CommandOutcome::unlinked(alloc, fault),
         Err(NoLines::OutOfMemory) => Err(AllocError),
     }
 }

@@ -8,9 +8,9 @@ ghost use Rattle.commands.specs.Check.{IsCheck, PrintsAccepted, TellsInputs};
 ghost use Rattle.commands.specs.Obeyed.{Checks};
 
 use crate::accepted::{Accepted, accept};
-use crate::outcome::{Outcome, tell_no_memory};
+use crate::outcome::{CommandOutcome, tell_no_memory};
 use file_keys::TomlFile;
-use refusal_notes::Cause;
+use refusal_notes::RefusalNote;
 use std::alloc::{AllocError, Global};
 use std::io::Write;
 
@@ -41,7 +41,7 @@ pub fn check<W: Write>(
 pub struct Judged {
     pub status: u8,
     /// Why the definitions, the site or the program are refused.
-    pub cause: Option<Cause>,
+    pub cause: Option<RefusalNote>,
     /// The site and the program, where it is accepted.
     pub accepted: Option<Accepted>,
 }
@@ -80,12 +80,12 @@ fn outcome_of(
     site: &TomlFile<'_>,
     program: &str,
     defs: &[String],
-) -> Result<(Outcome, Option<Accepted>), AllocError>
+) -> Result<(CommandOutcome, Option<Accepted>), AllocError>
     ensures told { IfOk result (λ o. TellsInputs site.now program.now (map string_bytes defs.now) o.0) }
     ensures given { IfOk result (λ o. IfSome o.1 (λ given. Gives site.now program.now (map string_bytes defs.now) (Ok given))) }
 {
     match accept(alloc, site, program, defs) {
-        Ok(Ok(given)) => match Outcome::accepted(alloc, given.verified.budget()) {
+        Ok(Ok(given)) => match CommandOutcome::accepted(alloc, given.verified.budget()) {
             Ok(outcome) => Ok((outcome, Some(given))),
             Err(AllocError) => Err(AllocError),
         },

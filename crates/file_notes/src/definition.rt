@@ -1,5 +1,5 @@
 //! Where a text breaks a rule of model definitions.
-use crate::finding::{EntryName, Finding, Kind, Rule, Stands, entry_named};
+use crate::finding::{EntryName, Finding, Rule, Stands, ValueKind, entry_named};
 use crate::place::FilePlace;
 use model_defs::rules::{kind_named, whole_number};
 use model_defs::{DefFault, DefPart};
@@ -68,7 +68,7 @@ fn no_object(tree: &Value, part: DefPart) -> Option<Finding<'_>> {
     if points_in(tree)?.get(number)?.is_object() {
         return None;
     }
-    let rule = Rule::Unlike(Kind::Objects);
+    let rule = Rule::Unlike(ValueKind::Objects);
     Some(Finding::by("group.points", Stands::Other("array"), rule))
 }
 
@@ -118,10 +118,10 @@ fn in_model(tree: &Value, fault: DefFault) -> Finding<'_> {
         return Finding::by("id", stands_at(tree, "id"), Rule::Within(1, 65534));
     }
     if !tree.is_object() {
-        return Finding::by("the text", Stands::Nothing, Rule::Unlike(Kind::Object));
+        return Finding::by("the text", Stands::Nothing, Rule::Unlike(ValueKind::Object));
     }
     if !is_whole(tree, "id") {
-        return unlike(tree, "id", Kind::Number);
+        return unlike(tree, "id", ValueKind::Number);
     }
     match tree.get("group") {
         None => Finding::missing("group"),
@@ -131,7 +131,7 @@ fn in_model(tree: &Value, fault: DefFault) -> Finding<'_> {
 
 fn in_group<'a>(tree: &'a Value, group: &'a Value) -> Finding<'a> {
     if !group.is_object() {
-        return unlike(tree, "group", Kind::Object);
+        return unlike(tree, "group", ValueKind::Object);
     }
     match group.get("points") {
         None => Finding::missing("group.points"),
@@ -139,7 +139,7 @@ fn in_group<'a>(tree: &'a Value, group: &'a Value) -> Finding<'a> {
             Finding::by(
                 "group.points",
                 stands_for(points),
-                Rule::Unlike(Kind::Objects),
+                Rule::Unlike(ValueKind::Objects),
             )
         }
     }
@@ -244,20 +244,20 @@ fn points_in(tree: &Value) -> Option<&[Value]> {
 fn unlike_point(object: &Value) -> Finding<'_> {
     for key in ["name", "type"] {
         if text_at(object, key).is_none() {
-            return unlike(object, key, Kind::Text);
+            return unlike(object, key, ValueKind::Text);
         }
     }
     if !is_whole(object, "size") {
-        return unlike(object, "size", Kind::Number);
+        return unlike(object, "size", ValueKind::Number);
     }
     if object.get("sf").is_some() && text_at(object, "sf").is_none() && !is_whole(object, "sf") {
-        return unlike(object, "sf", Kind::TextOrNumber);
+        return unlike(object, "sf", ValueKind::TextOrNumber);
     }
-    unlike(object, "access", Kind::Text)
+    unlike(object, "access", ValueKind::Text)
 }
 
 /// What stands at a key and is of another kind, or that it is missing.
-fn unlike<'a>(object: &'a Value, key: &'static str, kind: Kind) -> Finding<'a> {
+fn unlike<'a>(object: &'a Value, key: &'static str, kind: ValueKind) -> Finding<'a> {
     if object.get(key).is_none() {
         return Finding::missing(key);
     }

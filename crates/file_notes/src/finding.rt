@@ -28,7 +28,7 @@ pub enum Stands<'a> {
 
 /// What may stand at a key.
 #[derive(Clone, Copy)]
-pub enum Kind {
+pub enum ValueKind {
     Text,
     Number,
     /// A number within these limits.
@@ -53,7 +53,7 @@ pub enum Rule<'a> {
     /// The key is needed.
     Missing,
     /// Something of another kind stands there.
-    Unlike(Kind),
+    Unlike(ValueKind),
     /// It in words, behind the key and what stands there.
     Words(&'static str),
     /// A number outside these limits.
@@ -213,14 +213,14 @@ pub fn stands_for(value: &Value) -> Stands<'_> {
 }
 
 /// Whether a value is of a kind.
-pub(crate) fn is_of(value: &Value, kind: Kind) -> bool {
+pub(crate) fn is_of(value: &Value, kind: ValueKind) -> bool {
     match kind {
-        Kind::Text => value.is_str(),
-        Kind::Number | Kind::Within(_, _) => value.is_integer(),
-        Kind::TextOrNumber => value.is_str() || value.is_integer(),
-        Kind::Texts => texts_in(value).is_some(),
-        Kind::Numbers => numbers_in(value).is_some(),
-        Kind::List | Kind::Tables | Kind::Objects => value.is_array(),
-        Kind::Table | Kind::Object => value.is_table(),
+        ValueKind::Text => value.is_str(),
+        ValueKind::Number | ValueKind::Within(_, _) => value.is_integer(),
+        ValueKind::TextOrNumber => value.is_str() || value.is_integer(),
+        ValueKind::Texts => texts_in(value).is_some(),
+        ValueKind::Numbers => numbers_in(value).is_some(),
+        ValueKind::List | ValueKind::Tables | ValueKind::Objects => value.is_array(),
+        ValueKind::Table | ValueKind::Object => value.is_table(),
     }
 }

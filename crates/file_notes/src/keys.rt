@@ -1,6 +1,6 @@
 //! The keys of site files and plant files: the one list by which their entries are looked at, and by which the keys are
 //! told that nothing reads.
-use crate::finding::{Finding, Kind, Rule};
+use crate::finding::{Finding, Rule, ValueKind};
 use std::alloc::{AllocError, Global};
 
 /// When a key has to stand in an entry, and when it is looked at.
@@ -35,13 +35,13 @@ impl Need {
 
 /// A key: its name, what may stand there, and when it has to.
 #[derive(Clone, Copy)]
-pub(crate) struct Key(pub &'static str, pub Kind, pub Need);
+pub(crate) struct Key(pub &'static str, pub ValueKind, pub Need);
 
 impl Key {
     /// The same with a number within these limits.
     pub(crate) fn within(self, low: i64, high: i64) -> Key {
         let Key(name, _, need) = self;
-        Key(name, Kind::Within(low, high), need)
+        Key(name, ValueKind::Within(low, high), need)
     }
 }
 
@@ -65,41 +65,41 @@ impl Section {
 
 // in both kinds of files
 
-pub(crate) const UNIT: Key = Key("unit", Kind::Within(0, 255), Need::Always);
+pub(crate) const UNIT: Key = Key("unit", ValueKind::Within(0, 255), Need::Always);
 
-pub(crate) const BASE: Key = Key("base", Kind::Within(0, 65534), Need::Maybe);
+pub(crate) const BASE: Key = Key("base", ValueKind::Within(0, 65534), Need::Maybe);
 
-const MODELS: Key = Key("models", Kind::Numbers, Need::Always);
+const MODELS: Key = Key("models", ValueKind::Numbers, Need::Always);
 
-const MODEL: Key = Key("model", Kind::Number, Need::Always);
+const MODEL: Key = Key("model", ValueKind::Number, Need::Always);
 
-const POINT: Key = Key("point", Kind::Text, Need::Always);
+const POINT: Key = Key("point", ValueKind::Text, Need::Always);
 
 // site files
 
 /// The most seconds in which a set point that a device has isn't written again.
 pub(crate) const MOST_REWRITE: i64 = 3600;
 
-pub(crate) const EXPONENT: Key = Key("exponent", Kind::Within(-10, 10), Need::Always);
+pub(crate) const EXPONENT: Key = Key("exponent", ValueKind::Within(-10, 10), Need::Always);
 
-pub(crate) const LAPSE: Key = Key("lapse", Kind::Within(1, 86_400), Need::Last);
+pub(crate) const LAPSE: Key = Key("lapse", ValueKind::Within(1, 86_400), Need::Last);
 
-const NAME: Key = Key("name", Kind::Text, Need::First);
+const NAME: Key = Key("name", ValueKind::Text, Need::First);
 
-const ACCESS: Key = Key("access", Kind::Text, Need::First);
+const ACCESS: Key = Key("access", ValueKind::Text, Need::First);
 
-const TYPE: Key = Key("type", Kind::Text, Need::First);
+const TYPE: Key = Key("type", ValueKind::Text, Need::First);
 
-pub(crate) const LOW: Key = Key("low", Kind::Number, Need::Always);
+pub(crate) const LOW: Key = Key("low", ValueKind::Number, Need::Always);
 
-pub(crate) const HIGH: Key = Key("high", Kind::Number, Need::Always);
+pub(crate) const HIGH: Key = Key("high", ValueKind::Number, Need::Always);
 
 pub(crate) const SITE: Section = Section {
     keys: &[
-        Key("gateway", Kind::Table, Need::Elsewhere),
-        Key("device", Kind::Tables, Need::Maybe),
-        Key("tag", Kind::Tables, Need::Maybe),
-        Key("served", Kind::Tables, Need::Maybe),
+        Key("gateway", ValueKind::Table, Need::Elsewhere),
+        Key("device", ValueKind::Tables, Need::Maybe),
+        Key("tag", ValueKind::Tables, Need::Maybe),
+        Key("served", ValueKind::Tables, Need::Maybe),
     ],
     needs: None,
 };
@@ -109,7 +109,7 @@ pub(crate) const GATEWAY: Section = Section {
         UNIT,
         BASE,
         MODELS,
-        Key("retain", Kind::Texts, Need::Elsewhere),
+        Key("retain", ValueKind::Texts, Need::Elsewhere),
     ],
     needs: Some("add it: the gateway needs unit and models"),
 };
@@ -119,11 +119,11 @@ pub(crate) const DEVICE: Section = Section {
         NAME,
         UNIT,
         BASE,
-        Key("write", Kind::Number, Need::Maybe),
-        Key("rewrite", Kind::Within(0, MOST_REWRITE), Need::Maybe),
-        Key("address", Kind::Text, Need::Elsewhere),
-        Key("remote_unit", Kind::Number, Need::Elsewhere),
-        Key("sleeps", Kind::Number, Need::Elsewhere),
+        Key("write", ValueKind::Number, Need::Maybe),
+        Key("rewrite", ValueKind::Within(0, MOST_REWRITE), Need::Maybe),
+        Key("address", ValueKind::Text, Need::Elsewhere),
+        Key("remote_unit", ValueKind::Number, Need::Elsewhere),
+        Key("sleeps", ValueKind::Number, Need::Elsewhere),
     ],
     needs: Some("add it: a device needs name and unit"),
 };
@@ -133,16 +133,16 @@ pub(crate) const TAG: Section = Section {
     keys: &[
         NAME,
         ACCESS,
-        Key("device", Kind::Text, Need::Last),
+        Key("device", ValueKind::Text, Need::Last),
         MODEL,
         POINT,
         TYPE,
         EXPONENT,
         LOW,
         HIGH,
-        Key("default", Kind::Number, Need::Last),
-        Key("bit", Kind::Number, Need::Last),
-        Key("round", Kind::Text, Need::Last),
+        Key("default", ValueKind::Number, Need::Last),
+        Key("bit", ValueKind::Number, Need::Last),
+        Key("round", ValueKind::Text, Need::Last),
         LAPSE,
     ],
     needs: None,
@@ -158,29 +158,29 @@ pub(crate) const SERVED: Section = Section {
     keys: &[
         MODEL,
         POINT,
-        Key("value", Kind::Number, Need::Maybe),
-        Key("text", Kind::Text, Need::Maybe),
-        Key("sum", Kind::Texts, Need::Maybe),
+        Key("value", ValueKind::Number, Need::Maybe),
+        Key("text", ValueKind::Text, Need::Maybe),
+        Key("sum", ValueKind::Texts, Need::Maybe),
     ],
     needs: Some("add it: what is served needs model, point, and one of value, text and sum"),
 };
 
 // plant files
 
-const KIND: Key = Key("kind", Kind::Text, Need::Maybe);
+const KIND: Key = Key("kind", ValueKind::Text, Need::Maybe);
 
-const WMAX: Key = Key("wmax", Kind::Within(0, 1_000_000), Need::Always);
+const WMAX: Key = Key("wmax", ValueKind::Within(0, 1_000_000), Need::Always);
 
-const AVAILABLE: Key = Key("available", Kind::Numbers, Need::Always);
+const AVAILABLE: Key = Key("available", ValueKind::Numbers, Need::Always);
 
-const SLOW: Key = Key("slow", Kind::Within(0, 60_000), Need::Maybe);
+const SLOW: Key = Key("slow", ValueKind::Within(0, 60_000), Need::Maybe);
 
-const VALUES: Key = Key("value", Kind::Tables, Need::Elsewhere);
+const VALUES: Key = Key("value", ValueKind::Tables, Need::Elsewhere);
 
 pub(crate) const PLANT: Section = Section {
     keys: &[
-        Key("device", Kind::Tables, Need::Maybe),
-        Key("fault", Kind::Tables, Need::Maybe),
+        Key("device", ValueKind::Tables, Need::Maybe),
+        Key("fault", ValueKind::Tables, Need::Maybe),
     ],
     needs: None,
 };
@@ -193,7 +193,7 @@ pub(crate) const INVERTER: Section = Section {
         MODELS,
         WMAX,
         AVAILABLE,
-        Key("ramp", Kind::Within(0, 1_000_000), Need::Maybe),
+        Key("ramp", ValueKind::Within(0, 1_000_000), Need::Maybe),
         BASE,
         SLOW,
         VALUES,
@@ -212,8 +212,8 @@ pub(crate) const METER: Section = Section {
         KIND,
         UNIT,
         MODELS,
-        Key("load", Kind::Numbers, Need::Always),
-        Key("behind", Kind::Numbers, Need::Always),
+        Key("load", ValueKind::Numbers, Need::Always),
+        Key("behind", ValueKind::Numbers, Need::Always),
         BASE,
         SLOW,
         VALUES,
@@ -223,7 +223,7 @@ pub(crate) const METER: Section = Section {
 
 /// A value of a device.
 pub(crate) const VALUE: Section = Section {
-    keys: &[MODEL, POINT, Key("raw", Kind::Number, Need::Always)],
+    keys: &[MODEL, POINT, Key("raw", ValueKind::Number, Need::Always)],
     needs: Some("add it: a value needs model, point and raw"),
 };
 
@@ -231,18 +231,18 @@ pub(crate) const VALUE: Section = Section {
 pub(crate) const FAULT: Section = Section {
     keys: &[
         REQUEST,
-        Key("kind", Kind::Text, Need::Always),
-        Key("code", Kind::Within(1, 255), Need::Elsewhere),
-        Key("count", Kind::Within(1, 100), Need::Elsewhere),
-        Key("word", Kind::Within(0, 65535), Need::Elsewhere),
-        Key("bytes", Kind::Within(0, 259), Need::Elsewhere),
+        Key("kind", ValueKind::Text, Need::Always),
+        Key("code", ValueKind::Within(1, 255), Need::Elsewhere),
+        Key("count", ValueKind::Within(1, 100), Need::Elsewhere),
+        Key("word", ValueKind::Within(0, 65535), Need::Elsewhere),
+        Key("bytes", ValueKind::Within(0, 259), Need::Elsewhere),
     ],
     needs: Some(
         "add it: a fault needs request and kind, and code, count, word or bytes where its kind has such a number",
     ),
 };
 
-pub(crate) const REQUEST: Key = Key("request", Kind::Within(1, 1_000_000), Need::Always);
+pub(crate) const REQUEST: Key = Key("request", ValueKind::Within(1, 1_000_000), Need::Always);
 
 /// The key of a name among some.
 pub(crate) fn key_named(keys: &[Key], name: &str) -> Option<Key> {

@@ -1,5 +1,5 @@
 //! The looks for what breaks the rules that all files have.
-use crate::finding::{EntryName, Finding, Kind, Rule, Stands, is_of, named_entry, stands_at};
+use crate::finding::{EntryName, Finding, Rule, Stands, ValueKind, is_of, named_entry, stands_at};
 use crate::keys::{Key, Need, Section};
 use file_keys::{has_over, number_at, section_at};
 use toml::Value;
@@ -40,7 +40,7 @@ fn first_in_turn<'a>(entry: &'a Value, keys: &[Key], turn: Need) -> Option<Findi
 pub(crate) fn broken_at<'a>(
     entry: &'a Value,
     key: &'static str,
-    kind: Kind,
+    kind: ValueKind,
     needed: bool,
 ) -> Option<Finding<'a>> {
     let rule = unlike(entry.get(key), kind, needed)?;
@@ -48,7 +48,7 @@ pub(crate) fn broken_at<'a>(
 }
 
 /// Why what stands at a key is nothing of that kind.
-fn unlike(value: Option<&Value>, kind: Kind, needed: bool) -> Option<Rule<'static>> {
+fn unlike(value: Option<&Value>, kind: ValueKind, needed: bool) -> Option<Rule<'static>> {
     match value {
         None => if needed { Some(Rule::Missing) } else { None },
         Some(value) => if is_of(value, kind) {
@@ -62,7 +62,7 @@ fn unlike(value: Option<&Value>, kind: Kind, needed: bool) -> Option<Rule<'stati
 /// The first of some keys whose number is outside its limits.
 pub(crate) fn first_outside<'a>(entry: &'a Value, keys: &[Key]) -> Option<Finding<'a>> {
     for key in keys {
-        if let Key(name, Kind::Within(low, high), _) = *key {
+        if let Key(name, ValueKind::Within(low, high), _) = *key {
             if is_outside(number_at(entry, name), low, high) {
                 let stands = stands_at(entry, name);
                 return Some(Finding::by(name, stands, Rule::Within(low, high)));
@@ -86,10 +86,10 @@ pub(crate) fn no_table_in<'a>(
     number: usize,
 ) -> Option<Finding<'a>> {
     let entries = section_at(file, section)?;
-    if is_of(entries.get(number)?, Kind::Table) {
+    if is_of(entries.get(number)?, ValueKind::Table) {
         return None;
     }
-    let rule = Rule::Unlike(Kind::Tables);
+    let rule = Rule::Unlike(ValueKind::Tables);
     Some(Finding::by(section, stands_at(file, section), rule))
 }
 

@@ -1,6 +1,6 @@
 //! Where in a file a fault was found.
 use crate::brackets::{Single, single_at, single_on};
-use crate::finding::{EntryName, Finding, Kind, Meant, Rule};
+use crate::finding::{EntryName, Finding, Meant, Rule, ValueKind};
 use crate::points::models_with;
 use crate::wording::{entry_shown, help_of, meaning_of, rule_shown, stands_shown};
 use std::alloc::{AllocError, Global};
@@ -48,7 +48,7 @@ impl FilePlace {
         entry: EntryName<'_>,
         finding: Finding<'_>,
     ) -> Option<FilePlace> {
-        if let Rule::Unlike(Kind::Tables) = finding.rule {
+        if let Rule::Unlike(ValueKind::Tables) = finding.rule {
             if let Some(single) = single_at(text, finding.key) {
                 return Some(FilePlace::Single(single));
             }

@@ -5,7 +5,7 @@ mod tag_words;
 mod tags;
 mod time_words;
 
-use crate::finding::{EntryName, Finding, Kind, named_entry};
+use crate::finding::{EntryName, Finding, ValueKind, named_entry};
 use crate::keys::SITE;
 use crate::looking::{broken_at, entry_in, first_broken, first_long, no_table_in};
 use crate::place::FilePlace;
@@ -55,7 +55,7 @@ fn place_in(
 fn no_table_at(file: &Value, part: SitePart) -> Option<Finding<'_>> {
     match part {
         SitePart::File => None,
-        SitePart::Gateway => broken_at(file, "gateway", Kind::Table, false),
+        SitePart::Gateway => broken_at(file, "gateway", ValueKind::Table, false),
         SitePart::Device(number) => no_table_in(file, "device", number),
         SitePart::Tag(number) => no_table_in(file, "tag", number),
         SitePart::Served(number) => no_table_in(file, "served", number),

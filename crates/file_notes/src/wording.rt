@@ -1,5 +1,5 @@
 //! The words in which an entry, what stands at its keys and its rules are told.
-use crate::finding::{EntryName, Kind, Rule, Stands};
+use crate::finding::{EntryName, Rule, Stands, ValueKind};
 use note_text::push_letter;
 use std::alloc::{AllocError, Global};
 
@@ -100,18 +100,18 @@ fn repeating(alloc: Global, words: &str, entry: EntryName<'_>) -> Result<String,
     format!(in alloc; "{words} {entry}")
 }
 
-fn other_than(kind: Kind) -> &'static str {
+fn other_than(kind: ValueKind) -> &'static str {
     match kind {
-        Kind::Text => "is no text",
-        Kind::Number | Kind::Within(_, _) => "is no whole number",
-        Kind::TextOrNumber => "is neither a text nor a whole number",
-        Kind::Texts => "is no list of texts",
-        Kind::Numbers => "is no list of whole numbers",
-        Kind::List => "is no list",
-        Kind::Table => "is no table",
-        Kind::Tables => "is no list of tables",
-        Kind::Object => "is no object",
-        Kind::Objects => "is no list of objects",
+        ValueKind::Text => "is no text",
+        ValueKind::Number | ValueKind::Within(_, _) => "is no whole number",
+        ValueKind::TextOrNumber => "is neither a text nor a whole number",
+        ValueKind::Texts => "is no list of texts",
+        ValueKind::Numbers => "is no list of whole numbers",
+        ValueKind::List => "is no list",
+        ValueKind::Table => "is no table",
+        ValueKind::Tables => "is no list of tables",
+        ValueKind::Object => "is no object",
+        ValueKind::Objects => "is no list of objects",
     }
 }
 
@@ -134,20 +134,20 @@ pub(crate) fn help_of(rule: Rule<'_>) -> Option<&'static str> {
     }
 }
 
-fn help_for(kind: Kind) -> &'static str {
+fn help_for(kind: ValueKind) -> &'static str {
     match kind {
-        Kind::Text => "write a text in quotes",
-        Kind::Number | Kind::Within(_, _) => {
+        ValueKind::Text => "write a text in quotes",
+        ValueKind::Number | ValueKind::Within(_, _) => {
             "write a whole number, without quotes and without a point"
         }
-        Kind::TextOrNumber => "write a text in quotes, or a whole number",
-        Kind::Texts => "write a list of texts in quotes, as [\"a\", \"b\"]",
-        Kind::Numbers => "write a list of whole numbers, as [1, 103]",
-        Kind::List => "write a list, in square brackets",
-        Kind::Table => "begin it with [{}], in one pair of brackets, once",
-        Kind::Tables => "begin each entry with [[{}]], in two pairs of brackets",
-        Kind::Object => "write an object, in curly brackets",
-        Kind::Objects => "write a list of objects, each in curly brackets",
+        ValueKind::TextOrNumber => "write a text in quotes, or a whole number",
+        ValueKind::Texts => "write a list of texts in quotes, as [\"a\", \"b\"]",
+        ValueKind::Numbers => "write a list of whole numbers, as [1, 103]",
+        ValueKind::List => "write a list, in square brackets",
+        ValueKind::Table => "begin it with [{}], in one pair of brackets, once",
+        ValueKind::Tables => "begin each entry with [[{}]], in two pairs of brackets",
+        ValueKind::Object => "write an object, in curly brackets",
+        ValueKind::Objects => "write a list of objects, each in curly brackets",
     }
 }
 

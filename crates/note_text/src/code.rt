@@ -11,7 +11,7 @@ pub struct Code {
 
 /// Where a letter stands.
 #[derive(Clone, Copy, PartialEq, Eq)]
-enum Place {
+enum CodePlace {
     Outside,
     /// An opening parenthesis, which may begin a comment.
     Bracket,
@@ -27,10 +27,10 @@ impl Code {
     pub fn of(alloc: Global, text: &str) -> Result<Code, AllocError> {
         let mut code = String::new(alloc);
         let mut open = 0;
-        let mut place = Place::Outside;
+        let mut place = CodePlace::Outside;
         for letter in text.chars() {
             let next = next_place(place, letter);
-            if place == Place::Bracket && next == Place::Inside {
+            if place == CodePlace::Bracket && next == CodePlace::Inside {
                 let _ = code.pop();
                 open = code.len();
                 code.push(' ')?;
@@ -39,39 +39,39 @@ impl Code {
             place = next;
         }
         let open = match place {
-            Place::Inside | Place::Star => Some(open),
-            Place::Outside | Place::Bracket | Place::End => None,
+            CodePlace::Inside | CodePlace::Star => Some(open),
+            CodePlace::Outside | CodePlace::Bracket | CodePlace::End => None,
         };
         Ok(Code { text: code, open })
     }
 }
 
-fn next_place(place: Place, letter: char) -> Place {
+fn next_place(place: CodePlace, letter: char) -> CodePlace {
     match place {
-        Place::Bracket if letter == '*' => Place::Inside,
-        Place::Outside | Place::Bracket | Place::End => {
+        CodePlace::Bracket if letter == '*' => CodePlace::Inside,
+        CodePlace::Outside | CodePlace::Bracket | CodePlace::End => {
             if letter == '(' {
-                Place::Bracket
+                CodePlace::Bracket
             } else {
-                Place::Outside
+                CodePlace::Outside
             }
         }
-        Place::Star if letter == ')' => Place::End,
-        Place::Inside | Place::Star => {
+        CodePlace::Star if letter == ')' => CodePlace::End,
+        CodePlace::Inside | CodePlace::Star => {
             if letter == '*' {
-                Place::Star
+                CodePlace::Star
             } else {
-                Place::Inside
+                CodePlace::Inside
             }
         }
     }
 }
 
 /// Appends a letter of the code, or a blank for each byte of a comment's.
-fn push_letter(code: &mut String, place: Place, letter: char) -> Result<(), AllocError> {
+fn push_letter(code: &mut String, place: CodePlace, letter: char) -> Result<(), AllocError> {
     let is_code = match place {
-        Place::Outside | Place::Bracket => true,
-        Place::Inside | Place::Star | Place::End => letter == '\n' || letter == '\r',
+        CodePlace::Outside | CodePlace::Bracket => true,
+        CodePlace::Inside | CodePlace::Star | CodePlace::End => letter == '\n' || letter == '\r',
     };
     if is_code {
         return code.push(letter);

@@ -2,7 +2,7 @@
 use crate::kinds::{kind_of, no_end, no_start, no_type};
 use crate::met::{Met, line_of_byte};
 use crate::mistakes::mistake_met;
-use crate::pieces::{Piece, has};
+use crate::pieces::{TextPiece, has};
 use crate::reserved::{is_one_of, is_operator, reserved};
 use crate::told::{Hint, Told};
 use note_text::rank;
@@ -114,7 +114,7 @@ fn no_name(alloc: Global, met: &Met<'_, '_>, hint: Hint) -> Result<Told, AllocEr
 fn no_colon(
     alloc: Global,
     met: &Met<'_, '_>,
-    declaration: &[Piece<'_>],
+    declaration: &[TextPiece<'_>],
 ) -> Result<Told, AllocError> {
     let Some(first) = declaration.first() else {
         return Ok(Told::new(alloc, NO_COLON));
@@ -134,7 +134,7 @@ fn no_colon(
 fn on_qualifier(
     alloc: Global,
     met: &Met<'_, '_>,
-    word: Piece<'_>,
+    word: TextPiece<'_>,
     hint: Hint,
 ) -> Result<Told, AllocError> {
     let line = line_of_byte(met.code, word.at);
@@ -147,7 +147,7 @@ fn on_qualifier(
 }
 
 /// The hint on a word after VAR or VAR_EXTERNAL.
-fn hint_on_qualifier(met: &Met<'_, '_>, word: Piece<'_>) -> Option<Hint> {
+fn hint_on_qualifier(met: &Met<'_, '_>, word: TextPiece<'_>) -> Option<Hint> {
     if word.is("EXTERNAL") {
         return Some(ONE_WORD);
     }
@@ -165,7 +165,7 @@ fn hint_on_qualifier(met: &Met<'_, '_>, word: Piece<'_>) -> Option<Hint> {
 }
 
 /// Whether a word that stands alone on its line may be meant as END_VAR.
-fn is_like_end(met: &Met<'_, '_>, word: Piece<'_>) -> bool {
+fn is_like_end(met: &Met<'_, '_>, word: TextPiece<'_>) -> bool {
     let is_alone = met.is(";") || line_of_byte(met.code, word.at) < line_of_byte(met.code, met.at);
     if word.is("END") {
         return is_alone || met.is("VAR");
@@ -174,7 +174,7 @@ fn is_like_end(met: &Met<'_, '_>, word: Piece<'_>) -> bool {
 }
 
 /// Where a word ends that may be meant as END_VAR: after VAR, where that is its second part.
-fn end_behind(met: &Met<'_, '_>, word: Piece<'_>) -> usize {
+fn end_behind(met: &Met<'_, '_>, word: TextPiece<'_>) -> usize {
     match met.piece() {
         Some(second)
             if second.is("VAR")
@@ -188,8 +188,8 @@ fn end_behind(met: &Met<'_, '_>, word: Piece<'_>) -> usize {
 fn behind_type(
     alloc: Global,
     met: &Met<'_, '_>,
-    declaration: &[Piece<'_>],
-    last: Piece<'_>,
+    declaration: &[TextPiece<'_>],
+    last: TextPiece<'_>,
 ) -> Result<Told, AllocError> {
     let in_range = has(declaration, "(") && !has(declaration, ")");
     let hint = if in_range && has(declaration, "..") {
@@ -209,13 +209,13 @@ fn behind_type(
 }
 
 /// Whether what is met begins a line or a declaration of its own.
-fn is_unended(met: &Met<'_, '_>, last: Piece<'_>) -> bool {
+fn is_unended(met: &Met<'_, '_>, last: TextPiece<'_>) -> bool {
     let begins_line = line_of_byte(met.code, last.at) < line_of_byte(met.code, met.at);
     begins_line || met.next() == ":" || met.next() == ","
 }
 
 /// A semicolon is missing after a piece.
-fn unended(alloc: Global, last: Piece<'_>) -> Result<Told, AllocError> {
+fn unended(alloc: Global, last: TextPiece<'_>) -> Result<Told, AllocError> {
     let mut told = Told::new(alloc, UNENDED).knowing("a semicolon is missing")?;
     told.span = Some((last.behind(), last.behind().saturating_add(1)));
     Ok(told)

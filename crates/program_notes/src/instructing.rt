@@ -1,7 +1,7 @@
 //! What is told of an instruction that isn't one, by its operator and by what is met.
 use crate::met::{Met, line_of_byte};
 use crate::mistakes::{STRUCTURED, mistake_met};
-use crate::pieces::Piece;
+use crate::pieces::TextPiece;
 use crate::reserved::{
     is_conversion, is_like_conversion, is_one_of, is_operator, operator_meant, reserved,
 };
@@ -191,15 +191,15 @@ fn is_like_label(met: &Met<'_, '_>) -> bool {
 }
 
 /// The jump of the program that names a label.
-fn jump_to<'a>(met: &Met<'_, 'a>, label: &str) -> Option<Piece<'a>> {
+fn jump_to<'a>(met: &Met<'_, 'a>, label: &str) -> Option<TextPiece<'a>> {
     match jump_in(met.before, label) {
         Some(jump) => Some(jump),
         None => jump_in(met.rest, label),
     }
 }
 
-fn jump_in<'a>(pieces: &[Piece<'a>], label: &str) -> Option<Piece<'a>> {
-    let mut last: Option<Piece<'a>> = None;
+fn jump_in<'a>(pieces: &[TextPiece<'a>], label: &str) -> Option<TextPiece<'a>> {
+    let mut last: Option<TextPiece<'a>> = None;
     for piece in pieces {
         if let Some(jump) = last {
             if piece.is(label) && is_one_of(&JUMPS, jump.text) {
@@ -247,14 +247,14 @@ pub(crate) fn no_operand(alloc: Global, met: &Met<'_, '_>) -> Result<Told, Alloc
     )
 }
 
-fn on_named(alloc: Global, piece: Piece<'_>, hint: Hint) -> Result<Told, AllocError> {
+fn on_named(alloc: Global, piece: TextPiece<'_>, hint: Hint) -> Result<Told, AllocError> {
     let mut told = Told::named(alloc, piece.text, hint)?;
     told.span = Some((piece.at, piece.behind()));
     Ok(told)
 }
 
 /// What stands on a line after its label and a count.
-fn instruction_of<'p, 'a>(line: &'p [Piece<'a>]) -> &'p [Piece<'a>] {
+fn instruction_of<'p, 'a>(line: &'p [TextPiece<'a>]) -> &'p [TextPiece<'a>] {
     let mut rest = line;
     if let [_, second, behind @ ..] = rest {
         if second.text == ":" {
@@ -268,7 +268,7 @@ fn instruction_of<'p, 'a>(line: &'p [Piece<'a>]) -> &'p [Piece<'a>] {
 }
 
 /// Whether an operator with these operands wants one more.
-fn wants_operand(operator: &str, operands: &[Piece<'_>]) -> bool {
+fn wants_operand(operator: &str, operands: &[TextPiece<'_>]) -> bool {
     match operands {
         [] => !takes_none(operator),
         [.., last] => last.text == "," || last.text == "(",
@@ -280,7 +280,7 @@ fn takes_none(operator: &str) -> bool {
 }
 
 /// The hint on an operator with too few operands, or one too many.
-fn hint_on_operands(met: &Met<'_, '_>, operator: &str, operands: &[Piece<'_>]) -> Hint {
+fn hint_on_operands(met: &Met<'_, '_>, operator: &str, operands: &[TextPiece<'_>]) -> Hint {
     let takes_two = is_one_of(&["LIMIT", "SEL"], operator);
     if takes_none(operator) {
         NONE_TAKEN

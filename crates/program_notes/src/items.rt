@@ -13,12 +13,12 @@ const TO: usize = 100;
 
 /// A line of the table as it grows.
 #[derive(Drop)]
-pub(crate) struct Line {
+pub(crate) struct ItemLine {
     pub(crate) text: String,
     pub(crate) column: usize,
 }
 
-impl Line {
+impl ItemLine {
     /// Appends a piece.
     pub(crate) fn push(&mut self, piece: &str) -> Result<(), AllocError> {
         self.text.push_str(piece)?;
@@ -75,7 +75,7 @@ impl Line {
 /// Appends what is known before an instruction; nothing where it wasn't judged.
 pub(crate) fn push_known(
     alloc: Global,
-    line: &mut Line,
+    line: &mut ItemLine,
     image: &Image,
     known: &Option<Standing>,
 ) -> Result<(), AllocError> {
@@ -87,7 +87,12 @@ pub(crate) fn push_known(
     }
 }
 
-fn push_told(alloc: Global, line: &mut Line, image: &Image, told: &Told) -> Result<(), AllocError> {
+fn push_told(
+    alloc: Global,
+    line: &mut ItemLine,
+    image: &Image,
+    told: &Told,
+) -> Result<(), AllocError> {
     if let Some(result) = &told.result {
         push_value(alloc, line, "r", result)?;
     }
@@ -108,7 +113,7 @@ fn push_told(alloc: Global, line: &mut Line, image: &Image, told: &Told) -> Resu
 
 fn push_deferred(
     alloc: Global,
-    line: &mut Line,
+    line: &mut ItemLine,
     deferred: &Option<Shown>,
 ) -> Result<(), AllocError> {
     match deferred {
@@ -120,7 +125,7 @@ fn push_deferred(
 /// Appends the type and the span of the result or of a deferred value.
 fn push_value(
     alloc: Global,
-    line: &mut Line,
+    line: &mut ItemLine,
     place: &str,
     value: &Shown,
 ) -> Result<(), AllocError> {
@@ -133,7 +138,7 @@ fn push_value(
 
 fn push_variable(
     alloc: Global,
-    line: &mut Line,
+    line: &mut ItemLine,
     image: &Image,
     number: usize,
     span: Span,
@@ -146,7 +151,7 @@ fn push_variable(
 
 fn push_input(
     alloc: Global,
-    line: &mut Line,
+    line: &mut ItemLine,
     image: &Image,
     number: usize,
     span: Span,
@@ -159,7 +164,7 @@ fn push_input(
 
 fn push_present(
     alloc: Global,
-    line: &mut Line,
+    line: &mut ItemLine,
     image: &Image,
     number: usize,
 ) -> Result<(), AllocError> {
@@ -173,7 +178,12 @@ fn push_present(
     }
 }
 
-fn push_span(alloc: Global, line: &mut Line, name: &Name, span: Span) -> Result<(), AllocError> {
+fn push_span(
+    alloc: Global,
+    line: &mut ItemLine,
+    name: &Name,
+    span: Span,
+) -> Result<(), AllocError> {
     let name = name.as_str();
     let mut item = format!(in alloc; "{name} ")?;
     let span = span_words(alloc, span)?;

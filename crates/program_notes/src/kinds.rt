@@ -1,7 +1,7 @@
 //! Words in place of a type, and literals that a type can't hold.
 use crate::met::Met;
 use crate::mistakes::Mistake;
-use crate::pieces::{Piece, behind_first};
+use crate::pieces::{TextPiece, behind_first};
 use crate::reserved::{is_one_of, type_meant, type_named};
 use crate::told::{Hint, Told};
 use crate::words::type_word;
@@ -122,7 +122,7 @@ const WRONG_START: Hint = Hint {
 pub(crate) fn no_start(
     alloc: Global,
     met: &Met<'_, '_>,
-    declaration: &[Piece<'_>],
+    declaration: &[TextPiece<'_>],
 ) -> Result<Told, AllocError> {
     let range = within(met.code, declaration, ")");
     let told = Told::new(alloc, WRONG_START);
@@ -138,7 +138,7 @@ pub(crate) fn no_start(
 pub(crate) fn no_end(
     alloc: Global,
     met: &Met<'_, '_>,
-    declaration: &[Piece<'_>],
+    declaration: &[TextPiece<'_>],
 ) -> Result<Told, AllocError> {
     let holds = kind_holds(alloc, declaration)?;
     let low = within(met.code, declaration, "..");
@@ -175,7 +175,7 @@ pub(crate) fn misfit(alloc: Global, program: &Program) -> Result<Option<Told>, A
 }
 
 /// What stands between the parenthesis of a declaration and the first such mark, as it is written; empty where there is none.
-fn within<'a>(code: &'a str, declaration: &[Piece<'_>], mark: &str) -> &'a str {
+fn within<'a>(code: &'a str, declaration: &[TextPiece<'_>], mark: &str) -> &'a str {
     let mut from = 0;
     for piece in declaration {
         if piece.text == "(" {
@@ -188,7 +188,7 @@ fn within<'a>(code: &'a str, declaration: &[Piece<'_>], mark: &str) -> &'a str {
 }
 
 /// What the type of a declaration holds; empty where it has none yet.
-fn kind_holds(alloc: Global, declaration: &[Piece<'_>]) -> Result<String, AllocError> {
+fn kind_holds(alloc: Global, declaration: &[TextPiece<'_>]) -> Result<String, AllocError> {
     match kind_of(declaration) {
         Some(kind) => holds(alloc, kind),
         None => Ok(String::new(alloc)),
@@ -196,7 +196,7 @@ fn kind_holds(alloc: Global, declaration: &[Piece<'_>]) -> Result<String, AllocE
 }
 
 /// The type of a declaration.
-pub(crate) fn kind_of(declaration: &[Piece<'_>]) -> Option<IlType> {
+pub(crate) fn kind_of(declaration: &[TextPiece<'_>]) -> Option<IlType> {
     type_named(behind_first(declaration, ":")?.text)
 }
 

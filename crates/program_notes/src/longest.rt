@@ -1,7 +1,7 @@
 //! The longest path through a program, which makes its budget.
 ghost use Rattle.std.specs.Prelude.{◌≡◌, ◌<◌, length};
 
-use crate::items::Line;
+use crate::items::ItemLine;
 use crate::rows::Row;
 use facts::context::Context;
 use point_types::Condition;
@@ -13,7 +13,7 @@ use verifier::told::Standing;
 /// Appends the longest path, by lines; nothing where an instruction wasn't judged.
 pub(crate) fn push_longest(
     alloc: Global,
-    line: &mut Line,
+    line: &mut ItemLine,
     context: &Context,
     rows: &[Row],
 ) -> Result<(), AllocError>
@@ -111,7 +111,7 @@ fn next_of(context: &Context, lengths: &[Option<usize>], at: usize, left: usize)
 /// Appends how many instructions the path has, and the lines that it goes through.
 fn push_steps(
     alloc: Global,
-    line: &mut Line,
+    line: &mut ItemLine,
     rows: &[Row],
     steps: &[usize],
 ) -> Result<(), AllocError> {

@@ -1,5 +1,5 @@
 //! Where a program can't be read: what stands before, and what is met.
-use crate::pieces::Piece;
+use crate::pieces::TextPiece;
 use il_reader::{FaultPlace, ReadFaultKind};
 use std::alloc::{AllocError, Global};
 
@@ -9,16 +9,16 @@ pub(crate) struct Met<'p, 'a> {
     pub kind: ReadFaultKind,
     pub code: &'a str,
     pub at: usize,
-    pub before: &'p [Piece<'a>],
+    pub before: &'p [TextPiece<'a>],
     /// What is at fault, and all behind it.
-    pub rest: &'p [Piece<'a>],
+    pub rest: &'p [TextPiece<'a>],
 }
 
 impl<'p, 'a> Met<'p, 'a> {
     /// What is met at a place of a code.
     pub(crate) fn at_place(
         code: &'a str,
-        pieces: &'p [Piece<'a>],
+        pieces: &'p [TextPiece<'a>],
         place: FaultPlace,
     ) -> Met<'p, 'a> {
         let mut count = 0;
@@ -37,7 +37,7 @@ impl<'p, 'a> Met<'p, 'a> {
     }
 
     /// The piece that is met; none at the end of the text.
-    pub(crate) fn piece(&self) -> Option<Piece<'a>> {
+    pub(crate) fn piece(&self) -> Option<TextPiece<'a>> {
         self.rest.first().copied()
     }
 
@@ -76,7 +76,7 @@ impl<'p, 'a> Met<'p, 'a> {
     }
 
     /// The last piece before, which may stand on an earlier line.
-    pub(crate) fn last(&self) -> Option<Piece<'a>> {
+    pub(crate) fn last(&self) -> Option<TextPiece<'a>> {
         let mut last = None;
         for piece in self.before {
             if piece.text != "\n" {
@@ -87,7 +87,7 @@ impl<'p, 'a> Met<'p, 'a> {
     }
 
     /// What stands before on the same line of the body.
-    pub(crate) fn line(&self) -> &'p [Piece<'a>] {
+    pub(crate) fn line(&self) -> &'p [TextPiece<'a>] {
         let mut from = 0;
         for (number, piece) in self.before.iter().enumerate() {
             if piece.text == "\n" || piece.is("END_VAR") {
@@ -100,7 +100,7 @@ impl<'p, 'a> Met<'p, 'a> {
     }
 
     /// What stands before in the same declaration.
-    pub(crate) fn declaration(&self, alloc: Global) -> Result<Vec<Piece<'a>>, AllocError> {
+    pub(crate) fn declaration(&self, alloc: Global) -> Result<Vec<TextPiece<'a>>, AllocError> {
         let mut pieces = Vec::new(alloc);
         for piece in self.before {
             if piece.is(";") || piece.is("VAR") || piece.is("VAR_EXTERNAL") || piece.is("END_VAR") {
@@ -113,7 +113,7 @@ impl<'p, 'a> Met<'p, 'a> {
     }
 
     /// The word that opened the block of declarations; none in the body.
-    pub(crate) fn block(&self) -> Option<Piece<'a>> {
+    pub(crate) fn block(&self) -> Option<TextPiece<'a>> {
         let mut block = None;
         for piece in self.before {
             if piece.is("VAR") || piece.is("VAR_EXTERNAL") {
@@ -126,7 +126,7 @@ impl<'p, 'a> Met<'p, 'a> {
     }
 
     /// What stands before in the body.
-    pub(crate) fn body(&self) -> &'p [Piece<'a>] {
+    pub(crate) fn body(&self) -> &'p [TextPiece<'a>] {
         let mut from = 0;
         for (number, piece) in self.before.iter().enumerate() {
             if piece.is("END_VAR") {
@@ -137,7 +137,7 @@ impl<'p, 'a> Met<'p, 'a> {
     }
 
     /// The operator whose parenthesis is open; none where none is.
-    pub(crate) fn opening(&self, alloc: Global) -> Result<Option<Piece<'a>>, AllocError> {
+    pub(crate) fn opening(&self, alloc: Global) -> Result<Option<TextPiece<'a>>, AllocError> {
         let mut open = Vec::new(alloc);
         let mut last = None;
         for piece in self.body() {
@@ -156,7 +156,7 @@ impl<'p, 'a> Met<'p, 'a> {
 }
 
 /// The pieces behind so many.
-fn behind<'p, 'a>(pieces: &'p [Piece<'a>], count: usize) -> &'p [Piece<'a>] {
+fn behind<'p, 'a>(pieces: &'p [TextPiece<'a>], count: usize) -> &'p [TextPiece<'a>] {
     pieces.get(count..).unwrap_or(pieces)
 }
 

@@ -1,7 +1,7 @@
 //! What is told of numbers that are none, or that are outside their type.
 use crate::kinds::holds;
 use crate::met::Met;
-use crate::pieces::{Piece, has};
+use crate::pieces::{TextPiece, has};
 use crate::reserved::type_named;
 use crate::told::{Hint, Told};
 use point_types::IlType;
@@ -102,7 +102,7 @@ fn hint_on_digits(number: &Number<'_>) -> Hint {
 }
 
 /// The number that begins with a piece, where these pieces are met.
-fn number_met<'a>(piece: Piece<'a>, rest: &[Piece<'a>]) -> Number<'a> {
+fn number_met<'a>(piece: TextPiece<'a>, rest: &[TextPiece<'a>]) -> Number<'a> {
     let unsigned = number_of(piece);
     match rest {
         [sign, digits, ..] if is_sign(*sign) && sign.behind() == digits.at => {
@@ -118,7 +118,7 @@ fn number_met<'a>(piece: Piece<'a>, rest: &[Piece<'a>]) -> Number<'a> {
 }
 
 /// What a piece is as a number.
-fn number_of(piece: Piece<'_>) -> Number<'_> {
+fn number_of(piece: TextPiece<'_>) -> Number<'_> {
     let typed = match piece.text.split_once("#") {
         Some((front, digits)) => type_named(front).map(|kind| (kind, digits)),
         None => None,
@@ -135,7 +135,7 @@ fn number_of(piece: Piece<'_>) -> Number<'_> {
 }
 
 /// The same with a sign and its digits.
-fn signed<'a>(number: Number<'a>, sign: Piece<'a>, digits: Piece<'a>) -> Number<'a> {
+fn signed<'a>(number: Number<'a>, sign: TextPiece<'a>, digits: TextPiece<'a>) -> Number<'a> {
     Number {
         has_sign: true,
         is_negative: sign.text == "-",
@@ -149,7 +149,7 @@ fn signed<'a>(number: Number<'a>, sign: Piece<'a>, digits: Piece<'a>) -> Number<
     }
 }
 
-fn is_sign(piece: Piece<'_>) -> bool {
+fn is_sign(piece: TextPiece<'_>) -> bool {
     piece.text == "-" || piece.text == "+"
 }
 

@@ -3,13 +3,13 @@ use std::alloc::{AllocError, Global};
 
 /// A word, a number, a mark, or the end of a line.
 #[derive(Clone, Copy)]
-pub(crate) struct Piece<'a> {
+pub(crate) struct TextPiece<'a> {
     /// The place of its first byte in the text.
     pub at: usize,
     pub text: &'a str,
 }
 
-impl Piece<'_> {
+impl TextPiece<'_> {
     /// The place behind its last byte.
     pub(crate) fn behind(&self) -> usize {
         self.at.saturating_add(self.text.len())
@@ -35,7 +35,10 @@ impl Piece<'_> {
 static PAIRS: [&str; 7] = [":=", "..", "//", "/*", "<=", ">=", "<>"];
 
 /// The pieces of a code, in their order.
-pub(crate) fn pieces_of<'a>(alloc: Global, code: &'a str) -> Result<Vec<Piece<'a>>, AllocError> {
+pub(crate) fn pieces_of<'a>(
+    alloc: Global,
+    code: &'a str,
+) -> Result<Vec<TextPiece<'a>>, AllocError> {
     let mut pieces = Vec::new(alloc);
     let mut begins = 0;
     for (place, letter) in code.char_indices() {
@@ -67,14 +70,14 @@ fn is_of_word(letter: char) -> bool {
 
 /// Appends the piece between two places, where there is one.
 fn push_piece<'a>(
-    pieces: &mut Vec<Piece<'a>>,
+    pieces: &mut Vec<TextPiece<'a>>,
     code: &'a str,
     at: usize,
     behind: usize,
 ) -> Result<(), AllocError> {
     match code.get(at..behind) {
         Some(text) if !text.is_empty() => {
-            pieces.push(Piece { at, text })?;
+            pieces.push(TextPiece { at, text })?;
             Ok(())
         }
         _ => Ok(()),
@@ -83,7 +86,12 @@ fn push_piece<'a>(
 
 /// Where the mark begins whose last character stands between two places: at the last piece, which is taken away, where
 /// the two are one mark.
-fn first_of_mark(pieces: &mut Vec<Piece<'_>>, code: &str, place: usize, behind: usize) -> usize {
+fn first_of_mark(
+    pieces: &mut Vec<TextPiece<'_>>,
+    code: &str,
+    place: usize,
+    behind: usize,
+) -> usize {
     let Some(last) = pieces.last() else {
         return place;
     };
@@ -106,7 +114,7 @@ fn is_pair(mark: Option<&str>) -> bool {
 }
 
 /// Whether one of the pieces is this word or mark.
-pub(crate) fn has(pieces: &[Piece<'_>], word: &str) -> bool {
+pub(crate) fn has(pieces: &[TextPiece<'_>], word: &str) -> bool {
     for piece in pieces {
         if piece.is(word) {
             return true;
@@ -116,7 +124,7 @@ pub(crate) fn has(pieces: &[Piece<'_>], word: &str) -> bool {
 }
 
 /// The piece behind the first one that is this word or mark.
-pub(crate) fn behind_first<'a>(pieces: &[Piece<'a>], word: &str) -> Option<Piece<'a>> {
+pub(crate) fn behind_first<'a>(pieces: &[TextPiece<'a>], word: &str) -> Option<TextPiece<'a>> {
     let mut met = false;
     for piece in pieces {
         if met {

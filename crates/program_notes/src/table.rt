@@ -1,7 +1,7 @@
 //! What is known before each instruction, line by line.
 ghost use Rattle.std.specs.Prelude.{◌<◌, length};
 
-use crate::items::{Line, push_known};
+use crate::items::{ItemLine, push_known};
 use crate::line_index::LineIndex;
 use crate::longest::{line_of, push_longest};
 use crate::refusing::MOST_DEFERRED;
@@ -74,7 +74,7 @@ fn table_in(
         image,
         beside,
     };
-    let mut line = Line {
+    let mut line = ItemLine {
         text: String::new(alloc),
         column: 0,
     };
@@ -101,7 +101,7 @@ impl Table<'_> {
     fn push_to(
         &self,
         alloc: Global,
-        line: &mut Line,
+        line: &mut ItemLine,
         rows: &[Row],
         at: usize,
     ) -> Result<(), AllocError> {
@@ -114,7 +114,7 @@ impl Table<'_> {
     fn push_lines(
         &self,
         alloc: Global,
-        line: &mut Line,
+        line: &mut ItemLine,
         rows: &[Row],
         last: usize,
     ) -> Result<(), AllocError> {
@@ -134,7 +134,7 @@ impl Table<'_> {
     fn push_rows(
         &self,
         alloc: Global,
-        line: &mut Line,
+        line: &mut ItemLine,
         rows: &[Row],
         index: &LineIndex,
         number: usize,
@@ -156,7 +156,7 @@ impl Table<'_> {
         line.end()
     }
 
-    fn push_row(&self, alloc: Global, line: &mut Line, row: &Row) -> Result<(), AllocError> {
+    fn push_row(&self, alloc: Global, line: &mut ItemLine, row: &Row) -> Result<(), AllocError> {
         line.pad_to(SOURCE_END)?;
         let (number, word) = (row.number, mnemonic(row.op));
         let instruction = format!(in alloc; "{number:>5} {word}")?;
@@ -171,7 +171,7 @@ impl Table<'_> {
 /// Appends a line of the text with its number.
 fn push_source(
     alloc: Global,
-    line: &mut Line,
+    line: &mut ItemLine,
     number: usize,
     source: &str,
 ) -> Result<(), AllocError> {

@@ -1,5 +1,5 @@
 //! What is told of a fault in place of the words of its kind.
-use crate::pieces::Piece;
+use crate::pieces::TextPiece;
 use std::alloc::{AllocError, Global};
 
 /// What is wrong, and what to do; `{}` stands for the name.
@@ -33,7 +33,7 @@ impl Told {
     }
 
     /// A hint on a piece.
-    pub(crate) fn on(alloc: Global, piece: Piece<'_>, hint: Hint) -> Told {
+    pub(crate) fn on(alloc: Global, piece: TextPiece<'_>, hint: Hint) -> Told {
         let mut told = Told::new(alloc, hint);
         told.span = Some((piece.at, piece.behind()));
         told

@@ -2,7 +2,7 @@
 use crate::kinds::NO_TIME;
 use crate::met::{Met, line_of_byte};
 use crate::mistakes::mistake_met;
-use crate::pieces::{Piece, has};
+use crate::pieces::{TextPiece, has};
 use crate::reserved::{is_one_of, is_operator, reserved};
 use crate::told::{Hint, Told};
 use note_text::rank;
@@ -173,13 +173,13 @@ pub(crate) fn no_second(alloc: Global, met: &Met<'_, '_>) -> Result<Told, AllocE
 }
 
 /// Where the name that is met stands before: as a label in the body, else in a declaration.
-fn first_of<'a>(met: &Met<'_, 'a>) -> Option<Piece<'a>> {
+fn first_of<'a>(met: &Met<'_, 'a>) -> Option<TextPiece<'a>> {
     let from = if met.block().is_some() {
         met.before
     } else {
         met.body()
     };
-    let mut last: Option<Piece<'a>> = None;
+    let mut last: Option<TextPiece<'a>> = None;
     for piece in from {
         if let Some(name) = last {
             if (piece.text == ":" || piece.text == ",") && name.is(met.text()) {
@@ -207,7 +207,7 @@ pub(crate) fn no_frame(alloc: Global, met: &Met<'_, '_>) -> Result<Told, AllocEr
 }
 
 /// The text ends with this word, its first one, without a name after it.
-fn ends_unnamed(alloc: Global, word: Piece<'_>) -> Result<Told, AllocError> {
+fn ends_unnamed(alloc: Global, word: TextPiece<'_>) -> Result<Told, AllocError> {
     let mut told = Told::new(alloc, UNNAMED).knowing("the text ends here")?;
     told.span = Some((word.behind(), word.behind().saturating_add(1)));
     Ok(told)

@@ -1,7 +1,7 @@
 //! What is printed on standard error of a refusal.
-use crate::cause::{Cause, NotedFile};
 use crate::file_fault::FileFault;
 use crate::listen_fault::ListenFault;
+use crate::refusal_note::{NotedFile, RefusalNote};
 use file_keys::TomlFile;
 use file_notes::{warnings_of_definition, warnings_of_plant, warnings_of_site};
 use note_text::{Mark, Note};
@@ -24,7 +24,7 @@ pub struct Notes<'a> {
 
 impl<'a> Notes<'a> {
     /// Prints why a command refuses. Where that fails, or memory for it is refused, nothing more comes of it.
-    pub fn explain(&self, rt: &(impl Eprint + AllocGlobal), cause: &Option<Cause>) {
+    pub fn explain(&self, rt: &(impl Eprint + AllocGlobal), cause: &Option<RefusalNote>) {
         if self.quiet {
             return;
         }
@@ -86,7 +86,7 @@ pub fn explain_program(
     rt: &(impl Eprint + AllocGlobal),
     path: &str,
     text: &str,
-    cause: &Option<Cause>,
+    cause: &Option<RefusalNote>,
 ) {
     if let Some(cause) = cause {
         print(rt, &cause.note(path, text));

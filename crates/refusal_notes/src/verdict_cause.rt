@@ -1,5 +1,5 @@
 //! What is noted of a program that the verdict refuses.
-use crate::cause::Cause;
+use crate::refusal_note::RefusalNote;
 use il_reader::Program;
 use note_text::nearer;
 use point_types::Name;
@@ -11,7 +11,12 @@ use verifier::{Refusal, RefusalKind, Refused, RefusedAt};
 
 /// The cause of a refusal, with the line that it speaks of and what is known there. Where memory for a part of it is
 /// refused, it goes without.
-pub fn cause_of_refusal(alloc: Global, program: &Program, site: &Site, refused: &Refused) -> Cause {
+pub fn cause_of_refusal(
+    alloc: Global,
+    program: &Program,
+    site: &Site,
+    refused: &Refused,
+) -> RefusalNote {
     let refusal = Refusal {
         at: refused.at,
         kind: refused.kind,
@@ -21,7 +26,7 @@ pub fn cause_of_refusal(alloc: Global, program: &Program, site: &Site, refused: 
         Ok(detail) => detail.line,
         Err(_) => 0,
     };
-    let mut cause = Cause::unverified(alloc, refused.kind, line);
+    let mut cause = RefusalNote::unverified(alloc, refused.kind, line);
     if let Some(name) = refused_name(refused) {
         let _ = cause.name.push_str(name.as_str());
     }
@@ -51,7 +56,7 @@ pub fn cause_of_refusal(alloc: Global, program: &Program, site: &Site, refused: 
 const NO_DIVISOR: &str = "divide by another number: no scan could go on after this";
 
 /// Puts in that another divisor is wanted, where it is always 0.
-fn put_divisor(alloc: Global, cause: &mut Cause, site: &Site, refused: &Refused) {
+fn put_divisor(alloc: Global, cause: &mut RefusalNote, site: &Site, refused: &Refused) {
     if let RefusedAt::Instruction(number) = refused.at {
         if is_divided_by_zero(alloc, &refused.image, site, number) {
             cause.help = NO_DIVISOR;
@@ -60,7 +65,7 @@ fn put_divisor(alloc: Global, cause: &mut Cause, site: &Site, refused: &Refused)
 }
 
 /// Appends the tag of the site that may be meant.
-fn push_tag_meant(alloc: Global, cause: &mut Cause, site: &Site) -> Result<(), AllocError> {
+fn push_tag_meant(alloc: Global, cause: &mut RefusalNote, site: &Site) -> Result<(), AllocError> {
     let Some(meant) = tag_meant(site, cause.name.as_str()) else {
         return Ok(());
     };
@@ -80,7 +85,7 @@ fn tag_meant<'a>(site: &'a Site, written: &str) -> Option<&'a str> {
 /// Appends in which steps a tag counts that is stored, where that isn't in ones.
 fn push_step(
     alloc: Global,
-    cause: &mut Cause,
+    cause: &mut RefusalNote,
     site: &Site,
     refused: &Refused,
 ) -> Result<(), AllocError> {
@@ -125,7 +130,7 @@ fn step_word(exponent: i8) -> Option<&'static str> {
 /// Puts in what mends two types that don't agree.
 fn put_mend(
     alloc: Global,
-    cause: &mut Cause,
+    cause: &mut RefusalNote,
     site: &Site,
     refused: &Refused,
 ) -> Result<(), AllocError> {

@@ -14,6 +14,6 @@ mod words;
 // warnings of a site
 pub use warnings::shown_warnings;
 // why a point doesn't say each number of a range, and the word of its kind
-pub use limits::Limits;
+pub use limits::SettingLimits;
 pub use reason::{Reason, reason_of};
 pub use words::kind_word;

@@ -5,13 +5,13 @@ use site_model::raw_range;
 
 /// The least and the greatest number that a point says, in units of 10^exponent, where its factor is no coarser.
 #[derive(Clone, Copy, PartialEq, Eq, Debug)]
-pub struct Limits {
+pub struct SettingLimits {
     pub least: i128,
     pub most: i128,
 }
 
 /// The limits of a kind, where a number counts so many powers of ten more than the factor; None for kinds without a number.
-pub(crate) fn limits_of(kind: Kind, steps: u32) -> Option<Limits> {
+pub(crate) fn limits_of(kind: Kind, steps: u32) -> Option<SettingLimits> {
     let (least, most) = raw_range(kind)?;
     let unit = 10i128.checked_pow(steps)?;
     let least = if least > 0 {
@@ -19,14 +19,14 @@ pub(crate) fn limits_of(kind: Kind, steps: u32) -> Option<Limits> {
     } else {
         least.checked_div(unit)?
     };
-    Some(Limits {
+    Some(SettingLimits {
         least,
         most: most.checked_div(unit)?,
     })
 }
 
 /// By how many powers of ten a demand has to count more coarsely to lie within limits.
-pub(crate) fn steps_to(demand: &Demand, limits: Limits) -> i8 {
+pub(crate) fn steps_to(demand: &Demand, limits: SettingLimits) -> i8 {
     let above = steps_below(demand.high, limits.most);
     let below = steps_below(
         0i128.saturating_sub(demand.low),

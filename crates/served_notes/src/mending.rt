@@ -1,5 +1,5 @@
 //! What to do about a point that doesn't always show what it is to.
-use crate::limits::{Limits, limits_of, steps_to};
+use crate::limits::{SettingLimits, limits_of, steps_to};
 use crate::reason::Reason;
 use crate::subject::{Shown, Subject};
 use served_ranges::Demand;
@@ -79,7 +79,7 @@ fn coarser(
     subject: Subject<'_>,
     demand: &Demand,
     factor: i16,
-    limits: Limits,
+    limits: SettingLimits,
 ) -> Result<String, AllocError> {
     if let (Some(name), true) = (subject.factor, fits_as_counted(demand)) {
         let exponent = demand.exponent;

@@ -1,5 +1,5 @@
 //! Why a point doesn't always show what it is to.
-use crate::limits::{Limits, limits_of};
+use crate::limits::{SettingLimits, limits_of};
 use served_ranges::Demand;
 
 /// Why a point doesn't always show what it is to.
@@ -10,9 +10,9 @@ pub enum Reason {
     /// Its scale factor is coarser than the numbers.
     TooCoarse(i16),
     /// The greatest number lies beyond what it says.
-    Beyond(i16, Limits),
+    Beyond(i16, SettingLimits),
     /// The least number lies below what it says.
-    Below(i16, Limits),
+    Below(i16, SettingLimits),
     /// No number is said in its kind, or none that large.
     NoNumber,
 }

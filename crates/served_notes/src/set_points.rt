@@ -1,5 +1,5 @@
 //! What the point of an output can't say of the tag's range, in words.
-use crate::limits::Limits;
+use crate::limits::SettingLimits;
 use crate::reason::{Reason, reason_of};
 use crate::words::kind_word;
 use served_ranges::{Demand, demand_of_set};
@@ -70,7 +70,7 @@ fn mend_of(alloc: Global, demand: &Demand, reason: Reason) -> Result<String, All
 }
 
 /// A range that the point says.
-fn narrowed(alloc: Global, demand: &Demand, limits: Limits) -> Result<String, AllocError> {
+fn narrowed(alloc: Global, demand: &Demand, limits: SettingLimits) -> Result<String, AllocError> {
     let (low, high) = (demand.low.max(limits.least), demand.high.min(limits.most));
     format!(in alloc; "narrow its range to low = {low} and high = {high}, or less")
 }

@@ -3,7 +3,7 @@ use Rattle.std.specs.Prelude.{◌≡◌, ℕ, ◌+◌, Bool, List, [], ◌∷◌
 use Rattle.std.specs.HashMap.{get}
 use Rattle.site_alarms.specs.declared.alarm.Alarm.{Alarm}
 use Rattle.site_alarms.specs.declared.alarm.AlarmSubject.{AlarmSubject}
-use Rattle.site_alarms.specs.declared.places.Places.{Places}
+use Rattle.site_alarms.specs.declared.places.AlarmPlaces.{AlarmPlaces}
 use Rattle.site_alarms.specs.declared.standing.StandingAlarm.{StandingAlarm}
 use Rattle.site_alarms.specs.contracts.alarm.AlarmSubjectPartialEq.TheImpl as subject_eq
 use Rattle.site_alarms.specs.Changing.{subject_of}
@@ -26,10 +26,10 @@ abbrev pub Tells : {A : Type 0} → (AlarmSubject → Option ℕ) → (A → Ala
 Tells told f list n = (x : AlarmSubject) → told x ≡ place_from f list n x
 
 -- the table tells of these alarms, or of what stood
-abbrev pub TellOfAlarms : Places → List Alarm → Type 0
+abbrev pub TellOfAlarms : AlarmPlaces → List Alarm → Type 0
 TellOfAlarms places alarms = Tells (get same places.numbers) subject_of alarms 0
 
-abbrev pub TellOfStood : Places → List StandingAlarm → Type 0
+abbrev pub TellOfStood : AlarmPlaces → List StandingAlarm → Type 0
 TellOfStood places stood = Tells (get same places.numbers) stood_for stood 0
 
 -- what stood, from the first of a subject on

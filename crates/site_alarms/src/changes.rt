@@ -5,7 +5,7 @@ ghost use Rattle.site_alarms.specs.Finding.{TellOfAlarms, TellOfStood};
 ghost use Rattle.site_alarms.specs.declared.alarm.Alarm.{Alarm};
 
 use crate::alarm::{Alarm, AlarmSubject, is_one};
-use crate::places::Places;
+use crate::places::AlarmPlaces;
 use crate::standing::{StandingAlarm, from_first};
 use point_types::Items;
 use std::alloc::{AllocError, Global};
@@ -14,7 +14,7 @@ use std::alloc::{AllocError, Global};
 #[derive(Drop)]
 pub struct Changes {
     /// Where the first alarm of each subject is, of those that were seen last.
-    places: Places,
+    places: AlarmPlaces,
     /// The alarms that didn't stand before, with this cause.
     pub begun: Items<Alarm>,
     /// Those that stood before, of which nothing is wrong any more.
@@ -25,7 +25,7 @@ impl Changes {
     /// Nothing changed.
     pub fn new(alloc: Global) -> Changes {
         Changes {
-            places: Places::new(alloc),
+            places: AlarmPlaces::new(alloc),
             begun: Items::new(alloc),
             over: Items::new(alloc),
         }
@@ -35,7 +35,7 @@ impl Changes {
     pub(crate) fn see(
         &mut self,
         stood: &[StandingAlarm],
-        places: &Places,
+        places: &AlarmPlaces,
         alarms: &[Alarm],
     ) -> Result<(), AllocError>
         requires { TellOfStood places.now stood.now }
@@ -50,7 +50,7 @@ impl Changes {
 fn fill_begun(
     begun: &mut Items<Alarm>,
     stood: &[StandingAlarm],
-    places: &Places,
+    places: &AlarmPlaces,
     alarms: &[Alarm],
 ) -> Result<(), AllocError>
     requires { TellOfStood places.now stood.now }
@@ -66,7 +66,7 @@ fn fill_begun(
 fn fill_over(
     over: &mut Items<Alarm>,
     stood: &[StandingAlarm],
-    places: &Places,
+    places: &AlarmPlaces,
 ) -> Result<(), AllocError>
     ensures { (alarms : List Alarm) → TellOfAlarms places.now alarms → OnOk result (AreOver stood.now alarms (length stood.now) over.new) }
 {
@@ -80,7 +80,7 @@ fn fill_over(
 fn push_begun(
     begun: &mut Items<Alarm>,
     stood: &[StandingAlarm],
-    places: &Places,
+    places: &AlarmPlaces,
     alarms: &[Alarm],
     i: usize,
 ) -> Result<(), AllocError>
@@ -96,7 +96,7 @@ fn push_begun(
 fn push_over(
     over: &mut Items<Alarm>,
     stood: &[StandingAlarm],
-    places: &Places,
+    places: &AlarmPlaces,
     i: usize,
 ) -> Result<(), AllocError>
     ensures { (alarms : List Alarm) → TellOfAlarms places.now alarms → OnOk result (NextOver alarms (slice_get stood.now i) over.old over.new) }
@@ -108,7 +108,7 @@ fn push_over(
 }
 
 /// Whether an alarm stood, with its cause.
-fn has_stood(stood: &[StandingAlarm], places: &Places, alarm: Alarm) -> bool
+fn has_stood(stood: &[StandingAlarm], places: &AlarmPlaces, alarm: Alarm) -> bool
     requires { TellOfStood places.now stood.now }
     ensures { Decides result (Stood stood.now alarm) }
 {
@@ -128,7 +128,7 @@ fn is_among(stood: &[StandingAlarm], alarm: Alarm) -> bool
 }
 
 /// Whether some alarm is of a subject, of those that the places tell of.
-fn are_of(places: &Places, subject: AlarmSubject) -> bool
+fn are_of(places: &AlarmPlaces, subject: AlarmSubject) -> bool
     ensures { (alarms : List Alarm) → TellOfAlarms places.now alarms → Decides result (AreOf alarms subject) }
 {
     places.first(subject).is_some()

@@ -11,14 +11,14 @@ use std::collections::HashMap;
 /// Where the first alarm of each subject is, in the list that was noted last. It is looked up in one step, so that two long
 /// lists are compared in little time. It takes memory only where a list is longer than any before.
 #[derive(Drop)]
-pub(crate) struct Places {
+pub(crate) struct AlarmPlaces {
     numbers: HashMap<AlarmSubject, usize>,
 }
 
-impl Places {
+impl AlarmPlaces {
     /// It tells of no alarm yet, and takes no memory.
-    pub(crate) fn new(alloc: Global) -> Places {
-        Places {
+    pub(crate) fn new(alloc: Global) -> AlarmPlaces {
+        AlarmPlaces {
             numbers: HashMap::new(alloc),
         }
     }

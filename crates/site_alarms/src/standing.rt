@@ -5,7 +5,7 @@ ghost use Rattle.site_alarms.specs.Finding.{TellOfStood, from_first};
 
 use crate::alarm::{Alarm, AlarmSubject, is_same};
 use crate::changes::Changes;
-use crate::places::Places;
+use crate::places::AlarmPlaces;
 use point_types::Items;
 use std::alloc::{AllocError, Global};
 
@@ -24,7 +24,7 @@ pub struct Watch {
     /// Room for those that come next.
     next: Items<StandingAlarm>,
     /// Where the first of each subject was, of what stood before.
-    places: Places,
+    places: AlarmPlaces,
     changes: Changes,
 }
 
@@ -36,7 +36,7 @@ impl Watch {
         Watch {
             standing: Items::new(alloc),
             next: Items::new(alloc),
-            places: Places::new(alloc),
+            places: AlarmPlaces::new(alloc),
             changes: Changes::new(alloc),
         }
     }
@@ -80,7 +80,7 @@ impl Watch {
 fn fill_standing(
     standing: &mut Items<StandingAlarm>,
     stood: &[StandingAlarm],
-    places: &Places,
+    places: &AlarmPlaces,
     alarms: &[Alarm],
     now: u64,
 ) -> Result<(), AllocError>
@@ -97,7 +97,7 @@ fn fill_standing(
 fn push_standing(
     standing: &mut Items<StandingAlarm>,
     stood: &[StandingAlarm],
-    places: &Places,
+    places: &AlarmPlaces,
     alarms: &[Alarm],
     now: u64,
     i: usize,
@@ -115,7 +115,7 @@ fn push_standing(
 }
 
 /// Since when the first of a subject stood, or from now on.
-fn since_of(stood: &[StandingAlarm], places: &Places, subject: AlarmSubject, now: u64) -> u64
+fn since_of(stood: &[StandingAlarm], places: &AlarmPlaces, subject: AlarmSubject, now: u64) -> u64
     requires { TellOfStood places.now stood.now }
     ensures { IsSince stood.now now subject result }
 {
@@ -136,7 +136,7 @@ fn since_among(stood: &[StandingAlarm], subject: AlarmSubject, now: u64) -> u64
 /// What stood, from the first of a subject on.
 pub(crate) fn from_first<'a>(
     stood: &'a [StandingAlarm],
-    places: &Places,
+    places: &AlarmPlaces,
     subject: AlarmSubject,
 ) -> &'a [StandingAlarm]
     requires { TellOfStood places.now stood.now }

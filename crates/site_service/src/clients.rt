@@ -6,7 +6,7 @@ use crate::client::Client;
 use crate::client_watch::ClientWatch;
 use crate::door::Door;
 use crate::line_writer::LineWriter;
-use crate::tokens::Tokens;
+use crate::tokens::SocketTokens;
 use gateway::{Core, DEPTH};
 use mio::net::TcpStream;
 use mio::{Registry, Token};
@@ -22,7 +22,7 @@ const MOST_TAKEN: u32 = 64;
 /// The clients' connections, each at its place, under its token.
 #[derive(Drop)]
 pub(crate) struct Clients {
-    tokens: Tokens,
+    tokens: SocketTokens,
     places: Vec<Option<Client>>,
     watch: ClientWatch,
 }
@@ -31,7 +31,7 @@ impl Clients {
     /// Places for so many, all of them free; whether each client that comes or leaves is told.
     pub(crate) fn new(
         alloc: Global,
-        tokens: Tokens,
+        tokens: SocketTokens,
         most: usize,
         tells_moves: bool,
     ) -> Result<Clients, AllocError> {

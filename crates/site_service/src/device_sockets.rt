@@ -2,7 +2,7 @@
 ghost use Rattle.std.specs.Prelude.{◌≡◌, IfOk, map};
 
 use crate::device_socket::DeviceSocket;
-use crate::tokens::Tokens;
+use crate::tokens::SocketTokens;
 use mio::{Registry, Token};
 use service_core::Service;
 use site_model::Text;
@@ -14,7 +14,7 @@ use std::process::{Processes, SystemProcess};
 #[derive(Drop)]
 pub(crate) struct DeviceSockets {
     alloc: Global,
-    tokens: Tokens,
+    tokens: SocketTokens,
     links: Vec<DeviceSocket>,
 }
 
@@ -22,7 +22,7 @@ impl DeviceSockets {
     /// Those to these addresses; none is made yet.
     pub(crate) fn new(
         alloc: Global,
-        tokens: Tokens,
+        tokens: SocketTokens,
         addresses: &[Text],
     ) -> Result<DeviceSockets, AllocError>
         ensures { IfOk result (λ links. map (λ link. link.address) links.links.items ≡ addresses.now) }

@@ -2,7 +2,7 @@
 use crate::door::Door;
 use crate::plant_client::{LatePlant, PlantClient};
 use crate::serve_loop::milliseconds;
-use crate::tokens::{DOOR, Owner, Tokens};
+use crate::tokens::{DOOR, Owner, SocketTokens};
 use inverter_sim::Plant;
 use mio::net::TcpStream;
 use mio::{Events, Poll, Token};
@@ -24,7 +24,7 @@ pub struct PlantDoor {
     events: Events,
     door: Door,
     clients: Vec<Option<PlantClient>>,
-    tokens: Tokens,
+    tokens: SocketTokens,
     /// How many may still come; none for ever more.
     left: Option<u64>,
 }
@@ -48,7 +48,7 @@ impl PlantDoor {
             events: Events::with_capacity(alloc, MOST_AT_ONCE + 1)?,
             door,
             clients,
-            tokens: Tokens::new(0),
+            tokens: SocketTokens::new(0),
             left: limit_of(connections),
         })
     }

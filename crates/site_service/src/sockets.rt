@@ -5,7 +5,7 @@ use crate::door::Door;
 use crate::kept_files::Kept;
 use crate::line_writer::LineWriter;
 use crate::serving::{End, Serving};
-use crate::tokens::{DOOR, Owner, Tokens};
+use crate::tokens::{DOOR, Owner, SocketTokens};
 use mio::{Events, Poll, Token};
 use service_core::Service;
 use site_model::Text;
@@ -27,7 +27,7 @@ pub(crate) struct Sockets {
     door: Door,
     links: DeviceSockets,
     clients: Clients,
-    tokens: Tokens,
+    tokens: SocketTokens,
 }
 
 /// What came in this turn is taken. What is set is kept only after that.
@@ -59,7 +59,7 @@ impl Sockets {
         serving: &Serving<'_>,
         links: &[Text],
     ) -> io::Result<Sockets> {
-        let tokens = Tokens::new(links.len());
+        let tokens = SocketTokens::new(links.len());
         let most = tokens.of_client(serving.clients);
         let links = DeviceSockets::new(alloc, tokens, links)?;
         let clients = Clients::new(alloc, tokens, serving.clients, serving.is_verbose)?;

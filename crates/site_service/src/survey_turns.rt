@@ -2,7 +2,7 @@
 use crate::device_sockets::DeviceSockets;
 use crate::serve_loop::milliseconds;
 use crate::serving::End;
-use crate::tokens::{Owner, Tokens};
+use crate::tokens::{Owner, SocketTokens};
 use mio::{Events, Poll};
 use service_core::{Limits, Note, Service};
 use service_texts::limits;
@@ -73,7 +73,7 @@ fn turns<R: Net + Clock + Processes<Started = SystemProcess>>(
 struct SurveyRound {
     poll: Poll,
     events: Events,
-    tokens: Tokens,
+    tokens: SocketTokens,
     links: DeviceSockets,
     start: Instant,
     /// By how many milliseconds the service's time is ahead of the clock: the scan comes as soon as each device is read, or can't
@@ -90,7 +90,7 @@ impl SurveyRound {
         links: &[Text],
         service: &Service,
     ) -> io::Result<SurveyRound> {
-        let tokens = Tokens::new(links.len());
+        let tokens = SocketTokens::new(links.len());
         let devices = service.core().site().devices().len();
         Ok(SurveyRound {
             poll: Poll::new(rt)?,

@@ -19,15 +19,15 @@ pub(crate) enum Owner {
 
 /// The tokens of a service's sockets, for so many connections to devices.
 #[derive(Clone, Copy)]
-pub(crate) struct Tokens {
+pub(crate) struct SocketTokens {
     links: usize,
 }
 
-impl Tokens {
-    pub(crate) fn new(links: usize) -> Tokens
+impl SocketTokens {
+    pub(crate) fn new(links: usize) -> SocketTokens
         ensures { result ≡ record { links = links } }
     {
-        Tokens { links }
+        SocketTokens { links }
     }
 
     /// The token of a connection to devices: the system's word of it is for just that connection.

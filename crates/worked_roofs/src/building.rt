@@ -1,5 +1,5 @@
 //! From a case to a service and the plants at the other ends of its links.
-use crate::fault::{Fault, Played};
+use crate::fault::{Played, RoofFault};
 use crate::roof::{LinkText, Roof};
 use gateway::DEPTH;
 use il_assemble::assemble;
@@ -48,7 +48,7 @@ pub(crate) fn service(
     models: &[ModelDef],
     limits: Limits,
 ) -> Played<Service> {
-    let mut texts = Texts::new(alloc)?;
+    let mut texts = RoofTexts::new(alloc)?;
     for (link, text) in roof.links.iter().enumerate() {
         texts.add_link(link, text)?;
     }
@@ -72,7 +72,7 @@ pub(crate) fn plant(alloc: Global, text: &LinkText, models: &[ModelDef]) -> Play
 
 /// The texts of a site while they are written.
 #[derive(Drop)]
-struct Texts {
+struct RoofTexts {
     alloc: Global,
     site: String,
     names: String,
@@ -80,9 +80,9 @@ struct Texts {
     stations: Vec<Station>,
 }
 
-impl Texts {
-    fn new(alloc: Global) -> Played<Texts> {
-        Ok(Texts {
+impl RoofTexts {
+    fn new(alloc: Global) -> Played<RoofTexts> {
+        Ok(RoofTexts {
             alloc,
             site: String::from_str(alloc, SITE)?,
             names: String::new(alloc),
@@ -150,6 +150,6 @@ fn machine(alloc: Global, site: &Site, program: &str) -> Played<Machine<DEPTH>> 
 fn fine<T>(made: Option<T>) -> Played<T> {
     match made {
         Some(made) => Ok(made),
-        None => Err(Fault::Site),
+        None => Err(RoofFault::Site),
     }
 }

@@ -1,8 +1,8 @@
 //! The other end of a link, and when what comes from there.
 use crate::dice::Dice;
-use crate::fault::{Fault, Played};
-use crate::roof::{Kind, LinkText, Unit};
-use crate::span::{NEVER, Span, needed};
+use crate::fault::{Played, RoofFault};
+use crate::roof::{LinkText, RoofKind, Unit};
+use crate::span::{NEVER, TimeSpan, needed};
 use inverter_sim::Plant;
 use modbus_frame::{Exception, Frame, Request, exception_pdu, parse_request, write_frame};
 use std::alloc::Global;
@@ -215,7 +215,7 @@ impl FarEnd {
         takes.saturating_mul(times).min(self.most).max(1)
     }
 
-    fn answer(&mut self, kind: Kind, frame: &Frame, at: u64, is_write: bool) -> Played<()> {
+    fn answer(&mut self, kind: RoofKind, frame: &Frame, at: u64, is_write: bool) -> Played<()> {
         if !kind.is_parallel() {
             self.busy = at;
         }
@@ -238,16 +238,16 @@ impl FarEnd {
     ) -> Played<()> {
         let free = start.saturating_add(text.blocks);
         match text.kind {
-            Kind::Logger | Kind::Alone => Ok(()),
-            Kind::Serial => {
+            RoofKind::Logger | RoofKind::Alone => Ok(()),
+            RoofKind::Serial => {
                 self.busy = free;
                 Ok(())
             }
-            Kind::SerialTelling => {
+            RoofKind::SerialTelling => {
                 self.busy = free;
                 self.tell(frame, free)
             }
-            Kind::Telling => self.tell(frame, start.saturating_add(takes.min(TELLS))),
+            RoofKind::Telling => self.tell(frame, start.saturating_add(takes.min(TELLS))),
         }
     }
 

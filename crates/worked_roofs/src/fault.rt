@@ -4,7 +4,7 @@ use std::{fmt, io};
 
 /// What is wrong with a line, or failed.
 #[derive(Clone, Copy)]
-pub(crate) enum Fault {
+pub(crate) enum RoofFault {
     /// It is no line of a case, or not one that may stand there.
     Line,
     /// The case is no site that can be served.
@@ -14,39 +14,39 @@ pub(crate) enum Fault {
 }
 
 /// What a line, or a case, comes to.
-pub(crate) type Played<T> = Result<T, Fault>;
+pub(crate) type Played<T> = Result<T, RoofFault>;
 
-impl Fault {
+impl RoofFault {
     fn meaning(self) -> &'static str {
         match self {
-            Fault::Line => "no line that may stand here",
-            Fault::Site => "no site that can be served",
-            Fault::Memory => "no memory",
-            Fault::Io => "a stream can't be used",
+            RoofFault::Line => "no line that may stand here",
+            RoofFault::Site => "no site that can be served",
+            RoofFault::Memory => "no memory",
+            RoofFault::Io => "a stream can't be used",
         }
     }
 }
 
-impl fmt::Display for Fault {
+impl fmt::Display for RoofFault {
     fn fmt<W: fmt::Write>(&self, f: &mut fmt::Formatter<W>) -> fmt::Result {
         f.write_str(self.meaning())
     }
 }
 
-impl From<AllocError> for Fault {
-    fn from(_error: AllocError) -> Fault {
-        Fault::Memory
+impl From<AllocError> for RoofFault {
+    fn from(_error: AllocError) -> RoofFault {
+        RoofFault::Memory
     }
 }
 
-impl<T: Drop> From<AllocFailed<T>> for Fault {
-    fn from(_error: AllocFailed<T>) -> Fault {
-        Fault::Memory
+impl<T: Drop> From<AllocFailed<T>> for RoofFault {
+    fn from(_error: AllocFailed<T>) -> RoofFault {
+        RoofFault::Memory
     }
 }
 
-impl From<io::Error> for Fault {
-    fn from(_error: io::Error) -> Fault {
-        Fault::Io
+impl From<io::Error> for RoofFault {
+    fn from(_error: io::Error) -> RoofFault {
+        RoofFault::Io
     }
 }

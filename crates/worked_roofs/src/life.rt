@@ -1,12 +1,12 @@
 //! What is counted of a unit.
 use crate::fault::Played;
 use crate::roof::Unit;
-use crate::span::Span;
+use crate::span::TimeSpan;
 use std::alloc::Global;
 
 /// When a unit was written, and after how many scans.
 #[derive(Clone, Copy)]
-pub(crate) struct Mark {
+pub(crate) struct LifeMark {
     pub(crate) at: u64,
     pub(crate) scans: u64,
 }
@@ -14,12 +14,12 @@ pub(crate) struct Mark {
 /// A span of time in which a unit lives, and what was written to it then.
 #[derive(Clone, Copy)]
 pub(crate) struct Life {
-    pub(crate) span: Span,
+    pub(crate) span: TimeSpan,
     /// How long after its beginning it was written.
     pub(crate) first: Option<u64>,
     pub(crate) writes: u64,
     /// The last write, from which the next gap counts.
-    last: Option<Mark>,
+    last: Option<LifeMark>,
     /// The longest time from one write to the next.
     pub(crate) gap: u64,
     /// The most scans from one write to the next.
@@ -29,7 +29,7 @@ pub(crate) struct Life {
 impl Life {
     fn new(from: u64, to: u64) -> Life {
         Life {
-            span: Span { from, to },
+            span: TimeSpan { from, to },
             first: None,
             writes: 0,
             last: None,
@@ -38,7 +38,7 @@ impl Life {
         }
     }
 
-    fn write(&mut self, mark: Mark, settle: u64) {
+    fn write(&mut self, mark: LifeMark, settle: u64) {
         if self.first.is_none() {
             self.first = Some(mark.at.saturating_sub(self.span.from));
         }
@@ -48,7 +48,7 @@ impl Life {
     }
 
     /// Counts the time since the last write, as far as it is after the site has settled.
-    fn stretch(&mut self, mark: Mark, settle: u64) {
+    fn stretch(&mut self, mark: LifeMark, settle: u64) {
         if let Some(last) = self.last
             && mark.at > settle
         {
@@ -96,7 +96,7 @@ impl Lives {
     }
 
     /// It was written.
-    pub(crate) fn write(&mut self, mark: Mark, settle: u64) {
+    pub(crate) fn write(&mut self, mark: LifeMark, settle: u64) {
         for life in self.all.iter_mut() {
             if life.span.has(mark.at) {
                 life.write(mark, settle);
@@ -119,7 +119,7 @@ impl Lives {
     }
 
     /// The site ends: the time since the last write counts too.
-    pub(crate) fn end(&mut self, mark: Mark, settle: u64) {
+    pub(crate) fn end(&mut self, mark: LifeMark, settle: u64) {
         for life in self.all.iter_mut() {
             if life.span.to >= mark.at {
                 life.stretch(mark, settle);

@@ -2,7 +2,7 @@
 use crate::fault::Played;
 use crate::life::Life;
 use crate::roof::Roof;
-use crate::run::{Near, Run};
+use crate::run::{NearEnd, Run};
 use std::fmt;
 use std::io::Write;
 
@@ -63,7 +63,7 @@ pub(crate) fn write_figures<W: Write>(out: &mut W, roof: &Roof<'_>, run: &Run<'_
     Ok(())
 }
 
-fn write_link<W: Write>(out: &mut W, roof: &Roof<'_>, link: usize, near: &Near) -> Played<()> {
+fn write_link<W: Write>(out: &mut W, roof: &Roof<'_>, link: usize, near: &NearEnd) -> Played<()> {
     let number = link.saturating_add(1);
     let word = roof.links.get(link).map_or("", |text| text.kind.word());
     let all = most_of(near, roof.end());
@@ -81,7 +81,7 @@ fn write_link<W: Write>(out: &mut W, roof: &Roof<'_>, link: usize, near: &Near) 
     Ok(())
 }
 
-fn most_of(near: &Near, end: u64) -> Largest {
+fn most_of(near: &NearEnd, end: u64) -> Largest {
     let mut all = Largest {
         end,
         first: None,
@@ -97,7 +97,7 @@ fn most_of(near: &Near, end: u64) -> Largest {
     all
 }
 
-fn write_units<W: Write>(out: &mut W, link: usize, near: &Near, end: u64) -> Played<()> {
+fn write_units<W: Write>(out: &mut W, link: usize, near: &NearEnd, end: u64) -> Played<()> {
     for (unit, lives) in near.lives.iter().enumerate() {
         for life in lives.all.iter() {
             write_life(out, link, unit.saturating_add(1), life, end)?;

@@ -1,11 +1,11 @@
 //! A site and what happens there, as a case tells it.
-use crate::fault::{Fault, Played};
-use crate::span::{Span, number};
+use crate::fault::{Played, RoofFault};
+use crate::span::{TimeSpan, number};
 use std::alloc::Global;
 
 /// What stands at the other end of a link.
 #[derive(Clone, Copy, PartialEq, Eq)]
-pub(crate) enum Kind {
+pub(crate) enum RoofKind {
     /// A logger that answers for each unit by itself.
     Logger,
     /// A logger that answers exception 0B at once for a silent unit.
@@ -36,13 +36,13 @@ pub(crate) struct Unit {
     /// How long the reply to a write takes, in percent of other replies.
     pub(crate) write: u64,
     /// When it answers nothing, in order.
-    pub(crate) silent: Vec<Span>,
+    pub(crate) silent: Vec<TimeSpan>,
 }
 
 /// A link and its units, of which the first one has the number 1.
 #[derive(Drop)]
 pub(crate) struct LinkText {
-    pub(crate) kind: Kind,
+    pub(crate) kind: RoofKind,
     /// How long a silent unit blocks a serial gateway.
     pub(crate) blocks: u64,
     /// After how long without a byte the other end closes the connection; 0 for never.
@@ -52,7 +52,7 @@ pub(crate) struct LinkText {
     /// How many outputs each unit has, 1 or 2.
     pub(crate) outputs: u64,
     /// When no connection can be made, in order; one that stands ends at the beginning.
-    pub(crate) down: Vec<Span>,
+    pub(crate) down: Vec<TimeSpan>,
     pub(crate) units: Vec<Unit>,
 }
 
@@ -71,33 +71,33 @@ pub(crate) struct Roof<'a> {
     pub(crate) links: Vec<LinkText>,
 }
 
-impl Kind {
+impl RoofKind {
     /// The kind that a word names.
-    pub(crate) fn read(word: &str) -> Played<Kind> {
+    pub(crate) fn read(word: &str) -> Played<RoofKind> {
         match word {
-            "par" => Ok(Kind::Logger),
-            "exc" => Ok(Kind::Telling),
-            "ser" => Ok(Kind::Serial),
-            "ser0b" => Ok(Kind::SerialTelling),
-            "one" => Ok(Kind::Alone),
-            _ => Err(Fault::Line),
+            "par" => Ok(RoofKind::Logger),
+            "exc" => Ok(RoofKind::Telling),
+            "ser" => Ok(RoofKind::Serial),
+            "ser0b" => Ok(RoofKind::SerialTelling),
+            "one" => Ok(RoofKind::Alone),
+            _ => Err(RoofFault::Line),
         }
     }
 
     /// The word that names it.
     pub(crate) fn word(self) -> &'static str {
         match self {
-            Kind::Logger => "par",
-            Kind::Telling => "exc",
-            Kind::Serial => "ser",
-            Kind::SerialTelling => "ser0b",
-            Kind::Alone => "one",
+            RoofKind::Logger => "par",
+            RoofKind::Telling => "exc",
+            RoofKind::Serial => "ser",
+            RoofKind::SerialTelling => "ser0b",
+            RoofKind::Alone => "one",
         }
     }
 
     /// Whether no unit waits for another one.
     pub(crate) fn is_parallel(self) -> bool {
-        matches!(self, Kind::Logger | Kind::Telling)
+        matches!(self, RoofKind::Logger | RoofKind::Telling)
     }
 }
 
@@ -111,7 +111,7 @@ impl Which {
     /// Those that `FIRST..LAST` says, or `FIRST..LAST/STEP`.
     pub(crate) fn read(word: &str) -> Played<Which> {
         let (ends, step) = word.split_once("/").unwrap_or((word, "1"));
-        let ends = Span::read(ends)?;
+        let ends = TimeSpan::read(ends)?;
         Ok(Which {
             from: ends.from,
             to: ends.to,
@@ -146,8 +146,8 @@ impl Unit {
             "reply" => self.reply = number(value)?,
             "jitter" => self.jitter = number(value)?,
             "write" => self.write = number(value)?,
-            "silent" => self.silent.push(Span::read(value)?)?,
-            _ => return Err(Fault::Line),
+            "silent" => self.silent.push(TimeSpan::read(value)?)?,
+            _ => return Err(RoofFault::Line),
         }
         Ok(())
     }
@@ -155,7 +155,7 @@ impl Unit {
 
 impl LinkText {
     /// A link with so many units.
-    pub(crate) fn new(alloc: Global, kind: Kind, units: u64) -> Played<LinkText> {
+    pub(crate) fn new(alloc: Global, kind: RoofKind, units: u64) -> Played<LinkText> {
         let mut all = Vec::new(alloc);
         for _ in 0..units.min(64) {
             all.push(Unit::new(alloc))?;
@@ -178,7 +178,7 @@ impl LinkText {
             "idle" => self.idle = number(value)?,
             "reads" => self.reads = number(value)?,
             "outputs" => self.outputs = number(value)?,
-            "down" => self.down.push(Span::read(value)?)?,
+            "down" => self.down.push(TimeSpan::read(value)?)?,
             _ => return self.set_units(Which::ALL, key, value),
         }
         Ok(())
@@ -221,7 +221,7 @@ impl<'a> Roof<'a> {
             "settle" => self.settle = value,
             "seed" => self.seed = value,
             "each" => self.each = value,
-            _ => return Err(Fault::Line),
+            _ => return Err(RoofFault::Line),
         }
         Ok(())
     }

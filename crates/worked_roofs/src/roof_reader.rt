@@ -1,6 +1,6 @@
 //! From lines to cases.
-use crate::fault::{Fault, Played};
-use crate::roof::{Kind, LinkText, Roof, Which};
+use crate::fault::{Played, RoofFault};
+use crate::roof::{LinkText, Roof, RoofKind, Which};
 use crate::span::{needed, number};
 use std::alloc::Global;
 
@@ -9,7 +9,7 @@ const HEADLINE: &str = "=== ";
 
 /// What the keys of a line belong to.
 #[derive(Clone, Copy)]
-enum Place {
+enum ReaderPlace {
     Site,
     /// The last link.
     Link,
@@ -54,26 +54,26 @@ impl<'a> RoofReader<'a> {
 
     fn take_words(&mut self, word: &str, rest: &[&str]) -> Played<()> {
         match (word, rest) {
-            ("site", pairs) => self.set_all(Place::Site, pairs),
+            ("site", pairs) => self.set_all(ReaderPlace::Site, pairs),
             ("link", [kind, units, pairs @ ..]) => {
-                self.begin_link(Kind::read(*kind)?, number(*units)?)?;
-                self.set_all(Place::Link, pairs)
+                self.begin_link(RoofKind::read(*kind)?, number(*units)?)?;
+                self.set_all(ReaderPlace::Link, pairs)
             }
             ("units", [which, pairs @ ..]) => {
-                self.set_all(Place::Units(Which::read(*which)?), pairs)
+                self.set_all(ReaderPlace::Units(Which::read(*which)?), pairs)
             }
-            _ => Err(Fault::Line),
+            _ => Err(RoofFault::Line),
         }
     }
 
-    fn begin_link(&mut self, kind: Kind, units: u64) -> Played<()> {
+    fn begin_link(&mut self, kind: RoofKind, units: u64) -> Played<()> {
         let link = LinkText::new(self.alloc, kind, units)?;
         needed(self.roofs.last_mut())?.links.push(link)?;
         Ok(())
     }
 
     /// Takes keys with their values.
-    fn set_all(&mut self, place: Place, pairs: &[&str]) -> Played<()> {
+    fn set_all(&mut self, place: ReaderPlace, pairs: &[&str]) -> Played<()> {
         let mut rest = pairs;
         for _ in 0..pairs.len() {
             let [key, value, more @ ..] = rest else {
@@ -84,16 +84,18 @@ impl<'a> RoofReader<'a> {
         }
         match rest.is_empty() {
             true => Ok(()),
-            false => Err(Fault::Line),
+            false => Err(RoofFault::Line),
         }
     }
 
-    fn set(&mut self, place: Place, key: &str, value: &str) -> Played<()> {
+    fn set(&mut self, place: ReaderPlace, key: &str, value: &str) -> Played<()> {
         let roof = needed(self.roofs.last_mut())?;
         match place {
-            Place::Site => roof.set(key, number(value)?),
-            Place::Link => needed(roof.links.last_mut())?.set(key, value),
-            Place::Units(which) => needed(roof.links.last_mut())?.set_units(which, key, value),
+            ReaderPlace::Site => roof.set(key, number(value)?),
+            ReaderPlace::Link => needed(roof.links.last_mut())?.set(key, value),
+            ReaderPlace::Units(which) => needed(roof.links.last_mut())?.set_units(
+                which, key, value,
+            ),
         }
     }
 }

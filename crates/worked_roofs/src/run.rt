@@ -2,8 +2,8 @@
 use crate::building::{limits_of, plant, service};
 use crate::dice::Dice;
 use crate::far_end::{Coming, FarEnd, Happening};
-use crate::fault::{Fault, Played};
-use crate::life::{Lives, Mark};
+use crate::fault::{Played, RoofFault};
+use crate::life::{LifeMark, Lives};
 use crate::roof::Roof;
 use crate::span::needed;
 use modbus_frame::{Frame, Framer};
@@ -19,7 +19,7 @@ const MOST_NOTES: u64 = 10_000;
 
 /// What is counted of the whole site.
 #[derive(Clone, Copy)]
-pub(crate) struct Counts {
+pub(crate) struct RoofCounts {
     pub(crate) scans: u64,
     /// When the last scan was.
     scan_at: u64,
@@ -38,7 +38,7 @@ pub(crate) struct Counts {
 
 /// A link, on this side.
 #[derive(Drop)]
-pub(crate) struct Near {
+pub(crate) struct NearEnd {
     end: FarEnd,
     /// What came and wasn't used yet.
     waiting: Vec<u8>,
@@ -59,8 +59,8 @@ pub(crate) struct Run<'a> {
     timeout: u64,
     now: u64,
     ticked: u64,
-    pub(crate) counts: Counts,
-    pub(crate) links: Vec<Near>,
+    pub(crate) counts: RoofCounts,
+    pub(crate) links: Vec<NearEnd>,
 }
 
 impl<'a> Run<'a> {
@@ -79,7 +79,7 @@ impl<'a> Run<'a> {
             timeout: limits.timeout,
             now: 0,
             ticked: 0,
-            counts: Counts::new(),
+            counts: RoofCounts::new(),
             links,
         })
     }
@@ -161,7 +161,7 @@ impl<'a> Run<'a> {
 
     /// A reply comes.
     fn hear(&mut self, link: usize, coming: &Coming) -> Played<()> {
-        let mark = Mark {
+        let mark = LifeMark {
             at: self.now,
             scans: self.service.scans(),
         };
@@ -309,7 +309,7 @@ impl<'a> Run<'a> {
     }
 
     fn end(&mut self) {
-        let mark = Mark {
+        let mark = LifeMark {
             at: self.roof.end(),
             scans: self.service.scans(),
         };
@@ -319,9 +319,9 @@ impl<'a> Run<'a> {
     }
 }
 
-impl Counts {
-    fn new() -> Counts {
-        Counts {
+impl RoofCounts {
+    fn new() -> RoofCounts {
+        RoofCounts {
             scans: 0,
             scan_at: 0,
             off: 0,
@@ -344,8 +344,8 @@ impl Counts {
     }
 }
 
-impl Near {
-    fn end_all(&mut self, mark: Mark, settle: u64) {
+impl NearEnd {
+    fn end_all(&mut self, mark: LifeMark, settle: u64) {
         for lives in self.lives.iter_mut() {
             lives.end(mark, settle);
         }
@@ -353,14 +353,14 @@ impl Near {
 }
 
 /// This side of a link.
-fn near_end(alloc: Global, roof: &Roof<'_>, link: usize, models: &[ModelDef]) -> Played<Near> {
+fn near_end(alloc: Global, roof: &Roof<'_>, link: usize, models: &[ModelDef]) -> Played<NearEnd> {
     let text = needed(roof.links.get(link))?;
     let mut lives = Vec::new(alloc);
     for unit in text.units.iter() {
         lives.push(Lives::new(alloc, unit, roof.end())?)?;
     }
     let most = roof.timeout.saturating_mul(95) / 100;
-    Ok(Near {
+    Ok(NearEnd {
         end: FarEnd::new(alloc, plant(alloc, text, models)?, most),
         waiting: Vec::new(alloc),
         lives,
@@ -373,7 +373,7 @@ fn near_end(alloc: Global, roof: &Roof<'_>, link: usize, models: &[ModelDef]) ->
 fn frame_in(request: &[u8]) -> Played<Frame> {
     match Framer::<260>::new().feed(request) {
         Ok(fed) => needed(fed.frame),
-        Err(_) => Err(Fault::Line),
+        Err(_) => Err(RoofFault::Line),
     }
 }
 

@@ -1,5 +1,5 @@
 //! What the words of a step say: numbers, bytes and registers.
-use crate::fault::{Fault, Shown};
+use crate::fault::{Shown, StepFault};
 use modbus_frame::Pdu;
 use std::alloc::Global;
 use std::str::FromStr;
@@ -8,7 +8,7 @@ use std::str::FromStr;
 pub(crate) fn needed<T>(found: Option<T>) -> Shown<T> {
     match found {
         Some(found) => Ok(found),
-        None => Err(Fault::Step),
+        None => Err(StepFault::Step),
     }
 }
 

@@ -1,6 +1,6 @@
 //! A file of cases, read line by line.
 use crate::benches::Benches;
-use crate::fault::{Fault, Shown};
+use crate::fault::{Shown, StepFault};
 use crate::page::Page;
 use crate::texts::Texts;
 use std::alloc::Global;
@@ -149,13 +149,13 @@ fn show_group<W: Write>(out: &mut W, from: usize, to: usize, page: &str) -> Show
 fn bounds_of(range: &str) -> Shown<(usize, usize)> {
     match range.split_once("..") {
         Some((first, last)) => Ok((bound(first)?, bound(last)?)),
-        None => Err(Fault::Step),
+        None => Err(StepFault::Step),
     }
 }
 
 fn bound(word: &str) -> Shown<usize> {
     match word.parse::<usize>() {
         Ok(number) => Ok(number),
-        Err(_) => Err(Fault::Step),
+        Err(_) => Err(StepFault::Step),
     }
 }

@@ -4,7 +4,7 @@ use std::{fmt, io};
 
 /// What is wrong with a line, or failed there.
 #[derive(Clone, Copy)]
-pub(crate) enum Fault {
+pub(crate) enum StepFault {
     /// It is no step, or one that can't be taken here.
     Step,
     Memory,
@@ -12,38 +12,38 @@ pub(crate) enum Fault {
 }
 
 /// What a line of a file of cases comes to.
-pub(crate) type Shown<T> = Result<T, Fault>;
+pub(crate) type Shown<T> = Result<T, StepFault>;
 
-impl Fault {
+impl StepFault {
     fn meaning(self) -> &'static str {
         match self {
-            Fault::Step => "no step that can be taken here",
-            Fault::Memory => "no memory",
-            Fault::Io => "a file can't be used",
+            StepFault::Step => "no step that can be taken here",
+            StepFault::Memory => "no memory",
+            StepFault::Io => "a file can't be used",
         }
     }
 }
 
-impl fmt::Display for Fault {
+impl fmt::Display for StepFault {
     fn fmt<W: fmt::Write>(&self, f: &mut fmt::Formatter<W>) -> fmt::Result {
         f.write_str(self.meaning())
     }
 }
 
-impl From<AllocError> for Fault {
-    fn from(_error: AllocError) -> Fault {
-        Fault::Memory
+impl From<AllocError> for StepFault {
+    fn from(_error: AllocError) -> StepFault {
+        StepFault::Memory
     }
 }
 
-impl<T: Drop> From<AllocFailed<T>> for Fault {
-    fn from(_error: AllocFailed<T>) -> Fault {
-        Fault::Memory
+impl<T: Drop> From<AllocFailed<T>> for StepFault {
+    fn from(_error: AllocFailed<T>) -> StepFault {
+        StepFault::Memory
     }
 }
 
-impl From<io::Error> for Fault {
-    fn from(_error: io::Error) -> Fault {
-        Fault::Io
+impl From<io::Error> for StepFault {
+    fn from(_error: io::Error) -> StepFault {
+        StepFault::Io
     }
 }

@@ -25,7 +25,7 @@ mod texts;
 mod wire;
 
 use crate::case_file::CaseFile;
-use crate::fault::{Fault, Shown};
+use crate::fault::{Shown, StepFault};
 use std::process::ExitCode;
 use std::{env, fs, io};
 
@@ -46,7 +46,7 @@ fn show_files(rt: &HostRuntime) -> Shown<()> {
             Ok(text) => show_file(rt, file.as_str(), text.as_str())?,
             Err(fault) => {
                 eprintln!(rt; "{file}: {fault}")?;
-                return Err(Fault::from(fault));
+                return Err(StepFault::from(fault));
             }
         }
     }

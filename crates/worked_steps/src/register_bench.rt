@@ -1,6 +1,6 @@
 //! The registers of a device, and the search for its map.
 use crate::bytes::{needed, number, registers_of};
-use crate::fault::{Fault, Shown};
+use crate::fault::{Shown, StepFault};
 use crate::page::Page;
 use gateway::Outcome;
 use modbus_frame::{Exception, Request, Words};

@@ -1,5 +1,5 @@
 //! The texts of cases by their names.
-use crate::fault::{Fault, Shown};
+use crate::fault::{Shown, StepFault};
 use std::alloc::Global;
 
 /// Before the name of the text that an edited one begins as.
@@ -80,7 +80,7 @@ impl<'a> Texts<'a> {
 
     /// The last text of a name.
     pub(crate) fn get(&self, name: &str) -> Shown<&str> {
-        let mut found = Err(Fault::Step);
+        let mut found = Err(StepFault::Step);
         for text in self.all.iter() {
             if text.name == name {
                 found = Ok(text.text.as_str());
@@ -111,7 +111,7 @@ impl<'a> NamedText<'a> {
 fn replaced(alloc: Global, text: &str, old: &str, new: &str) -> Shown<String> {
     match text.split_once(old) {
         Some((before, after)) => Ok(format!(in alloc; "{before}{new}{after}")?),
-        None => Err(Fault::Step),
+        None => Err(StepFault::Step),
     }
 }
 

@@ -1,12 +1,12 @@
 //! What is noted of a link that failed: which device and model was asked, and what came.
 ghost use Rattle.std.specs.Prelude.{◌≡◌, Some, IfSome};
 
-use crate::links::watched_link::{Asked, Front, WatchedLink};
+use crate::links::watched_link::{Front, WatchedLink, WatchedRequest};
 use commands::definitions::definitions;
 use file_keys::TomlFile;
 use gateway::Poller;
 use modbus_frame::{Link, LinkFault, Request};
-use refusal_notes::Cause;
+use refusal_notes::RefusalNote;
 use site_model::Site;
 use std::alloc::{AllocError, Global};
 
@@ -23,11 +23,11 @@ pub fn cause_of_link<L: Link>(
     site: &TomlFile<'_>,
     defs: &[String],
     poller: &mut Poller<WatchedLink<L>>,
-) -> Option<Cause>
+) -> Option<RefusalNote>
     ensures { IfSome poller.old.fault (λ _. poller.new ≡ poller.old) }
 {
     let fault = fault_of(poller)?;
-    let mut cause = Cause::unlinked(alloc, fault);
+    let mut cause = RefusalNote::unlinked(alloc, fault);
     if let Ok(detail) = asked_and_came(alloc, site, defs, poller.link()) {
         cause.detail = detail;
     }
@@ -95,7 +95,7 @@ fn push_name(text: &mut String, site: &Site, unit: u8) -> Result<(), AllocError>
 fn push_asked(
     alloc: Global,
     text: &mut String,
-    asked: Asked,
+    asked: WatchedRequest,
     model: Option<u16>,
 ) -> Result<(), AllocError> {
     let addr = asked.addr;

@@ -48,7 +48,7 @@ pub(crate) struct ModelAt {
 /// A request to a unit, as its frame has it: the function, an address, and for reads and writes of several registers
 /// how many.
 #[derive(Clone, Copy)]
-pub(crate) struct Asked {
+pub(crate) struct WatchedRequest {
     pub unit: u8,
     pub function: u8,
     pub addr: u16,
@@ -118,10 +118,10 @@ impl<L: Link> WatchedLink<L> {
     }
 
     /// The last request that went out whole.
-    pub(crate) fn asked(&self) -> Option<Asked> {
+    pub(crate) fn asked(&self) -> Option<WatchedRequest> {
         let unit = self.request.number_at(6)?;
         let [unit, function] = unit.to_be_bytes();
-        Some(Asked {
+        Some(WatchedRequest {
             unit,
             function,
             addr: self.request.number_at(8)?,
@@ -205,7 +205,7 @@ impl<L: Link> WatchedLink<L> {
         ensures { self.new.link ≡ self.old.link }
     {
         let Some(
-            Asked {
+            WatchedRequest {
                 unit,
                 function: READ,
                 addr,

@@ -10,7 +10,7 @@ use crate::run_watch::{RunLook, RunWatch, Setting};
 use crate::runtimes::RunRuntime;
 use crate::warnings::warn_on_site;
 use commands::{
-    DEPTH, FAILED_LINK, LinkCommand, ObeyedOver, Pace, ScanClients, Unwatched, obey_over,
+    DEPTH, FAILED_LINK, LinkCommand, ObeyedOver, RunPace, ScanClients, Unwatched, obey_over,
     write_lines,
 };
 use gateway::{Core, Poller, serve_client};
@@ -30,7 +30,7 @@ pub struct PlantRun<'n, 'a> {
     /// The path of the plant file.
     pub plant: &'a str,
     /// How many scans, and how far apart.
-    pub pace: Pace,
+    pub pace: RunPace,
     /// What clients set between them.
     pub settings: &'a [Setting<'a>],
     /// The path of the program that is started for the plant and for the probe.

@@ -1,10 +1,10 @@
 //! The program's file, looked at while a service runs its program.
 use crate::words::version;
 use command_files::{SourceFault, read_again, warn_of_names};
-use commands::{DEPTH, Outcome, accept_program};
+use commands::{CommandOutcome, DEPTH, accept_program};
 use gateway::CoreFault;
 use point_types::Name;
-use refusal_notes::{Cause, FileFault, Notes, escaped, explain_unusable};
+use refusal_notes::{FileFault, Notes, RefusalNote, escaped, explain_unusable};
 use served_site::replace_program;
 use service_core::Service;
 use service_texts::Start;
@@ -43,7 +43,7 @@ pub(crate) struct ProgramFile<'n> {
     runs: Option<Sight>,
     taken: Option<Start>,
     /// What can be explained of the last judgement.
-    known: Known,
+    known: KnownFile,
 }
 
 /// What a look finds.
@@ -56,10 +56,10 @@ enum Sight {
 
 /// What can be explained of a judgement.
 #[derive(Drop)]
-enum Known {
+enum KnownFile {
     Nothing,
     /// Why the text that was refused last isn't accepted.
-    Cause(Option<Cause>),
+    Cause(Option<RefusalNote>),
     /// Why there is no text.
     NoText(FileFault),
     /// The program that runs was taken.
@@ -93,10 +93,10 @@ impl ProgramWatch for ProgramFile<'_> {
 
     fn explain<R: Eprint + AllocGlobal>(&self, rt: &R, service: &Service) {
         match &self.known {
-            Known::Nothing => {}
-            Known::Cause(cause) => self.explain_cause(rt, cause),
-            Known::NoText(fault) => self.explain_file(rt, *fault),
-            Known::Taken => self.warn(rt, service),
+            KnownFile::Nothing => {}
+            KnownFile::Cause(cause) => self.explain_cause(rt, cause),
+            KnownFile::NoText(fault) => self.explain_file(rt, *fault),
+            KnownFile::Taken => self.warn(rt, service),
         }
     }
 }
@@ -114,7 +114,7 @@ impl<'n> ProgramFile<'n> {
             lacked_memory: false,
             runs: None,
             taken: None,
-            known: Known::Nothing,
+            known: KnownFile::Nothing,
         }
     }
 
@@ -191,11 +191,11 @@ impl<'n> ProgramFile<'n> {
     fn unread(&mut self, fault: SourceFault) -> ProgramRefusal {
         match fault {
             SourceFault::OutOfMemory => {
-                self.known = Known::Nothing;
+                self.known = KnownFile::Nothing;
                 ProgramRefusal::Memory
             }
             SourceFault::Unusable(fault) => {
-                self.known = Known::NoText(fault);
+                self.known = KnownFile::NoText(fault);
                 refusal_for(file_words(self.alloc, self.notes.program_path))
             }
         }
@@ -207,7 +207,7 @@ impl<'n> ProgramFile<'n> {
         text: &str,
         service: &mut Service,
     ) -> Looked {
-        self.known = Known::Nothing;
+        self.known = KnownFile::Nothing;
         let seconds = seconds_of_day(rt);
         match Start::of(self.alloc, seconds, version(), self.notes.site.text(), text) {
             Ok(start) => self.judge_from(text, start, service),
@@ -224,9 +224,9 @@ impl<'n> ProgramFile<'n> {
         }
     }
 
-    fn refuse(&mut self, outcome: Outcome) -> Looked {
+    fn refuse(&mut self, outcome: CommandOutcome) -> Looked {
         let words = cause_words(self.alloc, &outcome);
-        self.known = Known::Cause(outcome.cause);
+        self.known = KnownFile::Cause(outcome.cause);
         Looked::Refused(refusal_for(words))
     }
 
@@ -236,14 +236,14 @@ impl<'n> ProgramFile<'n> {
         match replace_program(self.alloc, service, verified) {
             Ok(()) => {
                 self.taken = Some(start);
-                self.known = Known::Taken;
+                self.known = KnownFile::Taken;
                 Looked::Taken(budget)
             }
             Err(fault) => Looked::Refused(refusal_by(self.alloc, fault)),
         }
     }
 
-    fn explain_cause<R: Eprint + AllocGlobal>(&self, rt: &R, cause: &Option<Cause>) {
+    fn explain_cause<R: Eprint + AllocGlobal>(&self, rt: &R, cause: &Option<RefusalNote>) {
         if let Some(Sight::Text(text)) = &self.refused {
             let notes = Notes {
                 program: text.as_str(),
@@ -338,7 +338,7 @@ fn file_words(alloc: Global, path: &str) -> Result<String, AllocError> {
 }
 
 // What the line of a refusal says after `refused: `.
-fn cause_words(alloc: Global, outcome: &Outcome) -> Result<String, AllocError> {
+fn cause_words(alloc: Global, outcome: &CommandOutcome) -> Result<String, AllocError> {
     match str::from_utf8(outcome.lines.as_slice()) {
         Ok(line) => String::from_str(alloc, cause_in(line)),
         Err(_) => Ok(String::new(alloc)),

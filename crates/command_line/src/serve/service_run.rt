@@ -8,7 +8,7 @@ use command_files::{
     no_start, start_plant, tell_lost, tell_no_port, tell_unserved, told_port, variables_of,
     warn_of_names, warn_of_short_lapses, warn_on_site,
 };
-use commands::{Accepted, Outcome, accept, tell_no_memory, write_lines};
+use commands::{Accepted, CommandOutcome, accept, tell_no_memory, write_lines};
 use modbus_frame::LinkFault;
 use point_types::Name;
 use refusal_notes::Notes;
@@ -189,7 +189,7 @@ fn tell_begun<W: Write>(alloc: Global, serving: &Serving<'_>, budget: u32, out: 
 }
 
 fn tell_accepted<W: Write>(alloc: Global, budget: u32, out: &mut W) -> u8 {
-    match Outcome::accepted(alloc, budget) {
+    match CommandOutcome::accepted(alloc, budget) {
         Ok(outcome) => outcome.tell(out),
         Err(AllocError) => tell_no_memory(out),
     }

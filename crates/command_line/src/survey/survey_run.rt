@@ -4,7 +4,7 @@ use crate::serve::{tell_no_core, tell_unreachable};
 use crate::survey::survey_service::{NO_PROGRAM, asked, service_for};
 use command_files::{tell_lost, warn_on_site};
 use commands::definitions::definitions;
-use commands::{Outcome, accept, tell_no_memory, write_lines};
+use commands::{CommandOutcome, accept, tell_no_memory, write_lines};
 use modbus_frame::LinkFault;
 use refusal_notes::Notes;
 use served_site::NoSurvey;
@@ -56,7 +56,7 @@ pub fn run_survey<R: LoopRuntime + Print, W: Write>(
 fn tell_refused<R: Eprint + AllocGlobal, W: Write>(
     rt: &R,
     notes: &Notes<'_>,
-    outcome: &Outcome,
+    outcome: &CommandOutcome,
     out: &mut W,
 ) -> u8 {
     let status = outcome.tell(out);

@@ -1,6 +1,6 @@
 //! The service of a survey, which reads a site as it is asked.
 use crate::survey::survey_run::SurveyRun;
-use commands::{Accepted, Outcome, accept};
+use commands::{Accepted, CommandOutcome, accept};
 use file_keys::TomlFile;
 use gateway::CoreFault;
 use refusal_notes::Notes;
@@ -20,7 +20,7 @@ pub(crate) const NO_PROGRAM: &str = "PROGRAM survey\nEND_PROGRAM\n";
 pub(crate) fn asked(
     alloc: Global,
     notes: &Notes<'_>,
-) -> Result<Result<Accepted, Outcome>, AllocError> {
+) -> Result<Result<Accepted, CommandOutcome>, AllocError> {
     match asked_with(alloc, notes, true) {
         Ok(Err(_)) => asked_with(alloc, notes, false),
         asked => asked,
@@ -31,7 +31,7 @@ fn asked_with(
     alloc: Global,
     notes: &Notes<'_>,
     identities: bool,
-) -> Result<Result<Accepted, Outcome>, AllocError> {
+) -> Result<Result<Accepted, CommandOutcome>, AllocError> {
     match asked_site(alloc, notes.site.text(), identities) {
         Ok(text) => {
             let site = TomlFile::parse(alloc, text.as_str())?;

@@ -3,7 +3,7 @@ use crate::file_command::FileCommand;
 use crate::plant_server::PlantPort;
 use clap::ArgMatches;
 use command_files::{ProbeAddress, ProbeRun, STANDARD_INPUT};
-use commands::{Pace, USUAL_PERIOD};
+use commands::{RunPace, USUAL_PERIOD};
 
 /// What the words after a command's name say, where it is one of those on the texts of files.
 pub(crate) fn file_command<'a>(name: &str, matches: &ArgMatches<'a>) -> Option<FileCommand<'a>> {
@@ -17,7 +17,7 @@ pub(crate) fn file_command<'a>(name: &str, matches: &ArgMatches<'a>) -> Option<F
         }),
         "run" => Some(FileCommand::Run {
             plant: matches.get_str("plant").unwrap_or(STANDARD_INPUT),
-            pace: Pace {
+            pace: RunPace {
                 scans: matches.get_one("scans").unwrap_or(1),
                 every: matches.get_one("every").unwrap_or(USUAL_PERIOD),
                 asked: matches.get_str("sets").is_some(),

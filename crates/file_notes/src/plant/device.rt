@@ -1,5 +1,5 @@
 //! What breaks a rule in the entry of a device.
-use crate::finding::{Finding, Kind, Rule, Stands};
+use crate::finding::{Finding, Rule, Stands, ValueKind};
 use crate::keys::{INVERTER, METER, Section};
 use crate::looking::{broken_at, first_alike, first_broken, first_outside};
 use crate::models::{misplaced, repeated, undefined};
@@ -51,7 +51,7 @@ fn missing(entry: &Value) -> Option<Finding<'_>> {
     if let Some(finding) = first_broken(entry, &section_of(entry)) {
         return Some(finding);
     }
-    Some(broken_at(entry, "value", Kind::Tables, false)?.helped(EACH_VALUE))
+    Some(broken_at(entry, "value", ValueKind::Tables, false)?.helped(EACH_VALUE))
 }
 
 fn outside<'a>(before: &[Value], entry: &'a Value) -> Finding<'a> {

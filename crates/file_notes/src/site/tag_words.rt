@@ -66,7 +66,7 @@ fn meant(entry: &Value, key: &str, words: &[&'static str]) -> Option<&'static st
 
 /// Why a key doesn't go with the others.
 #[derive(Clone, Copy)]
-enum Misfit {
+enum TagMisfit {
     DeviceOfGateway,
     BitOfOther,
     RoundOfOther,
@@ -82,58 +82,58 @@ fn unlike_others(entry: &Value) -> Finding<'_> {
     Finding::advised(entry, key, words, help)
 }
 
-fn misfit_in(entry: &Value) -> Misfit {
+fn misfit_in(entry: &Value) -> TagMisfit {
     if has(entry, "device") && !is_of_device(entry) {
-        Misfit::DeviceOfGateway
+        TagMisfit::DeviceOfGateway
     } else if has(entry, "bit") && !may_have_bit(entry) {
-        Misfit::BitOfOther
+        TagMisfit::BitOfOther
     } else if has(entry, "round") && !may_round(entry) {
-        Misfit::RoundOfOther
+        TagMisfit::RoundOfOther
     } else if has(entry, "round") && text_at(entry, "round") != Some("down") {
-        Misfit::RoundWord
+        TagMisfit::RoundWord
     } else if has(entry, "lapse") && !is_setting(entry) {
-        Misfit::LapseOfOther
+        TagMisfit::LapseOfOther
     } else if has(entry, "lapse") && !has(entry, "default") {
-        Misfit::LapseAlone
+        TagMisfit::LapseAlone
     } else {
-        Misfit::Point
+        TagMisfit::Point
     }
 }
 
 /// The key, the rule that it breaks, and what to do.
-fn told_of(misfit: Misfit) -> (&'static str, &'static str, &'static str) {
+fn told_of(misfit: TagMisfit) -> (&'static str, &'static str, &'static str) {
     match misfit {
-        Misfit::DeviceOfGateway => (
+        TagMisfit::DeviceOfGateway => (
             "device",
             "is for tags on devices, in and out",
             "take the key away: a tag set or site is on the gateway",
         ),
-        Misfit::BitOfOther => (
+        TagMisfit::BitOfOther => (
             "bit",
             "is for tags in of type BOOL",
             "take the key away, or write access in and type BOOL",
         ),
-        Misfit::RoundOfOther => (
+        TagMisfit::RoundOfOther => (
             "round",
             "is for tags in without a bit",
             "take the key away: only what is read of a device is rounded",
         ),
-        Misfit::RoundWord => (
+        TagMisfit::RoundWord => (
             "round",
             "isn't down",
             "write \"down\", or take the key away",
         ),
-        Misfit::LapseOfOther => (
+        TagMisfit::LapseOfOther => (
             "lapse",
             "is for tags set",
             "take the key away: only what clients set lapses",
         ),
-        Misfit::LapseAlone => (
+        TagMisfit::LapseAlone => (
             "lapse",
             "needs a default",
             "add default: what the program works with once what a client set has lapsed",
         ),
-        Misfit::Point => (
+        TagMisfit::Point => (
             "point",
             "is of a kind that such a tag can't have",
             "take a point that has a number; a scale factor is for in and out, and a bit for bitfields",

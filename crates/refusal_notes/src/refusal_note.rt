@@ -29,7 +29,7 @@ pub enum NotedFile {
 
 /// Why a command refuses: a place in a file, the kind of refusal, and what is known about it.
 #[derive(Drop, Debug)]
-pub struct Cause {
+pub struct RefusalNote {
     pub file: NotedFile,
     /// The line, counted from 1; 0 where the note is on the whole file.
     pub line: u32,
@@ -45,11 +45,11 @@ pub struct Cause {
     pub detail: String,
 }
 
-impl Cause {
+impl RefusalNote {
     /// On account of a line of the program's text.
-    fn of_line(alloc: Global, line: u32, mark: Mark, texts: Texts) -> Cause {
-        let Texts(kind, meaning, help) = texts;
-        Cause {
+    fn of_line(alloc: Global, line: u32, mark: Mark, texts: RefusalTexts) -> RefusalNote {
+        let RefusalTexts(kind, meaning, help) = texts;
+        RefusalNote {
             file: NotedFile::Program,
             line,
             mark,
@@ -62,17 +62,17 @@ impl Cause {
     }
 
     /// On account of a whole file.
-    fn of_file(alloc: Global, file: NotedFile, texts: Texts) -> Cause {
-        let mut cause = Cause::of_line(alloc, 0, Mark::Line, texts);
+    fn of_file(alloc: Global, file: NotedFile, texts: RefusalTexts) -> RefusalNote {
+        let mut cause = RefusalNote::of_line(alloc, 0, Mark::Line, texts);
         cause.file = file;
         cause
     }
 
     /// The text of the program can't be read.
-    pub fn unread(alloc: Global, text: &str, fault: ReadFault) -> Cause {
+    pub fn unread(alloc: Global, text: &str, fault: ReadFault) -> RefusalNote {
         let kind = fault.kind;
-        let texts = Texts(kind.word(), kind.meaning(), kind.help());
-        let mut cause = Cause::of_line(alloc, fault.line, Mark::Line, texts);
+        let texts = RefusalTexts(kind.word(), kind.meaning(), kind.help());
+        let mut cause = RefusalNote::of_line(alloc, fault.line, Mark::Line, texts);
         if let Some(place) = fault_at(alloc, text) {
             cause.mark_unread(text, place);
             if let Ok(Some(told)) = told_of_unread(alloc, text, place) {
@@ -126,10 +126,10 @@ impl Cause {
     }
 
     /// The program has no code.
-    pub fn unassembled(alloc: Global, program: &Program, fault: AsmFault) -> Cause {
+    pub fn unassembled(alloc: Global, program: &Program, fault: AsmFault) -> RefusalNote {
         let kind = fault.kind;
-        let texts = Texts(kind.word(), kind.meaning(), kind.help());
-        let mut cause = Cause::of_line(alloc, fault.line, mark_of_unassembled(kind), texts);
+        let texts = RefusalTexts(kind.word(), kind.meaning(), kind.help());
+        let mut cause = RefusalNote::of_line(alloc, fault.line, mark_of_unassembled(kind), texts);
         if let Ok(Some(told)) = told_of_unassembled(alloc, program, fault) {
             cause.take(told);
         } else if let Ok(text) = known_of_unassembled(alloc, program, fault) {
@@ -139,15 +139,15 @@ impl Cause {
     }
 
     /// The verdict refuses this line.
-    pub fn unverified(alloc: Global, kind: RefusalKind, line: u32) -> Cause {
-        let texts = Texts(kind.word(), kind.meaning(), kind.help());
-        Cause::of_line(alloc, line, mark_of_unverified(kind), texts)
+    pub fn unverified(alloc: Global, kind: RefusalKind, line: u32) -> RefusalNote {
+        let texts = RefusalTexts(kind.word(), kind.meaning(), kind.help());
+        RefusalNote::of_line(alloc, line, mark_of_unverified(kind), texts)
     }
 
     /// A trial stopped in this line.
-    pub fn trapped(alloc: Global, kind: TrapKind, line: u32) -> Cause {
-        let texts = Texts(kind.word(), kind.meaning(), kind.help());
-        Cause::of_line(alloc, line, mark_of_trapped(kind), texts)
+    pub fn trapped(alloc: Global, kind: TrapKind, line: u32) -> RefusalNote {
+        let texts = RefusalTexts(kind.word(), kind.meaning(), kind.help());
+        RefusalNote::of_line(alloc, line, mark_of_trapped(kind), texts)
     }
 
     /// Tells of an instruction that acts at the end of its parentheses: the caret stands under its operator, on the line
@@ -170,37 +170,37 @@ impl Cause {
     }
 
     /// An input line gives nothing to an input.
-    pub fn no_input(alloc: Global, line: u32) -> Cause {
-        let texts = Texts(
+    pub fn no_input(alloc: Global, line: u32) -> RefusalNote {
+        let texts = RefusalTexts(
             "input",
             "the line gives no value to an input",
             "write NAME=VALUE without blanks: an external that the program loads, once, and a value of its type or absent",
         );
-        Cause::of_line(alloc, line, Mark::Line, texts)
+        RefusalNote::of_line(alloc, line, Mark::Line, texts)
     }
 
     /// The site file is none.
-    pub fn no_site(alloc: Global, fault: SiteFault) -> Cause {
-        let texts = Texts(fault.word(), fault.meaning(), fault.help());
-        Cause::of_file(alloc, NotedFile::Site, texts)
+    pub fn no_site(alloc: Global, fault: SiteFault) -> RefusalNote {
+        let texts = RefusalTexts(fault.word(), fault.meaning(), fault.help());
+        RefusalNote::of_file(alloc, NotedFile::Site, texts)
     }
 
     /// The plant file is none.
-    pub fn no_plant(alloc: Global, fault: PlantFault) -> Cause {
-        let texts = Texts(fault.word(), fault.meaning(), fault.help());
-        Cause::of_file(alloc, NotedFile::Plant, texts)
+    pub fn no_plant(alloc: Global, fault: PlantFault) -> RefusalNote {
+        let texts = RefusalTexts(fault.word(), fault.meaning(), fault.help());
+        RefusalNote::of_file(alloc, NotedFile::Plant, texts)
     }
 
     /// The definition of this number is none.
-    pub fn undefined(alloc: Global, number: usize, fault: DefFault) -> Cause {
-        let texts = Texts(fault.word(), fault.meaning(), fault.help());
-        Cause::of_file(alloc, NotedFile::Definition(number), texts)
+    pub fn undefined(alloc: Global, number: usize, fault: DefFault) -> RefusalNote {
+        let texts = RefusalTexts(fault.word(), fault.meaning(), fault.help());
+        RefusalNote::of_file(alloc, NotedFile::Definition(number), texts)
     }
 
     /// The link to the devices failed.
-    pub fn unlinked(alloc: Global, fault: LinkFault) -> Cause {
-        let texts = Texts(fault.word(), fault.meaning(), fault.help());
-        Cause::of_file(alloc, NotedFile::Link, texts)
+    pub fn unlinked(alloc: Global, fault: LinkFault) -> RefusalNote {
+        let texts = RefusalTexts(fault.word(), fault.meaning(), fault.help());
+        RefusalNote::of_file(alloc, NotedFile::Link, texts)
     }
 
     /// The note, on the text of the file at the path.
@@ -233,4 +233,4 @@ fn mark_of_trapped(kind: TrapKind) -> Mark {
 
 /// What is told of a kind: its word, what is wrong, and what to do.
 #[derive(Clone, Copy)]
-struct Texts(&'static str, &'static str, &'static str);
+struct RefusalTexts(&'static str, &'static str, &'static str);

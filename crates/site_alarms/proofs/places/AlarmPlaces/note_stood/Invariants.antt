@@ -1,14 +1,13 @@
 use Rattle.std.proofs.Common.{◌≤◌, length, drop}
 use Rattle.std.specs.HashMap.{get}
-use Rattle.site_alarms.specs.Changing.{subject_of}
-use Rattle.site_alarms.specs.Finding.{Tells, same}
-use Rattle.site_alarms.proofs.places.Places.note_alarms.Given as goal
+use Rattle.site_alarms.specs.Finding.{Tells, same, stood_for}
+use Rattle.site_alarms.proofs.places.AlarmPlaces.note_stood.Given as goal
 
 -- the places of those from i on are noted
 abbrev pub invariant-loop-i : goal.invariant-loop-i
 invariant-loop-i l = record {
-  within : l.i ≤ length l.alarms;
-  noted : Tells (get same l.self.numbers) subject_of (drop l.i l.alarms) l.i;
+  within : l.i ≤ length l.stood;
+  noted : Tells (get same l.self.numbers) stood_for (drop l.i l.stood) l.i;
 }
 
 abbrev pub decreases-loop-i : goal.decreases-loop-i
