@@ -1,5 +1,5 @@
 -- Each scan of a service computes what its program means.
-use Rattle.std.proofs.Common.{◌≡◌, inl, inr, ℕ, ℤ, Bool, true, List, Option, Ok, refl, sym, subst, ◌∙◌}
+use Rattle.std.proofs.Common.{◌≡◌, inl, inr, ℕ, ℤ, Bool, true, false, List, Option, Ok, refl, sym, subst, ◌∙◌}
 use Rattle.scan_code.specs.Image.{Image, IsProper}
 use Rattle.scan_vm.specs.Resuming.{first_numbers, resumed}
 use Rattle.scan_vm.proofs.Accepted.{resumed_sized, resumed_within}
@@ -53,7 +53,8 @@ module _ (site : Site) (p : Program) (a : Acceptance) (right : DoesWhatItMeans p
   told_keeps i f is_new s t is keeps = event_keeps (event_of is.want f) s.core t.core is.told keeps
 
   round_keeps : (s t : Stage) → RoundStep s t → Keeps s.core → Keeps t.core
-  round_keeps s t (stages.loses i is_new is) keeps = told_keeps i fate.Lost is_new s t is keeps
+  round_keeps s t (stages.loses i is) keeps = told_keeps i fate.Lost false s t is keeps
+  round_keeps s t (stages.lacks i is) keeps = told_keeps i fate.Lost true s t is.told keeps
   round_keeps s t (stages.opens device next is) keeps = subst Keeps (sym is.core) keeps
   round_keeps s t (stages.ends device is) keeps = subst Keeps (sym is.core) keeps
   round_keeps s t (stages.skips device is) keeps = subst (λ (x : Stage). Keeps x.core) (sym is) keeps

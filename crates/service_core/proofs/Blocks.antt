@@ -1,5 +1,6 @@
 -- Each scan is of what was told last.
 use Rattle.std.proofs.Common.{◌≡◌, ◌≢◌, ◌⊎◌, inl, inr, ℕ, zero, suc, ◌+◌, ◌<◌, ◌≤◌, Bool, true, false, eqb, List, [], ◌∷◌, length, get_or, map, slice_get, slice_set, Option, None, Some, Result, Ok, Err, refl, sym, ap, subst, ◌∙◌, arith}
+use Rattle.std.specs.Prelude.{option_and_then}
 use Rattle.std.proofs.lemmas.Bool.Decides.{eqb_tells}
 use Rattle.std.proofs.lemmas.List.{length-set}
 use Rattle.std.proofs.lemmas.Option.{slice_get-get_or, slice_get_within}
@@ -25,7 +26,8 @@ use Rattle.service_core.specs.Blocks as blocks
 use Rattle.service_core.specs.Blocks.{Entry, IsOfWhatWasTold, ScansAreOfWhatWasTold, Telling, block_by, last_of, scans_since}
 use Rattle.service_core.proofs.Courses.{taken_site}
 use Rattle.service_core.proofs.Known.{place_of}
-use Rattle.service_core.proofs.Marks.{map_at, set_elsewhere}
+use Rattle.service_parts.proofs.Frames.{set_other}
+use Rattle.service_core.proofs.Marks.{map_at}
 
 -- ---- what an event does to the blocks
 
@@ -104,7 +106,7 @@ told_other told j i is_new other = go (slice_get told j) refl
   where
     go : (o : Option LastTold) → slice_get told j ≡ o → slice_get (told_at j is_new told) i ≡ slice_get told i
     go None is = rw is refl
-    go (Some u) is = rw is (set_elsewhere told j i (told_now is_new u) other)
+    go (Some u) is = rw is (set_other told j i (told_now is_new u) (λ same. other (sym same)))
 
 told_long : (told : List LastTold) (j : ℕ) (is_new : Bool) → length (told_at j is_new told) ≡ length told
 told_long told j is_new = go (slice_get told j) refl
@@ -138,13 +140,6 @@ module _ (log : List Entry) (s t : Stage) (j : ℕ) (f : Fate) (is_new : Bool) (
   since_there : (i : ℕ) → eqb j i ≡ false → scans_since i more ≡ scans_since i log
   since_there i other = rw other refl
 
-  set_there : (xs : List (Option (List ℕ))) (k m : ℕ) (entry : Option (List ℕ)) → k ≢ m → known_at (slice_set xs k entry) m ≡ known_at xs m
-  set_there [] k m entry other = refl
-  set_there (x ∷ xs) zero zero entry other = absurd (other refl)
-  set_there (x ∷ xs) zero (suc m) entry other = refl
-  set_there (x ∷ xs) (suc k) zero entry other = refl
-  set_there (x ∷ xs) (suc k) (suc m) entry other = set_there xs k m entry (λ e. other (ap suc e))
-
   known_now : (i : ℕ) → i < length s.core.site.wants → ((eqb j i ≡ true) × (j ≡ i)) ⊎ ((eqb j i ≡ false) × (j ≢ i)) → known_at t.core.standing.blocks i ≡ block_by (last_of i more)
   known_now i within (inl same) =
       ap (λ (l : List (Option (List ℕ))). known_at l i) blocks_now
@@ -152,7 +147,7 @@ module _ (log : List Entry) (s t : Stage) (j : ℕ) (f : Fate) (is_new : Bool) (
       ∙ (set_here s.core.standing.blocks j (block_by (Some (event_of is.want f))) inside ∙ ap block_by (sym (last_here i same.0))))
   known_now i within (inr other) =
       ap (λ (l : List (Option (List ℕ))). known_at l i) blocks_now
-      ∙ (set_there s.core.standing.blocks j i (block_by (Some (event_of is.want f))) other.1 ∙ (holds.known i within ∙ ap block_by (sym (last_there i other.0))))
+      ∙ (ap (option_and_then (λ (o : Option (List ℕ)). o)) (set_other s.core.standing.blocks j i (block_by (Some (event_of is.want f))) (λ same. other.1 (sym same))) ∙ (holds.known i within ∙ ap block_by (sym (last_there i other.0))))
 
   no_more : (n m : ℕ) → n ≡ 0 → n ≤ m
   no_more n m none = omega (arith, none)
@@ -225,7 +220,8 @@ record Logged (first s : Stage) : Type 0 where
   holds : Holds log s
 
 round_logged : (first s t : Stage) → RoundStep s t → Logged first s → Logged first t
-round_logged first s t (stages.loses i is_new is) before = record { log = _; course = blocks.tells before.course i fate.Lost is_new t is; holds = told_so before.log s t i fate.Lost is_new is before.holds }
+round_logged first s t (stages.loses i is) before = record { log = _; course = blocks.tells before.course i fate.Lost false t is; holds = told_so before.log s t i fate.Lost false is before.holds }
+round_logged first s t (stages.lacks i is) before = record { log = _; course = blocks.tells before.course i fate.Lost true t is.told; holds = told_so before.log s t i fate.Lost true is.told before.holds }
 round_logged first s t (stages.opens device next is) before = record { log = before.log; course = blocks.opens before.course device next t is; holds = same_so before.log s t is.core (opens_told s.core device _ s.round next t.round is.opens) before.holds }
 round_logged first s t (stages.ends device is) before = record { log = before.log; course = blocks.ends before.course device t is; holds = same_so before.log s t is.core (closes_told _ s.round t.round is.closes) before.holds }
 round_logged first s t (stages.skips device is) before = record { log = before.log; course = blocks.skips before.course device t is; holds = same_so before.log s t (ap (λ (x : Stage). x.core) is) (ap (λ (x : Stage). x.round.told) is) before.holds }

@@ -11,6 +11,7 @@ use Rattle.service_core.specs.declared.device_side.DeviceSide.{DeviceSide}
 use Rattle.service_core.specs.declared.note.Loss.{Loss}
 use Rattle.service_core.specs.declared.note.Note.{Note}
 use Rattle.service_core.specs.declared.note.Note.TheVariants as note
+use Rattle.service_core.specs.declared.note.Unwritten.TheVariants as unwritten
 use Rattle.service_core.specs.declared.output.Output.{Output}
 use Rattle.service_core.specs.declared.output.OutputState.{OutputState}
 use Rattle.service_core.specs.declared.output.OutputState.TheVariants as state
@@ -19,7 +20,7 @@ use Rattle.service_core.specs.Noting.{Finds, HearsFrom, Loses, Refuses, heard_by
 use Rattle.service_core.specs.Refusing.{is_more}
 use Rattle.service_core.specs.Telling.{told_at}
 use Rattle.service_core.specs.Losing.{IsLost}
-use Rattle.service_core.specs.Told.{Allowed, BecomesBy, Course, Goes, IsThis, LosesBy, StatesAreByNotes, Tells, TellsNothing, allows, goes, happened, lost_after, lost_at, lost_then, note_of, state_after, state_at, state_then, stays, tells}
+use Rattle.service_core.specs.Told.{Allowed, AwaitsAlso, AwaitsNoMore, BecomesBy, Course, Goes, IsSo, IsThis, LosesBy, PlansBy, StatesAreByNotes, Tells, TellsNothing, allows, awaited_then, awaits, awaits_at, goes, happened, is_unanswered, lost_after, lost_at, lost_then, note_of, state_after, state_at, state_then, stays, tells}
 
 -- ---- one step
 
@@ -32,15 +33,26 @@ lost_step device loss old new step may has from before = ∥∥₁_elim before �
 by_step : (n : Note) (old new : DeviceSide) (Is : ℕ → OutputState → Type 0) → ((may : Allowed) → ((output : ℕ) (became : OutputState) → Is output became → may.became output became ≡ true) → allows may n ≡ true) → Tells n old new → BecomesBy Is old new
 by_step n old new Is allowed step may has from before = ∥∥₁_elim before ∥∥₁_prop (λ course. ∣ tells course n new (allowed may has) step ∣₁)
 
-silent_step : (old new : DeviceSide) → TellsNothing old new → Goes old new
-silent_step old new step may from before = ∥∥₁_elim before ∥∥₁_prop (λ course. ∣ goes course new step ∣₁)
+silent_step : (old new : DeviceSide) → TellsNothing old new → AwaitsNoMore old new → Goes old new
+silent_step old new step awaited may from before = ∥∥₁_elim before ∥∥₁_prop (λ course. ∣ goes course new step awaited ∣₁)
+
+waiting_step : (which : ℕ) (old new : DeviceSide) → TellsNothing old new → AwaitsAlso which old new → PlansBy (λ output became. ⊥) (λ output. output ≡ which) old new
+waiting_step which old new step awaited may has waits from before = ∥∥₁_elim before ∥∥₁_prop (λ course. ∣ awaits course which new (waits which refl) step awaited ∣₁)
+
+-- outputs that stay
+same_awaited : (old new : DeviceSide) → new.outputs ≡ old.outputs → (k : ℕ) → awaits_at new k ≡ awaits_at old k
+same_awaited old new outputs k = ap (λ o. option_map_or (λ (x : Output). x.is_awaited) (slice_get o.items k) false) outputs
+
+still_awaited : (old new : DeviceSide) → new.outputs ≡ old.outputs → AwaitsNoMore old new
+still_awaited old new outputs k is = sym (same_awaited old new outputs k) ∙ is
 
 pub same_goes : (old new : DeviceSide) → new.devices ≡ old.devices → new.outputs ≡ old.outputs → new.notes ≡ old.notes → Goes old new
 same_goes old new devices outputs notes = silent_step old new (record {
   notes = ap (λ n. n.items.items) notes;
+  room = ap (λ n. n.items.cap) notes;
   devices = λ k. ap (λ d. option_map_or (λ (own : Device). own.is_lost) (slice_get d.items k) false) devices;
   outputs = λ k. ap (λ o. told_at o.items k) outputs;
-})
+}) (still_awaited old new outputs)
 
 -- ---- one element of a list changes
 
@@ -86,44 +98,51 @@ module _ (old new : DeviceSide) (device : ℕ) (own : Device) (at : slice_get ol
       ∙ (ap (λ b. if k == device then b else lost_at old k) same ∙ put_same (λ (d : Device). d.is_lost) false old.devices.items device k own at))
 
   -- of a device something else changes
-  pub device_goes : (next : Device) → new.devices.items ≡ set old.devices.items device next → next.is_lost ≡ own.is_lost → new.outputs ≡ old.outputs → new.notes.items.items ≡ old.notes.items.items → Goes old new
-  device_goes next devices same outputs notes = silent_step old new (record {
+  pub device_goes : (next : Device) → new.devices.items ≡ set old.devices.items device next → next.is_lost ≡ own.is_lost → new.outputs ≡ old.outputs → new.notes.items.items ≡ old.notes.items.items → new.notes.items.cap ≡ old.notes.items.cap → Goes old new
+  device_goes next devices same outputs notes room = silent_step old new (record {
     notes = notes;
+    room = room;
     devices = still_lost next devices same;
     outputs = λ k. ap (λ o. told_at o.items k) outputs;
-  })
+  }) (still_awaited old new outputs)
 
   -- it refused to read registers, which is told or not
   pub refused_goes : (refusal : Refusal) (is_told : Bool) → new.devices.items ≡ set old.devices.items device (refusing refusal own) → new.outputs ≡ old.outputs
-      → new.notes.items.items ≡ told_if is_told (note.Refused device refusal) old.notes → Goes old new
-  refused_goes refusal true devices outputs notes = told_step (note.Refused device refusal) old new (λ may. refl) (record {
+      → new.notes.items.items ≡ told_if is_told (note.Refused device refusal) old.notes → new.notes.items.cap ≡ old.notes.items.cap → Goes old new
+  refused_goes refusal true devices outputs notes room = told_step (note.Refused device refusal) old new (λ may. refl) (record {
     notes = notes;
+    room = room;
     devices = still_lost (refusing refusal own) devices refl;
     outputs = λ k. ap (λ o. told_at o.items k) outputs;
+    awaited = same_awaited old new outputs;
+    so = tt;
   })
-  refused_goes refusal false devices outputs notes = device_goes (refusing refusal own) devices refl outputs notes
+  refused_goes refusal false devices outputs notes room = device_goes (refusing refusal own) devices refl outputs notes room
 
   -- it is told that it is lost from now on, or isn't any more
-  noted_so : (n : Note) (is_lost : Bool) (next : Device) → ((k : ℕ) (was : Bool) → lost_then n k was ≡ (if k == device then is_lost else was)) → ((k : ℕ) (was : Option OutputState) → state_then n k was ≡ was)
-      → new.devices.items ≡ set old.devices.items device next → next.is_lost ≡ is_lost → new.outputs ≡ old.outputs → new.notes.items.items ≡ told n old.notes → Tells n old new
-  noted_so n is_lost next says silent devices is outputs notes = record {
+  noted_so : (n : Note) (is_lost : Bool) (next : Device) → ((k : ℕ) (was : Bool) → lost_then n k was ≡ (if k == device then is_lost else was)) → ((k : ℕ) (was : Option OutputState) → state_then n k was ≡ was) → ((k : ℕ) (was : Bool) → awaited_then n k was ≡ was) → IsSo n old
+      → new.devices.items ≡ set old.devices.items device next → next.is_lost ≡ is_lost → new.outputs ≡ old.outputs → new.notes.items.items ≡ told n old.notes → new.notes.items.cap ≡ old.notes.items.cap → Tells n old new
+  noted_so n is_lost next says silent stays_awaited so devices is outputs notes room = record {
     notes = notes;
+    room = room;
     devices = λ k. ap (λ l. option_map_or (λ (d : Device). d.is_lost) (slice_get l k) false) devices
         ∙ (put_there (λ (d : Device). d.is_lost) false old.devices.items device k own next at
         ∙ (ap (λ b. if k == device then b else lost_at old k) is ∙ sym (says k (lost_at old k))));
     outputs = λ k. ap (λ o. told_at o.items k) outputs ∙ sym (silent k (state_at old k));
+    awaited = λ k. same_awaited old new outputs k ∙ sym (stays_awaited k (awaits_at old k));
+    so = so;
   }
 
   pub lost_goes : (loss : Loss) (was : Bool) → own.is_lost ≡ was → new.devices.items ≡ set old.devices.items device (lost_by loss own) → new.outputs ≡ old.outputs → new.notes.items.items ≡ told_if (not was) (note.Lost device loss) old.notes
-      → LosesBy (IsLost device loss) old new
-  lost_goes loss true was devices outputs notes may has = device_goes (lost_by loss own) devices (sym was) outputs notes may
-  lost_goes loss false was devices outputs notes may has = lost_step device loss old new (noted_so (note.Lost device loss) true (lost_by loss own) (λ k b. refl) (λ k b. refl) devices refl outputs notes) may has
+      → new.notes.items.cap ≡ old.notes.items.cap → LosesBy (IsLost device loss) old new
+  lost_goes loss true was devices outputs notes room may has = device_goes (lost_by loss own) devices (sym was) outputs notes room may
+  lost_goes loss false was devices outputs notes room may has = lost_step device loss old new (noted_so (note.Lost device loss) true (lost_by loss own) (λ k b. refl) (λ k b. refl) (λ k b. refl) tt devices refl outputs notes room) may has
 
-  pub found_goes : (next : Device) → new.devices.items ≡ set old.devices.items device next → next.is_lost ≡ false → new.outputs ≡ old.outputs → new.notes.items.items ≡ told (note.Found device) old.notes → Goes old new
-  found_goes next devices is outputs notes = told_step (note.Found device) old new (λ may. refl) (noted_so (note.Found device) false next (λ k b. refl) (λ k b. refl) devices is outputs notes)
+  pub found_goes : (next : Device) → new.devices.items ≡ set old.devices.items device next → next.is_lost ≡ false → new.outputs ≡ old.outputs → new.notes.items.items ≡ told (note.Found device) old.notes → new.notes.items.cap ≡ old.notes.items.cap → Goes old new
+  found_goes next devices is outputs notes room = told_step (note.Found device) old new (λ may. refl) (noted_so (note.Found device) false next (λ k b. refl) (λ k b. refl) (λ k b. refl) tt devices is outputs notes room)
 
-  pub back_goes : (next : Device) → new.devices.items ≡ set old.devices.items device next → next.is_lost ≡ false → new.outputs ≡ old.outputs → new.notes.items.items ≡ told (note.Back device) old.notes → Goes old new
-  back_goes next devices is outputs notes = told_step (note.Back device) old new (λ may. refl) (noted_so (note.Back device) false next (λ k b. refl) (λ k b. refl) devices is outputs notes)
+  pub back_goes : (next : Device) → new.devices.items ≡ set old.devices.items device next → next.is_lost ≡ false → new.outputs ≡ old.outputs → new.notes.items.items ≡ told (note.Back device) old.notes → new.notes.items.cap ≡ old.notes.items.cap → Goes old new
+  back_goes next devices is outputs notes room = told_step (note.Back device) old new (λ may. refl) (noted_so (note.Back device) false next (λ k b. refl) (λ k b. refl) (λ k b. refl) tt devices is outputs notes room)
 
 pub was_by : (b c : Bool) → not b ≡ c → b ≡ not c
 was_by true true is = absurd (cc)
@@ -152,9 +171,9 @@ still_so true false is = refl
 still_so false mapped is = refl
 
 pub heard_goes : (old new : DeviceSide) (device : ℕ) (own : Device) → slice_get old.devices.items device ≡ Some own → (is_mapped back : Bool) → (own.is_lost && is_mapped) ≡ back
-    → new.devices.items ≡ set old.devices.items device (heard_by is_mapped own) → new.outputs ≡ old.outputs → new.notes.items.items ≡ told_if back (note.Back device) old.notes → Goes old new
-heard_goes old new device own at is_mapped true is devices outputs notes = back_goes old new device own at (heard_by is_mapped own) devices (not_lost own.is_lost is_mapped is) outputs notes
-heard_goes old new device own at is_mapped false is devices outputs notes = device_goes old new device own at (heard_by is_mapped own) devices (still_so own.is_lost is_mapped is) outputs notes
+    → new.devices.items ≡ set old.devices.items device (heard_by is_mapped own) → new.outputs ≡ old.outputs → new.notes.items.items ≡ told_if back (note.Back device) old.notes → new.notes.items.cap ≡ old.notes.items.cap → Goes old new
+heard_goes old new device own at is_mapped true is devices outputs notes room = back_goes old new device own at (heard_by is_mapped own) devices (not_lost own.is_lost is_mapped is) outputs notes room
+heard_goes old new device own at is_mapped false is devices outputs notes room = device_goes old new device own at (heard_by is_mapped own) devices (still_so own.is_lost is_mapped is) outputs notes room
 
 pub hears_so : (old new : DeviceSide) (device : ℕ) (found : Device) (is_mapped : Bool) (own : Device) → slice_get old.devices.items device ≡ Some found → slice_get old.devices.items device ≡ Some own → (found.is_lost && is_mapped) ≡ false
     → new.devices.items ≡ set old.devices.items device (heard_by is_mapped found) → new.notes.items.items ≡ old.notes.items.items → HearsFrom device is_mapped own old new
@@ -182,9 +201,9 @@ not_either true b is = absurd (cc)
 not_either false b is = refl
 
 pub found_quiet : (old new : DeviceSide) (device : ℕ) (own : Device) → slice_get old.devices.items device ≡ Some own → (own.is_lost || not own.is_told) ≡ false
-    → new.devices.items ≡ set old.devices.items device (record own { is_lost = false; is_behind = true; is_told = true }) → new.outputs ≡ old.outputs → new.notes.items.items ≡ old.notes.items.items → Goes old new
-found_quiet old new device own at quiet devices outputs notes =
-    device_goes old new device own at (record own { is_lost = false; is_behind = true; is_told = true }) devices (sym (not_either own.is_lost (not own.is_told) quiet)) outputs notes
+    → new.devices.items ≡ set old.devices.items device (record own { is_lost = false; is_behind = true; is_told = true }) → new.outputs ≡ old.outputs → new.notes.items.items ≡ old.notes.items.items → new.notes.items.cap ≡ old.notes.items.cap → Goes old new
+found_quiet old new device own at quiet devices outputs notes room =
+    device_goes old new device own at (record own { is_lost = false; is_behind = true; is_told = true }) devices (sym (not_either own.is_lost (not own.is_told) quiet)) outputs notes room
 
 pub finds_so : (old new : DeviceSide) (device : ℕ) (found own : Device) → slice_get old.devices.items device ≡ Some found → slice_get old.devices.items device ≡ Some own → (found.is_lost || not found.is_told) ≡ false
     → new.devices.items ≡ set old.devices.items device (record found { is_lost = false; is_behind = true; is_told = true }) → new.notes.items.items ≡ old.notes.items.items → Finds device own old new
@@ -215,24 +234,66 @@ told_same xs at k old is = go (eqb_tells k at)
 pub state_there : (xs : List Output) (at : ℕ) (old new : Output) (s : OutputState) → slice_get xs at ≡ Some old → new.told ≡ Some s → told_at (set xs at new) at ≡ Some s
 state_there xs at old new s is told_so = ap (λ (o : Option Output). option_and_then (λ (x : Output). x.told) o) (set_there xs at old new is) ∙ told_so
 
--- of an output something else changes
-pub output_goes : (old new : DeviceSide) (output : ℕ) (own : Output) → slice_get old.outputs.items output ≡ Some own → (next : Output) → new.outputs.items ≡ set old.outputs.items output next → next.told ≡ own.told
-    → new.devices ≡ old.devices → new.notes.items.items ≡ old.notes.items.items → Goes old new
-output_goes old new output own at next outputs same devices notes = silent_step old new (record {
+-- whether its write is waited for, where one output changes
+awaited_set : (old new : DeviceSide) (output : ℕ) (own next : Output) → slice_get old.outputs.items output ≡ Some own → new.outputs.items ≡ set old.outputs.items output next → (k : ℕ) → awaits_at new k ≡ (if k == output then next.is_awaited else awaits_at old k)
+awaited_set old new output own next at outputs k = ap (λ l. option_map_or (λ (o : Output). o.is_awaited) (slice_get l k) false) outputs ∙ put_there (λ (o : Output). o.is_awaited) false old.outputs.items output k own next at
+
+if_awaited : (b was : Bool) → (if b then false else was) ≡ true → was ≡ true
+if_awaited true was is = absurd (cc)
+if_awaited false was is = is
+
+settled_awaits : (old new : DeviceSide) (output : ℕ) (own next : Output) → slice_get old.outputs.items output ≡ Some own → new.outputs.items ≡ set old.outputs.items output next → next.is_awaited ≡ false → AwaitsNoMore old new
+settled_awaits old new output own next at outputs over k is =
+    if_awaited (k == output) (awaits_at old k) (sym (awaited_set old new output own next at outputs k ∙ ap (λ b. if k == output then b else awaits_at old k) over) ∙ is)
+
+waiting_also : (old new : DeviceSide) (output : ℕ) (own next : Output) → slice_get old.outputs.items output ≡ Some own → new.outputs.items ≡ set old.outputs.items output next → AwaitsAlso output old new
+waiting_also old new output own next at outputs k is = go (eqb_tells k output)
+  where
+    go : ((eqb k output ≡ true) × (k ≡ output)) ⊎ ((eqb k output ≡ false) × (k ≢ output)) → (k ≡ output) ⊎ (awaits_at old k ≡ true)
+    go (inl here) = inl here.1
+    go (inr away) = inr (sym (awaited_set old new output own next at outputs k ∙ left_out (eqb k output) next.is_awaited (awaits_at old k) away.0) ∙ is)
+
+still_told : (old new : DeviceSide) (output : ℕ) (own : Output) → slice_get old.outputs.items output ≡ Some own → (next : Output) → new.outputs.items ≡ set old.outputs.items output next → next.told ≡ own.told
+    → new.devices ≡ old.devices → new.notes.items.items ≡ old.notes.items.items → new.notes.items.cap ≡ old.notes.items.cap → TellsNothing old new
+still_told old new output own at next outputs same devices notes room = record {
   notes = notes;
+  room = room;
   devices = λ k. ap (λ d. option_map_or (λ (x : Device). x.is_lost) (slice_get d.items k) false) devices;
   outputs = λ k. ap (λ l. told_at l k) outputs ∙ (told_set old.outputs.items output k own next at ∙ (ap (λ t. if k == output then t else state_at old k) same ∙ told_same old.outputs.items output k own at));
-})
+}
+
+-- of an output something else changes, where nothing of it is told: its write isn't waited for any more
+pub output_goes : (old new : DeviceSide) (output : ℕ) (own : Output) → slice_get old.outputs.items output ≡ Some own → (next : Output) → new.outputs.items ≡ set old.outputs.items output next → next.told ≡ own.told → next.is_awaited ≡ false
+    → new.devices ≡ old.devices → new.notes.items.items ≡ old.notes.items.items → new.notes.items.cap ≡ old.notes.items.cap → Goes old new
+output_goes old new output own at next outputs same over devices notes room = silent_step old new (still_told old new output own at next outputs same devices notes room) (settled_awaits old new output own next at outputs over)
+
+-- its write is waited for from now on
+pub waited_goes : (old new : DeviceSide) (output : ℕ) (own : Output) → slice_get old.outputs.items output ≡ Some own → (next : Output) → new.outputs.items ≡ set old.outputs.items output next → next.told ≡ own.told
+    → new.devices ≡ old.devices → new.notes.items.items ≡ old.notes.items.items → new.notes.items.cap ≡ old.notes.items.cap → PlansBy (λ which became. ⊥) (λ which. which ≡ output) old new
+waited_goes old new output own at next outputs same devices notes room = waiting_step output old new (still_told old new output own at next outputs same devices notes room) (waiting_also old new output own next at outputs)
 
 -- this became of it, which is told
-pub settled_goes : (old new : DeviceSide) (output : ℕ) (own : Output) → slice_get old.outputs.items output ≡ Some own → (next : Output) (s : OutputState) → new.outputs.items ≡ set old.outputs.items output next → next.told ≡ Some s
-    → new.devices ≡ old.devices → {n : Note} → new.notes.items.items ≡ told n old.notes → n ≡ note_of output s → BecomesBy (IsThis output s) old new
-settled_goes old new output own at next s outputs is devices {n = n} notes named = by_step (note_of output s) old new (IsThis output s) (free s) (record {
+pub settled_goes : (old new : DeviceSide) (output : ℕ) (own : Output) → slice_get old.outputs.items output ≡ Some own → (next : Output) (s : OutputState) → new.outputs.items ≡ set old.outputs.items output next → next.told ≡ Some s → next.is_awaited ≡ false → (s ≡ state.Unwritten unwritten.Unanswered → awaits_at old output ≡ true)
+    → new.devices ≡ old.devices → {n : Note} → new.notes.items.items ≡ told n old.notes → new.notes.items.cap ≡ old.notes.items.cap → n ≡ note_of output s → BecomesBy (IsThis output s) old new
+settled_goes old new output own at next s outputs is over waited devices {n = n} notes room named = by_step (note_of output s) old new (IsThis output s) (free s) (record {
   notes = notes ∙ ap (λ m. told m old.notes) named;
+  room = room;
   devices = λ k. ap (λ d. option_map_or (λ (x : Device). x.is_lost) (slice_get d.items k) false) devices ∙ sym (no_loss s k (lost_at old k));
   outputs = λ k. ap (λ l. told_at l k) outputs ∙ (told_set old.outputs.items output k own next at ∙ (ap (λ t. if k == output then t else state_at old k) is ∙ sym (says s k (state_at old k))));
+  awaited = λ k. awaited_set old new output own next at outputs k ∙ (ap (λ b. if k == output then b else awaits_at old k) over ∙ sym (ends s k (awaits_at old k)));
+  so = is_so s waited;
 })
   where
+    ends : (x : OutputState) (k : ℕ) (was : Bool) → awaited_then (note_of output x) k was ≡ (if k == output then false else was)
+    ends state.Written k was = refl
+    ends (state.Unwritten cause) k was = refl
+
+    is_so : (x : OutputState) → (x ≡ state.Unwritten unwritten.Unanswered → awaits_at old output ≡ true) → IsSo (note_of output x) old
+    is_so state.Written so = tt
+    is_so (state.Unwritten unwritten.Unanswered) so = so refl
+    is_so (state.Unwritten unwritten.Refused) so = tt
+    is_so (state.Unwritten (unwritten.NoSetPoint cause)) so = tt
+
     free : (x : OutputState) (may : Allowed) → ((k : ℕ) (became : OutputState) → IsThis output x k became → may.became k became ≡ true) → allows may (note_of output x) ≡ true
     free state.Written may has = has output state.Written (refl, refl)
     free (state.Unwritten cause) may has = has output (state.Unwritten cause) (refl, refl)
@@ -246,12 +307,15 @@ settled_goes old new output own at next s outputs is devices {n = n} notes named
     says (state.Unwritten cause) k was = refl
 
 -- a note that says nothing of a device's loss or of an output
-pub other_goes : (n : Note) (old new : DeviceSide) → ((may : Allowed) → allows may n ≡ true) → ((k : ℕ) (was : Bool) → lost_then n k was ≡ was) → ((k : ℕ) (was : Option OutputState) → state_then n k was ≡ was) → new.devices ≡ old.devices → new.outputs ≡ old.outputs
-    → new.notes.items.items ≡ told n old.notes → Goes old new
-other_goes n old new allowed lost_same state_same devices outputs notes = told_step n old new allowed (record {
+pub other_goes : (n : Note) (old new : DeviceSide) → ((may : Allowed) → allows may n ≡ true) → ((k : ℕ) (was : Bool) → lost_then n k was ≡ was) → ((k : ℕ) (was : Option OutputState) → state_then n k was ≡ was) → ((k : ℕ) (was : Bool) → awaited_then n k was ≡ was) → IsSo n old → new.devices ≡ old.devices → new.outputs ≡ old.outputs
+    → new.notes.items.items ≡ told n old.notes → new.notes.items.cap ≡ old.notes.items.cap → Goes old new
+other_goes n old new allowed lost_same state_same awaited_same so devices outputs notes room = told_step n old new allowed (record {
   notes = notes;
+  room = room;
   devices = λ k. ap (λ d. option_map_or (λ (own : Device). own.is_lost) (slice_get d.items k) false) devices ∙ sym (lost_same k (lost_at old k));
   outputs = λ k. ap (λ o. told_at o.items k) outputs ∙ sym (state_same k (state_at old k));
+  awaited = λ k. same_awaited old new outputs k ∙ sym (awaited_same k (awaits_at old k));
+  so = so;
 })
 
 -- ---- over all calls
@@ -259,12 +323,14 @@ other_goes n old new allowed lost_same state_same devices outputs notes = told_s
 lost_so : (may : Allowed) (old new : DeviceSide) (course : Course may old new) (device : ℕ) → lost_at new device ≡ lost_after (happened course) device (lost_at old device)
 lost_so may old new (stays side) device = refl
 lost_so may old new (tells {middle = middle} course n side allowed step) device = step.devices device ∙ ap (λ was. lost_then n device was) (lost_so may old middle course device)
-lost_so may old new (goes {middle = middle} course side step) device = step.devices device ∙ lost_so may old middle course device
+lost_so may old new (goes {middle = middle} course side step awaited) device = step.devices device ∙ lost_so may old middle course device
+lost_so may old new (awaits {middle = middle} course which side allowed step awaited) device = step.devices device ∙ lost_so may old middle course device
 
 state_so : (may : Allowed) (old new : DeviceSide) (course : Course may old new) (output : ℕ) → state_at new output ≡ state_after (happened course) output (state_at old output)
 state_so may old new (stays side) output = refl
 state_so may old new (tells {middle = middle} course n side allowed step) output = step.outputs output ∙ ap (λ was. state_then n output was) (state_so may old middle course output)
-state_so may old new (goes {middle = middle} course side step) output = step.outputs output ∙ state_so may old middle course output
+state_so may old new (goes {middle = middle} course side step awaited) output = step.outputs output ∙ state_so may old middle course output
+state_so may old new (awaits {middle = middle} course which side allowed step awaited) output = step.outputs output ∙ state_so may old middle course output
 
 both : (a b : Bool) → a ≡ true → b ≡ true → (a && b) ≡ true
 both true b is other = other
@@ -273,7 +339,63 @@ both false b is other = absurd (cc)
 allowed_so : (may : Allowed) (old new : DeviceSide) (course : Course may old new) → list_all (allows may) (happened course) ≡ true
 allowed_so may old new (stays side) = refl
 allowed_so may old new (tells {middle = middle} course n side allowed step) = both (allows may n) (list_all (allows may) (happened course)) allowed (allowed_so may old middle course)
-allowed_so may old new (goes {middle = middle} course side step) = allowed_so may old middle course
+allowed_so may old new (goes {middle = middle} course side step awaited) = allowed_so may old middle course
+allowed_so may old new (awaits {middle = middle} course which side allowed step awaited) = allowed_so may old middle course
+
+room_so : (may : Allowed) (old new : DeviceSide) → Course may old new → new.notes.items.cap ≡ old.notes.items.cap
+room_so may old new (stays side) = refl
+room_so may old new (tells {middle = middle} course n side allowed step) = step.room ∙ room_so may old middle course
+room_so may old new (goes {middle = middle} course side step awaited) = step.room ∙ room_so may old middle course
+room_so may old new (awaits {middle = middle} course which side allowed step awaited) = step.room ∙ room_so may old middle course
+
+after_note : (n : Note) (k : ℕ) (was : Bool) → awaited_then n k was ≡ true → was ≡ true
+after_note (note.Unwritten which cause) k was is = if_awaited (k == which) was is
+after_note (note.Written which) k was is = if_awaited (k == which) was is
+after_note (note.Found which) k was is = is
+after_note (note.NoMap which) k was is = is
+after_note (note.Lost which cause) k was is = is
+after_note (note.Back which) k was is = is
+after_note (note.Refused which refusal) k was is = is
+after_note (note.Scanned report) k was is = is
+after_note (note.Late by) k was is = is
+
+not_other : {A : Type 0} {b : Bool} → b ≡ true → b ≡ false → A
+not_other yes_ none = absurd (cc)
+
+awaited_so : (may : Allowed) (old new : DeviceSide) → Course may old new → (output : ℕ) → may.awaits output ≡ false → awaits_at new output ≡ true → awaits_at old output ≡ true
+awaited_so may old new (stays side) output none is = is
+awaited_so may old new (tells {middle = middle} course n side allowed step) output none is = awaited_so may old middle course output none (after_note n output (awaits_at middle output) (sym (step.awaited output) ∙ is))
+awaited_so may old new (goes {middle = middle} course side step awaited) output none is = awaited_so may old middle course output none (awaited output is)
+awaited_so may old new (awaits {middle = middle} course which side allowed step awaited) output none is = go (awaited output is) (awaited_so may old middle course output none)
+  where
+    go : (output ≡ which) ⊎ (awaits_at middle output ≡ true) → (awaits_at middle output ≡ true → awaits_at old output ≡ true) → awaits_at old output ≡ true
+    go (inl same) earlier = not_other (ap may.awaits same ∙ allowed) none
+    go (inr before) earlier = earlier before
+
+-- a note of a write that wasn't waited for says nothing of the kind
+not_told : (n : Note) (side : DeviceSide) (output : ℕ) → IsSo n side → (awaits_at side output ≡ true → ⊥) → not (is_unanswered output n) ≡ true
+not_told (note.Unwritten which unwritten.Unanswered) side output so none = go (eqb_tells output which)
+  where
+    go : ((eqb output which ≡ true) × (output ≡ which)) ⊎ ((eqb output which ≡ false) × (output ≢ which)) → not (eqb output which) ≡ true
+    go (inl here) = absurd (none (ap (awaits_at side) here.1 ∙ so))
+    go (inr away) = ap not away.0
+not_told (note.Unwritten which unwritten.Refused) side output so none = refl
+not_told (note.Unwritten which (unwritten.NoSetPoint cause)) side output so none = refl
+not_told (note.Written which) side output so none = refl
+not_told (note.Found which) side output so none = refl
+not_told (note.NoMap which) side output so none = refl
+not_told (note.Lost which cause) side output so none = refl
+not_told (note.Back which) side output so none = refl
+not_told (note.Refused which refusal) side output so none = refl
+not_told (note.Scanned report) side output so none = refl
+not_told (note.Late by) side output so none = refl
+
+unanswered_so : (may : Allowed) (old new : DeviceSide) (course : Course may old new) (output : ℕ) → may.awaits output ≡ false → awaits_at old output ≡ false → list_all (λ n. not (is_unanswered output n)) (happened course) ≡ true
+unanswered_so may old new (stays side) output none before = refl
+unanswered_so may old new (tells {middle = middle} course n side allowed step) output none before =
+    both (not (is_unanswered output n)) (list_all (λ m. not (is_unanswered output m)) (happened course)) (not_told n middle output step.so (λ is. not_other (awaited_so may old middle course output none is) before)) (unanswered_so may old middle course output none before)
+unanswered_so may old new (goes {middle = middle} course side step awaited) output none before = unanswered_so may old middle course output none before
+unanswered_so may old new (awaits {middle = middle} course which side allowed step awaited) output none before = unanswered_so may old middle course output none before
 
 pub states_are_by_notes : StatesAreByNotes
-states_are_by_notes = record { devices = lost_so; outputs = state_so; allowed = allowed_so }
+states_are_by_notes = record { devices = lost_so; outputs = state_so; allowed = allowed_so; room = room_so; awaited = awaited_so; unanswered = unanswered_so }

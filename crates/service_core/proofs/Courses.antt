@@ -1,10 +1,11 @@
 -- Steps of a service lead its core and its round on.
-use Rattle.std.proofs.Common.{◌≡◌, ◌≢◌, ◌⊎◌, inl, inr, ℕ, Bool, true, false, eqb, not, ◌&&◌, List, [], ◌∷◌, Option, Result, Ok, Err, set, refl, sym, ap, subst, ◌∙◌}
+use Rattle.std.proofs.Common.{◌≡◌, ◌≢◌, ◌⊎◌, inl, inr, ℕ, Bool, true, false, eqb, not, ◌&&◌, List, [], ◌∷◌, Option, None, Some, Result, Ok, Err, set, slice_get, refl, sym, ap, subst, ◌∙◌}
 use Rattle.std.specs.Prelude.{All, IfErr, OnOk}
 use Rattle.std.proofs.lemmas.Bool.Decides.{eqb_tells}
 use Rattle.std.proofs.Math.Logic.{∥∥₁_elim, ∥∥₁_prop}
 use Rattle.register_map.specs.Layout.{Layout}
 use Rattle.site_model.specs.declared.site.Site.{Site}
+use Rattle.site_model.specs.declared.want.Want.{Want}
 use Rattle.modbus_frame.specs.declared.frame.Frame.{Frame}
 use Rattle.scan_vm.specs.Machine.{Running}
 use Rattle.verifier.specs.Verified.{HasLinks}
@@ -15,6 +16,7 @@ use Rattle.gateway.specs.declared.poller.outcome.Outcome.{Outcome}
 use Rattle.gateway.specs.event_core.Control.{AnswersFrame}
 use Rattle.gateway.specs.event_core.Core.{Gateway, adopting}
 use Rattle.gateway.specs.event_core.Driving.{Happens}
+use Rattle.gateway.specs.poller.Cycle.{read_of}
 use Rattle.service.specs.declared.fate.Fate.{Fate}
 use Rattle.service.specs.declared.fate.Fate.TheVariants as fate
 use Rattle.service.specs.Guarding.{AnswersUnless, Guards, is_write}
@@ -36,7 +38,7 @@ use Rattle.service_core.specs.declared.round.Turn as Turns
 use Rattle.service_core.specs.declared.scan_cycle.ScanCycle.{ScanCycle}
 use Rattle.service_core.specs.Cycle.{Answers, AnswersIf, DevicesLeadOn, EndsOwn, Settles, stage_of}
 use Rattle.service_core.specs.Rounds.{IsRoundFor, IsUntold, Progress, event_of, since}
-use Rattle.service_core.specs.Stages.{Adopts, AnyStep, Asks, ClientStep, CourseBy, Ends, IsFirst, IsReached, LeadsOnBy, OpensNext, OwnStep, RoundStep, RunStep, RunsIf, RunsOnce, Scans, Skips, Stage, TakesEvent, Tells, TimeStep, Waits, loses, opens, ends, skips, scans, learns, waits, stays, goes}
+use Rattle.service_core.specs.Stages.{Adopts, AnyStep, Asks, ClientStep, CourseBy, Ends, IsFirst, IsReached, LeadsOnBy, OpensNext, OwnStep, RoundStep, RunStep, RunsIf, RunsOnce, Scans, Skips, Stage, TakesEvent, Tells, TimeStep, Waits, loses, lacks, opens, ends, skips, scans, learns, waits, stays, goes}
 use Rattle.service_core.proofs.Told.{of_fate}
 
 -- ---- one step
@@ -61,7 +63,8 @@ module _ (Kinds : Event → Type 0) (all : (e : Event) → IsOfRounds e → Kind
   told_core f s t i o is_new is before = moved Kinds f s.core t.core (event_of is.want o) (all (event_of is.want o) (of_fate is.want o)) is.told before
 
   round_core : (f : Gateway) (s t : Stage) → RoundStep s t → GoesBy Kinds f s.core → GoesBy Kinds f t.core
-  round_core f s t (loses i is_new is) before = told_core f s t i fate.Lost is_new is before
+  round_core f s t (loses i is) before = told_core f s t i fate.Lost false is before
+  round_core f s t (lacks i is) before = told_core f s t i fate.Lost true is.told before
   round_core f s t (opens device turn is) before = same_core Kinds f s.core t.core is.core before
   round_core f s t (ends device is) before = same_core Kinds f s.core t.core is.core before
   round_core f s t (skips device is) before = same_core Kinds f s.core t.core (ap (λ (x : Stage). x.core) is) before
@@ -276,8 +279,14 @@ goes_ends s t device is = one_step RoundStep s t (ends device is)
 pub goes_skips : (s t : Stage) (device : ℕ) → Skips device s t → LeadsOnBy RoundStep s t
 goes_skips s t device is = one_step RoundStep s t (skips device is)
 
-pub goes_loses : (s t : Stage) (i : ℕ) (is_new : Bool) → Tells i fate.Lost is_new s t → LeadsOnBy RoundStep s t
-goes_loses s t i is_new is = one_step RoundStep s t (loses i is_new is)
+pub goes_loses : (s t : Stage) (i : ℕ) → Tells i fate.Lost false s t → LeadsOnBy RoundStep s t
+goes_loses s t i is = one_step RoundStep s t (loses i is)
+
+same_want : {o : Option Want} {a b : Want} → o ≡ Some a → o ≡ Some b → a ≡ b
+same_want p q = cc
+
+pub goes_lacks : (s t : Stage) (i : ℕ) (want : Want) → slice_get s.core.site.wants i ≡ Some want → read_of s.core.site s.core.maps want ≡ None → Tells i fate.Lost true s t → LeadsOnBy RoundStep s t
+goes_lacks s t i want at none is = one_step RoundStep s t (lacks i (record { told = is; none = subst (λ (w : Want). read_of s.core.site s.core.maps w ≡ None) (same_want at is.wanted) none }))
 
 -- ---- one run of the program, amid other steps
 

@@ -14,14 +14,14 @@ use Rattle.service_parts.specs.declared.asked.Aim.{Aim}
 use Rattle.service_parts.specs.declared.line.Line.{Line}
 use Rattle.service_parts.specs.Calls.{write_to}
 use Rattle.service_parts.specs.Frames.{IsLed, TakesDue, due_at, due_by, outputs_of, times_asked}
-use Rattle.service_parts.proofs.Frames.{set_there, still_goes}
+use Rattle.service_parts.proofs.Frames.{set_other, set_there, still_goes}
 use Rattle.service_core.specs.declared.round.Turn.TheVariants as turn
 use Rattle.service_core.specs.declared.service_state.Service.{Service}
 use Rattle.service_core.specs.declared.wish.Wish.{Wish}
 use Rattle.service_core.specs.Going.{BeginsOf, IsOpened, LinksGo, NoMoreDue, WishGoes, tasks_of}
 use Rattle.service_core.specs.Rounds.{AsksWrite, ClosesWrite, OpensWrite, Progress}
 use Rattle.service_core.specs.Stages.{Ends, OpensNext, Skips, Stage}
-use Rattle.service_core.proofs.Marks.{at_place, next_is_due, set_elsewhere, some_task, with_mark-at}
+use Rattle.service_core.proofs.Marks.{at_place, next_is_due, some_task, with_mark-at}
 use Rattle.service_core.proofs.Sent.{times_here, times_there}
 
 -- ---- what is due
@@ -54,7 +54,7 @@ due_taken tasks j u v at due none output = go (eqb_tells j output)
     go (inl here) =
         let P : ℕ → Type 0 = λ k. times_asked k (j ∷ []) + due_at k (slice_set tasks j v) ≤ due_at k tasks in
         subst P here.1 (omega (arith, times_here j j [] refl, ap due_of (set_there tasks j u v at), ap due_of at, none, due))
-    go (inr away) = omega (arith, times_there output j [] away.1, ap due_of (set_elsewhere tasks j output v away.1))
+    go (inr away) = omega (arith, times_there output j [] away.1, ap due_of (set_other tasks j output v (λ same. away.1 (sym same))))
 
 due_given : (t : Task) (b : Bool) → due_by (if b then record t { mark = mark.Done } else t).mark ≤ due_by t.mark
 due_given t true = omega arith
@@ -70,7 +70,7 @@ due_once mark.Due = omega arith
 due_once mark.Asked = omega arith
 due_once mark.Done = omega arith
 
-due_most : (o : Option Task) → option_map_or (λ (t : Task). due_by t.mark) o 0 ≤ 1
+pub due_most : (o : Option Task) → option_map_or (λ (t : Task). due_by t.mark) o 0 ≤ 1
 due_most None = omega arith
 due_most (Some t) = due_once t.mark
 
@@ -150,14 +150,14 @@ reads_go (Some wish) old new reads goes = record {
 pub begun_go : (made_for : Aim) (old middle new : Service) → IsOpened made_for old middle → BeginsOf made_for middle new → LinksGo old new
 begun_go made_for old middle new opened begins link most from led = begins opened.before opened.takes link most from (opened.goes link most from led)
 
--- after a run of the program each output may be written once more
-once_more : (most : ℕ → ℕ) (from : Line) (before after : List Task) (lines : List Line) (link : ℕ) → IsLed most from before lines link → IsLed (λ output. most output + 1) from after lines link
+-- after a run of the program each output that is still to be written may be once more
+once_more : (most : ℕ → ℕ) (from : Line) (before after : List Task) (lines : List Line) (link : ℕ) → IsLed most from before lines link → IsLed (λ output. most output + due_at output after) from after lines link
 once_more most from before after lines link led = record {
   line = led.line;
   there = led.there;
   course = led.course;
-  within = λ output. omega (arith, led.within output, due_most (slice_get after output));
+  within = λ output. omega (arith, led.within output);
 }
 
-pub scanned_goes : (before after : List Task) (lines : List Line) (link : ℕ) (most : ℕ → ℕ) (from : Line) → ∥ IsLed most from before lines link ∥₁ → ∥ IsLed (λ output. most output + 1) from after lines link ∥₁
+pub scanned_goes : (before after : List Task) (lines : List Line) (link : ℕ) (most : ℕ → ℕ) (from : Line) → ∥ IsLed most from before lines link ∥₁ → ∥ IsLed (λ output. most output + due_at output after) from after lines link ∥₁
 scanned_goes before after lines link most from led = ∥∥₁_elim led ∥∥₁_prop (λ l. ∣ once_more most from before after lines link l ∣₁)

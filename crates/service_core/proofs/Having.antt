@@ -19,6 +19,7 @@ use Rattle.service_parts.specs.declared.asked.Aim.{Aim}
 use Rattle.service_parts.specs.declared.asked.Aim.TheVariants as aim
 use Rattle.service_parts.specs.declared.asked.Asked.{Asked}
 use Rattle.service_parts.specs.Answering.{is_answer}
+use Rattle.service_parts.proofs.Frames.{set_other}
 use Rattle.service_core.specs.declared.device_side.DeviceSide.{DeviceSide}
 use Rattle.service_core.specs.declared.note.Loss.{Loss}
 use Rattle.service_core.specs.declared.note.Unwritten.TheVariants as unwritten
@@ -26,10 +27,10 @@ use Rattle.service_core.specs.declared.output.OutputState.{OutputState}
 use Rattle.service_core.specs.declared.output.OutputState.TheVariants as state
 use Rattle.service_core.specs.declared.held_writes.HeldWrite.{HeldWrite}
 use Rattle.service_core.specs.declared.held_writes.HeldWrites.{HeldWrites}
-use Rattle.service_core.specs.Having.{Forgets, Has, HasMoreBy, HasNoMore, IsAnsweredBy, IsHad, IsHeardBy, IsOfPlan, IsRefusedAt, IsRefusedBy, IsRefusedIf, IsToldBy, IsUnplanned, IsWithin, TellsAt, TellsHad, WritesAt, WritesHad, taken_by, taken_for, taken_if}
+use Rattle.service_core.specs.Having.{Forgets, Has, HasMoreBy, HasNoMore, IsAnsweredBy, IsHad, IsHeardBy, IsOfPlan, IsRefusedAt, IsRefusedBy, IsRefusedIf, IsToldBy, IsToWait, IsToWrite, IsUnplanned, IsWithin, TellsAt, TellsHad, WritesAt, WritesHad, taken_by, taken_for, taken_if}
 use Rattle.service_core.specs.Rewriting.{after_answer, had_without, held_output, is_held, is_of, is_recent, is_same, write_of}
 use Rattle.service_core.specs.Telling.{state_by}
-use Rattle.service_core.specs.Told.{BecomesBy, Goes, IsThis, IsUnanswered, LosesBy, TellsBy}
+use Rattle.service_core.specs.Told.{BecomesBy, Goes, IsThis, IsUnanswered, LosesBy, PlansBy, TellsBy}
 
 -- ---- one entry changes
 
@@ -45,11 +46,7 @@ module _ {X : Type 0} where
   this_here (z ∷ xs) (suc i) y x is = this_here xs i y x is
 
   same_there : (xs : List (Option X)) (i k : ℕ) (entry : Option X) → k ≢ i → known_at (slice_set xs i entry) k ≡ known_at xs k
-  same_there [] i k entry other = refl
-  same_there (y ∷ xs) zero zero entry other = absurd (other refl)
-  same_there (y ∷ xs) zero (suc k) entry other = refl
-  same_there (y ∷ xs) (suc i) zero entry other = refl
-  same_there (y ∷ xs) (suc i) (suc k) entry other = same_there xs i k entry (λ same. other (ap suc same))
+  same_there xs i k entry other = ap (option_and_then (λ (o : Option X). o)) (set_other xs i k entry other)
 
 -- ---- nothing more
 
@@ -287,17 +284,23 @@ planned_this : (core : Gateway) (which : ℕ) (plan : Result Write NoWrite) → 
 planned_this core which (Ok write) is output became of = absurd of
 planned_this core which (Err cause) is output became of = subst (λ b. IsUnplanned core output b) (sym of.1) (subst (λ k. IsPlanned core k (Err cause)) (sym of.0) is)
 
-pub becomes_planned : (core : Gateway) (which : ℕ) (plan : Result Write NoWrite) (old new : DeviceSide) → IsPlanned core which plan → BecomesBy (IsOfPlan which plan) old new → BecomesBy (IsUnplanned core) old new
-becomes_planned core which plan old new is becomes may has = becomes may (λ output became of. has output became (planned_this core which plan is output became of))
+-- a write is waited for where one is planned
+planned_to : (core : Gateway) (which : ℕ) (plan : Result Write NoWrite) → IsPlanned core which plan → (output : ℕ) → IsToWait which plan output → IsToWrite core output
+planned_to core which (Ok write) is output same = (write, subst (λ k. IsPlanned core k (Ok write)) (sym same) is)
+planned_to core which (Err cause) is output none = absurd none
+
+pub becomes_planned : (core : Gateway) (which : ℕ) (plan : Result Write NoWrite) (old new : DeviceSide) → IsPlanned core which plan → PlansBy (IsOfPlan which plan) (IsToWait which plan) old new → PlansBy (IsUnplanned core) (IsToWrite core) old new
+becomes_planned core which plan old new is becomes may has waits =
+    becomes may (λ output became of. has output became (planned_this core which plan is output became of)) (λ output to. waits output (planned_to core which plan is output to))
 
 -- the program runs amid what else is told
-pub writes_at : (core : Gateway) (held ran : HeldWrites) (first second third last : DeviceSide) → WritesHad held first second → BecomesBy (IsUnplanned core) second third → HasNoMore held ran → WritesHad ran third last → WritesAt core held first last
-writes_at core held ran first second third last before plans more on within_ within may has from led =
-    on within_ (more within_ within) may (λ output became is. has output became (inl is)) from (plans may (λ output became is. has output became (inr is)) from (before within_ within may (λ output became is. has output became (inl is)) from led))
+pub writes_at : (core : Gateway) (held ran : HeldWrites) (first second third last : DeviceSide) → WritesHad held first second → PlansBy (IsUnplanned core) (IsToWrite core) second third → HasNoMore held ran → WritesHad ran third last → WritesAt core held first last
+writes_at core held ran first second third last before plans more on within_ within may has waits from led =
+    on within_ (more within_ within) may (λ output became is. has output became (inl is)) from (plans may (λ output became is. has output became (inr is)) waits from (before within_ within may (λ output became is. has output became (inl is)) from led))
 
 -- a device may be lost before
 pub tells_at : (Why : ℕ → Loss → Type 0) (core : Gateway) (held later : HeldWrites) (first second last : DeviceSide) → LosesBy Why first second → HasNoMore held later → WritesAt core later second last → TellsAt Why core held first last
-tells_at Why core held later first second last loses more writes within_ within may lost has from led = writes within_ (more within_ within) may has from (loses may lost from led)
+tells_at Why core held later first second last loses more writes within_ within may lost has waits from led = writes within_ (more within_ within) may has waits from (loses may lost from led)
 
 -- ---- what is held back
 

@@ -1,12 +1,14 @@
 -- When wanted blocks were told last.
-use Rattle.std.proofs.Common.{◌≡◌, ℕ, zero, suc, ◌+◌, ◌<◌, Bool, false, ◌&&◌, List, [], ◌∷◌, map, length, get_or, slice_get, slice_set, Option, None, Some, refl, sym, ap, subst, ◌∙◌, arith}
+use Rattle.std.proofs.Common.{◌≡◌, ℕ, zero, suc, ◌+◌, ◌<◌, Bool, true, false, not, ◌&&◌, ◌||◌, ◌==◌, List, [], ◌∷◌, map, length, get_or, position, slice_get, slice_set, Option, None, Some, refl, sym, ap, subst, ◌∙◌, arith}
 use Rattle.std.specs.Prelude.{All}
+use Rattle.std.proofs.lemmas.Bool.{eqb-true}
 use Rattle.std.proofs.lemmas.List.Elements.{All-map}
+use Rattle.std.proofs.lemmas.List.Quantifiers.{position-Some}
 use Rattle.std.proofs.lemmas.Option.{slice_get-get_or}
 use Rattle.site_model.specs.declared.site.Site.{Site}
 use Rattle.site_model.specs.declared.want.Want.{Want}
 use Rattle.service_core.specs.declared.last_told.LastTold.{LastTold}
-use Rattle.service_core.specs.Rounds.{IsRecent, IsRoundFor, IsUntold, Progress, after_scan, device_told, device_wanted, is_ready, is_told, older, told_at, told_now, used}
+use Rattle.service_core.specs.Rounds.{IsRecent, IsRoundFor, IsUntold, Progress, after_scan, device_told, device_wanted, is_ready, is_told, is_untold, older, told_at, told_now, used}
 
 -- ---- the devices stay
 
@@ -94,3 +96,25 @@ used_all all (t ∷ told) = ap (λ l. used all t ∷ l) (used_all all told)
 
 pub all_used : (i : ℕ) (all now : List LastTold) → i ≡ length all → now ≡ used_through i all all → now ≡ map (used all) all
 all_used i all now is so_far = so_far ∙ (ap (λ n. used_through n all all) is ∙ used_all all all)
+
+-- ---- whose wanted block is to be told
+
+mapped_at : {X Y : Type 0} (f : X → Y) (xs : List X) (i : ℕ) (x : X) → slice_get xs i ≡ Some x → slice_get (map f xs) i ≡ Some (f x)
+mapped_at f [] i x at = absurd (cc)
+mapped_at f (y ∷ xs) zero x at = let here : y ≡ x = cc in ap (λ (z : _). Some (f z)) here
+mapped_at f (y ∷ xs) (suc i) x at = mapped_at f xs i x at
+
+untold_own : (own is_new : Bool) → not (not own || is_new) ≡ true → own ≡ true
+untold_own true is_new is = refl
+untold_own false is_new is = absurd (cc)
+
+same_device : {a b : ℕ} → Some a ≡ Some b → a ≡ b
+same_device e = cc
+
+pub untold_want : (told : List LastTold) (wants : List Want) (device i : ℕ) → map device_told told ≡ map device_wanted wants → position (is_untold device) told ≡ Some i → (want : Want) → slice_get wants i ≡ Some want → want.device ≡ device
+untold_want told wants device i same is want at =
+    let found = position-Some (is_untold device) told i (untold_of want) is in
+    let t : LastTold = get_or told i (untold_of want) in
+    let there : slice_get told i ≡ Some t = slice_get-get_or told i (untold_of want) found.0 in
+    let own : t.device ≡ device = eqb-true t.device device (untold_own (t.device == device) t.is_new found.1) in
+    same_device (sym (mapped_at device_wanted wants i want at) ∙ (ap (λ (l : List ℕ). slice_get l i) (sym same) ∙ mapped_at device_told told i t there)) ∙ own

@@ -1,5 +1,5 @@
 -- Marks on the requests that write outputs.
-use Rattle.std.proofs.Common.{◌≡◌, ◌≢◌, ℕ, zero, suc, Bool, true, List, [], ◌∷◌, map, get_or, slice_get, slice_set, position, Option, None, Some, refl, sym, ap, ◌∙◌}
+use Rattle.std.proofs.Common.{◌≡◌, ℕ, zero, suc, Bool, true, List, [], ◌∷◌, map, get_or, slice_get, slice_set, position, Option, None, Some, refl, sym, ap, ◌∙◌}
 use Rattle.std.proofs.lemmas.List.Quantifiers.{position-Some}
 use Rattle.std.proofs.lemmas.Option.{slice_get-get_or}
 use Rattle.service.specs.declared.task.Mark.{Mark}
@@ -33,11 +33,3 @@ pub map_at : {X Y : Type 0} (f : X → Y) (xs : List X) (i : ℕ) (y : Y) → sl
 map_at f [] i y at = absurd (cc)
 map_at f (x ∷ xs) zero y at = (x, refl, some_same at)
 map_at f (x ∷ xs) (suc i) y at = map_at f xs i y at
-
--- another element of a list in which one is set
-pub set_elsewhere : {X : Type 0} (xs : List X) (k m : ℕ) (x : X) → k ≢ m → slice_get (slice_set xs k x) m ≡ slice_get xs m
-set_elsewhere [] k m x other = refl
-set_elsewhere (y ∷ xs) zero zero x other = absurd (other refl)
-set_elsewhere (y ∷ xs) zero (suc m) x other = refl
-set_elsewhere (y ∷ xs) (suc k) zero x other = refl
-set_elsewhere (y ∷ xs) (suc k) (suc m) x other = set_elsewhere xs k m x (λ e. other (ap suc e))

@@ -11,7 +11,8 @@ use Rattle.service.specs.declared.task.Mark.TheVariants as mark
 use Rattle.service.specs.declared.task.Task.{Task}
 use Rattle.service_core.specs.declared.last_told.LastTold.{LastTold}
 use Rattle.service_core.specs.Rounds.{ArePlanned, PlansFollowBlocks, is_ready, task_of}
-use Rattle.service_core.proofs.Marks.{set_elsewhere, some_task}
+use Rattle.service_parts.proofs.Frames.{set_other}
+use Rattle.service_core.proofs.Marks.{some_task}
 
 -- the first tasks are planned
 abbrev pub ArePlannedBelow : Gateway → List LastTold → ℕ → List Task → List Task → Type 0
@@ -42,7 +43,7 @@ module _ (g : Gateway) (told : List LastTold) (before tasks : List Task) (i : �
       planned_at so_far planned j c t within was (set-cases tasks i (task_of told b plan) j t (rw (sym is) now))
 
 pub still_next : (before tasks : List Task) (i : ℕ) (task : Task) → AreStill i before tasks → AreStill (i + 1) before (slice_set tasks i task)
-still_next before tasks i task still j after = set_elsewhere tasks i j task (λ same. omega (arith, after, same)) ∙ still j (omega (arith, after))
+still_next before tasks i task still j after = set_other tasks i j task (λ same. omega (arith, after, same)) ∙ still j (omega (arith, after))
 
 pub planned_all : (g : Gateway) (told : List LastTold) (before tasks : List Task) (n : ℕ) → ArePlannedBelow g told n before tasks → length tasks ≤ n → ArePlanned g told before tasks
 planned_all g told before tasks n so_far all j b t was at = so_far j b t (omega (arith, all, slice_get_within tasks j t at)) was at

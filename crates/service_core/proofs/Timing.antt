@@ -9,6 +9,7 @@ use Rattle.gateway.specs.event_core.Core.{Gateway}
 use Rattle.service.specs.Sessions.{IsChain, Turn as ClientTurn}
 use Rattle.service.specs.Tasks.{next_place}
 use Rattle.service_parts.specs.Calls.{write_to}
+use Rattle.service_parts.proofs.Frames.{set_other, set_there}
 use Rattle.service_core.specs.declared.last_told.LastTold.{LastTold}
 use Rattle.service_core.specs.declared.round.Turn.{Turn}
 use Rattle.site_model.specs.declared.want.Want.{Want}
@@ -54,18 +55,6 @@ below_other k i below other = omega (arith, below, other)
 some_same : {a b : LastTold} → Some a ≡ Some b → a ≡ b
 some_same e = cc
 
-slice_set_there : (told : List LastTold) (i : ℕ) (t x : LastTold) → slice_get told i ≡ Some x → slice_get (slice_set told i t) i ≡ Some t
-slice_set_there [] i t x at = absurd (cc)
-slice_set_there (y ∷ told) zero t x at = refl
-slice_set_there (y ∷ told) (suc i) t x at = slice_set_there told i t x at
-
-slice_set_other : (told : List LastTold) (i k : ℕ) (t : LastTold) → k ≢ i → slice_get (slice_set told i t) k ≡ slice_get told k
-slice_set_other [] i k t other = refl
-slice_set_other (y ∷ told) zero zero t other = absurd (other refl)
-slice_set_other (y ∷ told) zero (suc k) t other = refl
-slice_set_other (y ∷ told) (suc i) zero t other = refl
-slice_set_other (y ∷ told) (suc i) (suc k) t other = slice_set_other told i k t (λ e. other (ap suc e))
-
 pub recent_further : (told : List LastTold) (i : ℕ) → ((t : LastTold) → slice_get told i ≡ Some t → IsRecent t) → AreRecentTo i told → AreRecentTo (i + 1) told
 recent_further told i own before k t below at = go (eqb_tells k i)
   where
@@ -78,8 +67,8 @@ recent_told told i before = go (slice_get told i) refl
   where
     go : (o : Option LastTold) → slice_get told i ≡ o → AreRecentTo (i + 1) (told_at i false told)
     go None is = rw is (recent_further told i (λ t at. absurd (cc)) before)
-    go (Some x) is = rw is (recent_further (slice_set told i (told_now false x)) i (λ t at. subst IsRecent (some_same (sym (slice_set_there told i (told_now false x) x is) ∙ at)) (omega arith))
-        (λ k t below at. before k t below (sym (slice_set_other told i k (told_now false x) (λ same. omega (arith, below, same))) ∙ at)))
+    go (Some x) is = rw is (recent_further (slice_set told i (told_now false x)) i (λ t at. subst IsRecent (some_same (sym (set_there told i x (told_now false x) is) ∙ at)) (omega arith))
+        (λ k t below at. before k t below (sym (set_other told i k (told_now false x) (λ same. omega (arith, below, same))) ∙ at)))
 
 pub recent_all : (told : List LastTold) (i : ℕ) → i ≡ length told → AreRecentTo i told → All IsRecent told
 recent_all told i is recent k d within = recent k (get_or told k d) (subst (λ n. k < n) (sym is) within) (slice_get-get_or told k d within)

@@ -1,12 +1,14 @@
 -- A service writes each output once at most after a scan.
-use Rattle.std.proofs.Common.{◌≡◌, ℕ, List, sym, ap, subst, arith}
-use Rattle.service_parts.specs.Frames.{begun}
+use Rattle.std.proofs.Common.{◌≡◌, ◌≤◌, ◌+◌, ℕ, List, [], ◌∷◌, ◌++◌, length, slice_get, sym, ap, subst, arith}
+use Rattle.service.specs.declared.task.Task.{Task}
+use Rattle.service_parts.specs.Frames.{begun, due_at, times_asked}
 use Rattle.service_parts.proofs.Frames.{times_joined}
 use Rattle.service_core.specs.Rounds.{Progress, Writing}
 use Rattle.service_core.specs.Rounds as rounds
 use Rattle.service_core.specs.Stages.{Stage}
 use Rattle.service_core.specs.WrittenOnce as after
-use Rattle.service_core.specs.WrittenOnce.{AfterScan, EachRunIsWrittenOnce, EachScanWritesOnce}
+use Rattle.service_core.specs.WrittenOnce.{AfterScan, EachRunIsWrittenOnce, EachScanWritesOnce, OverLink, times_due}
+use Rattle.service_core.proofs.Going.{due_most}
 use Rattle.service_core.proofs.Sent.{each_output_once}
 
 same_round : (p : Progress) (asked : List ℕ) (q r : Progress) → r ≡ q → Writing p asked q → Writing p asked r
@@ -27,7 +29,18 @@ module _ (scanned : Stage) where
 pub each_scan_writes_once : EachScanWritesOnce
 each_scan_writes_once now old scanned s asked scans run = each_output_once scanned.round asked s.round (writing scanned asked s run)
 
+due_joined : (output : ℕ) (xs ys : List (List Task)) → times_due output (xs ++ ys) ≡ times_due output xs + times_due output ys
+due_joined output [] ys = omega arith
+due_joined output (x ∷ xs) ys = omega (arith, due_joined output xs ys)
+
+planned_once : (link : ℕ) (first : List Task) (scans : List (List Task)) (asked : List ℕ) (last : List Task) → OverLink link first scans asked last → (output : ℕ) → times_asked output asked + due_at output last ≤ due_at output first + times_due output scans
+planned_once link first scans asked last after.none output = omega arith
+planned_once link first scans asked last (after.calls {scans = earlier} {asked = so_far} {before} run runs from then_on lines led) output =
+    omega (arith, planned_once link first earlier so_far before run output, led.within output, times_joined output (begun led.course) so_far, due_joined output runs earlier)
+
+ran_once : (output : ℕ) (scans : List (List Task)) → times_due output scans ≤ length scans
+ran_once output [] = omega arith
+ran_once output (tasks ∷ scans) = omega (arith, ran_once output scans, due_most (slice_get tasks output))
+
 pub each_run_is_written_once : EachRunIsWrittenOnce
-each_run_is_written_once link first scans asked last after.none output = omega arith
-each_run_is_written_once link first scans asked last (after.calls {scans = earlier} {asked = so_far} {before} run runs from then_on lines led) output =
-    omega (arith, each_run_is_written_once link first earlier so_far before run output, led.within output, times_joined output (begun led.course) so_far)
+each_run_is_written_once = record { planned = planned_once; ran = ran_once }

@@ -1,6 +1,6 @@
 -- What goes out over the connections of a service while it goes on: each write that begins was still to be made, and isn't any
 -- more (Modbus Application Protocol V1.1b3, sections 6.6 and 6.12).
-use Rattle.std.specs.Prelude.{◌≡◌, ℕ, ◌+◌, Bool, true, false, List, Option, None, Some}
+use Rattle.std.specs.Prelude.{◌≡◌, ℕ, ◌+◌, List, Option, None, Some}
 use Rattle.service.specs.declared.task.Task.{Task}
 use Rattle.service_parts.specs.declared.asked.Aim.{Aim}
 use Rattle.service_parts.specs.declared.line.Line.{Line}
@@ -33,15 +33,11 @@ LinksGo old new = (link : ℕ) → LinkGoes link (tasks_of old) old.lines.lines.
 abbrev pub OtherLinksGo : ℕ → Service → Service → Type 0
 OtherLinksGo at old new = (link : ℕ) → (link ≡ at → ⊥) → LinkGoes link (tasks_of old) old.lines.lines.items (tasks_of new) new.lines.lines.items
 
--- The same where the program runs on the way: each output may be written once more.
-abbrev pub LinksGoByScan : Service → Service → Type 0
-LinksGoByScan old new =
-    (link : ℕ) (most : ℕ → ℕ) (from : Line) → ∥ IsLed most from (tasks_of old) old.lines.lines.items link ∥₁ → ∥ IsLed (λ output. most output + 1) from (tasks_of new) new.lines.lines.items link ∥₁
-
--- It runs, where this says so.
-abbrev pub LinksGoIf : Bool → Service → Service → Type 0
-LinksGoIf true old new = LinksGoByScan old new
-LinksGoIf false old new = LinksGo old new
+-- The same where the program runs on the way, right after which this is still to be written: each output of it may be written once
+-- more.
+abbrev pub LinksGoByScan : List Task → Service → Service → Type 0
+LinksGoByScan scanned old new =
+    (link : ℕ) (most : ℕ → ℕ) (from : Line) → ∥ IsLed most from (tasks_of old) old.lines.lines.items link ∥₁ → ∥ IsLed (λ output. most output + due_at output scanned) from (tasks_of new) new.lines.lines.items link ∥₁
 
 -- ---- a request that may begin
 

@@ -22,7 +22,7 @@ use Rattle.service_core.specs.declared.output.OutputState.TheVariants as state
 use Rattle.service_core.specs.declared.held_writes.HeldWrite.{HeldWrite}
 use Rattle.service_core.specs.declared.held_writes.HeldWrites.{HeldWrites}
 use Rattle.service_core.specs.Rewriting.{had_without, write_of}
-use Rattle.service_core.specs.Told.{BecomesBy, IsThis, TellsBy}
+use Rattle.service_core.specs.Told.{BecomesBy, IsThis, PlansBy, ScansBy, TellsBy}
 
 -- This is had of an output: by that device, in those registers, since then, and over that connection.
 pub record Has (held : HeldWrites) (output : ℕ) (write : HeldWrite) : Type 0 where
@@ -128,6 +128,15 @@ abbrev pub IsOfPlan : ℕ → Result Write NoWrite → ℕ → OutputState → T
 IsOfPlan which (Ok write) output became = ⊥
 IsOfPlan which (Err cause) output became = IsThis which (state.Unwritten (unwritten.NoSetPoint cause)) output became
 
+-- its write is waited for, where one is planned
+abbrev pub IsToWait : ℕ → Result Write NoWrite → ℕ → Type 0
+IsToWait which (Ok write) output = output ≡ which
+IsToWait which (Err cause) output = ⊥
+
+-- The core plans a write for an output.
+abbrev pub IsToWrite : Gateway → ℕ → Type 0
+IsToWrite core output = (write : Write) × IsPlanned core output (Ok write)
+
 -- The core plans nothing for an output, for this.
 abbrev pub IsUnplanned : Gateway → ℕ → OutputState → Type 0
 IsUnplanned core output state.Written = ⊥
@@ -147,9 +156,9 @@ WritesHad held old new = (first : HeldWrites) → IsWithin first held → Become
 abbrev pub TellsHad : (ℕ → Loss → Type 0) → HeldWrites → DeviceSide → DeviceSide → Type 0
 TellsHad Why held old new = (first : HeldWrites) → IsWithin first held → TellsBy Why (IsToldBy first) old new
 
--- both so by a scan, after which the core is this
+-- Both so by a scan, after which the core is this: those writes are waited for from then on that it plans.
 abbrev pub WritesAt : Gateway → HeldWrites → DeviceSide → DeviceSide → Type 0
-WritesAt core held old new = (first : HeldWrites) → IsWithin first held → BecomesBy (IsToldAt core first) old new
+WritesAt core held old new = (first : HeldWrites) → IsWithin first held → PlansBy (IsToldAt core first) (IsToWrite core) old new
 
 abbrev pub TellsAt : (ℕ → Loss → Type 0) → Gateway → HeldWrites → DeviceSide → DeviceSide → Type 0
-TellsAt Why core held old new = (first : HeldWrites) → IsWithin first held → TellsBy Why (IsToldAt core first) old new
+TellsAt Why core held old new = (first : HeldWrites) → IsWithin first held → ScansBy Why (IsToldAt core first) (IsToWrite core) old new

@@ -1,7 +1,7 @@
 -- What a service does to its core and to its round, step by step: by the time and what is still to be written, by what devices
 -- answer, by what clients ask, and by programs that are put in (IEC 61131-3 edition 2, 3.2; Modbus Application Protocol V1.1b3,
 -- sections 6.3, 6.6 and 6.12).
-use Rattle.std.specs.Prelude.{◌≡◌, ◌⊎◌, ℕ, Bool, true, false, List, All, Option, Some, set, slice_get}
+use Rattle.std.specs.Prelude.{◌≡◌, ◌⊎◌, ℕ, Bool, true, false, List, All, Option, None, Some, set, slice_get}
 use Rattle.register_map.specs.Layout.{Layout}
 use Rattle.scan_vm.specs.Machine.{Running}
 use Rattle.site_model.specs.declared.want.Want.{Want}
@@ -12,6 +12,7 @@ use Rattle.gateway.specs.declared.event_core.event.Answer.{Answer}
 use Rattle.gateway.specs.declared.poller.outcome.Outcome.{Outcome}
 use Rattle.gateway.specs.event_core.Core.{Gateway, adopting}
 use Rattle.gateway.specs.event_core.Driving.{Happens}
+use Rattle.gateway.specs.poller.Cycle.{read_of}
 use Rattle.service.specs.declared.fate.Fate.{Fate}
 use Rattle.service.specs.declared.fate.Fate.TheVariants as fate
 use Rattle.service_parts.specs.Course.{IsNew}
@@ -36,6 +37,16 @@ pub record Tells (i : ℕ) (f : Fate) (is_new : Bool) (old new : Stage) : Type 0
   pub wanted : slice_get old.core.site.wants i ≡ Some want
   pub told : TakesEvent (event_of want f) old.core new.core
   pub round : new.round ≡ record old.round { told = told_at i is_new old.round.told }
+
+-- The wanted block of this number is lost: not for the next plan of its device.
+abbrev pub Loses : ℕ → Stage → Stage → Type 0
+Loses i old new = Tells i fate.Lost false old new
+
+-- There is no request for the wanted block of this number by the map that its device has now, if it has one: it is lost, which is
+-- told for the next plan of its device.
+pub record Lacks (i : ℕ) (old new : Stage) : Type 0 where
+  pub told : Tells i fate.Lost true old new
+  pub none : read_of old.core.site old.core.maps told.want ≡ None
 
 -- What is written next to a device: a request to it, or nothing.
 pub record OpensNext (device : ℕ) (t : Turn) (old new : Stage) : Type 0 where
@@ -86,9 +97,11 @@ pub record Adopts (machine : Running) (old new : Stage) : Type 0 where
 -- ---- kinds of steps
 
 -- By what is still to be written, and by devices that don't answer: the program doesn't run, and no time goes by. A wanted block
--- may be lost, and a write that is under way may be over, at any time.
+-- may be lost, and a write that is under way may be over, at any time. For the next plan of a device only a block is lost that there
+-- is no request for.
 pub data RoundStep (s t : Stage) : Type 0 where
-  loses : (i : ℕ) (is_new : Bool) → Tells i fate.Lost is_new s t → RoundStep s t
+  loses : (i : ℕ) → Loses i s t → RoundStep s t
+  lacks : (i : ℕ) → Lacks i s t → RoundStep s t
   opens : (device : ℕ) (turn : Turn) → OpensNext device turn s t → RoundStep s t
   ends : (device : ℕ) → Ends device s t → RoundStep s t
   skips : (device : ℕ) → Skips device s t → RoundStep s t

@@ -1,5 +1,5 @@
 -- When the program runs, by the service's time (IEC 61131-3 edition 2, 2.7.2: a task's INTERVAL). What is late is this project's.
-use Rattle.std.specs.Prelude.{◌≡◌, ℕ, [], ◌+◌, ◌-◌, ◌^◌, max, min, nat_le, nat_lt, if◌then◌else◌}
+use Rattle.std.specs.Prelude.{◌≡◌, ℕ, [], length, ◌+◌, ◌-◌, ◌*◌, ◌^◌, max, min, nat_le, nat_lt, if◌then◌else◌}
 use Rattle.service_parts.specs.declared.limits.Limits.{Limits}
 use Rattle.service_core.specs.declared.device_side.DeviceSide.{DeviceSide}
 use Rattle.service_core.specs.declared.service_state.Service.{Service}
@@ -25,13 +25,18 @@ scan_after period now at = not_over period now (so_much_later (planned_from peri
 
 -- ---- devices and times
 
--- It begins at this time: nothing happened so far, and the first scan is a period from now.
+-- how many notes have room: four of each device and each output, and some more
+abbrev pub most_notes : (devices outputs : ℕ) → ℕ
+most_notes devices outputs = (devices + outputs) * 4 + 16
+
+-- It begins at this time: nothing happened so far, and the first scan is a period from now. There is room for notes.
 pub record Starts (now : ℕ) (limits : Limits) (side : DeviceSide) : Type 0 where
   pub time : side.now ≡ now
   pub limited : side.limits ≡ limits
   pub next : side.next_scan ≡ so_much_later now limits.period
   pub scans : side.scans ≡ 0
   pub none : side.notes.items.items ≡ []
+  pub room : side.notes.items.cap ≡ most_notes (length side.devices.items) (length side.outputs.items)
 
 -- The time stays, no scan is counted, and the next one stays when it is.
 pub record KeepsTime (old new : DeviceSide) : Type 0 where
@@ -39,6 +44,11 @@ pub record KeepsTime (old new : DeviceSide) : Type 0 where
   pub next : new.next_scan ≡ old.next_scan
   pub scans : new.scans ≡ old.scans
   pub limits : new.limits ≡ old.limits
+
+-- How many writes went out of which something came, and how many of these weren't done, stays.
+pub record KeepsCounts (old new : DeviceSide) : Type 0 where
+  pub writes : new.writes ≡ old.writes
+  pub refused : new.refused ≡ old.refused
 
 -- The scan that is due is planned now.
 pub record PlansScan (old new : DeviceSide) : Type 0 where

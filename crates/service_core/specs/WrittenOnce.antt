@@ -1,6 +1,6 @@
 -- What is written after a scan: each output once at most before the next one, whatever steps a service makes
 -- (Modbus Application Protocol V1.1b3, sections 6.6 and 6.12).
-use Rattle.std.specs.Prelude.{ℕ, ◌+◌, ◌≤◌, Bool, List, [], ◌++◌, Option}
+use Rattle.std.specs.Prelude.{ℕ, ◌+◌, ◌≤◌, Bool, List, [], ◌∷◌, ◌++◌, length, Option}
 use Rattle.register_map.specs.Layout.{Layout}
 use Rattle.scan_vm.specs.Machine.{Running}
 use Rattle.service.specs.declared.fate.Fate.{Fate}
@@ -31,15 +31,22 @@ EachScanWritesOnce = (now : ℕ) (old scanned s : Stage) (asked : List ℕ) → 
 
 -- ---- what goes out
 
--- Calls, one after another, as far as one link goes. By each of them the service goes on by itself from some line on: from the one
--- that was there, or from what became of it when bytes were heard or written, or a stream began. So often the program ran, and the
--- writes of these outputs began over the link, the last one first.
-pub data OverLink (link : ℕ) (first : List Task) : ℕ → List ℕ → List Task → Type 0 where
-  none : OverLink link first 0 [] first
-  calls : {scans : ℕ} {asked : List ℕ} {before : List Task} → OverLink link first scans asked before → (runs : ℕ) (from : Line) (after : List Task) (lines : List Line)
-      → (led : IsLed (λ output. due_at output before + runs) from after lines link) → OverLink link first (scans + runs) (begun led.course ++ asked) after
+-- in how many of these an output's write is still to be made
+abbrev pub times_due : ℕ → List (List Task) → ℕ
+times_due output [] = 0
+times_due output (tasks ∷ scans) = due_at output tasks + times_due output scans
 
--- No more writes of an output begin than the program ran, and one more where one was still to be made at first.
-abbrev pub EachRunIsWrittenOnce : Type 0
-EachRunIsWrittenOnce = (link : ℕ) (first : List Task) (scans : ℕ) (asked : List ℕ) (after : List Task) → OverLink link first scans asked after
-    → (output : ℕ) → times_asked output asked + due_at output after ≤ due_at output first + scans
+-- Calls, one after another, as far as one link goes. By each of them the service goes on by itself from some line on: from the one
+-- that was there, or from what became of it when bytes were heard or written, or a stream began. Of each run of the program there is
+-- what was still to be written right after it, and the writes of these outputs began over the link, the last one first.
+pub data OverLink (link : ℕ) (first : List Task) : List (List Task) → List ℕ → List Task → Type 0 where
+  none : OverLink link first [] [] first
+  calls : {scans : List (List Task)} {asked : List ℕ} {before : List Task} → OverLink link first scans asked before → (runs : List (List Task)) (from : Line) (after : List Task) (lines : List Line)
+      → (led : IsLed (λ output. due_at output before + times_due output runs) from after lines link) → OverLink link first (runs ++ scans) (begun led.course ++ asked) after
+
+-- No more writes of an output begin than runs of the program after which one was still to be made, and one more where one was at
+-- first. So there are no more than the program ran, and that one.
+pub record EachRunIsWrittenOnce : Type 0 where
+  pub planned : (link : ℕ) (first : List Task) (scans : List (List Task)) (asked : List ℕ) (after : List Task) → OverLink link first scans asked after
+      → (output : ℕ) → times_asked output asked + due_at output after ≤ due_at output first + times_due output scans
+  pub ran : (output : ℕ) (scans : List (List Task)) → times_due output scans ≤ length scans

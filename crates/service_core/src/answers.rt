@@ -4,6 +4,8 @@ ghost use Rattle.service_parts.specs.declared.asked.Aim.TheVariants.{Output as O
 ghost use Rattle.service_parts.specs.Answering.{is_answer};
 ghost use Rattle.service.specs.declared.fate.Fate.TheVariants.{Told};
 ghost use Rattle.service_core.specs.declared.note.Loss.TheVariants.{Frame as frame, Silent as silent};
+ghost use Rattle.service_core.specs.declared.note.Unwritten.TheVariants.{Unanswered};
+ghost use Rattle.service_core.specs.declared.output.OutputState.TheVariants.{Unwritten as unwritten_for};
 ghost use Rattle.service_core.specs.declared.device.Device.{Device as DeviceValue};
 ghost use Rattle.service_core.specs.declared.refusals.Refusal.{Refusal as RefusalValue};
 ghost use Rattle.service_core.specs.Noting.{Refuses};
@@ -325,7 +327,8 @@ fn loss_by(outcome: &Outcome) -> Loss
 
 /// What became of an output whose write was answered so.
 fn state_by(outcome: &Outcome) -> OutputState
-    ensures { result ≡ state_by outcome.now }
+    ensures state { result ≡ state_by outcome.now }
+    ensures answered { result ≡ unwritten_for Unanswered → ⊥ }
 {
     match outcome {
         Outcome::Wrote => OutputState::Written,

@@ -1,7 +1,8 @@
 //! Connections to devices, and what comes over them.
 ghost use Rattle.std.specs.Prelude.{◌≡◌, ◌+◌, ◌<◌, ◌≤◌, ◌^◌, ◌↔◌, ℕ, IsTrue, None, Some, drop, length, max, set, slice_get, true};
 ghost use Rattle.service_parts.specs.declared.line.Line.{Line as LineValue};
-ghost use Rattle.service_parts.specs.Frames.{ComesUp, GoesDown, Sends};
+ghost use Rattle.service_parts.specs.Frames.{ComesUp, GoesDown, Sends, dialled};
+ghost use Rattle.service_parts.specs.Backing.{after};
 ghost use Rattle.service_parts.specs.Requests.{IsRightfulOn};
 ghost use Rattle.service_parts.specs.Waking.{IsToDial, IsToHangUp};
 ghost use Rattle.service_core.specs.declared.note.Loss.TheVariants.{Down as down, Frame as frame};
@@ -26,9 +27,13 @@ impl Service {
         self.lines.wants_dial(link, self.side.now)
     }
 
-    /// A dial began. It may take as long as a device may take to answer; then it is to be given up, and told as down.
+    /// A dial began. It may take as long as a device may take to answer; then it is to be given up, and told as down. A connection
+    /// that is up stays as it is.
     pub fn dial_began(&mut self, link: usize, now: u64)
         ensures links { self.new.lines.links ≡ self.old.lines.links }
+        ensures dials { (line : LineValue) → slice_get self.old.lines.lines.items link ≡ Some line
+            → slice_get self.new.lines.lines.items link ≡ Some (dialled (after (max self.old.side.now now) self.old.side.limits.timeout) line) }
+        ensures others { (other : ℕ) → (other ≡ link → ⊥) → slice_get self.new.lines.lines.items other ≡ slice_get self.old.lines.lines.items other }
         ensures lines { LinksGo self.old self.new }
         ensures core { self.new.cycle.core.value ≡ self.old.cycle.core.value }
         ensures held { self.new.held ≡ self.old.held }

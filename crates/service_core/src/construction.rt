@@ -1,5 +1,5 @@
 //! A service is made.
-ghost use Rattle.std.specs.Prelude.{◌≡◌, All, length, [], map, replicate, IfErr, IfOk, OnOk};
+ghost use Rattle.std.specs.Prelude.{◌≡◌, ◌<◌, ◌^◌, All, length, [], map, replicate, IfErr, IfOk, OnOk};
 ghost use Rattle.verifier.specs.Verified.{HasLinks};
 ghost use Rattle.gateway.specs.declared.event_core.fault.CoreFault.TheVariants.{Foreign};
 ghost use Rattle.gateway.specs.event_core.Core.{Gateway, gateway_of};
@@ -10,7 +10,7 @@ ghost use Rattle.service_core.specs.Cycle.{stage_of};
 ghost use Rattle.service_core.specs.Having.{HasNothing};
 ghost use Rattle.service_core.specs.Rounds.{IsRoundFor, IsUntold};
 ghost use Rattle.service_core.specs.Stages.{IsFirst};
-ghost use Rattle.service_core.specs.Timing.{Starts};
+ghost use Rattle.service_core.specs.Timing.{Starts, most_notes};
 
 use crate::device::Device;
 use crate::device_side::DeviceSide;
@@ -191,7 +191,10 @@ fn no_maps(alloc: Global, devices: &[SiteDevice]) -> Result<Vec<Option<Map>>, Al
     devices.iter().map(|_| None).collect(alloc)
 }
 
-fn most_notes(devices: usize, outputs: usize) -> usize {
+/// How many notes have room.
+fn most_notes(devices: usize, outputs: usize) -> usize
+    ensures { result < 2 ^ 63 → result ≡ most_notes devices outputs }
+{
     devices
         .saturating_add(outputs)
         .saturating_mul(4)

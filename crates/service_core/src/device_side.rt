@@ -1,15 +1,17 @@
 //! The devices' side of a service, apart from its core and its connections: devices, outputs, and the times of scans.
 ghost use Rattle.std.specs.Prelude.{◌≡◌, ◌≤◌, ◌<◌, ℕ, Bool, Option, Some, true, length, max, slice_get, nat_le};
 ghost use Rattle.service_core.specs.declared.device.Device.{Device as DeviceValue};
+ghost use Rattle.service_parts.specs.Backing.{after};
 ghost use Rattle.service_core.specs.Counting.{asked_once_more, counts_at};
 ghost use Rattle.service_core.specs.Noting.{Finds, HearsFrom, Loses, Refuses};
 ghost use Rattle.service_core.specs.Telling.{told_at};
 ghost use Rattle.service_core.specs.declared.output.OutputState.{OutputState as StateValue};
+ghost use Rattle.service_core.specs.declared.note.Unwritten.TheVariants.{Unanswered};
 ghost use Rattle.service_core.specs.declared.output.OutputState.TheVariants.{Unwritten as unwritten_for};
 ghost use Rattle.service_core.specs.Losing.{IsLost};
-ghost use Rattle.service_core.specs.Told.{Allowed, BecomesBy, Goes, IsThis, IsUnanswered, LosesBy, allows, lost_then, note_of, state_then};
-ghost use Rattle.service_core.specs.Having.{IsOfPlan, IsUnplanned};
-ghost use Rattle.service_core.specs.Timing.{CountsScan, KeepsTime, PlansScan, not_over, planned_from, scan_after};
+ghost use Rattle.service_core.specs.Told.{Allowed, BecomesBy, Goes, IsSo, IsThis, IsUnanswered, LosesBy, PlansBy, allows, awaited_then, awaits_at, lost_then, note_of, state_then};
+ghost use Rattle.service_core.specs.Having.{IsOfPlan, IsToWait, IsToWrite, IsUnplanned};
+ghost use Rattle.service_core.specs.Timing.{CountsScan, KeepsCounts, KeepsTime, PlansScan, not_over, planned_from, scan_after};
 
 use crate::device::Device;
 use crate::link_pace::LinkPace;
@@ -53,7 +55,9 @@ impl DeviceSide {
     }
 
     /// Until when a dial that begins now may take: as long as a device may take to answer.
-    pub(crate) fn dial_until(&self) -> u64 {
+    pub(crate) fn dial_until(&self) -> u64
+        ensures { result ≡ after self.entry.now.now self.entry.now.limits.timeout }
+    {
         self.now.saturating_add(self.limits.timeout)
     }
 
@@ -118,6 +122,8 @@ impl DeviceSide {
         requires allowed { (may : Allowed) → allows may note ≡ true }
         requires device { (device : ℕ) (was : Bool) → lost_then note device was ≡ was }
         requires output { (output : ℕ) (was : Option StateValue) → state_then note output was ≡ was }
+        requires awaited { (output : ℕ) (was : Bool) → awaited_then note output was ≡ was }
+        requires so { IsSo note self.old }
         ensures time { KeepsTime self.old self.new }
         ensures stands { Goes self.old self.new }
     {
@@ -303,7 +309,7 @@ impl DeviceSide {
     /// The program ran, and this is planned for each output.
     pub(crate) fn count_scan(&mut self, core: &Core<DEPTH>, round: &Round)
         ensures time { CountsScan self.old self.new }
-        ensures stands { BecomesBy (IsUnplanned core.now) self.old self.new }
+        ensures stands { PlansBy (IsUnplanned core.now) (IsToWrite core.now) self.old self.new }
     {
         self.count();
         for output in 0..core.site().outs().len() {
@@ -322,7 +328,7 @@ impl DeviceSide {
     /// An output's write is waited for from now on, where one is to be made; where there is no set point for it, it isn't written.
     fn plan_output(&mut self, output: usize, plan: &Result<Write, NoWrite>, is_open: bool)
         ensures time { KeepsTime self.old self.new }
-        ensures stands { BecomesBy (IsOfPlan output plan.now) self.old self.new }
+        ensures stands { PlansBy (IsOfPlan output plan.now) (IsToWait output plan.now) self.old self.new }
     {
         match plan {
             Ok(_) => self.await_write(output, is_open),
@@ -332,7 +338,7 @@ impl DeviceSide {
 
     fn await_write(&mut self, output: usize, is_open: bool)
         ensures time { KeepsTime self.old self.new }
-        ensures stands { Goes self.old self.new }
+        ensures stands { PlansBy (λ which became. ⊥) (λ which. which ≡ output) self.old self.new }
     {
         if let Some(found) = self.outputs.get_mut(output) {
             found.wait(is_open);
@@ -341,8 +347,10 @@ impl DeviceSide {
 
     /// This became of an output; it is told where it is new.
     pub(crate) fn settle_output(&mut self, output: usize, state: OutputState)
+        requires waited { state ≡ unwritten_for Unanswered → awaits_at self.old output ≡ true }
         ensures state { output < length self.old.outputs.items → told_at self.new.outputs.items output ≡ Some state }
         ensures time { KeepsTime self.old self.new }
+        ensures counts { KeepsCounts self.old self.new }
         ensures stands { BecomesBy (IsThis output state) self.old self.new }
     {
         if let Some(found) = self.outputs.get_mut(output) {
@@ -354,7 +362,9 @@ impl DeviceSide {
 
     /// An output isn't written, for this; it is told where it is new.
     fn leave_unwritten(&mut self, output: usize, cause: Unwritten)
+        requires waited { cause ≡ Unanswered → awaits_at self.old output ≡ true }
         ensures time { KeepsTime self.old self.new }
+        ensures counts { KeepsCounts self.old self.new }
         ensures stands { BecomesBy (IsThis output (unwritten_for cause)) self.old self.new }
     {
         self.settle_output(output, OutputState::Unwritten(cause));
@@ -385,6 +395,8 @@ impl DeviceSide {
 
     /// What the last scan planned is over: what was to be written and isn't any more wasn't done.
     pub(crate) fn finish(&mut self, report: Report, round: &Round)
+        requires writes { report.writes ≡ self.old.writes }
+        requires refused { report.refused ≡ self.old.refused }
         ensures time { KeepsTime self.old self.new }
         ensures stands { BecomesBy IsUnanswered self.old self.new }
     {
@@ -399,7 +411,9 @@ impl DeviceSide {
 
     /// Nothing came of an output's write.
     fn leave_unanswered(&mut self, output: usize)
+        requires waited { awaits_at self.old output ≡ true }
         ensures time { KeepsTime self.old self.new }
+        ensures counts { KeepsCounts self.old self.new }
         ensures stands { BecomesBy IsUnanswered self.old self.new }
     {
         self.leave_unwritten(output, Unwritten::Unanswered);
@@ -408,12 +422,15 @@ impl DeviceSide {
     #[tactic(auto, using(crate::proofs::ByNotes::same_goes))]
     fn end_writing(&mut self)
         ensures time { KeepsTime self.old self.new }
+        ensures counts { KeepsCounts self.old self.new }
         ensures stands { Goes self.old self.new }
     {
         self.is_writing = false;
     }
 
-    fn is_awaited(&self, output: usize) -> bool {
+    fn is_awaited(&self, output: usize) -> bool
+        ensures { result ≡ awaits_at self.entry.now output }
+    {
         match self.outputs.get(output) {
             Some(found) => found.is_awaited,
             None => false,

@@ -1,5 +1,5 @@
 //! What was told of an output.
-ghost use Rattle.std.specs.Prelude.{◌≡◌, Some, false};
+ghost use Rattle.std.specs.Prelude.{◌≡◌, ◌||◌, Some, false};
 
 use crate::note::Unwritten;
 
@@ -37,7 +37,7 @@ impl Output {
 
     /// Its write is waited for, where it is still to be made.
     pub fn wait(&mut self, is_open: bool)
-        ensures { self.new ≡ record self.old { is_awaited = self.new.is_awaited } }
+        ensures { self.new ≡ record self.old { is_awaited = self.old.is_awaited || is_open } }
     {
         self.is_awaited = self.is_awaited || is_open;
     }

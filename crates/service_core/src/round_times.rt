@@ -1,14 +1,14 @@
 //! Scans, by the time.
 ghost use Rattle.std.specs.Prelude.{◌≡◌, All, false, map, max, nat_le};
 ghost use Rattle.service_core.specs.Losing.{LostByWait};
-ghost use Rattle.service_core.specs.Told.{BecomesBy, Goes};
+ghost use Rattle.service_core.specs.Told.{Goes, PlansBy};
 ghost use Rattle.service_core.specs.Cycle.{LeadsOn, stage_of};
 ghost use Rattle.service_parts.specs.Places.{closed_if_idle};
 ghost use Rattle.service_core.specs.Timing.{RunsNow, ScansNow, Ticks};
 ghost use Rattle.service_core.specs.Rounds.{IsRecent};
 ghost use Rattle.service_core.specs.Stages.{RunsIf, RunsOnce, Scans};
-ghost use Rattle.service_core.specs.Going.{LinksGo, LinksGoByScan, LinksGoIf};
-ghost use Rattle.service_core.specs.Having.{HasNoMore, IsUnplanned, TellsAt, TellsHad, WritesAt, WritesHad};
+ghost use Rattle.service_core.specs.Going.{LinksGo, LinksGoByScan};
+ghost use Rattle.service_core.specs.Having.{HasNoMore, IsToWrite, IsUnplanned, TellsAt, TellsHad, WritesAt, WritesHad};
 ghost use Rattle.service_core.specs.Staying.{Stays};
 
 use crate::service_state::Service;
@@ -20,8 +20,9 @@ impl Service {
     #[tactic(auto, using(crate::proofs::Timing::ticks_ran, crate::proofs::Timing::ticks_rested, crate::proofs::Courses::rests_where))]
     pub fn tick(&mut self, now: u64)
         ensures links { self.new.lines.links ≡ self.old.lines.links }
-        ensures lines { LinksGoIf (nat_le self.old.side.next_scan (max self.old.side.now now)) self.old self.new }
-        ensures goes { RunsIf (nat_le self.old.side.next_scan (max self.old.side.now now)) (λ scanned. TellsAt (LostByWait self.old.lines.links.stations.items self.old.lines.lines.items (max self.old.side.now now)) scanned.core self.old.held self.old.side self.new.side)
+        ensures lines { nat_le self.old.side.next_scan (max self.old.side.now now) ≡ false → LinksGo self.old self.new }
+        ensures goes { RunsIf (nat_le self.old.side.next_scan (max self.old.side.now now))
+            (λ scanned. TellsAt (LostByWait self.old.lines.links.stations.items self.old.lines.lines.items (max self.old.side.now now)) scanned.core self.old.held self.old.side self.new.side × LinksGoByScan scanned.round.writes self.old self.new)
             (max self.old.side.now now) (stage_of self.old.cycle) (stage_of self.new.cycle) }
         ensures held { HasNoMore self.old.held self.new.held }
         ensures places { self.new.places.items ≡ map (closed_if_idle (max self.old.side.now now) self.old.side.limits.idle) self.old.places.items }
@@ -68,7 +69,10 @@ impl Service {
     }
 
     /// What the last scan did.
-    fn report(&self) -> Report {
+    fn report(&self) -> Report
+        ensures writes { result.writes ≡ self.entry.now.side.writes }
+        ensures refused { result.refused ≡ self.entry.now.side.refused }
+    {
         Report {
             steps: self.cycle.core().steps(),
             writes: self.side.writes,
@@ -80,8 +84,7 @@ impl Service {
     /// Runs the program, whatever was read, and goes on. A block that was told too many scans ago isn't known any more.
     fn scan(&mut self)
         ensures links { self.new.lines.links ≡ self.old.lines.links }
-        ensures lines { LinksGoByScan self.old self.new }
-        ensures runs { RunsOnce (λ scanned. WritesAt scanned.core self.old.held self.old.side self.new.side) self.old.side.now (stage_of self.old.cycle) (stage_of self.new.cycle) }
+        ensures runs { RunsOnce (λ scanned. WritesAt scanned.core self.old.held self.old.side self.new.side × LinksGoByScan scanned.round.writes self.old self.new) self.old.side.now (stage_of self.old.cycle) (stage_of self.new.cycle) }
         ensures held { HasNoMore self.old.held self.new.held }
         ensures places { self.new.places.items ≡ self.old.places.items }
         ensures time { ScansNow self.old self.new }
@@ -112,12 +115,12 @@ impl Service {
     fn run(&mut self)
         requires recent { All IsRecent self.old.cycle.round.told }
         ensures links { self.new.lines.links ≡ self.old.lines.links }
-        ensures lines { LinksGoByScan self.old self.new }
+        ensures lines { LinksGoByScan self.new.cycle.round.writes self.old self.new }
         ensures scans { Scans self.old.side.now (stage_of self.old.cycle) (stage_of self.new.cycle) }
         ensures held { HasNoMore self.old.held self.new.held }
         ensures places { self.new.places.items ≡ self.old.places.items }
         ensures time { RunsNow self.old self.new }
-        ensures stands { BecomesBy (IsUnplanned self.new.cycle.core.value) self.old.side self.new.side }
+        ensures stands { PlansBy (IsUnplanned self.new.cycle.core.value) (IsToWrite self.new.cycle.core.value) self.old.side self.new.side }
     {
         self.cycle.scan(self.side.now);
         self.side.count_scan(self.cycle.core(), self.cycle.round());

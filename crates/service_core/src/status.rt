@@ -38,6 +38,7 @@ impl Service {
     /// What happened, the oldest first, each once.
     pub fn next_note(&mut self) -> Option<Note>
         ensures oldest { TakesOldest self.old.side.notes.items.items result self.new.side.notes.items.items }
+        ensures room { self.new.side.notes.items.cap ≡ self.old.side.notes.items.cap }
         ensures same { self.new ≡ record self.old { side = record self.old.side { notes = self.new.side.notes } } }
     {
         self.side.notes.next()

@@ -3,6 +3,8 @@ ghost use Rattle.std.specs.Prelude.{◌≡◌, ◌<◌, ◌+◌, ℕ, All, List,
 ghost use Rattle.site_model.specs.declared.device.SiteDevice.{SiteDevice as DeviceValue};
 ghost use Rattle.modbus_frame.specs.Message.{HasQuantity, IsRequest};
 ghost use Rattle.gateway.specs.declared.poller.cycle.Call.{Call as CallValue};
+ghost use Rattle.site_model.specs.declared.want.Want.{Want as WantValue};
+ghost use Rattle.gateway.specs.poller.Cycle.{read_of};
 ghost use Rattle.gateway.specs.event_core.Control.{after_wait};
 ghost use Rattle.gateway.specs.event_core.Restoring.{NothingSets, SetsAlone};
 ghost use Rattle.gateway.specs.event_core.SiteRun.{with_block};
@@ -83,7 +85,7 @@ impl ScanCycle {
             return;
         };
         if want.device == device {
-            self.lose_want(i, want, false);
+            self.lose_want(i, want);
         }
     }
 
@@ -97,14 +99,25 @@ impl ScanCycle {
         }
     }
 
-    /// The block of a want is lost: for the next plan of its device, or not.
-    fn lose_want(&mut self, i: usize, want: Want, is_new: bool)
+    /// The block of a want is lost: not for the next plan of its device.
+    fn lose_want(&mut self, i: usize, want: Want)
         requires wanted { slice_get self.old.core.value.site.wants i ≡ Some want }
         ensures lost { self.new.core.value ≡ with_blocks (with_block self.old.core.value.site.wants want None self.old.core.value.standing.blocks) self.old.core.value }
-        ensures round { self.new.round ≡ record self.old.round { told = told_at i is_new self.old.round.told } }
+        ensures round { self.new.round ≡ record self.old.round { told = told_at i false self.old.round.told } }
         ensures goes { LeadsOn self.old self.new }
     {
-        self.round.tell(i, is_new);
+        self.round.tell(i, false);
+        tell(&mut self.core, Event::Lost(want));
+    }
+
+    /// There is no request for the block of a want: it is lost, for the next plan of its device.
+    fn lack_want(&mut self, i: usize, want: Want)
+        requires wanted { slice_get self.old.core.value.site.wants i ≡ Some want }
+        requires none { read_of self.old.core.value.site self.old.core.value.maps want ≡ None }
+        ensures round { self.new.round ≡ record self.old.round { told = told_at i true self.old.round.told } }
+        ensures goes { LeadsOn self.old self.new }
+    {
+        self.round.tell(i, true);
         tell(&mut self.core, Event::Lost(want));
     }
 
@@ -131,7 +144,7 @@ impl ScanCycle {
             return;
         }
         if let Some(want) = self.want_at(i) {
-            self.lose_want(i, want, false);
+            self.lose_want(i, want);
         }
     }
 
@@ -224,6 +237,7 @@ impl ScanCycle {
     /// The request for the wanted block of this number, where it is one of the device.
     #[tactic(auto, using(service_parts::proofs::Rightful::of_round))]
     fn read_of(&self, device: usize, i: usize) -> Option<Wish>
+        ensures none { result ≡ None → (want : WantValue) → slice_get self.entry.now.core.value.site.wants i ≡ Some want → want.device ≡ device → read_of self.entry.now.core.value.site self.entry.now.core.value.maps want ≡ None }
         ensures asked { IfSome result (λ wish. IsOfRound self.now.core.value wish.aim device wish.request) }
         ensures quantity { IfSome result (λ wish. HasQuantity wish.request) }
         ensures reads { IfSome result (λ wish. outputs_of wish.aim ≡ []) }
@@ -241,12 +255,13 @@ impl ScanCycle {
 
     /// There is no request for the wanted block of this number: it is lost.
     fn lack(&mut self, i: usize)
+        requires none { (want : WantValue) → slice_get self.old.core.value.site.wants i ≡ Some want → read_of self.old.core.value.site self.old.core.value.maps want ≡ None }
         ensures goes { LeadsOn self.old self.new }
         ensures writes { self.new.round.writes ≡ self.old.round.writes }
         ensures at { self.new.round.at ≡ self.old.round.at }
     {
         if let Some(want) = self.want_at(i) {
-            self.lose_want(i, want, true);
+            self.lack_want(i, want);
         }
     }
 

@@ -1,5 +1,5 @@
 -- Steps of what goes out over a connection.
-use Rattle.std.proofs.Common.{◌≡◌, ◌≢◌, ◌⊎◌, inl, inr, ℕ, zero, suc, eqb, Bool, true, false, List, [], ◌∷◌, ◌++◌, take, drop, length, Option, None, Some, slice_get, set, refl, sym, ap, subst, ◌∙◌, append_assoc, arith, ◌+◌, ◌≤◌}
+use Rattle.std.proofs.Common.{◌≡◌, ◌≢◌, ◌⊎◌, inl, inr, ℕ, zero, suc, eqb, Bool, true, false, List, [], ◌∷◌, ◌++◌, take, drop, length, Option, None, Some, slice_get, set, refl, sym, ap, subst, ◌∙◌, append_assoc, arith, ◌+◌, ◌≤◌, if◌then◌else◌}
 use Rattle.std.specs.Prelude.{IsTrue, is_none, not, min, ◌&&◌, ◌==◌}
 use Rattle.std.specs.List.{flat_map}
 use Rattle.std.proofs.Math.Logic.{∥∥₁_elim, ∥∥₁_prop}
@@ -8,20 +8,24 @@ use Rattle.std.proofs.lemmas.Bool.Decides.{eqb_tells}
 use Rattle.std.proofs.lemmas.List.{append-nil, take-append-drop}
 use Rattle.modbus_frame.specs.Frame.{frame_bytes}
 use Rattle.gateway.specs.poller.LinkRun.{Asked as Request, frame_of, next_id}
+use Rattle.service.specs.declared.fate.Fate.{Fate}
 use Rattle.service_parts.specs.declared.line.Line.{Line}
 use Rattle.service.specs.declared.task.Task.{Task}
 use Rattle.service_parts.specs.declared.asked.Aim.{Aim}
 use Rattle.service_parts.specs.declared.asked.Asked.{Asked}
-use Rattle.service_parts.specs.Frames.{AreNumbered, Begins, CourseBy, FramesGoOutWhole, GivesUp, HearingStep, IsLed, IsSending, Keeps, LinesGo, LinkGoes, OthersGo, OwnStep, Sends, TakesDue, begins, begun, begun_by, due_at, gives_up, keeps, stays, goes, times_asked}
+use Rattle.service_parts.specs.Frames.{AnsweredLinesHaveNoBackOff, AreNumbered, Begins, CourseBy, FramesGoOutWhole, GivesUp, GoesDown, HearingStep, IsLed, IsSending, IsUnwaited, Keeps, LinesGo, LinkGoes, OthersGo, OwnStep, Sends, StaysLinked, TakesDue, begins, begun, begun_by, dialled, dials, due_at, gives_up, goes, is_idle, keeps, stays, times_asked}
+use Rattle.service_parts.specs.Answering.{answers}
+use Rattle.service_parts.specs.Backing.{longer}
+use Rattle.service_parts.specs.declared.limits.Limits.{Limits}
 
-pub keeps_by : (old new : Line) → new.asked ≡ old.asked → new.inquiry ≡ old.inquiry → new.id ≡ old.id → new.out.items ≡ old.out.items → (old.is_bad ≡ true → new.is_bad ≡ true) → new.is_up ≡ old.is_up → new.dial_at ≡ old.dial_at → new.wait ≡ old.wait → Keeps old new
-keeps_by old new asked heard next same bad up dial wait = record {
+pub keeps_by : (old new : Line) → new.asked ≡ old.asked → new.inquiry ≡ old.inquiry → new.id ≡ old.id → new.out.items ≡ old.out.items → (old.is_bad ≡ true → new.is_bad ≡ true) → new.is_up ≡ old.is_up → new.is_heard ≡ old.is_heard → new.dial_until ≡ old.dial_until → new.dial_at ≡ old.dial_at → new.wait ≡ old.wait → Keeps old new
+keeps_by old new asked heard next same bad up answered until dial wait = record {
   still = asked;
   heard = heard;
   next = next;
   same = same;
   bad = bad;
-  linked = record { up = up; dial = dial; wait = wait };
+  linked = record { up = up; answered = answered; until = until; dial = dial; wait = wait };
 }
 
 -- ---- a place of a list
@@ -40,6 +44,14 @@ set_other (y ∷ xs) zero zero v other = absurd (other refl)
 set_other (y ∷ xs) zero (suc k) v other = refl
 set_other (y ∷ xs) (suc i) zero v other = refl
 set_other (y ∷ xs) (suc i) (suc k) v other = set_other xs i k v (λ e. other (ap suc e))
+
+same_at : (lines : List Line) (at : ℕ) (old : Line) → slice_get lines at ≡ Some old → set lines at old ≡ lines
+same_at [] at old is = refl
+same_at (x ∷ lines) zero old is = ap (λ (y : Line). y ∷ lines) (some_same refl (sym is))
+same_at (x ∷ lines) (suc at) old is = ap (λ (l : List Line). x ∷ l) (same_at lines at old is)
+
+pub unchanged : (lines : List Line) (at : ℕ) (old new : Line) → slice_get lines at ≡ Some old → new ≡ old → set lines at new ≡ lines
+unchanged lines at old new is same = ap (set lines at) same ∙ same_at lines at old is
 
 -- ---- how often a number stands in a list
 
@@ -94,6 +106,42 @@ own_goes lines at old new is step before after takes link = go (eqb_tells link a
 pub keeps_goes : (lines : List Line) (at : ℕ) (old new : Line) → slice_get lines at ≡ Some old → Keeps old new → LinesGo lines (set lines at new)
 keeps_goes lines at old new is step link tasks = own_goes lines at old new is (keeps step) tasks tasks (λ output. omega arith) link
 
+-- a dial changes nothing else
+module _ {X : Type 0} (f : Line → X) where
+  still_by : (until : ℕ) (line : Line) → f (record line { dial_until = Some until }) ≡ f line → f (dialled until line) ≡ f line
+  still_by until line same = go line.is_up
+    where
+      go : (b : Bool) → f (if b then line else record line { dial_until = Some until }) ≡ f line
+      go true = refl
+      go false = same
+
+pub still_asked : (until : ℕ) (line : Line) → (dialled until line).asked ≡ line.asked
+still_asked until line = still_by (λ (l : Line). l.asked) until line refl
+
+pub still_inquiry : (until : ℕ) (line : Line) → (dialled until line).inquiry ≡ line.inquiry
+still_inquiry until line = still_by (λ (l : Line). l.inquiry) until line refl
+
+pub still_out : (until : ℕ) (line : Line) → (dialled until line).out.items ≡ line.out.items
+still_out until line = still_by (λ (l : Line). l.out.items) until line refl
+
+still_dialled : (until : ℕ) (line : Line) (b : Bool) → line.is_up ≡ b → (if b then line else record line { dial_until = Some until }) ≡ dialled until line
+still_dialled until line b is = ap (λ (x : Bool). if x then line else record line { dial_until = Some until }) (sym is)
+
+-- a dial begins where it is down, else nothing happens
+pub dialled_goes : (lines : List Line) (at : ℕ) (old new : Line) (until : ℕ) → slice_get lines at ≡ Some old → new ≡ dialled until old → LinesGo lines (set lines at new)
+dialled_goes lines at old new until is dialled_so = go old.is_up refl
+  where
+    go : (b : Bool) → old.is_up ≡ b → LinesGo lines (set lines at new)
+    go true up link tasks =
+        let same : new ≡ old = dialled_so ∙ sym (still_dialled until old true up) in
+        still_goes tasks tasks lines (set lines at new) link (ap (λ (l : List Line). slice_get l link) (unchanged lines at old new is same)) (λ output. omega arith)
+    go false down link tasks =
+        own_goes lines at old new is (dials (record { down = down; until = until; same = dialled_so ∙ sym (still_dialled until old false down) })) tasks tasks (λ output. omega arith) link
+
+-- what stands there then
+pub dialled_there : (lines : List Line) (at : ℕ) (old new : Line) (until : ℕ) → slice_get lines at ≡ Some old → new ≡ dialled until old → (line : Line) → slice_get lines at ≡ Some line → slice_get (set lines at new) at ≡ Some (dialled until line)
+dialled_there lines at old new until is dialled_so line there = set_there lines at old new is ∙ ap Some (dialled_so ∙ ap (dialled until) (some_same is there))
+
 pub given_up_goes : (lines : List Line) (at : ℕ) (old new : Line) → slice_get lines at ≡ Some old → GivesUp old new → LinesGo lines (set lines at new)
 given_up_goes lines at old new is step link tasks = own_goes lines at old new is (gives_up step) tasks tasks (λ output. omega arith) link
 
@@ -119,6 +167,7 @@ one_step requests gone old new (inl (begins step)) sending =
     (step.request ∷ [], ap (λ l. gone ++ l) step.frame ∙ (ap (λ l. l ++ frame_bytes (frame_of step.request)) all ∙ sym (joined requests step.request)), (step.numbered, step.next))
 one_step requests gone old new (inl (gives_up step)) sending = same_out requests gone old new step.same step.next sending
 one_step requests gone old new (inl (keeps step)) sending = same_out requests gone old new step.same step.next sending
+one_step requests gone old new (inl (dials step)) sending = same_out requests gone old new (ap (λ (l : Line). l.out.items) step.same) (ap (λ (l : Line). l.id) step.same) sending
 one_step requests gone old new (inr (bytes, left, fate, step)) sending = same_out requests gone old new step.same step.next sending
 
 and_more : (requests more others : List Request) (gone : List ℕ) (new : Line) → IsSending ((requests ++ more) ++ others) gone new → IsSending (requests ++ (more ++ others)) gone new
@@ -158,14 +207,6 @@ pub step_at : (Step : Line → Line → Type 0) (lines : List Line) (at : ℕ) (
     → (now : Line) × (slice_get (set lines at new) at ≡ Some now) × Step line now
 step_at Step lines at old new is step line there = (new, set_there lines at old new is, subst (λ (x : Line). Step x new) (some_same is there) step)
 
-same_at : (lines : List Line) (at : ℕ) (old : Line) → slice_get lines at ≡ Some old → set lines at old ≡ lines
-same_at [] at old is = refl
-same_at (x ∷ lines) zero old is = ap (λ (y : Line). y ∷ lines) (some_same refl (sym is))
-same_at (x ∷ lines) (suc at) old is = ap (λ (l : List Line). x ∷ l) (same_at lines at old is)
-
-pub unchanged : (lines : List Line) (at : ℕ) (old new : Line) → slice_get lines at ≡ Some old → new ≡ old → set lines at new ≡ lines
-unchanged lines at old new is same = ap (set lines at) same ∙ same_at lines at old is
-
 -- a request that may not begin takes nothing of what is due
 pub not_begun : (made_for : Aim) (before after : List Task) (lines : List Line) → TakesDue made_for before after → (link : ℕ) → LinkGoes link before lines after lines
 not_begun made_for before after lines takes link = still_goes before after lines lines link refl (λ output. omega (arith, takes.each output))
@@ -195,3 +236,50 @@ none_waits bytes is = nil_of bytes (eqb-true (length bytes) 0 is)
     nil_of : (l : List ℕ) → length l ≡ 0 → l ≡ []
     nil_of [] none = refl
     nil_of (byte ∷ l) none = absurd (omega (arith, none))
+
+-- ---- its back-off
+
+truth : {a b : Bool} → a ≡ b → b ≡ false → a ≡ true → {X : Type 0} → X
+truth same none yes_ = absurd (cc)
+
+unwaited_linked : (old new : Line) → StaysLinked old new → IsUnwaited old → IsUnwaited new
+unwaited_linked old new linked before = record { over = λ up answered. linked.wait ∙ before.over (sym linked.up ∙ up) (sym linked.answered ∙ answered) }
+
+unwaited_heard : (old new : Line) (fate : Option Fate) → new.is_up ≡ old.is_up → new.is_heard ≡ (if answers fate then true else old.is_heard) → new.wait ≡ (if answers fate then 0 else old.wait) → IsUnwaited old → IsUnwaited new
+unwaited_heard old new fate up answered wait before = go (answers fate) answered wait
+  where
+    go : (b : Bool) → new.is_heard ≡ (if b then true else old.is_heard) → new.wait ≡ (if b then 0 else old.wait) → IsUnwaited new
+    go true heard over = record { over = λ is_up is_heard. over }
+    go false heard over = record { over = λ is_up is_heard. over ∙ before.over (sym up ∙ is_up) (sym heard ∙ is_heard) }
+
+unwaited_step : (old new : Line) → HearingStep old new → IsUnwaited old → IsUnwaited new
+unwaited_step old new (inl (begins step)) before = unwaited_linked old new step.linked before
+unwaited_step old new (inl (gives_up step)) before = unwaited_linked old new step.linked before
+unwaited_step old new (inl (keeps step)) before = unwaited_linked old new step.linked before
+unwaited_step old new (inl (dials step)) before = subst IsUnwaited (sym step.same) (record { over = before.over })
+unwaited_step old new (inr (bytes, left, fate, step)) before = unwaited_heard old new fate step.up step.answered step.wait before
+
+unwaited_course : (old new : Line) → CourseBy HearingStep old new → IsUnwaited old → IsUnwaited new
+unwaited_course old new (stays line) before = before
+unwaited_course old new (goes {middle = middle} course line step) before = unwaited_step middle new step (unwaited_course old middle course before)
+
+idle_parts : (up bad : Bool) (asked : Option Asked) (answered : Bool) → (up && not bad && is_none asked && answered) ≡ true → (up ≡ true) × (answered ≡ true)
+idle_parts true false None true is = (refl, refl)
+idle_parts true false None false is = absurd (cc)
+idle_parts true false (Some asked) answered is = absurd (cc)
+idle_parts true true asked answered is = absurd (cc)
+idle_parts false bad asked answered is = absurd (cc)
+
+at_once : (now : ℕ) (limits : Limits) (old new : Line) → GoesDown now limits old new → IsUnwaited old → is_idle old ≡ true → new.wait ≡ 0
+at_once now limits old new down before is =
+    let parts = idle_parts old.is_up old.is_bad old.asked old.is_heard is in
+    down.wait ∙ (ap (λ (b : Bool). if b then old.wait else longer old.wait (min limits.period 1000) limits.back_off_most) is ∙ before.over parts.0 parts.1)
+
+pub answered_lines_have_no_back_off : AnsweredLinesHaveNoBackOff
+answered_lines_have_no_back_off = record {
+  own = unwaited_course;
+  goes_out = λ n old new sends before. subst IsUnwaited (sym sends.same) (record { over = before.over });
+  comes_up = λ old new step. record { over = λ up answered. truth step.answered refl answered };
+  goes_down = λ now limits old new step. record { over = λ up answered. truth step.down refl up };
+  at_once = at_once;
+}

@@ -31,10 +31,10 @@ use Rattle.service_parts.specs.declared.asked.Asked.{Asked}
 use Rattle.service_parts.specs.Calls.{IsCallFor}
 use Rattle.service_parts.specs.Course.{Goes, GoesBy, GoesOn, IsOfClients, IsOfRounds, LeadsOnBy, Reached, stays, steps, learns}
 use Rattle.service_parts.specs.Course as course
-use Rattle.service_parts.specs.Frames.{Begins, GivesUp, Hears, IsCut, Keeps, Sends, TakesWhere, left_under_way}
+use Rattle.service_parts.specs.Frames.{Begins, GivesUp, Hears, IsCut, Keeps, Sends, TakesWhere, dialled, left_under_way}
 use Rattle.service_parts.specs.Requests.{AreRightful, AreRightfulBy, IsFoundOn, IsMade, IsNoted, IsNotedIf, IsOfRound, IsRightful, IsRightfulLine, IsRightfulOn, MayBeAsked, MayGoOver, words_of}
 use Rattle.service_parts.specs.Seeking.{IsSought}
-use Rattle.service_parts.proofs.Frames.{set_other, set_there, unchanged}
+use Rattle.service_parts.proofs.Frames.{set_other, set_there, still_asked, still_inquiry, still_out, unchanged}
 
 -- ---- whatever kinds there are
 
@@ -113,10 +113,10 @@ module _ (now : Gateway) (stations : List Station) (found_on : List (Option ℕ)
     noted = subst (λ o. IsNotedIf now stations found_on link number o line) (sym cut.none) tt;
   }
 
-  kept_line : (old new : Line) → Keeps old new → IsRightfulLine now stations found_on link number old → IsRightfulLine now stations found_on link number new
-  kept_line old new keeps right = record {
-    waits = subst (λ l. IsRightful now stations found_on link number l) (sym keeps.same) right.waits;
-    noted = subst (λ o. IsNotedIf now stations found_on link number o new) (sym keeps.still) (go old.asked right.noted);
+  kept_line : (old new : Line) → new.asked ≡ old.asked → new.inquiry ≡ old.inquiry → new.out.items ≡ old.out.items → IsRightfulLine now stations found_on link number old → IsRightfulLine now stations found_on link number new
+  kept_line old new still heard same right = record {
+    waits = subst (λ l. IsRightful now stations found_on link number l) (sym same) right.waits;
+    noted = subst (λ o. IsNotedIf now stations found_on link number o new) (sym still) (go old.asked right.noted);
   }
     where
       go : (o : Option Asked) → IsNotedIf now stations found_on link number o old → IsNotedIf now stations found_on link number o new
@@ -124,12 +124,12 @@ module _ (now : Gateway) (stations : List Station) (found_on : List (Option ℕ)
       go (Some asked) noted = record {
         over = noted.over;
         wait = noted.wait;
-        waits = ap (λ (h : Pending). h.wait) keeps.heard ∙ noted.waits;
+        waits = ap (λ (h : Pending). h.wait) heard ∙ noted.waits;
         made = noted.made;
         address = noted.address;
         words = noted.words;
         gone = noted.gone;
-        whole = ap (λ l. noted.gone ++ l) keeps.same ∙ noted.whole;
+        whole = ap (λ l. noted.gone ++ l) same ∙ noted.whole;
       }
 
   given_up_line : (old new : Line) → GivesUp old new → IsRightfulLine now stations found_on link number old → IsRightfulLine now stations found_on link number new
@@ -232,7 +232,11 @@ module _ (now : Gateway) (stations : List Station) (numbers : List ℕ) (found_o
   with_step link old new before at step = with_line link new before (λ number has. ∥∥₁_elim (before link number old has at) ∥∥₁_prop (λ right. ∣ step number right ∣₁))
 
   pub with_kept : (link : ℕ) (old new : Line) → AreRightful now stations numbers found_on lines → slice_get lines link ≡ Some old → Keeps old new → AreRightful now stations numbers found_on (set lines link new)
-  with_kept link old new before at keeps = with_step link old new before at (λ number right. kept_line now stations found_on link number old new keeps right)
+  with_kept link old new before at keeps = with_step link old new before at (λ number right. kept_line now stations found_on link number old new keeps.still keeps.heard keeps.same right)
+
+  pub with_dialled : (link until : ℕ) (old new : Line) → AreRightful now stations numbers found_on lines → slice_get lines link ≡ Some old → new ≡ dialled until old → AreRightful now stations numbers found_on (set lines link new)
+  with_dialled link until old new before at is = with_step link old new before at (λ number right.
+      kept_line now stations found_on link number old new (ap (λ (l : Line). l.asked) is ∙ still_asked until old) (ap (λ (l : Line). l.inquiry) is ∙ still_inquiry until old) (ap (λ (l : Line). l.out.items) is ∙ still_out until old) right)
 
   pub with_given_up : (link : ℕ) (old new : Line) → AreRightful now stations numbers found_on lines → slice_get lines link ≡ Some old → GivesUp old new → AreRightful now stations numbers found_on (set lines link new)
   with_given_up link old new before at gives = with_step link old new before at (λ number right. given_up_line now stations found_on link number old new gives right)

@@ -20,9 +20,12 @@ use Rattle.service_parts.specs.Backing.{after, longer}
 
 -- ---- the connection itself
 
--- Whether it is up stays, when it is made again, and its back-off.
+-- Whether it is up stays, whether a device answered since it came up, when it is made again, until when the dial that is under
+-- way may take, and its back-off.
 pub record StaysLinked (old new : Line) : Type 0 where
   pub up : new.is_up ≡ old.is_up
+  pub answered : new.is_heard ≡ old.is_heard
+  pub until : new.dial_until ≡ old.dial_until
   pub dial : new.dial_at ≡ old.dial_at
   pub wait : new.wait ≡ old.wait
 
@@ -77,8 +80,18 @@ abbrev pub TakesWhere : Bool → Pending → (bytes left : List ℕ) → Option 
 TakesWhere true old bytes left fate new = Takes (with_rest old []) bytes fate (with_rest new left)
 TakesWhere false old bytes left fate new = (left ≡ []) × (fate ≡ None) × (new ≡ old)
 
+-- A dial begins while it is down, and may take until some time. All else stays.
+pub record Dials (old new : Line) : Type 0 where
+  pub down : old.is_up ≡ false
+  pub until : ℕ
+  pub same : new ≡ record old { dial_until = Some until }
+
+-- what a line is after a dial that may take until this time: one that is up has none
+abbrev pub dialled : ℕ → Line → Line
+dialled until line = if line.is_up then line else record line { dial_until = Some until }
+
 -- These bytes are taken of its stream, except those that are left; what they tell became of the request ends it, and nothing else
--- does. An answer ends its back-off.
+-- does. An answer ends its back-off: a device answered since it came up.
 pub record Hears (bytes left : List ℕ) (fate : Option Fate) (old new : Line) : Type 0 where
   pub takes : TakesWhere (old.is_up && not old.is_bad) old.inquiry bytes left fate new.inquiry
   pub asked : new.asked ≡ left_under_way fate old.asked
@@ -86,7 +99,9 @@ pub record Hears (bytes left : List ℕ) (fate : Option Fate) (old new : Line) :
   pub same : new.out.items ≡ old.out.items
   pub bad : new.is_bad ≡ old.is_bad
   pub up : new.is_up ≡ old.is_up
+  pub answered : new.is_heard ≡ (if answers fate then true else old.is_heard)
   pub dial : new.dial_at ≡ old.dial_at
+  pub until : new.dial_until ≡ old.dial_until
   pub wait : new.wait ≡ (if answers fate then 0 else old.wait)
 
 -- So many of the bytes that wait are written.
@@ -100,22 +115,25 @@ pub record IsCut (line : Line) : Type 0 where
   pub none : line.asked ≡ None
   pub quiet : line.out.items ≡ []
 
--- It comes up: a new stream begins.
+-- It comes up: a new stream begins, over which no device answered yet. No dial is under way.
 pub record ComesUp (old new : Line) : Type 0 where
   pub cut : IsCut new
   pub up : new.is_up ≡ true
   pub well : new.is_bad ≡ false
+  pub answered : new.is_heard ≡ false
+  pub until : new.dial_until ≡ None
   pub wait : new.wait ≡ old.wait
 
 -- It does nothing and its devices answered.
 abbrev pub is_idle : Line → Bool
 is_idle line = line.is_up && not line.is_bad && is_none line.asked && line.is_heard
 
--- It goes down: its stream is over. One that ended while it did nothing is made again after its last back-off, which is none; any
--- other one after a longer one.
+-- It goes down: its stream is over, and so is a dial. One that ended while it did nothing is made again after its last back-off,
+-- which is none (`AnsweredLinesHaveNoBackOff`); any other one after a longer one.
 pub record GoesDown (now : ℕ) (limits : Limits) (old new : Line) : Type 0 where
   pub cut : IsCut new
   pub down : new.is_up ≡ false
+  pub until : new.dial_until ≡ None
   pub wait : new.wait ≡ (if is_idle old then old.wait else longer old.wait (min limits.period 1000) limits.back_off_most)
   pub dial : new.dial_at ≡ after now new.wait
 
@@ -126,6 +144,7 @@ pub data OwnStep (old new : Line) : Type 0 where
   begins : Begins old new → OwnStep old new
   gives_up : GivesUp old new → OwnStep old new
   keeps : Keeps old new → OwnStep old new
+  dials : Dials old new → OwnStep old new
 
 -- That, and what is heard over this connection.
 abbrev pub HearingStep : Line → Line → Type 0
@@ -154,6 +173,7 @@ abbrev pub begun_by : {old new : Line} → OwnStep old new → List ℕ
 begun_by (begins step) = outputs_of step.asked.aim
 begun_by (gives_up step) = []
 begun_by (keeps step) = []
+begun_by (dials step) = []
 
 -- the outputs whose writes begin, the last one first
 abbrev pub begun : {old new : Line} → CourseBy OwnStep old new → List ℕ
@@ -218,3 +238,18 @@ pub record FramesGoOutWhole : Type 0 where
   pub goes_out : (requests : List Request) (gone : List ℕ) (n : ℕ) (old new : Line) → Sends n old new → IsSending requests gone old
       → IsSending requests (gone ++ take (min n (length old.out.items)) old.out.items) new
   pub one_at_a_time : (old new : Line) → Begins old new → (old.asked ≡ None) × (old.out.items ≡ [])
+
+-- ---- its back-off
+
+-- Where it is up, and a device answered since, its back-off is over.
+pub record IsUnwaited (line : Line) : Type 0 where
+  pub over : line.is_up ≡ true → line.is_heard ≡ true → line.wait ≡ 0
+
+-- Whatever happens to a line, its back-off is over wherever it is up and a device answered since. So one that ends while it does
+-- nothing is made again at once.
+pub record AnsweredLinesHaveNoBackOff : Type 0 where
+  pub own : (old new : Line) → CourseBy HearingStep old new → IsUnwaited old → IsUnwaited new
+  pub goes_out : (n : ℕ) (old new : Line) → Sends n old new → IsUnwaited old → IsUnwaited new
+  pub comes_up : (old new : Line) → ComesUp old new → IsUnwaited new
+  pub goes_down : (now : ℕ) (limits : Limits) (old new : Line) → GoesDown now limits old new → IsUnwaited new
+  pub at_once : (now : ℕ) (limits : Limits) (old new : Line) → GoesDown now limits old new → IsUnwaited old → is_idle old ≡ true → new.wait ≡ 0

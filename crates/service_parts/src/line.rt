@@ -1,7 +1,7 @@
 //! A line to devices: a connection, and what goes out over it.
-ghost use Rattle.std.specs.Prelude.{◌≡◌, ◌≤◌, ◌↔◌, ◌&&◌, not, is_none, IsTrue, drop, length, true, false};
+ghost use Rattle.std.specs.Prelude.{◌≡◌, ◌≤◌, ◌↔◌, ◌&&◌, not, is_none, IsTrue, None, drop, length, true, false};
 ghost use Rattle.modbus_frame.specs.Message.{HasQuantity};
-ghost use Rattle.service_parts.specs.Frames.{Begins, ComesUp, GivesUp, GoesDown, Hears, IsCut, Keeps, Sends, ended_by, is_idle, left_under_way};
+ghost use Rattle.service_parts.specs.Frames.{Begins, ComesUp, GivesUp, GoesDown, Hears, IsCut, IsUnwaited, Keeps, Sends, dialled, ended_by, is_idle, left_under_way};
 ghost use Rattle.service_parts.specs.Overdue.{is_over};
 ghost use Rattle.service_parts.specs.Waking.{IsToDial, IsToHangUp, due_at, is_quiet};
 
@@ -53,7 +53,8 @@ pub struct Intake {
 impl Line {
     /// One to these devices that is down, and on which nothing waits.
     pub fn new(devices: Vec<usize>) -> Line
-        ensures { IsCut result }
+        ensures cut { IsCut result }
+        ensures back_off { IsUnwaited result }
     {
         Line {
             inquiry: Inquiry::new(),
@@ -286,6 +287,7 @@ impl Line {
         ensures cut { IsCut self.new }
         ensures well { self.new.is_bad ≡ false }
         ensures wait { self.new.wait ≡ self.old.wait }
+        ensures until { self.new.dial_until ≡ None }
     {
         self.inquiry = Inquiry::new();
         self.asked = None;
@@ -297,10 +299,9 @@ impl Line {
 
 // beside the request that is under way
 impl Line {
-    /// A dial begins that may take until this time.
-    #[tactic(auto, using(crate::proofs::Frames::keeps_by))]
+    /// A dial begins that may take until this time; none over a connection that is up.
     pub fn dial(&mut self, until: u64)
-        ensures { Keeps self.old self.new }
+        ensures { self.new ≡ dialled until self.old }
     {
         if !self.is_up {
             self.dial_until = Some(until);

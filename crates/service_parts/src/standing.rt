@@ -1,26 +1,18 @@
 //! How the connections of links stand.
-ghost use Rattle.std.specs.Prelude.{◌≡◌, ◌↔◌, ℕ, IfNone, IfSome, IsTrue, Some, slice_get};
+ghost use Rattle.std.specs.Prelude.{◌≡◌, ◌↔◌, ℕ, IsTrue, Some, slice_get};
 ghost use Rattle.service_parts.specs.declared.line.Line.{Line as LineValue};
-ghost use Rattle.service_parts.specs.Frames.{LinesGo};
+ghost use Rattle.service_parts.specs.Frames.{LinesGo, dialled};
 ghost use Rattle.service_parts.specs.Requests.{StayRightful};
 ghost use Rattle.service_parts.specs.Waking.{IsToDial, IsToHangUp, is_up_at, is_well_at};
 
-use crate::line::Line;
 use crate::lines::Lines;
 
 impl Lines {
-    fn line(&self, link: usize) -> Option<&Line>
-        ensures there { IfSome result (λ found. (line : LineValue) → slice_get self.entry.now.lines.items link ≡ Some line → found.now ≡ line) }
-        ensures none { IfNone result ((line : LineValue) → slice_get self.entry.now.lines.items link ≡ Some line → ⊥) }
-    {
-        self.lines.get(link)
-    }
-
     /// Whether a connection is to be made: it is down, no dial is under way, and its back-off is over.
     pub fn wants_dial(&self, link: usize, now: u64) -> bool
         ensures { (line : LineValue) → slice_get self.now.lines.items link ≡ Some line → IsTrue result ↔ IsToDial now line }
     {
-        match self.line(link) {
+        match self.lines.get(link) {
             Some(line) => line.wants_dial(now),
             None => false,
         }
@@ -30,7 +22,7 @@ impl Lines {
     pub fn wants_hang_up(&self, link: usize, now: u64) -> bool
         ensures { (line : LineValue) → slice_get self.now.lines.items link ≡ Some line → IsTrue result ↔ IsToHangUp now line }
     {
-        match self.line(link) {
+        match self.lines.get(link) {
             Some(line) => line.wants_hang_up(now),
             None => false,
         }
@@ -48,7 +40,7 @@ impl Lines {
 
     /// Whether a connection is to be hung up.
     pub fn is_bad(&self, link: usize) -> bool {
-        match self.line(link) {
+        match self.lines.get(link) {
             Some(line) => line.is_bad(),
             None => false,
         }
@@ -66,7 +58,7 @@ impl Lines {
 
     /// Whether there may be something to ask over a link at this time.
     pub fn is_stirred(&self, link: usize, now: u64) -> bool {
-        match self.line(link) {
+        match self.lines.get(link) {
             Some(line) => line.is_stirred(now),
             None => false,
         }
@@ -74,7 +66,7 @@ impl Lines {
 
     /// How many devices a link has.
     pub fn devices_on(&self, link: usize) -> usize {
-        match self.line(link) {
+        match self.lines.get(link) {
             Some(line) => line.devices().len(),
             None => 0,
         }
@@ -82,12 +74,12 @@ impl Lines {
 
     /// The number of the device at a place of a link.
     pub fn device_at(&self, link: usize, i: usize) -> Option<usize> {
-        self.line(link)?.devices().get(i).copied()
+        self.lines.get(link)?.devices().get(i).copied()
     }
 
     /// Whether a connection is up, its devices answered over it, and nothing is under way on it.
     pub fn is_idle(&self, link: usize) -> bool {
-        match self.line(link) {
+        match self.lines.get(link) {
             Some(line) => line.is_idle(),
             None => false,
         }
@@ -95,12 +87,14 @@ impl Lines {
 }
 
 impl Lines {
-    /// A dial begins on a link that may take until this time.
+    /// A dial begins on a link that may take until this time; none where its connection is up.
     pub fn dial(&mut self, link: usize, until: u64)
         ensures rightful { StayRightful self.old self.new }
         ensures links { self.new.links ≡ self.old.links }
         ensures found { self.new.found_on ≡ self.old.found_on }
         ensures lines { LinesGo self.old.lines.items self.new.lines.items }
+        ensures dials { (line : LineValue) → slice_get self.old.lines.items link ≡ Some line → slice_get self.new.lines.items link ≡ Some (dialled until line) }
+        ensures others { (other : ℕ) → (other ≡ link → ⊥) → slice_get self.new.lines.items other ≡ slice_get self.old.lines.items other }
     {
         if let Some(line) = self.lines.get_mut(link) {
             line.dial(until);

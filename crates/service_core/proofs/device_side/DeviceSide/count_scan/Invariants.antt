@@ -1,7 +1,7 @@
 use Rattle.service_core.specs.Timing.{CountsScan}
-use Rattle.service_core.specs.Having.{IsUnplanned}
-use Rattle.service_core.specs.Told.{BecomesBy}
+use Rattle.service_core.specs.Having.{IsToWrite, IsUnplanned}
+use Rattle.service_core.specs.Told.{PlansBy}
 use Rattle.service_core.proofs.device_side.DeviceSide.count_scan.Given as goal
 
 abbrev pub invariant-loop-output : goal.invariant-loop-output
-invariant-loop-output l = CountsScan l.fn.self l.self × (BecomesBy (IsUnplanned l.core) l.fn.self l.self)
+invariant-loop-output l = CountsScan l.fn.self l.self × (PlansBy (IsUnplanned l.core) (IsToWrite l.core) l.fn.self l.self)

@@ -1,4 +1,4 @@
-use Rattle.std.proofs.Common.{rules, ◌≡◌}
+use Rattle.std.proofs.Common.{rules, ◌≡◌, false}
 use Rattle.service.specs.declared.fate.Fate.TheVariants.{Lost}
 use Rattle.service_core.specs.Cycle.{stage_of}
 use Rattle.service_core.specs.Stages.{Tells}
@@ -9,16 +9,16 @@ use Rattle.service_core.proofs.scan_cycle.ScanCycle.lose_want.Goals as goal
 
 pub invariant_of-self-clause-reached : goal.invariant_of-self-clause-reached
 invariant_of-self-clause-reached c =
-    let told : Tells c.args.i Lost c.args.is_new (stage_of c.args.self.now) (record { core = c.tell-2.new.core; round = c.tell.new.self }) = search rules in
-    reached_rounds _ _ c.args.self.now.reached (goes_loses _ _ c.args.i c.args.is_new told)
+    let told : Tells c.args.i Lost false (stage_of c.args.self.now) (record { core = c.tell-2.new.core; round = c.tell.new.self }) = search rules in
+    reached_rounds _ _ c.args.self.now.reached (goes_loses _ _ c.args.i told)
 
 pub returns : goal.returns
 returns c =
-    let told : Tells c.args.i Lost c.args.is_new (stage_of c.args.self.now) (record { core = c.tell-2.new.core; round = c.tell.new.self }) = search rules in
+    let told : Tells c.args.i Lost false (stage_of c.args.self.now) (record { core = c.tell-2.new.core; round = c.tell.new.self }) = search rules in
     record {
       lost = lost_alone c.args.self.now.core.value c.tell-2.new.core c.args.want told.told;
       round = c.tell.ensures;
-      goes = goes_loses _ _ c.args.i c.args.is_new told;
+      goes = goes_loses _ _ c.args.i told;
     }
 
 pub invariant_of-self-clause-sought : goal.invariant_of-self-clause-sought
@@ -29,4 +29,4 @@ invariant_of-self-clause-sought c =
 pub invariant_of-self-clause-fits : goal.invariant_of-self-clause-fits
 invariant_of-self-clause-fits c =
     let site : c.tell-2.new.core.site ≡ c.args.self.now.core.value.site = search rules in
-    round_for c.args.self.now.core.value c.tell-2.new.core c.tell.new.self site (round_when_told c.args.self.now.core.value.site c.args.self.now.round c.tell.new.self c.args.i c.args.is_new c.tell.ensures c.args.self.now.fits)
+    round_for c.args.self.now.core.value c.tell-2.new.core c.tell.new.self site (round_when_told c.args.self.now.core.value.site c.args.self.now.round c.tell.new.self c.args.i false c.tell.ensures c.args.self.now.fits)

@@ -18,7 +18,7 @@ returns-clause-begins c is =
         noted = refl;
         under_way = c.begin-self.ensures.asks;
         frame = c.begin-self.ensures.frame;
-        linked = record { up = refl; dial = refl; wait = refl };
+        linked = record { up = refl; answered = refl; until = refl; dial = refl; wait = refl };
       },
       refl,
       refl,
