@@ -1,5 +1,5 @@
 -- Numbers that are read back from words, and the lists that they are set in.
-use Rattle.std.proofs.Common.{◌≡◌, ◌≢◌, ◌⊎◌, inl, inr, ℕ, zero, suc, ◌+◌, ◌-◌, ◌<◌, ◌≤◌, List, [], ◌∷◌, length, take, drop, get_or, Option, Some, None, refl, sym, ap, subst, ◌∙◌, arith, leb-true, length-drop}
+use Rattle.std.proofs.Common.{◌≡◌, ◌≢◌, ◌⊎◌, inl, inr, ℕ, zero, suc, ◌+◌, ◌-◌, ◌<◌, ◌≤◌, List, [], ◌∷◌, length, take, drop, get_or, Option, Some, None, Result, Ok, Err, refl, sym, ap, subst, ◌∙◌, arith, leb-true, length-drop}
 use Rattle.std.specs.Prelude.{ℤ, ◌≤ℤ◌, slice_get, slice_set, is_some, nat_le, Bool, true, false, ◌&&◌, MatchOption}
 use Rattle.std.proofs.lemmas.List.{drop_more}
 use Rattle.point_types.specs.declared.kind.Kind.{Kind}
@@ -10,10 +10,12 @@ use Rattle.point_types.specs.Reading.{IsScaled, ReadsBy, IsReading, factor_of}
 use Rattle.point_types.proofs.Uniqueness.{at_most_one_reading}
 use Rattle.site_model.specs.declared.tag.SiteTag.{SiteTag}
 use Rattle.site_model.specs.Readings.{AreSettings}
+use Rattle.modbus_frame.specs.declared.message.Exception.{Exception}
+use Rattle.modbus_frame.specs.declared.message.Response.{Response}
 use Rattle.gateway.specs.declared.served.point.OwnPoint.{OwnPoint}
 use Rattle.gateway.specs.declared.served.point.OwnPoint.TheVariants as own
 use Rattle.gateway.specs.served.ServedImage.{own_value}
-use Rattle.gateway.specs.event_core.SiteRun.{IsNumberIn, ReadsBack, Sets, SetsOne, are_settings, setting_of}
+use Rattle.gateway.specs.event_core.SiteRun.{IsNumberIn, ReadsBack, Sets, SetsOne, Writes, are_settings, setting_of}
 use Rattle.gateway.specs.served.Points.{registers_of}
 
 same_some : {X : Type 0} {o : Option X} {a b : X} → o ≡ Some a → o ≡ Some b → a ≡ b
@@ -153,3 +155,9 @@ module _ (tags : List SiteTag) (points : List OwnPoint) (i n : ℕ) (d : OwnPoin
       let a = subst (λ ps. are_settings tags ps (length left) ≡ true) (drop_more points i d inside) whole in
       let e : length left - registers_of point ≡ length after = sym (ap length (is_after ∙ ap (λ k. drop k left) size) ∙ length-drop (registers_of point) left) in
       subst (λ k. are_settings tags behind k ≡ true) e (whole_more tags point behind left some a).1
+
+-- a write that is refused sets nothing
+pub refused_keeps : (tags : List SiteTag) (points : Option (List OwnPoint)) (words : List ℕ) (r : Result Response Exception) (e : Exception) (new old : List (Option ℤ)) → r ≡ Err e → Writes tags points words old r new → new ≡ old
+refused_keeps tags points words (Ok response) e new old is written = absurd (cc)
+refused_keeps tags None words (Err f) e new old is written = written.1
+refused_keeps tags (Some points) words (Err f) e new old is written = written.2

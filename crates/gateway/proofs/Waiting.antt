@@ -1,5 +1,5 @@
 -- Time that goes by: what was set grows older, and lapses.
-use Rattle.std.proofs.Common.{◌≡◌, ◌⊎◌, inl, inr, ℕ, suc, ◌+◌, ◌<◌, ◌≤◌, Bool, true, false, List, [], ◌∷◌, ◌++◌, length, take, drop, get_or, Option, Some, None, refl, sym, ap, ◌∙◌, arith, append_assoc}
+use Rattle.std.proofs.Common.{◌≡◌, ◌⊎◌, inl, inr, ℕ, suc, ◌+◌, ◌<◌, Bool, true, false, List, [], ◌∷◌, ◌++◌, length, take, drop, get_or, Option, Some, None, refl, sym, ap, ◌∙◌, arith, append_assoc}
 use Rattle.std.specs.Prelude.{ℤ, ◌≤ℤ◌, slice_get, slice_set, if◌then◌else◌}
 use Rattle.std.proofs.lemmas.List.{drop_more, drop-set-lt, take_more_set, length-map}
 use Rattle.std.proofs.lemmas.Option.{slice_get-get_or}

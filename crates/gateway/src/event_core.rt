@@ -34,7 +34,7 @@ use site_model::{Site, Want, Words};
 use std::alloc::Global;
 use std::marker::Model;
 pub use waiting::has_lapsed;
-use waiting::{elapsed_after, grow_older, lapse};
+use waiting::{elapsed_after, grow_older, lapse, some_lapses};
 
 /// The most values that a program may defer where it runs as a command or a service.
 pub const DEPTH: usize = 32;
@@ -321,13 +321,15 @@ impl<const DEPTH: usize> Core<DEPTH> {
     {
         self.known.elapsed = elapsed_after(self.known.elapsed, elapsed);
         grow_older(&mut self.known.ages, elapsed);
-        lapse(self.site.tags(), &self.known.ages, &mut self.known.sets);
-        serve(
-            self.points.as_slice(),
-            &self.site,
-            &self.known,
-            &mut self.image,
-        );
+        if some_lapses(self.site.tags(), &self.known.ages, &self.known.sets) {
+            lapse(self.site.tags(), &self.known.ages, &mut self.known.sets);
+            serve(
+                self.points.as_slice(),
+                &self.site,
+                &self.known,
+                &mut self.image,
+            );
+        }
     }
 
     /// The program runs once.
@@ -395,13 +397,18 @@ impl<const DEPTH: usize> Core<DEPTH> {
             &mut self.known.ages,
             &mut self.room,
         );
-        serve(
-            self.points.as_slice(),
-            &self.site,
-            &self.known,
-            &mut self.image,
-        );
-        answer
+        match answer {
+            Ok(response) => {
+                serve(
+                    self.points.as_slice(),
+                    &self.site,
+                    &self.known,
+                    &mut self.image,
+                );
+                Ok(response)
+            }
+            Err(exception) => Err(exception),
+        }
     }
 }
 

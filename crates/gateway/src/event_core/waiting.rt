@@ -1,5 +1,5 @@
 //! Time that goes by: what clients set grows older, and lapses.
-ghost use Rattle.std.specs.Prelude.{◌≡◌, length, option_map};
+ghost use Rattle.std.specs.Prelude.{◌≡◌, false, length, option_map};
 ghost use Rattle.gateway.specs.event_core.SiteRun.{all_held, all_older, has_lapsed, held, later, older};
 ghost use Rattle.site_model.specs.Readings.{AreSettings};
 
@@ -55,6 +55,26 @@ fn older(age: u32, ms: u32) -> u32
         Some(after) if after < MOST_AGE => after,
         _ => MOST_AGE,
     }
+}
+
+/// Whether something was set too long ago.
+pub(crate) fn some_lapses(tags: &[SiteTag], ages: &[Option<u32>], sets: &[Option<i64>]) -> bool
+    requires ages { length ages.now ≡ length tags.now }
+    requires sets { length sets.now ≡ length tags.now }
+    ensures none { result ≡ false → all_held tags.now ages.now sets.now ≡ sets.now }
+{
+    for (i, tag) in tags.iter().enumerate() {
+        if changes(tag, ages[i], sets[i]) {
+            return true;
+        }
+    }
+    false
+}
+
+fn changes(tag: &SiteTag, age: Option<u32>, set: Option<i64>) -> bool
+    ensures { result ≡ false → held tag.now age set ≡ set }
+{
+    set.is_some() && has_lapsed(tag.lapse, age)
 }
 
 /// What was set too long ago is as never set.
