@@ -1,7 +1,7 @@
 //! The command line of the gateway's program: [`obey`] does what the words of a command line ask for, and
 //! [`obey_command_line`] is all that a program's `main` calls. What they ask for on the texts of their files stands in
 //! [`obey_on`], over sockets and second processes where it wants them, `serve` in [`run_service`], over the loop of
-//! `site_service`. What it does over files, sockets and second processes without that loop stands in the crate `command_files`,
+//! `service_loop`. What it does over files, sockets and second processes without that loop stands in the crate `command_files`,
 //! what a command is on texts and links alone in `commands`.
 #![tactic(auto)]
 

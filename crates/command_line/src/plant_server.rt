@@ -10,7 +10,7 @@ use commands::{listening, plant_told, tell_no_memory, tell_unlinked, write_lines
 use inverter_sim::{Plant, serve_link};
 use modbus_frame::LinkFault;
 use refusal_notes::Notes;
-use site_service::PlantDoor;
+use service_loop::PlantDoor;
 use std::alloc::Global;
 use std::io::{Read, Write};
 use std::net::{Net, OpenListener, OpenStream, TcpListener};

@@ -15,7 +15,7 @@ use Rattle.service_parts.specs.declared.asked.Aim.{Aim}
 use Rattle.service_parts.specs.declared.asked.Aim.TheVariants as aim
 use Rattle.service_parts.specs.Course.{AreRuns}
 use Rattle.service_parts.specs.Requests.{IsRest, IsRightful, MayBeAsked}
-use Rattle.service_core.proofs.Runs.{courses_are_site_runs, runs_site}
+use Rattle.service.proofs.Runs.{courses_are_site_runs, runs_site}
 use Rattle.served_site.proofs.ReadsAlone.{IsRead, of_read}
 use Rattle.served_site.proofs.Served.{serves_site}
 use Rattle.served_site.specs.Going.{IsOfTheSite, SetPointsAloneAreWritten}

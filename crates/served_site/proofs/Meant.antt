@@ -16,12 +16,12 @@ use Rattle.gateway.specs.declared.event_core.event.Event.TheVariants as event
 use Rattle.gateway.specs.declared.event_core.event.Answer.{Answer}
 use Rattle.gateway.specs.event_core.Core.{Gateway, StepsOn, numbers_of}
 use Rattle.gateway.specs.event_core.SiteRun.{Standing, Steps, after_time}
-use Rattle.service.specs.declared.fate.Fate.{Fate}
-use Rattle.service.specs.declared.fate.Fate.TheVariants as fate
-use Rattle.service_core.specs.Rounds.{event_of, since}
-use Rattle.service_core.specs.Stages as stages
-use Rattle.service_core.specs.Stages.{Adopts, IsReached, RoundStep, RunStep, Scans, Stage, TakesEvent, Tells, TimeStep}
-use Rattle.service_core.proofs.Blocks.{scans_are_of_what_was_told}
+use Rattle.service_requests.specs.declared.request_end.RequestEnd.{RequestEnd}
+use Rattle.service_requests.specs.declared.request_end.RequestEnd.TheVariants as fate
+use Rattle.service.specs.Rounds.{event_of, since}
+use Rattle.service.specs.Stages as stages
+use Rattle.service.specs.Stages.{Adopts, IsReached, RoundStep, RunStep, Scans, Stage, TakesEvent, Tells, TimeStep}
+use Rattle.service.proofs.Blocks.{scans_are_of_what_was_told}
 use Rattle.commands.specs.Accepted.{Accepts, most_deferred}
 use Rattle.commands.proofs.MeaningLemmas.{IsKept, begun_kept, from_ranges, left_variables, step_meant, stored_ranged}
 use Rattle.served_site.specs.Serving as serving
@@ -49,7 +49,7 @@ module _ (site : Site) (p : Program) (a : Acceptance) (right : DoesWhatItMeans p
         kept = (step_meant site p a right linked proper verdict matched g.standing e r h.standing keeps.kept (steps_here g e r h keeps advances.0)).1;
       }
 
-  told_keeps : (i : ℕ) (f : Fate) (is_new : Bool) (s t : Stage) → Tells i f is_new s t → Keeps s.core → Keeps t.core
+  told_keeps : (i : ℕ) (f : RequestEnd) (is_new : Bool) (s t : Stage) → Tells i f is_new s t → Keeps s.core → Keeps t.core
   told_keeps i f is_new s t is keeps = event_keeps (event_of is.want f) s.core t.core is.told keeps
 
   round_keeps : (s t : Stage) → RoundStep s t → Keeps s.core → Keeps t.core

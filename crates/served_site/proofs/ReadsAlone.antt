@@ -19,9 +19,9 @@ use Rattle.service_parts.specs.declared.asked.Aim.{Aim}
 use Rattle.service_parts.specs.declared.asked.Aim.TheVariants as aim
 use Rattle.service_parts.specs.Calls.{IsCallFor}
 use Rattle.service_parts.specs.Requests.{IsRest, IsRightful, MayBeAsked}
-use Rattle.service_core.specs.Stages.{AnyStep, CourseBy, Stage}
-use Rattle.service_core.proofs.Courses.{any_goes}
-use Rattle.service_core.proofs.Runs.{goes_site}
+use Rattle.service.specs.Stages.{AnyStep, CourseBy, Stage}
+use Rattle.service.proofs.Courses.{any_goes}
+use Rattle.service.proofs.Runs.{goes_site}
 use Rattle.served_site.specs.Surveying.{IsOfReads, IsRestOfRead, IsSurveyStart, SurveysAskForReadsAlone}
 
 -- the request reads

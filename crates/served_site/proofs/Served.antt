@@ -5,10 +5,10 @@ use Rattle.site_model.specs.declared.site.Site.{Site}
 use Rattle.il_assemble.specs.Meaning.{Program}
 use Rattle.verifier.specs.Verified.{Acceptance}
 use Rattle.gateway.specs.event_core.Core.{Gateway}
-use Rattle.service_core.specs.Stages as stages
-use Rattle.service_core.specs.Stages.{AnyStep, IsReached, Stage}
-use Rattle.service_core.proofs.Courses.{any_goes}
-use Rattle.service_core.proofs.Runs.{goes_site}
+use Rattle.service.specs.Stages as stages
+use Rattle.service.specs.Stages.{AnyStep, IsReached, Stage}
+use Rattle.service.proofs.Courses.{any_goes}
+use Rattle.service.proofs.Runs.{goes_site}
 use Rattle.served_site.specs.Serving as serving
 use Rattle.served_site.specs.Serving.{Serves}
 

@@ -10,10 +10,10 @@ use Rattle.gateway.specs.event_core.Control.{SetsItsTag}
 use Rattle.gateway.specs.event_core.Core.{Gateway}
 use Rattle.gateway.specs.poller.Cycle.{write_of}
 use Rattle.gateway.specs.poller.LinkRun.{Asked, frame_of}
-use Rattle.service_parts.specs.declared.lines.Lines.{Lines}
+use Rattle.service_parts.specs.declared.connections.Connections.{Connections}
 use Rattle.service_parts.specs.Course.{AreRuns}
 use Rattle.service_parts.specs.Requests.{IsRightfulOn}
-use Rattle.service_core.specs.Stages.{Stage}
+use Rattle.service.specs.Stages.{Stage}
 use Rattle.served_site.specs.Surveying.{IsRestOfRead}
 use Rattle.served_site.specs.Serving.{Serves}
 
@@ -40,5 +40,5 @@ IsOfTheSite site now bytes = (bytes ≡ []) ⊎ IsRestOfRead bytes ⊎ IsRestOfS
 -- it (`IsRightfulOn`), is the rest of a read, or of a set point of one of the site's outputs, or nothing.
 abbrev pub SetPointsAloneAreWritten : Type 0
 SetPointsAloneAreWritten = (site_text : List ℕ) (texts : List (List ℕ)) (site : Site) (p : Program) (a : Acceptance) (now : Stage) → Serves site_text texts site p a now
-    → (lines : Lines) (link number : ℕ) (bytes : List ℕ) → slice_get lines.links.numbers.items link ≡ Some number → IsRightfulOn now.core lines link bytes
+    → (lines : Connections) (link number : ℕ) (bytes : List ℕ) → slice_get lines.links.numbers.items link ≡ Some number → IsRightfulOn now.core lines link bytes
     → ∥ IsOfTheSite site now.core bytes ∥₁

@@ -9,9 +9,9 @@ use Rattle.il_assemble.specs.Meaning.{Program}
 use Rattle.verifier.specs.Verified.{Acceptance, HasLinks}
 use Rattle.gateway.specs.event_core.Core.{gateway_of, numbers_of}
 use Rattle.gateway.specs.event_core.SiteRun.{Standing, after_time, none_of, scanned}
-use Rattle.service_core.specs.Blocks.{IsOfWhatWasTold}
-use Rattle.service_core.specs.Rounds.{ArePlanned, since}
-use Rattle.service_core.specs.Stages.{Adopts, IsFirst, RunStep, Scans, Stage}
+use Rattle.service.specs.Blocks.{IsOfWhatWasTold}
+use Rattle.service.specs.Rounds.{ArePlanned, since}
+use Rattle.service.specs.Stages.{Adopts, IsFirst, RunStep, Scans, Stage}
 use Rattle.commands.specs.Accepted.{Accepts}
 use Rattle.commands.specs.OneScan.{IsMeant, IsSafe}
 

@@ -5,9 +5,9 @@ use Rattle.modbus_frame.specs.declared.message.Request.TheVariants.{Read}
 use Rattle.modbus_frame.specs.Frame.{frame_bytes}
 use Rattle.site_model.specs.declared.site.Site.{Site}
 use Rattle.gateway.specs.poller.LinkRun.{Asked, frame_of}
-use Rattle.service_parts.specs.declared.lines.Lines.{Lines}
+use Rattle.service_parts.specs.declared.connections.Connections.{Connections}
 use Rattle.service_parts.specs.Requests.{IsRightfulOn}
-use Rattle.service_core.specs.Stages.{AnyStep, CourseBy, IsFirst, Stage}
+use Rattle.service.specs.Stages.{AnyStep, CourseBy, IsFirst, Stage}
 
 -- These bytes are the rest of the frame of a read of so many registers.
 pub record IsRestOfRead (bytes : List ℕ) : Type 0 where
@@ -31,4 +31,4 @@ pub record IsSurveyStart (site : Site) (s : Stage) : Type 0 where
 -- gives it (`IsRightfulOn`), is the rest of a read, or nothing.
 abbrev pub SurveysAskForReadsAlone : Type 0
 SurveysAskForReadsAlone = (site : Site) (first now : Stage) → IsSurveyStart site first → CourseBy AnyStep first now
-    → (lines : Lines) (link number : ℕ) (bytes : List ℕ) → slice_get lines.links.numbers.items link ≡ Some number → IsRightfulOn now.core lines link bytes → ∥ IsOfReads bytes ∥₁
+    → (lines : Connections) (link number : ℕ) (bytes : List ℕ) → slice_get lines.links.numbers.items link ≡ Some number → IsRightfulOn now.core lines link bytes → ∥ IsOfReads bytes ∥₁

@@ -2,14 +2,14 @@
 ghost use Rattle.std.specs.Prelude.{◌≡◌, IfErr, IfOk, OnOk, length, replicate};
 ghost use Rattle.verifier.specs.Verified.{HasLinks};
 ghost use Rattle.gateway.specs.declared.event_core.fault.CoreFault.TheVariants.{Foreign};
-ghost use Rattle.service_core.specs.Cycle.{stage_of};
-ghost use Rattle.service_core.specs.Timing.{Starts};
+ghost use Rattle.service.specs.Cycle.{stage_of};
+ghost use Rattle.service.specs.Timing.{Starts};
 ghost use Rattle.served_site.specs.Serving.{IsStart};
 
 use commands::Accepted;
 use gateway::CoreFault;
 use scan_vm::Machine;
-use service_core::{Limits, Service, Station};
+use service::{Limits, Service, Station};
 use std::alloc::{AllocError, Global};
 
 /// A service of an accepted program on its site, over so many connections, all of them down. `kept` has an entry for each of

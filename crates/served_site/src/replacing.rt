@@ -4,15 +4,15 @@ ghost use Rattle.std.specs.List.{position};
 ghost use Rattle.verifier.specs.Verified.{HasLinks};
 ghost use Rattle.gateway.specs.declared.event_core.fault.CoreFault.TheVariants.{Foreign, OutOfMemory};
 ghost use Rattle.scan_vm.specs.Resuming.{resumed};
-ghost use Rattle.service_core.specs.Cycle.{stage_of};
-ghost use Rattle.service_core.specs.Stages.{Adopts};
-ghost use Rattle.service_core.specs.Told.{Goes};
+ghost use Rattle.service.specs.Cycle.{stage_of};
+ghost use Rattle.service.specs.Stages.{Adopts};
+ghost use Rattle.service.specs.Told.{Goes};
 ghost use Rattle.served_site.specs.Replacing.{carried, is_same, number_of};
 
 use gateway::{CoreFault, DEPTH};
 use point_types::Var;
 use scan_vm::Machine;
-use service_core::Service;
+use service::Service;
 use std::alloc::{AllocError, Global};
 use verifier::Verified;
 

@@ -1,12 +1,12 @@
 //! A survey is made.
 ghost use Rattle.std.specs.Prelude.{◌≡◌, [], false, replicate, IfOk};
-ghost use Rattle.service_core.specs.Cycle.{stage_of};
-ghost use Rattle.service_core.specs.Timing.{Starts};
+ghost use Rattle.service.specs.Cycle.{stage_of};
+ghost use Rattle.service.specs.Timing.{Starts};
 ghost use Rattle.served_site.specs.Surveying.{IsSurveyStart};
 
 use gateway::{CoreFault, DEPTH};
 use scan_vm::Machine;
-use service_core::{Limits, Service, Station};
+use service::{Limits, Service, Station};
 use site_model::Site;
 use std::alloc::Global;
 

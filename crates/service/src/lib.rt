@@ -1,26 +1,46 @@
-//! What a gateway does for its connections, where bytes come in pieces and requests to several devices are under way at
-//! once: bytes, outcomes and events are handed in and taken out. It knows of no socket and no clock.
+//! What a service of a gateway does, as a whole: bytes of connections and the time are handed in, and bytes, wishes and
+//! notes are taken out. It knows of no socket and no clock.
 #![tactic(auto)]
 
-mod fate;
-mod guard;
-mod inquiry;
+mod adopting;
+mod answers;
+mod asking;
+mod client_side;
+mod connections;
+mod construction;
+mod counts;
+mod cycle;
+mod device_side;
+mod held_back;
+mod held_writes;
+mod last_told;
 pub mod laws;
-mod replay;
-mod search;
-mod session;
-mod task;
-mod told;
-mod turn;
+mod link_pace;
+mod notice;
+mod notices;
+mod output;
+mod pacing;
+mod polled_device;
+mod refusals;
+mod replies;
+mod restoring;
+mod round;
+mod round_times;
+mod service_state;
+mod status;
+mod steps;
+mod wakes;
+mod wish;
+mod wishes;
 
-// one request on one connection
-pub use fate::Fate;
-pub use inquiry::{BytesTaken, Inquiry};
-// the search for a device's map
-pub use search::{Search, Step};
-// the requests of one scan, over all connections
-pub use task::{Mark, Task, Tasks};
-// clients
-pub use guard::{is_write, refusal};
-pub use session::{PieceTaken, Session};
-pub use turn::Turned;
+// a service, and what is asked of it
+pub use service_parts::{Limits, Station};
+pub use service_state::Service;
+// what it tells
+pub use notice::{Loss, Notice, Unwritten};
+// how it stands
+pub use counts::Counts;
+pub use output::OutputState;
+pub use refusals::ReadRefusal;
+pub use replies::Replies;
+pub use status::DeviceStatus;

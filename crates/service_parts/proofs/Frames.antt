@@ -8,9 +8,9 @@ use Rattle.std.proofs.lemmas.Bool.Decides.{eqb_tells}
 use Rattle.std.proofs.lemmas.List.{append-nil, take-append-drop}
 use Rattle.modbus_frame.specs.Frame.{frame_bytes}
 use Rattle.gateway.specs.poller.LinkRun.{Asked as Request, frame_of, next_id}
-use Rattle.service.specs.declared.fate.Fate.{Fate}
-use Rattle.service_parts.specs.declared.line.Line.{Line}
-use Rattle.service.specs.declared.task.Task.{Task}
+use Rattle.service_requests.specs.declared.request_end.RequestEnd.{RequestEnd}
+use Rattle.service_parts.specs.declared.device_connection.DeviceConnection.{DeviceConnection}
+use Rattle.service_requests.specs.declared.task.Task.{Task}
 use Rattle.service_parts.specs.declared.asked.Aim.{Aim}
 use Rattle.service_parts.specs.declared.asked.Asked.{Asked}
 use Rattle.service_parts.specs.Frames.{AnsweredLinesHaveNoBackOff, AreNumbered, Begins, CourseBy, FramesGoOutWhole, GivesUp, GoesDown, HearingStep, IsLed, IsSending, IsUnwaited, Keeps, LinesGo, LinkGoes, OthersGo, OwnStep, Sends, StaysLinked, TakesDue, begins, begun, begun_by, dialled, dials, due_at, gives_up, goes, is_idle, keeps, stays, times_asked}
@@ -18,7 +18,7 @@ use Rattle.service_parts.specs.Answering.{answers}
 use Rattle.service_parts.specs.Backing.{longer}
 use Rattle.service_parts.specs.declared.limits.Limits.{Limits}
 
-pub keeps_by : (old new : Line) → new.asked ≡ old.asked → new.inquiry ≡ old.inquiry → new.id ≡ old.id → new.out.items ≡ old.out.items → (old.is_bad ≡ true → new.is_bad ≡ true) → new.is_up ≡ old.is_up → new.is_heard ≡ old.is_heard → new.dial_until ≡ old.dial_until → new.dial_at ≡ old.dial_at → new.wait ≡ old.wait → Keeps old new
+pub keeps_by : (old new : DeviceConnection) → new.asked ≡ old.asked → new.pending ≡ old.pending → new.id ≡ old.id → new.out.items ≡ old.out.items → (old.is_bad ≡ true → new.is_bad ≡ true) → new.is_up ≡ old.is_up → new.is_heard ≡ old.is_heard → new.dial_until ≡ old.dial_until → new.dial_at ≡ old.dial_at → new.wait ≡ old.wait → Keeps old new
 keeps_by old new asked heard next same bad up answered until dial wait = record {
   still = asked;
   heard = heard;
@@ -45,12 +45,12 @@ set_other (y ∷ xs) zero (suc k) v other = refl
 set_other (y ∷ xs) (suc i) zero v other = refl
 set_other (y ∷ xs) (suc i) (suc k) v other = set_other xs i k v (λ e. other (ap suc e))
 
-same_at : (lines : List Line) (at : ℕ) (old : Line) → slice_get lines at ≡ Some old → set lines at old ≡ lines
+same_at : (lines : List DeviceConnection) (at : ℕ) (old : DeviceConnection) → slice_get lines at ≡ Some old → set lines at old ≡ lines
 same_at [] at old is = refl
-same_at (x ∷ lines) zero old is = ap (λ (y : Line). y ∷ lines) (some_same refl (sym is))
-same_at (x ∷ lines) (suc at) old is = ap (λ (l : List Line). x ∷ l) (same_at lines at old is)
+same_at (x ∷ lines) zero old is = ap (λ (y : DeviceConnection). y ∷ lines) (some_same refl (sym is))
+same_at (x ∷ lines) (suc at) old is = ap (λ (l : List DeviceConnection). x ∷ l) (same_at lines at old is)
 
-pub unchanged : (lines : List Line) (at : ℕ) (old new : Line) → slice_get lines at ≡ Some old → new ≡ old → set lines at new ≡ lines
+pub unchanged : (lines : List DeviceConnection) (at : ℕ) (old new : DeviceConnection) → slice_get lines at ≡ Some old → new ≡ old → set lines at new ≡ lines
 unchanged lines at old new is same = ap (set lines at) same ∙ same_at lines at old is
 
 -- ---- how often a number stands in a list
@@ -61,11 +61,11 @@ times_joined i (x ∷ xs) ys = omega (arith, times_joined i xs ys)
 
 -- ---- a step on one line
 
-module _ (lines : List Line) (at : ℕ) (old new : Line) (is : slice_get lines at ≡ Some old) (step : OwnStep old new) where
-  led_on : (most : ℕ → ℕ) (from : Line) (before after : List Task) → ((output : ℕ) → times_asked output (begun_by step) + due_at output after ≤ due_at output before)
+module _ (lines : List DeviceConnection) (at : ℕ) (old new : DeviceConnection) (is : slice_get lines at ≡ Some old) (step : OwnStep old new) where
+  led_on : (most : ℕ → ℕ) (from : DeviceConnection) (before after : List Task) → ((output : ℕ) → times_asked output (begun_by step) + due_at output after ≤ due_at output before)
       → IsLed most from before lines at → IsLed most from after (set lines at new) at
   led_on most from before after takes led =
-      let P : Line → Type 0 = λ x. (course : CourseBy OwnStep from x) × ((output : ℕ) → times_asked output (begun course) + due_at output before ≤ most output) in
+      let P : DeviceConnection → Type 0 = λ x. (course : CourseBy OwnStep from x) × ((output : ℕ) → times_asked output (begun course) + due_at output before ≤ most output) in
       let (course, within) = subst P (some_same led.there is) (led.course, led.within) in
       record {
         line = new;
@@ -77,7 +77,7 @@ module _ (lines : List Line) (at : ℕ) (old new : Line) (is : slice_get lines a
   pub line_goes : (before after : List Task) → ((output : ℕ) → times_asked output (begun_by step) + due_at output after ≤ due_at output before) → LinkGoes at before lines after (set lines at new)
   line_goes before after takes most from led = ∥∥₁_elim led ∥∥₁_prop (λ l. ∣ led_on most from before after takes l ∣₁)
 
-same_line : (most : ℕ → ℕ) (from : Line) (before after : List Task) (lines now : List Line) (link : ℕ) → slice_get now link ≡ slice_get lines link → ((output : ℕ) → due_at output after ≤ due_at output before)
+same_line : (most : ℕ → ℕ) (from : DeviceConnection) (before after : List Task) (lines now : List DeviceConnection) (link : ℕ) → slice_get now link ≡ slice_get lines link → ((output : ℕ) → due_at output after ≤ due_at output before)
     → IsLed most from before lines link → IsLed most from after now link
 same_line most from before after lines now link same fewer led = record {
   line = led.line;
@@ -86,16 +86,16 @@ same_line most from before after lines now link same fewer led = record {
   within = λ output. omega (arith, fewer output, led.within output);
 }
 
-pub still_goes : (before after : List Task) (lines now : List Line) (link : ℕ) → slice_get now link ≡ slice_get lines link → ((output : ℕ) → due_at output after ≤ due_at output before) → LinkGoes link before lines after now
+pub still_goes : (before after : List Task) (lines now : List DeviceConnection) (link : ℕ) → slice_get now link ≡ slice_get lines link → ((output : ℕ) → due_at output after ≤ due_at output before) → LinkGoes link before lines after now
 still_goes before after lines now link same fewer most from led = ∥∥₁_elim led ∥∥₁_prop (λ l. ∣ same_line most from before after lines now link same fewer l ∣₁)
 
 no_fewer : (tasks : List Task) (output : ℕ) → due_at output tasks ≤ due_at output tasks
 no_fewer tasks output = omega arith
 
-pub others_go : (lines : List Line) (at : ℕ) (new : Line) → OthersGo at lines (set lines at new)
+pub others_go : (lines : List DeviceConnection) (at : ℕ) (new : DeviceConnection) → OthersGo at lines (set lines at new)
 others_go lines at new link tasks other = still_goes tasks tasks lines (set lines at new) link (set_other lines at link new other) (no_fewer tasks)
 
-own_goes : (lines : List Line) (at : ℕ) (old new : Line) → slice_get lines at ≡ Some old → (step : OwnStep old new) → (before after : List Task)
+own_goes : (lines : List DeviceConnection) (at : ℕ) (old new : DeviceConnection) → slice_get lines at ≡ Some old → (step : OwnStep old new) → (before after : List Task)
     → ((output : ℕ) → times_asked output (begun_by step) + due_at output after ≤ due_at output before) → (link : ℕ) → LinkGoes link before lines after (set lines at new)
 own_goes lines at old new is step before after takes link = go (eqb_tells link at)
   where
@@ -103,49 +103,49 @@ own_goes lines at old new is step before after takes link = go (eqb_tells link a
     go (inl here) = subst (λ k. LinkGoes k before lines after (set lines at new)) (sym here.1) (line_goes lines at old new is step before after takes)
     go (inr away) = still_goes before after lines (set lines at new) link (set_other lines at link new away.1) (λ output. omega (arith, takes output))
 
-pub keeps_goes : (lines : List Line) (at : ℕ) (old new : Line) → slice_get lines at ≡ Some old → Keeps old new → LinesGo lines (set lines at new)
+pub keeps_goes : (lines : List DeviceConnection) (at : ℕ) (old new : DeviceConnection) → slice_get lines at ≡ Some old → Keeps old new → LinesGo lines (set lines at new)
 keeps_goes lines at old new is step link tasks = own_goes lines at old new is (keeps step) tasks tasks (λ output. omega arith) link
 
 -- a dial changes nothing else
-module _ {X : Type 0} (f : Line → X) where
-  still_by : (until : ℕ) (line : Line) → f (record line { dial_until = Some until }) ≡ f line → f (dialled until line) ≡ f line
+module _ {X : Type 0} (f : DeviceConnection → X) where
+  still_by : (until : ℕ) (line : DeviceConnection) → f (record line { dial_until = Some until }) ≡ f line → f (dialled until line) ≡ f line
   still_by until line same = go line.is_up
     where
       go : (b : Bool) → f (if b then line else record line { dial_until = Some until }) ≡ f line
       go true = refl
       go false = same
 
-pub still_asked : (until : ℕ) (line : Line) → (dialled until line).asked ≡ line.asked
-still_asked until line = still_by (λ (l : Line). l.asked) until line refl
+pub still_asked : (until : ℕ) (line : DeviceConnection) → (dialled until line).asked ≡ line.asked
+still_asked until line = still_by (λ (l : DeviceConnection). l.asked) until line refl
 
-pub still_inquiry : (until : ℕ) (line : Line) → (dialled until line).inquiry ≡ line.inquiry
-still_inquiry until line = still_by (λ (l : Line). l.inquiry) until line refl
+pub still_pending : (until : ℕ) (line : DeviceConnection) → (dialled until line).pending ≡ line.pending
+still_pending until line = still_by (λ (l : DeviceConnection). l.pending) until line refl
 
-pub still_out : (until : ℕ) (line : Line) → (dialled until line).out.items ≡ line.out.items
-still_out until line = still_by (λ (l : Line). l.out.items) until line refl
+pub still_out : (until : ℕ) (line : DeviceConnection) → (dialled until line).out.items ≡ line.out.items
+still_out until line = still_by (λ (l : DeviceConnection). l.out.items) until line refl
 
-still_dialled : (until : ℕ) (line : Line) (b : Bool) → line.is_up ≡ b → (if b then line else record line { dial_until = Some until }) ≡ dialled until line
+still_dialled : (until : ℕ) (line : DeviceConnection) (b : Bool) → line.is_up ≡ b → (if b then line else record line { dial_until = Some until }) ≡ dialled until line
 still_dialled until line b is = ap (λ (x : Bool). if x then line else record line { dial_until = Some until }) (sym is)
 
 -- a dial begins where it is down, else nothing happens
-pub dialled_goes : (lines : List Line) (at : ℕ) (old new : Line) (until : ℕ) → slice_get lines at ≡ Some old → new ≡ dialled until old → LinesGo lines (set lines at new)
+pub dialled_goes : (lines : List DeviceConnection) (at : ℕ) (old new : DeviceConnection) (until : ℕ) → slice_get lines at ≡ Some old → new ≡ dialled until old → LinesGo lines (set lines at new)
 dialled_goes lines at old new until is dialled_so = go old.is_up refl
   where
     go : (b : Bool) → old.is_up ≡ b → LinesGo lines (set lines at new)
     go true up link tasks =
         let same : new ≡ old = dialled_so ∙ sym (still_dialled until old true up) in
-        still_goes tasks tasks lines (set lines at new) link (ap (λ (l : List Line). slice_get l link) (unchanged lines at old new is same)) (λ output. omega arith)
+        still_goes tasks tasks lines (set lines at new) link (ap (λ (l : List DeviceConnection). slice_get l link) (unchanged lines at old new is same)) (λ output. omega arith)
     go false down link tasks =
         own_goes lines at old new is (dials (record { down = down; until = until; same = dialled_so ∙ sym (still_dialled until old false down) })) tasks tasks (λ output. omega arith) link
 
 -- what stands there then
-pub dialled_there : (lines : List Line) (at : ℕ) (old new : Line) (until : ℕ) → slice_get lines at ≡ Some old → new ≡ dialled until old → (line : Line) → slice_get lines at ≡ Some line → slice_get (set lines at new) at ≡ Some (dialled until line)
+pub dialled_there : (lines : List DeviceConnection) (at : ℕ) (old new : DeviceConnection) (until : ℕ) → slice_get lines at ≡ Some old → new ≡ dialled until old → (line : DeviceConnection) → slice_get lines at ≡ Some line → slice_get (set lines at new) at ≡ Some (dialled until line)
 dialled_there lines at old new until is dialled_so line there = set_there lines at old new is ∙ ap Some (dialled_so ∙ ap (dialled until) (some_same is there))
 
-pub given_up_goes : (lines : List Line) (at : ℕ) (old new : Line) → slice_get lines at ≡ Some old → GivesUp old new → LinesGo lines (set lines at new)
+pub given_up_goes : (lines : List DeviceConnection) (at : ℕ) (old new : DeviceConnection) → slice_get lines at ≡ Some old → GivesUp old new → LinesGo lines (set lines at new)
 given_up_goes lines at old new is step link tasks = own_goes lines at old new is (gives_up step) tasks tasks (λ output. omega arith) link
 
-pub begun_goes : (lines : List Line) (at : ℕ) (old new : Line) → slice_get lines at ≡ Some old → (step : Begins old new) → (before after : List Task) → TakesDue step.asked.aim before after
+pub begun_goes : (lines : List DeviceConnection) (at : ℕ) (old new : DeviceConnection) → slice_get lines at ≡ Some old → (step : Begins old new) → (before after : List Task) → TakesDue step.asked.aim before after
     → (link : ℕ) → LinkGoes link before lines after (set lines at new)
 begun_goes lines at old new is step before after takes = own_goes lines at old new is (begins step) before after takes.each
 
@@ -155,36 +155,36 @@ joined : (requests : List Request) (r : Request) → flat_map (λ (x : Request).
 joined [] r = append-nil (frame_bytes (frame_of r))
 joined (q ∷ requests) r = ap (λ l. frame_bytes (frame_of q) ++ l) (joined requests r) ∙ sym (append_assoc (frame_bytes (frame_of q)) (flat_map (λ (x : Request). frame_bytes (frame_of x)) requests) (frame_bytes (frame_of r)))
 
-abbrev SendsMore : List Request → List ℕ → Line → Line → Type 0
+abbrev SendsMore : List Request → List ℕ → DeviceConnection → DeviceConnection → Type 0
 SendsMore requests gone old new = (more : List Request) × IsSending (requests ++ more) gone new × AreNumbered old.id more new.id
 
-same_out : (requests : List Request) (gone : List ℕ) (old new : Line) → new.out.items ≡ old.out.items → new.id ≡ old.id → IsSending requests gone old → SendsMore requests gone old new
+same_out : (requests : List Request) (gone : List ℕ) (old new : DeviceConnection) → new.out.items ≡ old.out.items → new.id ≡ old.id → IsSending requests gone old → SendsMore requests gone old new
 same_out requests gone old new same next sending = ([], ap (λ l. gone ++ l) same ∙ (sending ∙ ap (λ (l : List Request). flat_map (λ (x : Request). frame_bytes (frame_of x)) l) (sym (append-nil requests))), next)
 
-one_step : (requests : List Request) (gone : List ℕ) (old new : Line) → HearingStep old new → IsSending requests gone old → SendsMore requests gone old new
+one_step : (requests : List Request) (gone : List ℕ) (old new : DeviceConnection) → HearingStep old new → IsSending requests gone old → SendsMore requests gone old new
 one_step requests gone old new (inl (begins step)) sending =
     let all : gone ≡ flat_map (λ (x : Request). frame_bytes (frame_of x)) requests = sym (append-nil gone) ∙ (ap (λ l. gone ++ l) (sym step.quiet) ∙ sending) in
     (step.request ∷ [], ap (λ l. gone ++ l) step.frame ∙ (ap (λ l. l ++ frame_bytes (frame_of step.request)) all ∙ sym (joined requests step.request)), (step.numbered, step.next))
 one_step requests gone old new (inl (gives_up step)) sending = same_out requests gone old new step.same step.next sending
 one_step requests gone old new (inl (keeps step)) sending = same_out requests gone old new step.same step.next sending
-one_step requests gone old new (inl (dials step)) sending = same_out requests gone old new (ap (λ (l : Line). l.out.items) step.same) (ap (λ (l : Line). l.id) step.same) sending
+one_step requests gone old new (inl (dials step)) sending = same_out requests gone old new (ap (λ (l : DeviceConnection). l.out.items) step.same) (ap (λ (l : DeviceConnection). l.id) step.same) sending
 one_step requests gone old new (inr (bytes, left, fate, step)) sending = same_out requests gone old new step.same step.next sending
 
-and_more : (requests more others : List Request) (gone : List ℕ) (new : Line) → IsSending ((requests ++ more) ++ others) gone new → IsSending (requests ++ (more ++ others)) gone new
+and_more : (requests more others : List Request) (gone : List ℕ) (new : DeviceConnection) → IsSending ((requests ++ more) ++ others) gone new → IsSending (requests ++ (more ++ others)) gone new
 and_more requests more others gone new sending = sending ∙ ap (λ (l : List Request). flat_map (λ (x : Request). frame_bytes (frame_of x)) l) (append_assoc requests more others)
 
 numbered_on : (id middle next : ℕ) (more others : List Request) → AreNumbered id more middle → AreNumbered middle others next → AreNumbered id (more ++ others) next
 numbered_on id middle next [] others is rest = subst (λ n. AreNumbered n others next) is rest
 numbered_on id middle next (r ∷ more) others (own, is) rest = (own, numbered_on (next_id id) middle next more others is rest)
 
-course_sends : (requests : List Request) (gone : List ℕ) (old new : Line) → CourseBy HearingStep old new → IsSending requests gone old → SendsMore requests gone old new
+course_sends : (requests : List Request) (gone : List ℕ) (old new : DeviceConnection) → CourseBy HearingStep old new → IsSending requests gone old → SendsMore requests gone old new
 course_sends requests gone old new (stays line) sending = same_out requests gone old old refl refl sending
 course_sends requests gone old new (goes {middle = middle} course line step) sending =
     let first = course_sends requests gone old middle course sending in
     let then_ = one_step (requests ++ first.0) gone middle new step first.1 in
     (first.0 ++ then_.0, and_more requests first.0 then_.0 gone new then_.1, numbered_on old.id middle.id new.id first.0 then_.0 first.2 then_.2)
 
-goes_out : (requests : List Request) (gone : List ℕ) (n : ℕ) (old new : Line) → Sends n old new → IsSending requests gone old → IsSending requests (gone ++ take (min n (length old.out.items)) old.out.items) new
+goes_out : (requests : List Request) (gone : List ℕ) (n : ℕ) (old new : DeviceConnection) → Sends n old new → IsSending requests gone old → IsSending requests (gone ++ take (min n (length old.out.items)) old.out.items) new
 goes_out requests gone n old new sends sending =
     let m : ℕ = min n (length old.out.items) in
     ap (λ l. (gone ++ take m old.out.items) ++ l) sends.left ∙ (append_assoc gone (take m old.out.items) (drop m old.out.items) ∙ (ap (λ l. gone ++ l) (take-append-drop m old.out.items) ∙ sending))
@@ -199,27 +199,27 @@ frames_go_out_whole = record {
 
 -- ---- what stands at a place
 
-pub is_at : (P : Line → Type 0) (lines : List Line) (at : ℕ) (old new : Line) → slice_get lines at ≡ Some old → P new → (line : Line) → slice_get (set lines at new) at ≡ Some line → P line
+pub is_at : (P : DeviceConnection → Type 0) (lines : List DeviceConnection) (at : ℕ) (old new : DeviceConnection) → slice_get lines at ≡ Some old → P new → (line : DeviceConnection) → slice_get (set lines at new) at ≡ Some line → P line
 is_at P lines at old new is p line there = subst P (some_same (set_there lines at old new is) there) p
 
 -- a step of a line that stands at its place
-pub step_at : (Step : Line → Line → Type 0) (lines : List Line) (at : ℕ) (old new : Line) → slice_get lines at ≡ Some old → Step old new → (line : Line) → slice_get lines at ≡ Some line
-    → (now : Line) × (slice_get (set lines at new) at ≡ Some now) × Step line now
-step_at Step lines at old new is step line there = (new, set_there lines at old new is, subst (λ (x : Line). Step x new) (some_same is there) step)
+pub step_at : (Step : DeviceConnection → DeviceConnection → Type 0) (lines : List DeviceConnection) (at : ℕ) (old new : DeviceConnection) → slice_get lines at ≡ Some old → Step old new → (line : DeviceConnection) → slice_get lines at ≡ Some line
+    → (now : DeviceConnection) × (slice_get (set lines at new) at ≡ Some now) × Step line now
+step_at Step lines at old new is step line there = (new, set_there lines at old new is, subst (λ (x : DeviceConnection). Step x new) (some_same is there) step)
 
 -- a request that may not begin takes nothing of what is due
-pub not_begun : (made_for : Aim) (before after : List Task) (lines : List Line) → TakesDue made_for before after → (link : ℕ) → LinkGoes link before lines after lines
+pub not_begun : (made_for : Aim) (before after : List Task) (lines : List DeviceConnection) → TakesDue made_for before after → (link : ℕ) → LinkGoes link before lines after lines
 not_begun made_for before after lines takes link = still_goes before after lines lines link refl (λ output. omega (arith, takes.each output))
 
 -- where one may begin it does, else nothing changes
-pub begun_goes_if : (lines : List Line) (at : ℕ) (old new : Line) (did : Bool) (asked : Asked) → slice_get lines at ≡ Some old → (IsTrue did → (step : Begins old new) × (step.asked ≡ asked)) → (did ≡ false → new ≡ old)
+pub begun_goes_if : (lines : List DeviceConnection) (at : ℕ) (old new : DeviceConnection) (did : Bool) (asked : Asked) → slice_get lines at ≡ Some old → (IsTrue did → (step : Begins old new) × (step.asked ≡ asked)) → (did ≡ false → new ≡ old)
     → (before after : List Task) → TakesDue asked.aim before after → (link : ℕ) → LinkGoes link before lines after (set lines at new)
 begun_goes_if lines at old new true asked is did_begin none before after takes link =
     let (step, own) = did_begin refl in
     let P : Asked → Type 0 = λ a. TakesDue a.aim before after in
     begun_goes lines at old new is step before after (subst P (sym own) takes) link
 begun_goes_if lines at old new false asked is did_begin none before after takes link =
-    still_goes before after lines (set lines at new) link (ap (λ (l : List Line). slice_get l link) (unchanged lines at old new is (none refl))) (λ output. omega (arith, takes.each output))
+    still_goes before after lines (set lines at new) link (ap (λ (l : List DeviceConnection). slice_get l link) (unchanged lines at old new is (none refl))) (λ output. omega (arith, takes.each output))
 
 -- ---- what is free
 
@@ -242,24 +242,24 @@ none_waits bytes is = nil_of bytes (eqb-true (length bytes) 0 is)
 truth : {a b : Bool} → a ≡ b → b ≡ false → a ≡ true → {X : Type 0} → X
 truth same none yes_ = absurd (cc)
 
-unwaited_linked : (old new : Line) → StaysLinked old new → IsUnwaited old → IsUnwaited new
+unwaited_linked : (old new : DeviceConnection) → StaysLinked old new → IsUnwaited old → IsUnwaited new
 unwaited_linked old new linked before = record { over = λ up answered. linked.wait ∙ before.over (sym linked.up ∙ up) (sym linked.answered ∙ answered) }
 
-unwaited_heard : (old new : Line) (fate : Option Fate) → new.is_up ≡ old.is_up → new.is_heard ≡ (if answers fate then true else old.is_heard) → new.wait ≡ (if answers fate then 0 else old.wait) → IsUnwaited old → IsUnwaited new
+unwaited_heard : (old new : DeviceConnection) (fate : Option RequestEnd) → new.is_up ≡ old.is_up → new.is_heard ≡ (if answers fate then true else old.is_heard) → new.wait ≡ (if answers fate then 0 else old.wait) → IsUnwaited old → IsUnwaited new
 unwaited_heard old new fate up answered wait before = go (answers fate) answered wait
   where
     go : (b : Bool) → new.is_heard ≡ (if b then true else old.is_heard) → new.wait ≡ (if b then 0 else old.wait) → IsUnwaited new
     go true heard over = record { over = λ is_up is_heard. over }
     go false heard over = record { over = λ is_up is_heard. over ∙ before.over (sym up ∙ is_up) (sym heard ∙ is_heard) }
 
-unwaited_step : (old new : Line) → HearingStep old new → IsUnwaited old → IsUnwaited new
+unwaited_step : (old new : DeviceConnection) → HearingStep old new → IsUnwaited old → IsUnwaited new
 unwaited_step old new (inl (begins step)) before = unwaited_linked old new step.linked before
 unwaited_step old new (inl (gives_up step)) before = unwaited_linked old new step.linked before
 unwaited_step old new (inl (keeps step)) before = unwaited_linked old new step.linked before
 unwaited_step old new (inl (dials step)) before = subst IsUnwaited (sym step.same) (record { over = before.over })
 unwaited_step old new (inr (bytes, left, fate, step)) before = unwaited_heard old new fate step.up step.answered step.wait before
 
-unwaited_course : (old new : Line) → CourseBy HearingStep old new → IsUnwaited old → IsUnwaited new
+unwaited_course : (old new : DeviceConnection) → CourseBy HearingStep old new → IsUnwaited old → IsUnwaited new
 unwaited_course old new (stays line) before = before
 unwaited_course old new (goes {middle = middle} course line step) before = unwaited_step middle new step (unwaited_course old middle course before)
 
@@ -270,7 +270,7 @@ idle_parts true false (Some asked) answered is = absurd (cc)
 idle_parts true true asked answered is = absurd (cc)
 idle_parts false bad asked answered is = absurd (cc)
 
-at_once : (now : ℕ) (limits : Limits) (old new : Line) → GoesDown now limits old new → IsUnwaited old → is_idle old ≡ true → new.wait ≡ 0
+at_once : (now : ℕ) (limits : Limits) (old new : DeviceConnection) → GoesDown now limits old new → IsUnwaited old → is_idle old ≡ true → new.wait ≡ 0
 at_once now limits old new down before is =
     let parts = idle_parts old.is_up old.is_bad old.asked old.is_heard is in
     down.wait ∙ (ap (λ (b : Bool). if b then old.wait else longer old.wait (min limits.period 1000) limits.back_off_most) is ∙ before.over parts.0 parts.1)

@@ -5,9 +5,9 @@ use Rattle.std.proofs.lemmas.List.{append-nil, drop-drop, take-take}
 use Rattle.std.proofs.Math.Seq.{take-add}
 use Rattle.modbus_frame.specs.declared.frame.Frame.{Frame}
 use Rattle.modbus_frame.specs.Framing.{IsRead}
-use Rattle.service.specs.Sessions.{AnsweredTo, Puts, Serving, Turn, frames_in, fresh, opened, others, puts}
-use Rattle.service.proofs.Talking.{any_cut_is_answered}
-use Rattle.service.specs.Talk.{Talk}
+use Rattle.service_requests.specs.Sessions.{AnsweredTo, Puts, Serving, Turn, frames_in, fresh, opened, others, puts}
+use Rattle.service_requests.proofs.Talking.{any_cut_is_answered}
+use Rattle.service_requests.specs.Talk.{Talk}
 use Rattle.service_parts.specs.declared.client_place.ClientPlace.{ClientPlace}
 use Rattle.service_parts.specs.Clients.{ClientsAreAnswered, DoesAt, Hears, IsOpen, IsSame, IsServed, OthersStay, Sends, more_by, ready_of}
 

@@ -17,14 +17,14 @@ use Rattle.gateway.specs.declared.event_core.event.Event.{Event}
 use Rattle.gateway.specs.declared.poller.cycle.Call.{Call}
 use Rattle.gateway.specs.event_core.Core.{Gateway, adopting}
 use Rattle.gateway.specs.poller.LinkRun.{Asked as FrameRequest, frame_of, most_dropped}
-use Rattle.service.specs.declared.fate.Fate.{Fate}
+use Rattle.service_requests.specs.declared.request_end.RequestEnd.{RequestEnd}
 use Rattle.modbus_frame.specs.declared.fault.FrameFault.{FrameFault}
-use Rattle.service.specs.Hearing.{HearsFor, Pending, Takes, TakesUnless, Wait, lost_by, with_rest}
-use Rattle.service.specs.declared.search.Step.{Step}
-use Rattle.service.specs.declared.search.Step.TheVariants as step
+use Rattle.service_requests.specs.Hearing.{HearsFor, Pending, Takes, TakesUnless, Wait, lost_by, with_rest}
+use Rattle.service_requests.specs.declared.search.SearchStep.{SearchStep}
+use Rattle.service_requests.specs.declared.search.SearchStep.TheVariants as step
 use Rattle.service_parts.specs.declared.limits.Station.{Station}
-use Rattle.service_parts.specs.declared.line.Line.{Line}
-use Rattle.service_parts.specs.declared.lines.Lines.{Lines}
+use Rattle.service_parts.specs.declared.device_connection.DeviceConnection.{DeviceConnection}
+use Rattle.service_parts.specs.declared.connections.Connections.{Connections}
 use Rattle.service_parts.specs.declared.asked.Aim.{Aim}
 use Rattle.service_parts.specs.declared.asked.Aim.TheVariants as aim
 use Rattle.service_parts.specs.declared.asked.Asked.{Asked}
@@ -34,7 +34,7 @@ use Rattle.service_parts.specs.Course as course
 use Rattle.service_parts.specs.Frames.{Begins, GivesUp, Hears, IsCut, Keeps, Sends, TakesWhere, dialled, left_under_way}
 use Rattle.service_parts.specs.Requests.{AreRightful, AreRightfulBy, IsFoundOn, IsMade, IsNoted, IsNotedIf, IsOfRound, IsRightful, IsRightfulLine, IsRightfulOn, MayBeAsked, MayGoOver, words_of}
 use Rattle.service_parts.specs.Seeking.{IsSought}
-use Rattle.service_parts.proofs.Frames.{set_other, set_there, still_asked, still_inquiry, still_out, unchanged}
+use Rattle.service_parts.proofs.Frames.{set_other, set_there, still_asked, still_pending, still_out, unchanged}
 
 -- ---- whatever kinds there are
 
@@ -64,7 +64,7 @@ pub round_over : (g : Gateway) (numbers : List ℕ) (found_on : List (Option ℕ
     → ((number : ℕ) → slice_get numbers link ≡ Some number → IsFoundOn found_on number device) → MayGoOver g numbers found_on link made_for device request
 round_over g numbers found_on link made_for device request round found number at = ∣ inl (round, found number at) ∣₁
 
-pub search_over : (g : Gateway) (numbers : List ℕ) (found_on : List (Option ℕ)) (link device : ℕ) (next : Step) (request : Request) → ∥ IsSought g.site device next ∥₁ → next ≡ step.Ask request
+pub search_over : (g : Gateway) (numbers : List ℕ) (found_on : List (Option ℕ)) (link device : ℕ) (next : SearchStep) (request : Request) → ∥ IsSought g.site device next ∥₁ → next ≡ step.Ask request
     → MayGoOver g numbers found_on link aim.Map device request
 search_over g numbers found_on link device next request sought is number at = ∥∥₁_elim sought ∥∥₁_prop (λ s. ∣ inr (refl, subst (IsSought g.site device) is s) ∣₁)
 
@@ -107,13 +107,13 @@ module _ (now : Gateway) (stations : List Station) (found_on : List (Option ℕ)
     whole = append_assoc rest.gone (take n bytes) (drop n bytes) ∙ (ap (λ l. rest.gone ++ l) (take-append-drop n bytes) ∙ rest.whole);
   })
 
-  cut_line : (line : Line) → IsCut line → IsRightfulLine now stations found_on link number line
+  cut_line : (line : DeviceConnection) → IsCut line → IsRightfulLine now stations found_on link number line
   cut_line line cut = record {
     waits = inl cut.quiet;
     noted = subst (λ o. IsNotedIf now stations found_on link number o line) (sym cut.none) tt;
   }
 
-  kept_line : (old new : Line) → new.asked ≡ old.asked → new.inquiry ≡ old.inquiry → new.out.items ≡ old.out.items → IsRightfulLine now stations found_on link number old → IsRightfulLine now stations found_on link number new
+  kept_line : (old new : DeviceConnection) → new.asked ≡ old.asked → new.pending ≡ old.pending → new.out.items ≡ old.out.items → IsRightfulLine now stations found_on link number old → IsRightfulLine now stations found_on link number new
   kept_line old new still heard same right = record {
     waits = subst (λ l. IsRightful now stations found_on link number l) (sym same) right.waits;
     noted = subst (λ o. IsNotedIf now stations found_on link number o new) (sym still) (go old.asked right.noted);
@@ -132,16 +132,16 @@ module _ (now : Gateway) (stations : List Station) (found_on : List (Option ℕ)
         whole = ap (λ l. noted.gone ++ l) same ∙ noted.whole;
       }
 
-  given_up_line : (old new : Line) → GivesUp old new → IsRightfulLine now stations found_on link number old → IsRightfulLine now stations found_on link number new
+  given_up_line : (old new : DeviceConnection) → GivesUp old new → IsRightfulLine now stations found_on link number old → IsRightfulLine now stations found_on link number new
   given_up_line old new gives right = record {
     waits = subst (λ l. IsRightful now stations found_on link number l) (sym gives.same) right.waits;
     noted = subst (λ o. IsNotedIf now stations found_on link number o new) (sym gives.over) tt;
   }
 
-  sent_line : (old new : Line) (n : ℕ) → Sends n old new → IsRightfulLine now stations found_on link number old → IsRightfulLine now stations found_on link number new
+  sent_line : (old new : DeviceConnection) (n : ℕ) → Sends n old new → IsRightfulLine now stations found_on link number old → IsRightfulLine now stations found_on link number new
   sent_line old new n sends right = record {
     waits = subst (λ l. IsRightful now stations found_on link number l) (sym sends.left) (left_of old.out.items (min n (length old.out.items)) right.waits);
-    noted = subst (λ o. IsNotedIf now stations found_on link number o new) (sym (ap (λ (l : Line). l.asked) sends.same)) (go old.asked right.noted);
+    noted = subst (λ o. IsNotedIf now stations found_on link number o new) (sym (ap (λ (l : DeviceConnection). l.asked) sends.same)) (go old.asked right.noted);
   }
     where
       go : (o : Option Asked) → IsNotedIf now stations found_on link number o old → IsNotedIf now stations found_on link number o new
@@ -149,7 +149,7 @@ module _ (now : Gateway) (stations : List Station) (found_on : List (Option ℕ)
       go (Some asked) noted = record {
         over = noted.over;
         wait = noted.wait;
-        waits = ap (λ (l : Line). l.inquiry.wait) sends.same ∙ noted.waits;
+        waits = ap (λ (l : DeviceConnection). l.pending.wait) sends.same ∙ noted.waits;
         made = noted.made;
         address = noted.address;
         words = noted.words;
@@ -159,13 +159,13 @@ module _ (now : Gateway) (stations : List Station) (found_on : List (Option ℕ)
             ∙ (ap (λ l. noted.gone ++ l) (take-append-drop (min n (length old.out.items)) old.out.items) ∙ noted.whole));
       }
 
-  heard_line : (old new : Line) (bytes left : List ℕ) (fate : Option Fate) → Hears bytes left fate old new → IsRightfulLine now stations found_on link number old → IsRightfulLine now stations found_on link number new
+  heard_line : (old new : DeviceConnection) (bytes left : List ℕ) (fate : Option RequestEnd) → Hears bytes left fate old new → IsRightfulLine now stations found_on link number old → IsRightfulLine now stations found_on link number new
   heard_line old new bytes left fate hears right = record {
     waits = subst (λ l. IsRightful now stations found_on link number l) (sym hears.same) right.waits;
     noted = subst (λ o. IsNotedIf now stations found_on link number o new) (sym hears.asked) (go fate old.asked (old.is_up && not old.is_bad) hears.takes right.noted);
   }
     where
-      goes_on : (asked : Asked) (w : Wait) → new.inquiry.wait ≡ Some w → (noted : IsNoted now stations found_on link number asked old) → w.asked ≡ noted.wait.asked → IsNoted now stations found_on link number asked new
+      goes_on : (asked : Asked) (w : Wait) → new.pending.wait ≡ Some w → (noted : IsNoted now stations found_on link number asked old) → w.asked ≡ noted.wait.asked → IsNoted now stations found_on link number asked new
       goes_on asked w waits noted same = record {
         over = noted.over;
         wait = w;
@@ -177,16 +177,16 @@ module _ (now : Gateway) (stations : List Station) (found_on : List (Option ℕ)
         whole = ap (λ l. noted.gone ++ l) hears.same ∙ (noted.whole ∙ ap (λ (r : FrameRequest). frame_bytes (frame_of r)) (sym same));
       }
 
-      go : (f : Option Fate) (o : Option Asked) (well : Bool) → TakesWhere well old.inquiry bytes left f new.inquiry → IsNotedIf now stations found_on link number o old
+      go : (f : Option RequestEnd) (o : Option Asked) (well : Bool) → TakesWhere well old.pending bytes left f new.pending → IsNotedIf now stations found_on link number o old
           → IsNotedIf now stations found_on link number (left_under_way f o) new
       go (Some told) o well takes noted = tt
       go None None well takes noted = tt
       go None (Some asked) true takes noted =
-          let after = still_waits old.inquiry new.inquiry bytes left noted.wait noted.waits takes in
+          let after = still_waits old.pending new.pending bytes left noted.wait noted.waits takes in
           goes_on asked after.0 after.1 noted after.2
       go None (Some asked) false takes noted = goes_on asked noted.wait (ap (λ (h : Pending). h.wait) takes.2 ∙ noted.waits) noted refl
 
-  begun_line : (old new : Line) (begins : Begins old new) → begins.asked.number ≡ number → slice_get stations begins.asked.device ≡ Some (record { link = link; unit = begins.request.unit })
+  begun_line : (old new : DeviceConnection) (begins : Begins old new) → begins.asked.number ≡ number → slice_get stations begins.asked.device ≡ Some (record { link = link; unit = begins.request.unit })
       → Reached now → MayBeAsked now found_on number begins.asked.aim begins.asked.device begins.request.request
       → begins.asked.address ≡ address_of begins.request.request → begins.asked.words ≡ words_of begins.request.request → IsRightfulLine now stations found_on link number new
   begun_line old new begins over station reached asked address words =
@@ -213,46 +213,46 @@ module _ (now : Gateway) (stations : List Station) (found_on : List (Option ℕ)
 
 -- ---- all lines
 
-module _ (now : Gateway) (stations : List Station) (numbers : List ℕ) (found_on : List (Option ℕ)) (lines : List Line) where
+module _ (now : Gateway) (stations : List Station) (numbers : List ℕ) (found_on : List (Option ℕ)) (lines : List DeviceConnection) where
   pub all_cut : All IsCut lines → AreRightful now stations numbers found_on lines
   all_cut cut link number line has at =
       let is : get_or lines link line ≡ line = get_or_from_slice_get lines link line line at in
       ∣ cut_line now stations found_on link number line (subst IsCut is (All-get_or IsCut lines link line (slice_get_within lines link line at) cut)) ∣₁
 
-  pub with_line : (link : ℕ) (new : Line) → AreRightful now stations numbers found_on lines
+  pub with_line : (link : ℕ) (new : DeviceConnection) → AreRightful now stations numbers found_on lines
       → ((number : ℕ) → slice_get numbers link ≡ Some number → ∥ IsRightfulLine now stations found_on link number new ∥₁) → AreRightful now stations numbers found_on (set lines link new)
   with_line link new before own k number line has at = go (set-cases lines link new k line at)
     where
       go : ((k ≡ link) × (line ≡ new)) ⊎ ((k ≢ link) × (slice_get lines k ≡ Some line)) → ∥ IsRightfulLine now stations found_on k number line ∥₁
-      go (inl (here, is)) = subst (λ (x : Line). ∥ IsRightfulLine now stations found_on k number x ∥₁) (sym is) (subst (λ i. ∥ IsRightfulLine now stations found_on i number new ∥₁) (sym here) (own number (ap (slice_get numbers) (sym here) ∙ has)))
+      go (inl (here, is)) = subst (λ (x : DeviceConnection). ∥ IsRightfulLine now stations found_on k number x ∥₁) (sym is) (subst (λ i. ∥ IsRightfulLine now stations found_on i number new ∥₁) (sym here) (own number (ap (slice_get numbers) (sym here) ∙ has)))
       go (inr (other, same)) = before k number line has same
 
-  with_step : (link : ℕ) (old new : Line) → AreRightful now stations numbers found_on lines → slice_get lines link ≡ Some old
+  with_step : (link : ℕ) (old new : DeviceConnection) → AreRightful now stations numbers found_on lines → slice_get lines link ≡ Some old
       → ((number : ℕ) → IsRightfulLine now stations found_on link number old → IsRightfulLine now stations found_on link number new) → AreRightful now stations numbers found_on (set lines link new)
   with_step link old new before at step = with_line link new before (λ number has. ∥∥₁_elim (before link number old has at) ∥∥₁_prop (λ right. ∣ step number right ∣₁))
 
-  pub with_kept : (link : ℕ) (old new : Line) → AreRightful now stations numbers found_on lines → slice_get lines link ≡ Some old → Keeps old new → AreRightful now stations numbers found_on (set lines link new)
+  pub with_kept : (link : ℕ) (old new : DeviceConnection) → AreRightful now stations numbers found_on lines → slice_get lines link ≡ Some old → Keeps old new → AreRightful now stations numbers found_on (set lines link new)
   with_kept link old new before at keeps = with_step link old new before at (λ number right. kept_line now stations found_on link number old new keeps.still keeps.heard keeps.same right)
 
-  pub with_dialled : (link until : ℕ) (old new : Line) → AreRightful now stations numbers found_on lines → slice_get lines link ≡ Some old → new ≡ dialled until old → AreRightful now stations numbers found_on (set lines link new)
+  pub with_dialled : (link until : ℕ) (old new : DeviceConnection) → AreRightful now stations numbers found_on lines → slice_get lines link ≡ Some old → new ≡ dialled until old → AreRightful now stations numbers found_on (set lines link new)
   with_dialled link until old new before at is = with_step link old new before at (λ number right.
-      kept_line now stations found_on link number old new (ap (λ (l : Line). l.asked) is ∙ still_asked until old) (ap (λ (l : Line). l.inquiry) is ∙ still_inquiry until old) (ap (λ (l : Line). l.out.items) is ∙ still_out until old) right)
+      kept_line now stations found_on link number old new (ap (λ (l : DeviceConnection). l.asked) is ∙ still_asked until old) (ap (λ (l : DeviceConnection). l.pending) is ∙ still_pending until old) (ap (λ (l : DeviceConnection). l.out.items) is ∙ still_out until old) right)
 
-  pub with_given_up : (link : ℕ) (old new : Line) → AreRightful now stations numbers found_on lines → slice_get lines link ≡ Some old → GivesUp old new → AreRightful now stations numbers found_on (set lines link new)
+  pub with_given_up : (link : ℕ) (old new : DeviceConnection) → AreRightful now stations numbers found_on lines → slice_get lines link ≡ Some old → GivesUp old new → AreRightful now stations numbers found_on (set lines link new)
   with_given_up link old new before at gives = with_step link old new before at (λ number right. given_up_line now stations found_on link number old new gives right)
 
-  pub with_sent : (link n : ℕ) (old new : Line) → AreRightful now stations numbers found_on lines → slice_get lines link ≡ Some old → Sends n old new → AreRightful now stations numbers found_on (set lines link new)
+  pub with_sent : (link n : ℕ) (old new : DeviceConnection) → AreRightful now stations numbers found_on lines → slice_get lines link ≡ Some old → Sends n old new → AreRightful now stations numbers found_on (set lines link new)
   with_sent link n old new before at sends = with_step link old new before at (λ number right. sent_line now stations found_on link number old new n sends right)
 
-  pub with_heard : (link : ℕ) (bytes left : List ℕ) (fate : Option Fate) (old new : Line) → AreRightful now stations numbers found_on lines → slice_get lines link ≡ Some old → Hears bytes left fate old new
+  pub with_heard : (link : ℕ) (bytes left : List ℕ) (fate : Option RequestEnd) (old new : DeviceConnection) → AreRightful now stations numbers found_on lines → slice_get lines link ≡ Some old → Hears bytes left fate old new
       → AreRightful now stations numbers found_on (set lines link new)
   with_heard link bytes left fate old new before at hears = with_step link old new before at (λ number right. heard_line now stations found_on link number old new bytes left fate hears right)
 
-  pub with_cut : (link : ℕ) (new : Line) → AreRightful now stations numbers found_on lines → IsCut new → AreRightful now stations numbers found_on (set lines link new)
+  pub with_cut : (link : ℕ) (new : DeviceConnection) → AreRightful now stations numbers found_on lines → IsCut new → AreRightful now stations numbers found_on (set lines link new)
   with_cut link new before cut = with_line link new before (λ number has. ∣ cut_line now stations found_on link number new cut ∣₁)
 
   -- a request begins that may be asked over the connection that the link has now
-  pub with_begun : (link unit : ℕ) (asked : Asked) (request : Request) (old new : Line) → AreRightful now stations numbers found_on lines → ∥ Reached now ∥₁
+  pub with_begun : (link unit : ℕ) (asked : Asked) (request : Request) (old new : DeviceConnection) → AreRightful now stations numbers found_on lines → ∥ Reached now ∥₁
       → slice_get numbers link ≡ Some asked.number → slice_get stations asked.device ≡ Some (record { link = link; unit = unit }) → MayGoOver now numbers found_on link asked.aim asked.device request
       → asked.address ≡ address_of request → asked.words ≡ words_of request → ((begins : Begins old new) × (begins.asked ≡ asked) × (begins.request.unit ≡ unit) × (begins.request.request ≡ request)) → AreRightful now stations numbers found_on (set lines link new)
   with_begun link unit asked request old new before reached numbered station may address words (begins, is, at_unit, own) = with_line link new before (λ number has.
@@ -264,7 +264,7 @@ module _ (now : Gateway) (stations : List Station) (numbers : List ℕ) (found_o
 
   -- ---- a new connection, on which nothing waits
 
-  pub with_next : (link next : ℕ) → AreRightful now stations numbers found_on lines → ((line : Line) → slice_get lines link ≡ Some line → IsCut line) → AreRightful now stations (set numbers link next) found_on lines
+  pub with_next : (link next : ℕ) → AreRightful now stations numbers found_on lines → ((line : DeviceConnection) → slice_get lines link ≡ Some line → IsCut line) → AreRightful now stations (set numbers link next) found_on lines
   with_next link next before cut k number line has at = go (set-cases numbers link next k number has)
     where
       go : ((k ≡ link) × (number ≡ next)) ⊎ ((k ≢ link) × (slice_get numbers k ≡ Some number)) → ∥ IsRightfulLine now stations found_on k number line ∥₁
@@ -322,7 +322,7 @@ module _ (now : Gateway) (stations : List Station) (numbers : List ℕ) (found_o
 
 -- ---- what waits on one of them
 
-pub waits_on : (now : Gateway) (lines : Lines) (link : ℕ) (line : Line) (bytes : List ℕ) → AreRightfulBy now lines → slice_get lines.lines.items link ≡ Some line → bytes ≡ line.out.items → IsRightfulOn now lines link bytes
+pub waits_on : (now : Gateway) (lines : Connections) (link : ℕ) (line : DeviceConnection) (bytes : List ℕ) → AreRightfulBy now lines → slice_get lines.lines.items link ≡ Some line → bytes ≡ line.out.items → IsRightfulOn now lines link bytes
 waits_on now lines link line bytes before at is number has = ∥∥₁_elim (before link number line has at) ∥∥₁_prop (λ right.
     ∣ subst (λ l. IsRightful now lines.links.stations.items lines.found_on.items link number l) (sym is) right.waits ∣₁)
 
@@ -347,7 +347,7 @@ module _ (old new : Gateway) (stations : List Station) (found_on : List (Option 
     whole = rest.whole;
   }) ∣₁)
 
-  noted_since : (line : Line) (o : Option Asked) → IsNotedIf old stations found_on link number o line → ∥ IsNotedIf new stations found_on link number o line ∥₁
+  noted_since : (line : DeviceConnection) (o : Option Asked) → IsNotedIf old stations found_on link number o line → ∥ IsNotedIf new stations found_on link number o line ∥₁
   noted_since line None n = ∣ tt ∣₁
   noted_since line (Some asked) n = ∥∥₁_elim (made_since asked.aim asked.device n.wait.asked n.made) ∥∥₁_prop (λ made. ∣ record {
     over = n.over;
@@ -360,28 +360,28 @@ module _ (old new : Gateway) (stations : List Station) (found_on : List (Option 
     whole = n.whole;
   } ∣₁)
 
-  line_since : (line : Line) → IsRightfulLine old stations found_on link number line → ∥ IsRightfulLine new stations found_on link number line ∥₁
+  line_since : (line : DeviceConnection) → IsRightfulLine old stations found_on link number line → ∥ IsRightfulLine new stations found_on link number line ∥₁
   line_since line right = ∥∥₁_elim (right_since line.out.items right.waits) ∥∥₁_prop (λ waits. ∥∥₁_elim (noted_since line line.asked right.noted) ∥∥₁_prop (λ noted. ∣ record { waits = waits; noted = noted } ∣₁))
 
-right_further : (old new : Gateway) (lines : Lines) → Further old new → AreRightfulBy old lines → AreRightfulBy new lines
+right_further : (old new : Gateway) (lines : Connections) → Further old new → AreRightfulBy old lines → AreRightfulBy new lines
 right_further old new lines goes before link number line has at = ∥∥₁_elim (before link number line has at) ∥∥₁_prop (λ right.
     line_since old new lines.links.stations.items lines.found_on.items link number goes line right)
 
-pub right_by : (Kinds : Event → Type 0) (old new : Gateway) (lines : Lines) → LeadsOnBy Kinds old new → AreRightfulBy old lines → AreRightfulBy new lines
+pub right_by : (Kinds : Event → Type 0) (old new : Gateway) (lines : Connections) → LeadsOnBy Kinds old new → AreRightfulBy old lines → AreRightfulBy new lines
 right_by Kinds old new lines goes before = right_further old new lines (λ from led. goes_behind Kinds from old new led goes) before
 
 -- another program is put in
-pub right_adopting : (old new : Gateway) (lines : Lines) (machine : Running) → HasLinks old.site.tags machine.accepted.links → new ≡ adopting machine old → AreRightfulBy old lines → AreRightfulBy new lines
+pub right_adopting : (old new : Gateway) (lines : Connections) (machine : Running) → HasLinks old.site.tags machine.accepted.links → new ≡ adopting machine old → AreRightfulBy old lines → AreRightfulBy new lines
 right_adopting old new lines machine links is before =
     right_further old new lines (λ from led. ∣ course.adopts led machine links new (subst (Goes (adopting machine old)) (sym is) (stays (adopting machine old))) ∣₁) before
 
-pub right_on : (old new : Gateway) (lines : Lines) → LeadsOnBy IsOfRounds old new → AreRightfulBy old lines → AreRightfulBy new lines
+pub right_on : (old new : Gateway) (lines : Connections) → LeadsOnBy IsOfRounds old new → AreRightfulBy old lines → AreRightfulBy new lines
 right_on old new lines goes before = right_by IsOfRounds old new lines goes before
 
-pub right_behind_clients : (old new : Gateway) (lines : Lines) → LeadsOnBy IsOfClients old new → AreRightfulBy old lines → AreRightfulBy new lines
+pub right_behind_clients : (old new : Gateway) (lines : Connections) → LeadsOnBy IsOfClients old new → AreRightfulBy old lines → AreRightfulBy new lines
 right_behind_clients old new lines goes before = right_by IsOfClients old new lines goes before
 
-pub with_begun_if : (now : Gateway) (stations : List Station) (numbers : List ℕ) (found_on : List (Option ℕ)) (lines : List Line) (link unit : ℕ) (asked : Asked) (request : Request) (old new : Line) (did : Bool)
+pub with_begun_if : (now : Gateway) (stations : List Station) (numbers : List ℕ) (found_on : List (Option ℕ)) (lines : List DeviceConnection) (link unit : ℕ) (asked : Asked) (request : Request) (old new : DeviceConnection) (did : Bool)
     → AreRightful now stations numbers found_on lines → ∥ Reached now ∥₁ → slice_get numbers link ≡ Some asked.number → slice_get stations asked.device ≡ Some (record { link = link; unit = unit })
     → MayGoOver now numbers found_on link asked.aim asked.device request → asked.address ≡ address_of request → asked.words ≡ words_of request → slice_get lines link ≡ Some old
     → (IsTrue did → (begins : Begins old new) × (begins.asked ≡ asked) × (begins.request.unit ≡ unit) × (begins.request.request ≡ request)) → (did ≡ false → new ≡ old)
@@ -389,4 +389,4 @@ pub with_begun_if : (now : Gateway) (stations : List Station) (numbers : List �
 with_begun_if now stations numbers found_on lines link unit asked request old new true before reached numbered station may address words is begun none =
     with_begun now stations numbers found_on lines link unit asked request old new before reached numbered station may address words (begun refl)
 with_begun_if now stations numbers found_on lines link unit asked request old new false before reached numbered station may address words is begun none =
-    subst (λ (l : List Line). AreRightful now stations numbers found_on l) (sym (unchanged lines link old new is (none refl))) before
+    subst (λ (l : List DeviceConnection). AreRightful now stations numbers found_on l) (sym (unchanged lines link old new is (none refl))) before

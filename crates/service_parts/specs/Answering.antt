@@ -2,8 +2,8 @@
 use Rattle.std.specs.Prelude.{ℕ, nat_eq, Bool, true, false, not, ◌||◌, Option, None, Some}
 use Rattle.gateway.specs.declared.poller.outcome.Outcome.{Outcome}
 use Rattle.gateway.specs.declared.poller.outcome.Outcome.TheVariants as outcome
-use Rattle.service.specs.declared.fate.Fate.{Fate}
-use Rattle.service.specs.declared.fate.Fate.TheVariants as fate
+use Rattle.service_requests.specs.declared.request_end.RequestEnd.{RequestEnd}
+use Rattle.service_requests.specs.declared.request_end.RequestEnd.TheVariants as fate
 
 -- whether a gateway says by this code that its unit can't be reached, or doesn't answer
 abbrev pub is_gateways : ℕ → Bool
@@ -18,7 +18,7 @@ is_answer outcome.Mismatch = true
 is_answer outcome.Stale = false
 
 -- whether a device answered by what became of a request, or by nothing yet
-abbrev pub answers : Option Fate → Bool
+abbrev pub answers : Option RequestEnd → Bool
 answers None = false
 answers (Some (fate.Told o)) = is_answer o
 answers (Some fate.Lost) = false

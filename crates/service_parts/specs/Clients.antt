@@ -3,7 +3,7 @@
 use Rattle.std.specs.Prelude.{◌≡◌, ◌⊎◌, ◌≤◌, ◌+◌, ◌-◌, ◌^◌, ℕ, zero, suc, min, Bool, true, false, List, [], ◌++◌, length, take, drop, Some, slice_get}
 use Rattle.modbus_frame.specs.declared.frame.Frame.{Frame}
 use Rattle.modbus_frame.specs.Framing.{IsRead}
-use Rattle.service.specs.Sessions.{AnsweredTo, IsChain, IsOver, Puts, Serving, Turn, frames_in, fresh}
+use Rattle.service_requests.specs.Sessions.{AnsweredTo, IsChain, IsOver, Puts, Serving, Turn, frames_in, fresh}
 use Rattle.service_parts.specs.declared.client_place.ClientPlace.{ClientPlace}
 
 -- how many frames were answered, where there are so many more of them; a count that is full stays

@@ -5,13 +5,13 @@ use Rattle.std.specs.List.{flat_map}
 use Rattle.std.specs.Option.{option_map_or}
 use Rattle.modbus_frame.specs.Frame.{frame_bytes}
 use Rattle.gateway.specs.poller.LinkRun.{Asked as Request, frame_of, next_id}
-use Rattle.service.specs.declared.fate.Fate.{Fate}
-use Rattle.service.specs.Hearing.{Pending, Takes, asking, fresh, with_rest}
-use Rattle.service.specs.declared.task.Mark.{Mark}
-use Rattle.service.specs.declared.task.Mark.TheVariants as mark
-use Rattle.service.specs.declared.task.Task.{Task}
+use Rattle.service_requests.specs.declared.request_end.RequestEnd.{RequestEnd}
+use Rattle.service_requests.specs.Hearing.{Pending, Takes, asking, fresh, with_rest}
+use Rattle.service_requests.specs.declared.task.TaskMark.{TaskMark}
+use Rattle.service_requests.specs.declared.task.TaskMark.TheVariants as mark
+use Rattle.service_requests.specs.declared.task.Task.{Task}
 use Rattle.service_parts.specs.declared.limits.Limits.{Limits}
-use Rattle.service_parts.specs.declared.line.Line.{Line}
+use Rattle.service_parts.specs.declared.device_connection.DeviceConnection.{DeviceConnection}
 use Rattle.service_parts.specs.declared.asked.Aim.{Aim}
 use Rattle.service_parts.specs.declared.asked.Aim.TheVariants as aim
 use Rattle.service_parts.specs.declared.asked.Asked.{Asked}
@@ -22,7 +22,7 @@ use Rattle.service_parts.specs.Backing.{after, longer}
 
 -- Whether it is up stays, whether a device answered since it came up, when it is made again, until when the dial that is under
 -- way may take, and its back-off.
-pub record StaysLinked (old new : Line) : Type 0 where
+pub record StaysLinked (old new : DeviceConnection) : Type 0 where
   pub up : new.is_up ≡ old.is_up
   pub answered : new.is_heard ≡ old.is_heard
   pub until : new.dial_until ≡ old.dial_until
@@ -33,7 +33,7 @@ pub record StaysLinked (old new : Line) : Type 0 where
 
 -- A request begins over a connection that is well, where none is under way and nothing waits: its frame is to be written. Its
 -- transaction has the next number.
-pub record Begins (old new : Line) : Type 0 where
+pub record Begins (old new : DeviceConnection) : Type 0 where
   pub up : old.is_up ≡ true
   pub well : old.is_bad ≡ false
   pub free : old.asked ≡ None
@@ -43,12 +43,12 @@ pub record Begins (old new : Line) : Type 0 where
   pub numbered : request.id ≡ old.id
   pub next : new.id ≡ next_id old.id
   pub noted : new.asked ≡ Some asked
-  pub under_way : new.inquiry ≡ asking old.inquiry request
+  pub under_way : new.pending ≡ asking old.pending request
   pub frame : new.out.items ≡ frame_bytes (frame_of request)
   pub linked : StaysLinked old new
 
 -- The request that is under way is given up. Over a connection on which a part of a frame waits nothing more begins.
-pub record GivesUp (old new : Line) : Type 0 where
+pub record GivesUp (old new : DeviceConnection) : Type 0 where
   pub over : new.asked ≡ None
   pub next : new.id ≡ old.id
   pub same : new.out.items ≡ old.out.items
@@ -57,43 +57,43 @@ pub record GivesUp (old new : Line) : Type 0 where
   pub linked : StaysLinked old new
 
 -- Nothing happens to the request that is under way.
-pub record Keeps (old new : Line) : Type 0 where
+pub record Keeps (old new : DeviceConnection) : Type 0 where
   pub still : new.asked ≡ old.asked
-  pub heard : new.inquiry ≡ old.inquiry
+  pub heard : new.pending ≡ old.pending
   pub next : new.id ≡ old.id
   pub same : new.out.items ≡ old.out.items
   pub bad : old.is_bad ≡ true → new.is_bad ≡ true
   pub linked : StaysLinked old new
 
 -- what is under way after a fate
-abbrev pub left_under_way : Option Fate → Option Asked → Option Asked
+abbrev pub left_under_way : Option RequestEnd → Option Asked → Option Asked
 left_under_way None asked = asked
 left_under_way (Some fate) asked = None
 
 -- the request that a fate ends
-abbrev pub ended_by : Option Fate → Option Asked → Option Asked
+abbrev pub ended_by : Option RequestEnd → Option Asked → Option Asked
 ended_by None asked = None
 ended_by (Some fate) asked = asked
 
 -- Over a connection that is well they are taken, and some are left; over any other one they are lost, and nothing is heard.
-abbrev pub TakesWhere : Bool → Pending → (bytes left : List ℕ) → Option Fate → Pending → Type 0
+abbrev pub TakesWhere : Bool → Pending → (bytes left : List ℕ) → Option RequestEnd → Pending → Type 0
 TakesWhere true old bytes left fate new = Takes (with_rest old []) bytes fate (with_rest new left)
 TakesWhere false old bytes left fate new = (left ≡ []) × (fate ≡ None) × (new ≡ old)
 
 -- A dial begins while it is down, and may take until some time. All else stays.
-pub record Dials (old new : Line) : Type 0 where
+pub record Dials (old new : DeviceConnection) : Type 0 where
   pub down : old.is_up ≡ false
   pub until : ℕ
   pub same : new ≡ record old { dial_until = Some until }
 
 -- what a line is after a dial that may take until this time: one that is up has none
-abbrev pub dialled : ℕ → Line → Line
+abbrev pub dialled : ℕ → DeviceConnection → DeviceConnection
 dialled until line = if line.is_up then line else record line { dial_until = Some until }
 
 -- These bytes are taken of its stream, except those that are left; what they tell became of the request ends it, and nothing else
 -- does. An answer ends its back-off: a device answered since it came up.
-pub record Hears (bytes left : List ℕ) (fate : Option Fate) (old new : Line) : Type 0 where
-  pub takes : TakesWhere (old.is_up && not old.is_bad) old.inquiry bytes left fate new.inquiry
+pub record Hears (bytes left : List ℕ) (fate : Option RequestEnd) (old new : DeviceConnection) : Type 0 where
+  pub takes : TakesWhere (old.is_up && not old.is_bad) old.pending bytes left fate new.pending
   pub asked : new.asked ≡ left_under_way fate old.asked
   pub next : new.id ≡ old.id
   pub same : new.out.items ≡ old.out.items
@@ -105,18 +105,18 @@ pub record Hears (bytes left : List ℕ) (fate : Option Fate) (old new : Line) :
   pub wait : new.wait ≡ (if answers fate then 0 else old.wait)
 
 -- So many of the bytes that wait are written.
-pub record Sends (n : ℕ) (old new : Line) : Type 0 where
+pub record Sends (n : ℕ) (old new : DeviceConnection) : Type 0 where
   pub same : new ≡ record old { out = new.out }
   pub left : new.out.items ≡ drop (min n (length old.out.items)) old.out.items
 
 -- A stream that begins, or that is over: nothing waits, and nothing is under way.
-pub record IsCut (line : Line) : Type 0 where
-  pub begins : line.inquiry ≡ fresh
+pub record IsCut (line : DeviceConnection) : Type 0 where
+  pub begins : line.pending ≡ fresh
   pub none : line.asked ≡ None
   pub quiet : line.out.items ≡ []
 
 -- It comes up: a new stream begins, over which no device answered yet. No dial is under way.
-pub record ComesUp (old new : Line) : Type 0 where
+pub record ComesUp (old new : DeviceConnection) : Type 0 where
   pub cut : IsCut new
   pub up : new.is_up ≡ true
   pub well : new.is_bad ≡ false
@@ -125,12 +125,12 @@ pub record ComesUp (old new : Line) : Type 0 where
   pub wait : new.wait ≡ old.wait
 
 -- It does nothing and its devices answered.
-abbrev pub is_idle : Line → Bool
+abbrev pub is_idle : DeviceConnection → Bool
 is_idle line = line.is_up && not line.is_bad && is_none line.asked && line.is_heard
 
 -- It goes down: its stream is over, and so is a dial. One that ended while it did nothing is made again after its last back-off,
 -- which is none (`AnsweredLinesHaveNoBackOff`); any other one after a longer one.
-pub record GoesDown (now : ℕ) (limits : Limits) (old new : Line) : Type 0 where
+pub record GoesDown (now : ℕ) (limits : Limits) (old new : DeviceConnection) : Type 0 where
   pub cut : IsCut new
   pub down : new.is_up ≡ false
   pub until : new.dial_until ≡ None
@@ -140,26 +140,26 @@ pub record GoesDown (now : ℕ) (limits : Limits) (old new : Line) : Type 0 wher
 -- ---- kinds of steps
 
 -- What a service does by itself.
-pub data OwnStep (old new : Line) : Type 0 where
+pub data OwnStep (old new : DeviceConnection) : Type 0 where
   begins : Begins old new → OwnStep old new
   gives_up : GivesUp old new → OwnStep old new
   keeps : Keeps old new → OwnStep old new
   dials : Dials old new → OwnStep old new
 
 -- That, and what is heard over this connection.
-abbrev pub HearingStep : Line → Line → Type 0
-HearingStep old new = OwnStep old new ⊎ ((bytes : List ℕ) × (left : List ℕ) × (fate : Option Fate) × Hears bytes left fate old new)
+abbrev pub HearingStep : DeviceConnection → DeviceConnection → Type 0
+HearingStep old new = OwnStep old new ⊎ ((bytes : List ℕ) × (left : List ℕ) × (fate : Option RequestEnd) × Hears bytes left fate old new)
 
 -- That, and its stream ends or begins anew.
-abbrev pub CuttingStep : Line → Line → Type 0
+abbrev pub CuttingStep : DeviceConnection → DeviceConnection → Type 0
 CuttingStep old new = OwnStep old new ⊎ IsCut new
 
 -- ---- one step after another
 
 -- From the one to the other by such steps alone.
-pub data CourseBy (Step : Line → Line → Type 0) : Line → Line → Type 0 where
-  stays : (line : Line) → CourseBy Step line line
-  goes : {old middle : Line} → CourseBy Step old middle → (new : Line) → Step middle new → CourseBy Step old new
+pub data CourseBy (Step : DeviceConnection → DeviceConnection → Type 0) : DeviceConnection → DeviceConnection → Type 0 where
+  stays : (line : DeviceConnection) → CourseBy Step line line
+  goes : {old middle : DeviceConnection} → CourseBy Step old middle → (new : DeviceConnection) → Step middle new → CourseBy Step old new
 
 -- ---- which writes begin on the way
 
@@ -169,14 +169,14 @@ outputs_of (aim.Output output) = output ∷ []
 outputs_of (aim.Block want) = []
 outputs_of aim.Map = []
 
-abbrev pub begun_by : {old new : Line} → OwnStep old new → List ℕ
+abbrev pub begun_by : {old new : DeviceConnection} → OwnStep old new → List ℕ
 begun_by (begins step) = outputs_of step.asked.aim
 begun_by (gives_up step) = []
 begun_by (keeps step) = []
 begun_by (dials step) = []
 
 -- the outputs whose writes begin, the last one first
-abbrev pub begun : {old new : Line} → CourseBy OwnStep old new → List ℕ
+abbrev pub begun : {old new : DeviceConnection} → CourseBy OwnStep old new → List ℕ
 begun (stays line) = []
 begun (goes course new step) = begun_by step ++ begun course
 
@@ -184,7 +184,7 @@ abbrev pub times_asked : ℕ → List ℕ → ℕ
 times_asked i [] = 0
 times_asked i (k ∷ asked) = (if k == i then 1 else 0) + times_asked i asked
 
-abbrev pub due_by : Mark → ℕ
+abbrev pub due_by : TaskMark → ℕ
 due_by mark.Due = 1
 due_by mark.Asked = 0
 due_by mark.Done = 0
@@ -195,22 +195,22 @@ due_at output tasks = option_map_or (λ (t : Task). due_by t.mark) (slice_get ta
 
 -- What a service does by itself led from the one line to that of a link. Of each output no more writes began on the way than so
 -- many, and one less where its write is still to be made.
-pub record IsLed (most : ℕ → ℕ) (from : Line) (tasks : List Task) (lines : List Line) (link : ℕ) : Type 0 where
-  pub line : Line
+pub record IsLed (most : ℕ → ℕ) (from : DeviceConnection) (tasks : List Task) (lines : List DeviceConnection) (link : ℕ) : Type 0 where
+  pub line : DeviceConnection
   pub there : slice_get lines link ≡ Some line
   pub course : CourseBy OwnStep from line
   pub within : (output : ℕ) → times_asked output (begun course) + due_at output tasks ≤ most output
 
 -- Whatever led to a link's line leads to what it is now. Each write that begins was still to be made, and isn't any more.
-abbrev pub LinkGoes : (link : ℕ) → (tasks : List Task) → (lines : List Line) → (left : List Task) → (now : List Line) → Type 0
-LinkGoes link tasks lines left now = (most : ℕ → ℕ) (from : Line) → ∥ IsLed most from tasks lines link ∥₁ → ∥ IsLed most from left now link ∥₁
+abbrev pub LinkGoes : (link : ℕ) → (tasks : List Task) → (lines : List DeviceConnection) → (left : List Task) → (now : List DeviceConnection) → Type 0
+LinkGoes link tasks lines left now = (most : ℕ → ℕ) (from : DeviceConnection) → ∥ IsLed most from tasks lines link ∥₁ → ∥ IsLed most from left now link ∥₁
 
 -- Each link's line goes on so, whatever is still to be written: no write begins.
-abbrev pub LinesGo : List Line → List Line → Type 0
+abbrev pub LinesGo : List DeviceConnection → List DeviceConnection → Type 0
 LinesGo old new = (link : ℕ) (tasks : List Task) → LinkGoes link tasks old tasks new
 
 -- all but that of one link
-abbrev pub OthersGo : ℕ → List Line → List Line → Type 0
+abbrev pub OthersGo : ℕ → List DeviceConnection → List DeviceConnection → Type 0
 OthersGo at old new = (link : ℕ) (tasks : List Task) → (link ≡ at → ⊥) → LinkGoes link tasks old tasks new
 
 -- The write of an output that a request was made for was still to be made, and isn't any more; nor is that of another one which
@@ -221,7 +221,7 @@ pub record TakesDue (made_for : Aim) (before after : List Task) : Type 0 where
 -- ---- what went out
 
 -- The frames of these requests began, one after another, and these bytes of them went out: the rest waits.
-abbrev pub IsSending : List Request → List ℕ → Line → Type 0
+abbrev pub IsSending : List Request → List ℕ → DeviceConnection → Type 0
 IsSending requests gone line = gone ++ line.out.items ≡ flat_map (λ (r : Request). frame_bytes (frame_of r)) requests
 
 -- Their transactions have the numbers from the one on, one after another, and the other is the next: after 65535 comes 0.
@@ -232,24 +232,24 @@ AreNumbered id (r ∷ requests) next = (r.id ≡ id) × AreNumbered (next_id id)
 -- What goes out over a connection are whole frames, one after another, of transactions with numbers one after another: each begins
 -- once the one before was written whole, and the request that it spells is over. Over a stream that a cut frame spoilt nothing more begins.
 pub record FramesGoOutWhole : Type 0 where
-  pub anew : (line : Line) → IsCut line → IsSending [] [] line
-  pub goes_on : (requests : List Request) (gone : List ℕ) (old new : Line) → CourseBy HearingStep old new → IsSending requests gone old
+  pub anew : (line : DeviceConnection) → IsCut line → IsSending [] [] line
+  pub goes_on : (requests : List Request) (gone : List ℕ) (old new : DeviceConnection) → CourseBy HearingStep old new → IsSending requests gone old
       → (more : List Request) × IsSending (requests ++ more) gone new × AreNumbered old.id more new.id
-  pub goes_out : (requests : List Request) (gone : List ℕ) (n : ℕ) (old new : Line) → Sends n old new → IsSending requests gone old
+  pub goes_out : (requests : List Request) (gone : List ℕ) (n : ℕ) (old new : DeviceConnection) → Sends n old new → IsSending requests gone old
       → IsSending requests (gone ++ take (min n (length old.out.items)) old.out.items) new
-  pub one_at_a_time : (old new : Line) → Begins old new → (old.asked ≡ None) × (old.out.items ≡ [])
+  pub one_at_a_time : (old new : DeviceConnection) → Begins old new → (old.asked ≡ None) × (old.out.items ≡ [])
 
 -- ---- its back-off
 
 -- Where it is up, and a device answered since, its back-off is over.
-pub record IsUnwaited (line : Line) : Type 0 where
+pub record IsUnwaited (line : DeviceConnection) : Type 0 where
   pub over : line.is_up ≡ true → line.is_heard ≡ true → line.wait ≡ 0
 
 -- Whatever happens to a line, its back-off is over wherever it is up and a device answered since. So one that ends while it does
 -- nothing is made again at once.
 pub record AnsweredLinesHaveNoBackOff : Type 0 where
-  pub own : (old new : Line) → CourseBy HearingStep old new → IsUnwaited old → IsUnwaited new
-  pub goes_out : (n : ℕ) (old new : Line) → Sends n old new → IsUnwaited old → IsUnwaited new
-  pub comes_up : (old new : Line) → ComesUp old new → IsUnwaited new
-  pub goes_down : (now : ℕ) (limits : Limits) (old new : Line) → GoesDown now limits old new → IsUnwaited new
-  pub at_once : (now : ℕ) (limits : Limits) (old new : Line) → GoesDown now limits old new → IsUnwaited old → is_idle old ≡ true → new.wait ≡ 0
+  pub own : (old new : DeviceConnection) → CourseBy HearingStep old new → IsUnwaited old → IsUnwaited new
+  pub goes_out : (n : ℕ) (old new : DeviceConnection) → Sends n old new → IsUnwaited old → IsUnwaited new
+  pub comes_up : (old new : DeviceConnection) → ComesUp old new → IsUnwaited new
+  pub goes_down : (now : ℕ) (limits : Limits) (old new : DeviceConnection) → GoesDown now limits old new → IsUnwaited new
+  pub at_once : (now : ℕ) (limits : Limits) (old new : DeviceConnection) → GoesDown now limits old new → IsUnwaited old → is_idle old ≡ true → new.wait ≡ 0

@@ -7,11 +7,11 @@ use Rattle.modbus_frame.specs.Message.{address_of}
 use Rattle.modbus_frame.specs.Frame.{frame_bytes}
 use Rattle.gateway.specs.event_core.Core.{Gateway}
 use Rattle.gateway.specs.poller.LinkRun.{Asked as FrameRequest, frame_of}
-use Rattle.service.specs.declared.search.Step.TheVariants as step
-use Rattle.service.specs.Hearing.{Wait}
+use Rattle.service_requests.specs.declared.search.SearchStep.TheVariants as step
+use Rattle.service_requests.specs.Hearing.{Wait}
 use Rattle.service_parts.specs.declared.limits.Station.{Station}
-use Rattle.service_parts.specs.declared.line.Line.{Line}
-use Rattle.service_parts.specs.declared.lines.Lines.{Lines}
+use Rattle.service_parts.specs.declared.device_connection.DeviceConnection.{DeviceConnection}
+use Rattle.service_parts.specs.declared.connections.Connections.{Connections}
 use Rattle.service_parts.specs.declared.asked.Aim.{Aim}
 use Rattle.service_parts.specs.declared.asked.Aim.TheVariants as aim
 use Rattle.service_parts.specs.declared.asked.Asked.{Asked}
@@ -63,39 +63,39 @@ words_of (request.WriteMany addr words) = words
 -- The request that is under way on a line is such a one, of the device, for the wanted block or the output, and of the registers
 -- from the address on that it is noted with, and writes the words that it is noted with. Its connection is that with this number,
 -- and what waits is the rest of its frame.
-pub record IsNoted (now : Gateway) (stations : List Station) (found_on : List (Option ℕ)) (link number : ℕ) (asked : Asked) (line : Line) : Type 0 where
+pub record IsNoted (now : Gateway) (stations : List Station) (found_on : List (Option ℕ)) (link number : ℕ) (asked : Asked) (line : DeviceConnection) : Type 0 where
   pub over : asked.number ≡ number
   pub wait : Wait
-  pub waits : line.inquiry.wait ≡ Some wait
+  pub waits : line.pending.wait ≡ Some wait
   pub made : IsMade now stations found_on link number asked.aim asked.device wait.asked
   pub address : asked.address ≡ address_of wait.asked.request
   pub words : asked.words ≡ words_of wait.asked.request
   pub gone : List ℕ
   pub whole : gone ++ line.out.items ≡ frame_bytes (frame_of wait.asked)
 
-abbrev pub IsNotedIf : Gateway → List Station → List (Option ℕ) → ℕ → ℕ → Option Asked → Line → Type 0
+abbrev pub IsNotedIf : Gateway → List Station → List (Option ℕ) → ℕ → ℕ → Option Asked → DeviceConnection → Type 0
 IsNotedIf now stations found_on link number None line = ⊤
 IsNotedIf now stations found_on link number (Some asked) line = IsNoted now stations found_on link number asked line
 
 -- What waits on a line is the rest of a rightful frame, and what is noted of the request that is under way is so.
-pub record IsRightfulLine (now : Gateway) (stations : List Station) (found_on : List (Option ℕ)) (link number : ℕ) (line : Line) : Type 0 where
+pub record IsRightfulLine (now : Gateway) (stations : List Station) (found_on : List (Option ℕ)) (link number : ℕ) (line : DeviceConnection) : Type 0 where
   pub waits : IsRightful now stations found_on link number line.out.items
   pub noted : IsNotedIf now stations found_on link number line.asked line
 
 -- Each link's line is so, by the number of the connection that it has now.
-abbrev pub AreRightful : Gateway → List Station → List ℕ → List (Option ℕ) → List Line → Type 0
+abbrev pub AreRightful : Gateway → List Station → List ℕ → List (Option ℕ) → List DeviceConnection → Type 0
 AreRightful now stations numbers found_on lines =
-    (link number : ℕ) (line : Line) → slice_get numbers link ≡ Some number → slice_get lines link ≡ Some line → ∥ IsRightfulLine now stations found_on link number line ∥₁
+    (link number : ℕ) (line : DeviceConnection) → slice_get numbers link ≡ Some number → slice_get lines link ≡ Some line → ∥ IsRightfulLine now stations found_on link number line ∥₁
 
-abbrev pub IsRightfulOn : Gateway → Lines → ℕ → List ℕ → Type 0
+abbrev pub IsRightfulOn : Gateway → Connections → ℕ → List ℕ → Type 0
 IsRightfulOn now lines link bytes =
     (number : ℕ) → slice_get lines.links.numbers.items link ≡ Some number → ∥ IsRightful now lines.links.stations.items lines.found_on.items link number bytes ∥₁
 
-abbrev pub AreRightfulBy : Gateway → Lines → Type 0
+abbrev pub AreRightfulBy : Gateway → Connections → Type 0
 AreRightfulBy now lines = AreRightful now lines.links.stations.items lines.links.numbers.items lines.found_on.items lines.lines.items
 
 -- What was rightful, by whatever state, stays so.
-abbrev pub StayRightful : Lines → Lines → Type 0
+abbrev pub StayRightful : Connections → Connections → Type 0
 StayRightful old new = (now : Gateway) → AreRightfulBy now old → AreRightfulBy now new
 
 -- It may be asked over the connection that a link has now.

@@ -3,9 +3,9 @@ use Rattle.std.specs.Prelude.{◌≡◌, ℕ, List, Option, None, Some, ⊤, map
 use Rattle.register_map.specs.Layout.{Layout}
 use Rattle.site_model.specs.declared.device.SiteDevice.{SiteDevice}
 use Rattle.site_model.specs.declared.site.Site.{Site}
-use Rattle.service.specs.declared.search.Step.{Step}
-use Rattle.service.specs.declared.search.Step.TheVariants as step
-use Rattle.service.specs.Searches.{IsNext, Sought}
+use Rattle.service_requests.specs.declared.search.SearchStep.{SearchStep}
+use Rattle.service_requests.specs.declared.search.SearchStep.TheVariants as step
+use Rattle.service_requests.specs.Searches.{IsNext, Sought}
 
 abbrev pub base_sought : Sought → Option ℕ
 base_sought sought = sought.base
@@ -18,7 +18,7 @@ abbrev pub AreOf : Site → List Sought → Type 0
 AreOf site searches = map base_sought searches ≡ map base_stated site.devices
 
 -- This comes next in a search for the map of this device of the site, at the base that the site states for it, if any.
-pub record IsSought (site : Site) (device : ℕ) (next : Step) : Type 0 where
+pub record IsSought (site : Site) (device : ℕ) (next : SearchStep) : Type 0 where
   pub own : SiteDevice
   pub stands : slice_get site.devices device ≡ Some own
   pub sought : Sought

@@ -3,15 +3,15 @@ ghost use Rattle.std.specs.Prelude.{◌≡◌};
 ghost use Rattle.service_parts.specs.Answering.{answers, is_answer, is_gateways};
 
 use gateway::Outcome;
-use service::Fate;
+use service_requests::RequestEnd;
 
 /// Whether a device answered by what became of a request, or by nothing yet.
-pub(crate) fn is_answered(fate: &Option<Fate>) -> bool
+pub(crate) fn is_answered(fate: &Option<RequestEnd>) -> bool
     ensures { result ≡ answers fate.now }
 {
     match fate {
-        Some(Fate::Told(outcome)) => is_answer(outcome),
-        Some(Fate::Lost) | None => false,
+        Some(RequestEnd::Told(outcome)) => is_answer(outcome),
+        Some(RequestEnd::Lost) | None => false,
     }
 }
 

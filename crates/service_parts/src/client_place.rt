@@ -1,10 +1,10 @@
 //! A place for a client.
 ghost use Rattle.std.specs.Prelude.{◌≡◌, ◌≤◌, ◌<◌, ◌↔◌, ◌&&◌, not, [], length, take, IsTrue, true, false};
-ghost use Rattle.service.specs.Sessions.{IsFree, ServesOn};
+ghost use Rattle.service_requests.specs.Sessions.{IsFree, ServesOn};
 
 use crate::times::heard_at;
 use modbus_frame::Responder;
-use service::{Session, Turned};
+use service_requests::{Session, Turned};
 
 /// Room for the answers of one turn.
 const ROOM: usize = 2080;

@@ -6,11 +6,11 @@ mod answering;
 mod asked;
 mod client_place;
 mod client_places;
+mod connections;
+mod device_connection;
 mod limits;
-mod line;
-mod lines;
-mod links;
 mod standing;
+mod stations;
 mod times;
 mod traffic;
 
@@ -19,8 +19,8 @@ pub use limits::{Limits, Station};
 // the links to devices
 pub use answering::is_answer;
 pub use asked::{Aim, Asked, first_register, words_of};
-pub use line::Intake;
-pub use lines::Lines;
+pub use connections::Connections;
+pub use device_connection::Intake;
 // clients
 pub use client_place::ClientPlace;
 pub use client_places::{close_idle, place_for};

@@ -1,13 +1,13 @@
 //! How the connections of links stand.
 ghost use Rattle.std.specs.Prelude.{◌≡◌, ◌↔◌, ℕ, IsTrue, Some, slice_get};
-ghost use Rattle.service_parts.specs.declared.line.Line.{Line as LineValue};
+ghost use Rattle.service_parts.specs.declared.device_connection.DeviceConnection.{DeviceConnection as LineValue};
 ghost use Rattle.service_parts.specs.Frames.{LinesGo, dialled};
 ghost use Rattle.service_parts.specs.Requests.{StayRightful};
 ghost use Rattle.service_parts.specs.Waking.{IsToDial, IsToHangUp, is_up_at, is_well_at};
 
-use crate::lines::Lines;
+use crate::connections::Connections;
 
-impl Lines {
+impl Connections {
     /// Whether a connection is to be made: it is down, no dial is under way, and its back-off is over.
     pub fn wants_dial(&self, link: usize, now: u64) -> bool
         ensures { (line : LineValue) → slice_get self.now.lines.items link ≡ Some line → IsTrue result ↔ IsToDial now line }
@@ -86,7 +86,7 @@ impl Lines {
     }
 }
 
-impl Lines {
+impl Connections {
     /// A dial begins on a link that may take until this time; none where its connection is up.
     pub fn dial(&mut self, link: usize, until: u64)
         ensures rightful { StayRightful self.old self.new }

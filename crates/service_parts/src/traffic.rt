@@ -2,20 +2,20 @@
 ghost use Rattle.std.specs.Prelude.{◌≡◌, ◌⊎◌, ◌≤◌, ℕ, List, None, Some, drop, length, slice_get};
 ghost use Rattle.modbus_frame.specs.Message.{HasQuantity, address_of};
 ghost use Rattle.gateway.specs.event_core.Core.{Gateway};
-ghost use Rattle.service_parts.specs.declared.line.Line.{Line as LineValue};
+ghost use Rattle.service_parts.specs.declared.device_connection.DeviceConnection.{DeviceConnection as LineValue};
 ghost use Rattle.service_parts.specs.Course.{Reached};
-ghost use Rattle.service.specs.declared.task.Task.{Task};
+ghost use Rattle.service_requests.specs.declared.task.Task.{Task};
 ghost use Rattle.service_parts.specs.Frames.{Hears, LinesGo, LinkGoes, OthersGo, Sends, TakesDue, ended_by};
 ghost use Rattle.service_parts.specs.Overdue.{asked_at, is_over, overdue_at};
 ghost use Rattle.service_parts.specs.Requests.{AreRightfulBy, IsRightfulOn, MayGoOver, StayRightful, words_of};
 ghost use Rattle.service_parts.specs.Waking.{IsDueOf, due_at};
 
 use crate::asked::Asked;
-use crate::line::Intake;
-use crate::lines::Lines;
+use crate::connections::Connections;
+use crate::device_connection::Intake;
 use modbus_frame::Request;
 
-impl Lines {
+impl Connections {
     /// What is to be written over a link.
     pub fn to_send(&self, link: usize) -> &[u8]
         ensures rightful { (now : Gateway) → AreRightfulBy now self.now → IsRightfulOn now self.now link result.now }

@@ -6,7 +6,7 @@ use crate::seen::Wrongs;
 use crate::survey::Survey;
 use gateway::{Core, DEPTH};
 use note_text::{escaped, push_escaped};
-use site_alarms::{
+use service_alarms::{
     Alarm, AlarmSubject, cause_text, device_name, is_lacking, lacks_text, push_models, refuses_text,
 };
 use site_model::Want;

@@ -1,6 +1,6 @@
 //! What to do about devices.
-use service_core::Loss;
-use site_alarms::Alarm;
+use service::Loss;
+use service_alarms::Alarm;
 
 /// What to do about a device that is lost or has no map.
 pub(crate) fn device_help(alarm: Alarm) -> &'static str {

@@ -7,7 +7,7 @@ use crate::units::push_unit;
 use gateway::{Core, DEPTH};
 use note_text::{decimal, escaped, push_escaped};
 use point_types::{Cause, Reading};
-use site_alarms::{
+use service_alarms::{
     Alarm, AlarmSubject, MetNumber, device_name, is_lacking, mend, met_at, missing_text,
 };
 use site_model::{Access, SiteTag, Want};

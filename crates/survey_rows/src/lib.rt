@@ -1,6 +1,6 @@
 //! The table of a survey: the site file as it is asked, and after its scan one row for each device, model that a device
 //! lacks, input, output and served point, with what is wrong and what to do, and one for how often each device can be asked.
-//! What is wrong is computed as for alarms (site_alarms), and what of an output's range can't be said as writes are judged
+//! What is wrong is computed as for alarms (service_alarms), and what of an output's range can't be said as writes are judged
 //! (point_writer, served_ranges); of the words nothing is proved except that they end and are safe.
 #![tactic(auto)]
 

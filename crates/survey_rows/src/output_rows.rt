@@ -10,7 +10,7 @@ use point_types::Cause;
 use point_writer::factor;
 use served_notes::reason_of;
 use served_ranges::{Demand, is_always_met};
-use site_alarms::{Alarm, AlarmSubject, MetNumber, met_at};
+use service_alarms::{Alarm, AlarmSubject, MetNumber, met_at};
 use site_model::SiteTag;
 use std::alloc::{AllocError, Global};
 

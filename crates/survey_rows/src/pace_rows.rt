@@ -2,8 +2,8 @@
 use crate::row::Rows;
 use crate::survey::Survey;
 use note_text::escaped;
-use service_core::Replies;
-use site_alarms::device_name;
+use service::Replies;
+use service_alarms::device_name;
 use std::alloc::{AllocError, Global};
 
 /// The period of `serve` where no other is given, in milliseconds.

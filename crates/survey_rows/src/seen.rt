@@ -1,7 +1,7 @@
 //! What is wrong at a service after its scan.
 use point_types::Items;
-use service_core::{DeviceStatus, Service};
-use site_alarms::{Alarm, AlarmSubject, Seen, wrong_now};
+use service::{DeviceStatus, Service};
+use service_alarms::{Alarm, AlarmSubject, Seen, wrong_now};
 use std::alloc::{AllocError, Global};
 
 /// All that is wrong at a service, as alarms tell it.

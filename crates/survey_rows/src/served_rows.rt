@@ -6,7 +6,7 @@ use crate::units::push_unit_of;
 use gateway::total_of;
 use note_text::{decimal, escaped};
 use served_ranges::point_of_entry;
-use site_alarms::{Alarm, AlarmSubject, cause_text, mend, why_hidden};
+use service_alarms::{Alarm, AlarmSubject, cause_text, mend, why_hidden};
 use site_model::{Served, SiteTag, Source};
 use std::alloc::{AllocError, Global};
 

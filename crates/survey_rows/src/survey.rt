@@ -1,7 +1,7 @@
 //! What a survey is of.
 use crate::handed_defs::HandedDefs;
 use model_defs::ModelDef;
-use service_core::Service;
+use service::Service;
 use service_texts::Addresses;
 use site_model::Site;
 

@@ -6,7 +6,7 @@ use il_assemble::assemble;
 use inverter_sim::Plant;
 use model_defs::{ModelDef, shipped_models};
 use scan_vm::Machine;
-use service_core::{Limits, Service, Station};
+use service::{Limits, Service, Station};
 use service_texts::limits;
 use site_model::Site;
 use std::alloc::Global;

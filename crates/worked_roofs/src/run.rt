@@ -8,7 +8,7 @@ use crate::roof::Roof;
 use crate::span::needed;
 use modbus_frame::{Frame, Framer};
 use model_defs::ModelDef;
-use service_core::{Loss, Note, Service};
+use service::{Loss, Notice, Service};
 use std::alloc::Global;
 
 /// The most exchanges at one time.
@@ -275,10 +275,10 @@ impl<'a> Run<'a> {
     fn take_notes(&mut self) {
         for _ in 0..MOST_NOTES {
             match self.service.next_note() {
-                Some(Note::Lost(_, Loss::Down)) => {
+                Some(Notice::Lost(_, Loss::Down)) => {
                     self.counts.down = self.counts.down.saturating_add(1);
                 }
-                Some(Note::Lost(device, _)) => self.count_loss(device),
+                Some(Notice::Lost(device, _)) => self.count_loss(device),
                 Some(_) => {}
                 None => break,
             }

@@ -1,6 +1,6 @@
 //! What answers the frames of a session.
 use modbus_frame::{Frame, FrameReply, Pdu, Responder};
-use service::refusal;
+use service_requests::refusal;
 
 /// Answers each frame by its function and how many frames came; the answer to one of them is the last.
 #[derive(Drop)]

@@ -7,7 +7,7 @@ use modbus_frame::{Exception, Request, Words};
 use register_map::{
     Map, MapFault, MemRegisters, PlannedFault, ReadFault, Registers, chain, discover,
 };
-use service::{Search, Step};
+use service_requests::{Search, SearchStep};
 use std::alloc::Global;
 
 /// A step of registers.
@@ -163,11 +163,11 @@ fn searched(device: &mut MemRegisters, base: Option<u16>) -> Shown<(Option<Map>,
     let mut search = Search::new(base);
     for reads in 0..133 {
         match search.next() {
-            Step::Ask(Request::Read { addr, qty }) => {
+            SearchStep::Ask(Request::Read { addr, qty }) => {
                 search.take(&outcome_of(device, addr, qty)?)
             }
-            Step::Found(map) => return Ok((Some(map), reads)),
-            Step::Ask(_) | Step::NoMap => return Ok((None, reads)),
+            SearchStep::Found(map) => return Ok((Some(map), reads)),
+            SearchStep::Ask(_) | SearchStep::NoMap => return Ok((None, reads)),
         }
     }
     needed(None)

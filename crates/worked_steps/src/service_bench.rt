@@ -9,7 +9,7 @@ use crate::sites::{machine, plant, site};
 use crate::texts::Texts;
 use file_keys::TomlFile;
 use gateway::{Core, DEPTH, Event};
-use service_core::Service;
+use service::Service;
 use service_texts::{Addresses, limits, read_places};
 use std::alloc::Global;
 

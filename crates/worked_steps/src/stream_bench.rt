@@ -9,7 +9,7 @@ use crate::wire::Wire;
 use modbus_frame::{
     Fed, Frame, Framer, Pdu, Request, exception_pdu, parse_request, parse_response, request_pdu,
 };
-use service::{Fate, Session, is_write, refusal};
+use service_requests::{RequestEnd, Session, is_write, refusal};
 use std::alloc::Global;
 
 /// One register, W of an inverter.
@@ -51,7 +51,7 @@ impl StreamBench {
             StreamStep::Ask(id, unit, pdu) => self.ask(page, id, unit, pdu),
             StreamStep::Hear(bytes) => self.hear(page, bytes),
             StreamStep::HangUp => {
-                let fate = self.wire.inquiry.end();
+                let fate = self.wire.pending.end();
                 page.tell(format_args!("{fate:?}"))
             }
             StreamStep::HearCut(bytes) => self.hear_cut(page, bytes),
@@ -140,14 +140,14 @@ impl StreamBench {
         let Ok(request) = parse_request(&pdu_of(self.alloc, pdu)?) else {
             return needed(None);
         };
-        let frame = self.wire.inquiry.begin(id, unit, request);
+        let frame = self.wire.pending.begin(id, unit, request);
         page.tell(hex_of(self.alloc, frame.as_slice())?)
     }
 
     fn hear(&mut self, page: &mut Page, bytes: &[&str]) -> Shown<()> {
         let fate = self.wire.hear(&bytes_of(self.alloc, bytes)?)?;
         page.tell(format_args!("{fate:?}"))?;
-        if self.wire.inquiry.is_open() {
+        if self.wire.pending.is_open() {
             page.tell("still under way")?;
         }
         Ok(())
@@ -166,14 +166,14 @@ impl StreamBench {
 }
 
 /// What three pieces make of one request, and what is left of them of the next one.
-fn fates_of(alloc: Global, pieces: [&[u8]; 3]) -> Shown<(Option<Fate>, Option<Fate>)> {
+fn fates_of(alloc: Global, pieces: [&[u8]; 3]) -> Shown<(Option<RequestEnd>, Option<RequestEnd>)> {
     let mut wire = Wire::new(alloc);
-    wire.inquiry.begin(7, 1, W);
+    wire.pending.begin(7, 1, W);
     let mut first = None;
     for piece in pieces {
         first = first.or(wire.hear(piece)?);
     }
-    wire.inquiry.begin(8, 1, W);
+    wire.pending.begin(8, 1, W);
     Ok((first, wire.hear(&[])?))
 }
 

@@ -2,7 +2,7 @@
 use commands::{DEPTH, ScanWatch};
 use gateway::Core;
 use point_types::Items;
-use site_alarms::{
+use service_alarms::{
     Alarm, Watch, cause_text, mend, missing_now, subject_text, why_hidden, why_missing,
 };
 use std::alloc::{AllocError, Global};

@@ -7,7 +7,7 @@ use csv::Writer;
 use gateway::Core;
 use note_text::decimal;
 use point_types::{Reading, Var};
-use site_alarms::{missing_word, output_name};
+use service_alarms::{missing_word, output_name};
 use site_model::{Access, Site, SiteTag};
 use std::alloc::{AllocError, Global};
 use std::io::Write;

@@ -3,8 +3,8 @@ use command_files::variables_of;
 use commands::Accepted;
 use point_types::{Items, Name};
 use refusal_notes::Notes;
+use service_loop::{Keeping, KeptState};
 use service_texts::{RetainFault, kept_numbers, retained_names};
-use site_service::{Keeping, KeptState};
 use std::alloc::Global;
 
 /// Which variables are kept, and what was kept of them.

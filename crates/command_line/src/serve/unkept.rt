@@ -3,7 +3,7 @@ ghost use Rattle.command_files.specs.Printing.{Fails};
 
 use commands::{tell_no_memory, write_lines};
 use refusal_notes::{Notes, escaped};
-use site_service::StateFault;
+use service_loop::StateFault;
 use std::alloc::{AllocError, Global};
 use std::io::Write;
 

@@ -6,9 +6,9 @@ use gateway::CoreFault;
 use refusal_notes::Notes;
 use scan_vm::Machine;
 use served_site::{NoSurvey, survey_of};
-use service_core::Service;
+use service::Service;
+use service_loop::survey_limits;
 use service_texts::Addresses;
-use site_service::survey_limits;
 use std::alloc::{AllocError, Global};
 use survey_rows::{AskedFault, asked_site};
 

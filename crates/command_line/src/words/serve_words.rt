@@ -6,12 +6,12 @@ use crate::words::help;
 use clap::builder::ValueParser;
 use clap::{Arg, ArgAction, ArgMatches, Command};
 use point_types::Items;
-use service_core::Limits;
+use service::Limits;
+use service_loop::{Keeping, KeptState, Serving};
 use service_texts::{
     DeviceSource, DevicesFault, Start, Times, Writer, WriterFault, devices_of, limits, times_of,
     writers_of,
 };
-use site_service::{Keeping, KeptState, Serving};
 use std::alloc::{AllocError, Global};
 use std::net::{Net, SocketAddr, ToSocketAddrs};
 

@@ -4,7 +4,7 @@ use commands::{Accepted, accept};
 use file_keys::TomlFile;
 use gateway::CoreFault;
 use served_site::{replace_program, service_of};
-use service_core::Service;
+use service::Service;
 use service_texts::limits;
 use std::alloc::Global;
 use std::process::Abort;

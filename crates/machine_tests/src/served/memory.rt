@@ -8,7 +8,7 @@ use modbus_frame::{Frame, LinkFault, MemLink, Pdu, write_frame};
 use register_map::Map;
 use scan_code::Image;
 use scan_vm::Machine;
-use service::Tasks;
+use service_requests::Tasks;
 use site_model::Site;
 use std::alloc::Global;
 use std::process::Abort;

@@ -1,7 +1,7 @@
 use Rattle.std.proofs.Common.{◌<◌, ◌∙◌, ap, sym, length, arith}
 use Rattle.std.proofs.lemmas.List.{length-set}
 use Rattle.service_parts.specs.Places.{closed_if_idle}
-use Rattle.service.proofs.Mapping.{mapped_more}
+use Rattle.service_requests.proofs.Mapping.{mapped_more}
 use Rattle.service_parts.proofs.client_places.close_idle.Goals as goal
 
 pub loop-client-preserved : goal.loop-client-preserved

@@ -1,0 +1,5 @@
+use Rattle.service.proofs.Carried.{heard_after}
+use Rattle.service.proofs.service_state.Service.from_link.Goals as goal
+
+pub returns-clause-hears : goal.returns-clause-hears
+returns-clause-hears c line at = heard_after _ c.args.link line _ _ _ _ _ _ _ _ _ _ _ c.turn_to.ensures.stands (c.hear.ensures.hears line at)

@@ -1,0 +1,164 @@
+-- What devices have of what was written to them, by their acknowledgements, over all calls (Modbus Application Protocol V1.1b3,
+-- sections 6.6 and 6.12).
+use Rattle.std.specs.Prelude.{◌≡◌, ◌⊎◌, ◌==◌, ⊤, ℕ, true, Option, None, Some, Result, Ok, Err, if◌then◌else◌}
+use Rattle.site_model.specs.Readings.{known_at}
+use Rattle.point_writer.specs.declared.write.Write.{Write}
+use Rattle.point_writer.specs.declared.write.NoWrite.{NoWrite}
+use Rattle.gateway.specs.declared.poller.outcome.Outcome.{Outcome}
+use Rattle.gateway.specs.declared.poller.outcome.Outcome.TheVariants as outcome
+use Rattle.gateway.specs.event_core.Control.{IsPlanned}
+use Rattle.gateway.specs.event_core.Core.{Gateway}
+use Rattle.service_requests.specs.declared.request_end.RequestEnd.{RequestEnd}
+use Rattle.service_requests.specs.declared.request_end.RequestEnd.TheVariants as fate
+use Rattle.service_parts.specs.declared.asked.Aim.{Aim}
+use Rattle.service_parts.specs.declared.asked.Aim.TheVariants as aim
+use Rattle.service_parts.specs.declared.asked.Asked.{Asked}
+use Rattle.service_parts.specs.Answering.{is_answer}
+use Rattle.service.specs.declared.device_side.DeviceSide.{DeviceSide}
+use Rattle.service.specs.declared.notice.Loss.{Loss}
+use Rattle.service.specs.declared.notice.Unwritten.TheVariants as unwritten
+use Rattle.service.specs.declared.output.OutputState.{OutputState}
+use Rattle.service.specs.declared.output.OutputState.TheVariants as state
+use Rattle.service.specs.declared.held_writes.HeldWrite.{HeldWrite}
+use Rattle.service.specs.declared.held_writes.HeldWrites.{HeldWrites}
+use Rattle.service.specs.Rewriting.{had_without, write_of}
+use Rattle.service.specs.Told.{BecomesBy, IsThis, PlansBy, ScansBy, TellsBy}
+
+-- This is had of an output: by that device, in those registers, since then, and over that connection.
+pub record Has (held : HeldWrites) (output : ℕ) (write : HeldWrite) : Type 0 where
+  pub is : known_at held.writes.items output ≡ Some write
+
+-- Its device has something of an output.
+pub record IsHad (held : HeldWrites) (output : ℕ) : Type 0 where
+  pub write : HeldWrite
+  pub has : Has held output write
+
+-- No device has anything.
+abbrev pub HasNothing : HeldWrites → Type 0
+HasNothing held = (output : ℕ) → known_at held.writes.items output ≡ None
+
+-- All that devices have now they had then too.
+pub record IsWithin (first held : HeldWrites) : Type 0 where
+  pub each : (output : ℕ) (write : HeldWrite) → Has held output write → Has first output write
+
+-- Devices have nothing more than they had, and so nothing more than at any time since which they had nothing more.
+abbrev pub HasNoMore : HeldWrites → HeldWrites → Type 0
+HasNoMore old new = (first : HeldWrites) → IsWithin first old → IsWithin first new
+
+-- ---- by what a device answers
+
+-- what is taken of an output where a request is acknowledged that was made for this
+abbrev pub taken_for : Aim → HeldWrite → (output : ℕ) → Option HeldWrite
+taken_for (aim.Output which) write output = if which == output then Some write else None
+taken_for (aim.Block want) write output = None
+taken_for aim.Map write output = None
+
+-- An acknowledgement says that the words of its request are, and no other answer.
+abbrev pub taken_by : Outcome → Asked → (now output : ℕ) → Option HeldWrite
+taken_by outcome.Wrote asked now output = taken_for asked.aim (write_of asked now) output
+taken_by (outcome.Words words) asked now output = None
+taken_by (outcome.Exception e) asked now output = None
+taken_by outcome.Mismatch asked now output = None
+taken_by outcome.Stale asked now output = None
+
+abbrev pub taken_at : RequestEnd → Asked → (now output : ℕ) → Option HeldWrite
+taken_at (fate.Told o) asked now output = taken_by o asked now output
+taken_at fate.Lost asked now output = None
+
+-- by what became of the request that was under way, if one was; or by nothing yet
+abbrev pub taken_if : Option Asked → Option RequestEnd → (now output : ℕ) → Option HeldWrite
+taken_if None f now output = None
+taken_if (Some asked) None now output = None
+taken_if (Some asked) (Some f) now output = taken_at f asked now output
+
+-- What devices have they had before; or it is just what this says that is taken.
+abbrev pub HasMoreBy : (ℕ → Option HeldWrite) → HeldWrites → HeldWrites → Type 0
+HasMoreBy took old new = (output : ℕ) (write : HeldWrite) → Has new output write → Has old output write ⊎ (took output ≡ Some write)
+
+-- This says that something is taken.
+abbrev pub IsTaken : (ℕ → Option HeldWrite) → ℕ → Type 0
+IsTaken took output = (write : HeldWrite) × (took output ≡ Some write)
+
+-- ---- what is known no more
+
+-- It isn't known any more what this device has; what others have stays.
+abbrev pub Forgets : (device : ℕ) → HeldWrites → HeldWrites → Type 0
+Forgets device old new = (output : ℕ) → known_at new.writes.items output ≡ had_without device (known_at old.writes.items output)
+
+-- ---- what a device answers otherwise
+
+-- This came of the request that writes an output, and not that its device took it.
+abbrev pub IsRefusedBy : Outcome → Asked → ℕ → Type 0
+IsRefusedBy o asked output = (asked.aim ≡ aim.Output output) × (o ≡ outcome.Wrote → ⊥)
+
+-- An answer of its device refuses it.
+abbrev pub IsRefusedAt : RequestEnd → Asked → ℕ → Type 0
+IsRefusedAt (fate.Told o) asked output = (is_answer o ≡ true) × IsRefusedBy o asked output
+IsRefusedAt fate.Lost asked output = ⊥
+
+-- by what became of the request that was under way, if one was; or by nothing yet
+abbrev pub IsRefusedIf : Option Asked → Option RequestEnd → ℕ → Type 0
+IsRefusedIf None f output = ⊥
+IsRefusedIf (Some asked) None output = ⊥
+IsRefusedIf (Some asked) (Some f) output = IsRefusedAt f asked output
+
+-- ---- what is told of it
+
+-- While a service goes on by itself: an output is told as written where its device has it, and as not written where nothing came
+-- of its write; for no other cause.
+abbrev pub IsToldBy : HeldWrites → ℕ → OutputState → Type 0
+IsToldBy held output state.Written = IsHad held output
+IsToldBy held output (state.Unwritten unwritten.Unanswered) = ⊤
+IsToldBy held output (state.Unwritten unwritten.Refused) = ⊥
+IsToldBy held output (state.Unwritten (unwritten.NoSetPoint cause)) = ⊥
+
+-- An output is told as written where it is taken now, and as refused where it is.
+abbrev pub IsAnsweredBy : (ℕ → Option HeldWrite) → (ℕ → Type 0) → ℕ → OutputState → Type 0
+IsAnsweredBy took IsRefused output state.Written = IsTaken took output
+IsAnsweredBy took IsRefused output (state.Unwritten unwritten.Refused) = IsRefused output
+IsAnsweredBy took IsRefused output (state.Unwritten unwritten.Unanswered) = ⊥
+IsAnsweredBy took IsRefused output (state.Unwritten (unwritten.NoSetPoint cause)) = ⊥
+
+-- By what comes of a request: so, or as while a service goes on by itself.
+abbrev pub IsHeardBy : (ℕ → Option HeldWrite) → (ℕ → Type 0) → HeldWrites → ℕ → OutputState → Type 0
+IsHeardBy took IsRefused held output became = IsToldBy held output became ⊎ IsAnsweredBy took IsRefused output became
+
+-- This is planned for an output: nothing, for a cause.
+abbrev pub IsOfPlan : ℕ → Result Write NoWrite → ℕ → OutputState → Type 0
+IsOfPlan which (Ok write) output became = ⊥
+IsOfPlan which (Err cause) output became = IsThis which (state.Unwritten (unwritten.NoSetPoint cause)) output became
+
+-- its write is waited for, where one is planned
+abbrev pub IsToWait : ℕ → Result Write NoWrite → ℕ → Type 0
+IsToWait which (Ok write) output = output ≡ which
+IsToWait which (Err cause) output = ⊥
+
+-- The core plans a write for an output.
+abbrev pub IsToWrite : Gateway → ℕ → Type 0
+IsToWrite core output = (write : Write) × IsPlanned core output (Ok write)
+
+-- The core plans nothing for an output, for this.
+abbrev pub IsUnplanned : Gateway → ℕ → OutputState → Type 0
+IsUnplanned core output state.Written = ⊥
+IsUnplanned core output (state.Unwritten unwritten.Unanswered) = ⊥
+IsUnplanned core output (state.Unwritten unwritten.Refused) = ⊥
+IsUnplanned core output (state.Unwritten (unwritten.NoSetPoint cause)) = IsPlanned core output (Err cause)
+
+-- By a scan, after which the core is this: so, or as while a service goes on by itself.
+abbrev pub IsToldAt : Gateway → HeldWrites → ℕ → OutputState → Type 0
+IsToldAt core held output became = IsToldBy held output became ⊎ IsUnplanned core output became
+
+-- Of an output only that is told on the way which a service tells while it goes on by itself.
+abbrev pub WritesHad : HeldWrites → DeviceSide → DeviceSide → Type 0
+WritesHad held old new = (first : HeldWrites) → IsWithin first held → BecomesBy (IsToldBy first) old new
+
+-- The same, and a loss is told on the way only where this says why.
+abbrev pub TellsHad : (ℕ → Loss → Type 0) → HeldWrites → DeviceSide → DeviceSide → Type 0
+TellsHad Why held old new = (first : HeldWrites) → IsWithin first held → TellsBy Why (IsToldBy first) old new
+
+-- Both so by a scan, after which the core is this: those writes are waited for from then on that it plans.
+abbrev pub WritesAt : Gateway → HeldWrites → DeviceSide → DeviceSide → Type 0
+WritesAt core held old new = (first : HeldWrites) → IsWithin first held → PlansBy (IsToldAt core first) (IsToWrite core) old new
+
+abbrev pub TellsAt : (ℕ → Loss → Type 0) → Gateway → HeldWrites → DeviceSide → DeviceSide → Type 0
+TellsAt Why core held old new = (first : HeldWrites) → IsWithin first held → ScansBy Why (IsToldAt core first) (IsToWrite core) old new

@@ -1,0 +1,223 @@
+-- How devices and outputs stand, by what was told of them: over all calls. No standard says what is told; it is this
+-- project's.
+use Rattle.std.specs.Prelude.{◌≡◌, ◌⊎◌, ⊤, ℕ, ◌==◌, Bool, true, false, not, List, [], ◌∷◌, Option, Some, slice_get, if◌then◌else◌}
+use Rattle.std.specs.List.{list_all}
+use Rattle.std.specs.Option.{option_map_or}
+use Rattle.service.specs.declared.polled_device.PolledDevice.{PolledDevice}
+use Rattle.service.specs.declared.device_side.DeviceSide.{DeviceSide}
+use Rattle.service.specs.declared.notice.Loss.{Loss}
+use Rattle.service.specs.declared.notice.Notice.{Notice}
+use Rattle.service.specs.declared.notice.Notice.TheVariants as note
+use Rattle.service.specs.declared.notice.Unwritten.{Unwritten}
+use Rattle.service.specs.declared.notice.Unwritten.TheVariants as unwritten
+use Rattle.service.specs.declared.output.Output.{Output}
+use Rattle.service.specs.declared.output.OutputState.{OutputState}
+use Rattle.service.specs.declared.output.OutputState.TheVariants as state
+use Rattle.service.specs.Noting.{told}
+use Rattle.service.specs.Telling.{told_at}
+
+-- whether a device is lost
+abbrev pub lost_at : DeviceSide → ℕ → Bool
+lost_at side device = option_map_or (λ (own : PolledDevice). own.is_lost) (slice_get side.devices.items device) false
+
+-- what became of an output last
+abbrev pub state_at : DeviceSide → ℕ → Option OutputState
+state_at side output = told_at side.outputs.items output
+
+-- whether the write of an output is waited for
+abbrev pub awaits_at : DeviceSide → ℕ → Bool
+awaits_at side output = option_map_or (λ (o : Output). o.is_awaited) (slice_get side.outputs.items output) false
+
+-- ---- what a note says
+
+-- whether a device is lost, by a note and by whether it was before
+abbrev pub lost_then : Notice → ℕ → Bool → Bool
+lost_then (note.Lost which cause) device was = if device == which then true else was
+lost_then (note.Found which) device was = if device == which then false else was
+lost_then (note.Back which) device was = if device == which then false else was
+lost_then (note.NoMap which) device was = was
+lost_then (note.Refused which refusal) device was = was
+lost_then (note.Scanned report) device was = was
+lost_then (note.Late by) device was = was
+lost_then (note.Unwritten which cause) device was = was
+lost_then (note.Written which) device was = was
+
+-- what became of an output last, by a note and by what had become of it before
+abbrev pub state_then : Notice → ℕ → Option OutputState → Option OutputState
+state_then (note.Unwritten which cause) output was = if output == which then Some (state.Unwritten cause) else was
+state_then (note.Written which) output was = if output == which then Some state.Written else was
+state_then (note.Found which) output was = was
+state_then (note.NoMap which) output was = was
+state_then (note.Lost which cause) output was = was
+state_then (note.Back which) output was = was
+state_then (note.Refused which refusal) output was = was
+state_then (note.Scanned report) output was = was
+state_then (note.Late by) output was = was
+
+-- whether its write is waited for, by a note and by whether it was before: not once it is told what became of it
+abbrev pub awaited_then : Notice → ℕ → Bool → Bool
+awaited_then (note.Unwritten which cause) output was = if output == which then false else was
+awaited_then (note.Written which) output was = if output == which then false else was
+awaited_then (note.Found which) output was = was
+awaited_then (note.NoMap which) output was = was
+awaited_then (note.Lost which cause) output was = was
+awaited_then (note.Back which) output was = was
+awaited_then (note.Refused which refusal) output was = was
+awaited_then (note.Scanned report) output was = was
+awaited_then (note.Late by) output was = was
+
+-- where it is told that nothing came of an output's write, that was waited for
+abbrev pub WasAwaited : ℕ → Unwritten → DeviceSide → Type 0
+WasAwaited which unwritten.Unanswered side = awaits_at side which ≡ true
+WasAwaited which unwritten.Refused side = ⊤
+WasAwaited which (unwritten.NoSetPoint cause) side = ⊤
+
+-- What a note says is so, as far as it speaks of writes: the report of a scan has how many went out of which something came, and
+-- how many of these weren't done; and where nothing came of an output's write, that was waited for.
+abbrev pub IsSo : Notice → DeviceSide → Type 0
+IsSo (note.Scanned report) side = (report.writes ≡ side.writes) × (report.refused ≡ side.refused)
+IsSo (note.Unwritten which cause) side = WasAwaited which cause side
+IsSo (note.Written which) side = ⊤
+IsSo (note.Found which) side = ⊤
+IsSo (note.NoMap which) side = ⊤
+IsSo (note.Lost which cause) side = ⊤
+IsSo (note.Back which) side = ⊤
+IsSo (note.Refused which refusal) side = ⊤
+IsSo (note.Late by) side = ⊤
+
+-- what is told of an output that this became of
+abbrev pub note_of : ℕ → OutputState → Notice
+note_of output state.Written = note.Written output
+note_of output (state.Unwritten cause) = note.Unwritten output cause
+
+-- ---- one step
+
+-- This is told, which is so, where there is room for it, which stays; and devices and outputs stand by it.
+pub record Tells (n : Notice) (old new : DeviceSide) : Type 0 where
+  pub notes : new.notes.items.items ≡ told n old.notes
+  pub room : new.notes.items.cap ≡ old.notes.items.cap
+  pub devices : (device : ℕ) → lost_at new device ≡ lost_then n device (lost_at old device)
+  pub outputs : (output : ℕ) → state_at new output ≡ state_then n output (state_at old output)
+  pub awaited : (output : ℕ) → awaits_at new output ≡ awaited_then n output (awaits_at old output)
+  pub so : IsSo n old
+
+-- Nothing is told, the room for notes stays, and no device is lost or back and nothing else becomes of an output.
+pub record TellsNothing (old new : DeviceSide) : Type 0 where
+  pub notes : new.notes.items.items ≡ old.notes.items.items
+  pub room : new.notes.items.cap ≡ old.notes.items.cap
+  pub devices : (device : ℕ) → lost_at new device ≡ lost_at old device
+  pub outputs : (output : ℕ) → state_at new output ≡ state_at old output
+
+-- No write is waited for that wasn't.
+abbrev pub AwaitsNoMore : DeviceSide → DeviceSide → Type 0
+AwaitsNoMore old new = (output : ℕ) → awaits_at new output ≡ true → awaits_at old output ≡ true
+
+-- none but that of this output
+abbrev pub AwaitsAlso : ℕ → DeviceSide → DeviceSide → Type 0
+AwaitsAlso which old new = (output : ℕ) → awaits_at new output ≡ true → (output ≡ which) ⊎ (awaits_at old output ≡ true)
+
+-- ---- one step after another
+
+-- which losses may be told, by the number of the device; what may be told to have become of an output, by its number: that it is
+-- written, or that it isn't, for this; and the writes of which outputs may be waited for from now on
+pub record Allowed : Type 0 where
+  pub lost : ℕ → Loss → Bool
+  pub became : ℕ → OutputState → Bool
+  pub awaits : ℕ → Bool
+
+abbrev pub allows : Allowed → Notice → Bool
+allows may (note.Lost device why) = may.lost device why
+allows may (note.Found device) = true
+allows may (note.Back device) = true
+allows may (note.NoMap device) = true
+allows may (note.Refused device refusal) = true
+allows may (note.Scanned report) = true
+allows may (note.Late by) = true
+allows may (note.Unwritten output cause) = may.became output (state.Unwritten cause)
+allows may (note.Written output) = may.became output state.Written
+
+-- From the one to the other by such steps, on which of losses and of outputs only this is told.
+pub data Course (may : Allowed) : DeviceSide → DeviceSide → Type 0 where
+  stays : (side : DeviceSide) → Course may side side
+  tells : {old middle : DeviceSide} → Course may old middle → (n : Notice) (new : DeviceSide) → allows may n ≡ true → Tells n middle new → Course may old new
+  goes : {old middle : DeviceSide} → Course may old middle → (new : DeviceSide) → TellsNothing middle new → AwaitsNoMore middle new → Course may old new
+  awaits : {old middle : DeviceSide} → Course may old middle → (which : ℕ) (new : DeviceSide) → may.awaits which ≡ true → TellsNothing middle new → AwaitsAlso which middle new → Course may old new
+
+-- whatever such steps led to the one, they lead to the other
+abbrev pub GoesBy : Allowed → DeviceSide → DeviceSide → Type 0
+GoesBy may old new = (from : DeviceSide) → ∥ Course may from old ∥₁ → ∥ Course may from new ∥₁
+
+-- the same, and on the way no loss is told, and of no output that it is written or isn't; nor is one's write waited for that wasn't
+abbrev pub Goes : DeviceSide → DeviceSide → Type 0
+Goes old new = (may : Allowed) → GoesBy may old new
+
+-- A loss is told on the way only where this says why: wherever all losses may be told of which it does, those suffice.
+abbrev pub LosesBy : (ℕ → Loss → Type 0) → DeviceSide → DeviceSide → Type 0
+LosesBy Why old new = (may : Allowed) → ((device : ℕ) (why : Loss) → Why device why → may.lost device why ≡ true) → GoesBy may old new
+
+-- Of an output only that is told on the way of which this says that it is so.
+abbrev pub BecomesBy : (ℕ → OutputState → Type 0) → DeviceSide → DeviceSide → Type 0
+BecomesBy Is old new = (may : Allowed) → ((output : ℕ) (became : OutputState) → Is output became → may.became output became ≡ true) → GoesBy may old new
+
+-- both so
+abbrev pub TellsBy : (ℕ → Loss → Type 0) → (ℕ → OutputState → Type 0) → DeviceSide → DeviceSide → Type 0
+TellsBy Why Is old new =
+    (may : Allowed) → ((device : ℕ) (why : Loss) → Why device why → may.lost device why ≡ true) → ((output : ℕ) (became : OutputState) → Is output became → may.became output became ≡ true) → GoesBy may old new
+
+-- The same, and only those writes are waited for that weren't of which this says so.
+abbrev pub PlansBy : (ℕ → OutputState → Type 0) → (ℕ → Type 0) → DeviceSide → DeviceSide → Type 0
+PlansBy Is Waits old new =
+    (may : Allowed) → ((output : ℕ) (became : OutputState) → Is output became → may.became output became ≡ true) → ((output : ℕ) → Waits output → may.awaits output ≡ true) → GoesBy may old new
+
+-- all three so
+abbrev pub ScansBy : (ℕ → Loss → Type 0) → (ℕ → OutputState → Type 0) → (ℕ → Type 0) → DeviceSide → DeviceSide → Type 0
+ScansBy Why Is Waits old new =
+    (may : Allowed) → ((device : ℕ) (why : Loss) → Why device why → may.lost device why ≡ true) → ((output : ℕ) (became : OutputState) → Is output became → may.became output became ≡ true) → ((output : ℕ) → Waits output → may.awaits output ≡ true) → GoesBy may old new
+
+-- just this became of this output
+abbrev pub IsThis : ℕ → OutputState → ℕ → OutputState → Type 0
+IsThis which this output became = (output ≡ which) × (became ≡ this)
+
+-- nothing came of its write
+abbrev pub IsUnanswered : ℕ → OutputState → Type 0
+IsUnanswered output became = became ≡ state.Unwritten unwritten.Unanswered
+
+-- what was told on the way, the last one first
+abbrev pub happened : {may : Allowed} {old new : DeviceSide} → Course may old new → List Notice
+happened (stays side) = []
+happened (tells course n new allowed step) = n ∷ happened course
+happened (goes course new step awaited) = happened course
+happened (awaits course which new allowed step awaited) = happened course
+
+-- a note that says that nothing came of this output's write
+abbrev pub is_unanswered : ℕ → Notice → Bool
+is_unanswered output (note.Unwritten which unwritten.Unanswered) = output == which
+is_unanswered output (note.Unwritten which unwritten.Refused) = false
+is_unanswered output (note.Unwritten which (unwritten.NoSetPoint cause)) = false
+is_unanswered output (note.Written which) = false
+is_unanswered output (note.Found which) = false
+is_unanswered output (note.NoMap which) = false
+is_unanswered output (note.Lost which cause) = false
+is_unanswered output (note.Back which) = false
+is_unanswered output (note.Refused which refusal) = false
+is_unanswered output (note.Scanned report) = false
+is_unanswered output (note.Late by) = false
+
+abbrev pub lost_after : List Notice → ℕ → Bool → Bool
+lost_after [] device was = was
+lost_after (n ∷ earlier) device was = lost_then n device (lost_after earlier device was)
+
+abbrev pub state_after : List Notice → ℕ → Option OutputState → Option OutputState
+state_after [] output was = was
+state_after (n ∷ earlier) output was = state_then n output (state_after earlier output was)
+
+-- Over all calls a device is lost, and an output is written or isn't, just by what was told of it; and of losses and of outputs only
+-- that was told that a call may tell. The room for notes stays. Where no call may begin to wait for an output's write, none is waited
+-- for that wasn't at first, and of no other one it is told that nothing came of it.
+pub record StatesAreByNotes : Type 0 where
+  pub devices : (may : Allowed) (old new : DeviceSide) (course : Course may old new) (device : ℕ) → lost_at new device ≡ lost_after (happened course) device (lost_at old device)
+  pub outputs : (may : Allowed) (old new : DeviceSide) (course : Course may old new) (output : ℕ) → state_at new output ≡ state_after (happened course) output (state_at old output)
+  pub allowed : (may : Allowed) (old new : DeviceSide) (course : Course may old new) → list_all (allows may) (happened course) ≡ true
+  pub room : (may : Allowed) (old new : DeviceSide) → Course may old new → new.notes.items.cap ≡ old.notes.items.cap
+  pub awaited : (may : Allowed) (old new : DeviceSide) → Course may old new → (output : ℕ) → may.awaits output ≡ false → awaits_at new output ≡ true → awaits_at old output ≡ true
+  pub unanswered : (may : Allowed) (old new : DeviceSide) (course : Course may old new) (output : ℕ) → may.awaits output ≡ false → awaits_at old output ≡ false → list_all (λ n. not (is_unanswered output n)) (happened course) ≡ true

@@ -1,0 +1,228 @@
+//! A service is made.
+ghost use Rattle.std.specs.Prelude.{◌≡◌, ◌<◌, ◌^◌, All, length, [], map, replicate, IfErr, IfOk, OnOk};
+ghost use Rattle.verifier.specs.Verified.{HasLinks};
+ghost use Rattle.gateway.specs.declared.event_core.fault.CoreFault.TheVariants.{Foreign};
+ghost use Rattle.gateway.specs.event_core.Core.{Gateway, gateway_of};
+ghost use Rattle.gateway.specs.event_core.SiteRun.{none_of};
+ghost use Rattle.service_parts.specs.Requests.{AreRightfulBy};
+ghost use Rattle.service_parts.specs.Seeking.{AreOf};
+ghost use Rattle.service.specs.Cycle.{stage_of};
+ghost use Rattle.service.specs.Having.{HasNothing};
+ghost use Rattle.service.specs.Rounds.{IsRoundFor, IsUntold};
+ghost use Rattle.service.specs.Stages.{IsFirst};
+ghost use Rattle.service.specs.Timing.{Starts, most_notes};
+
+use crate::cycle::Cycle;
+use crate::device_side::DeviceSide;
+use crate::held_writes::HeldWrites;
+use crate::link_pace::LinkPace;
+use crate::notices::Notices;
+use crate::output::Output;
+use crate::polled_device::PolledDevice;
+use crate::round::Round;
+use crate::service_state::Service;
+use gateway::{Core, CoreFault, DEPTH};
+use register_map::Map;
+use scan_vm::Machine;
+use service_parts::{ClientPlace, Connections, Limits, Station};
+use service_requests::Search;
+use site_model::{Site, SiteDevice};
+use std::alloc::{AllocError, Global};
+
+impl Service {
+    /// A service for a site and the program that runs, over so many connections, all of them down; no device has a map
+    /// yet. All memory is taken here. `stations` has an entry for each of the site's devices; one without is never asked.
+    /// The first scan is a period from now. Foreign: the program was accepted for tags that the site doesn't have so;
+    /// OutOfMemory: memory is refused.
+    pub fn new(
+        alloc: Global,
+        site: Site,
+        machine: Machine<DEPTH>,
+        links: usize,
+        stations: &[Station],
+        limits: Limits,
+        now: u64,
+    ) -> Result<Service, CoreFault>
+        ensures opened { IfOk result (λ service. service.cycle.core.value ≡ gateway_of site (none_of site.devices) machine) }
+        ensures first { IfOk result (λ service. IsFirst (stage_of service.cycle)) }
+        ensures matched { OnOk result (HasLinks site.tags machine.accepted.links) }
+        ensures stations { IfOk result (λ service. service.lines.links.stations.items ≡ stations.now) }
+        ensures numbers { IfOk result (λ service. service.lines.links.numbers.items ≡ replicate links 0) }
+        ensures starts { IfOk result (λ service. Starts now limits service.side) }
+        ensures nothing { IfOk result (λ service. HasNothing service.held) }
+        ensures places { IfOk result (λ service. length service.places.items ≡ limits.clients) }
+        ensures foreign { IfErr result (λ e. e ≡ Foreign → HasLinks site.tags machine.accepted.links → ⊥) }
+    {
+        let parts = parts_of(alloc, &site, links, stations, limits, now)?;
+        let core = Core::new(alloc, site, machine, parts.maps)?;
+        let cycle = Cycle::new(alloc, core, parts.round, parts.searches, parts.over)?;
+        Ok(Service {
+            cycle,
+            held: parts.held,
+            lines: parts.peers.lines,
+            side: parts.peers.side,
+            places: parts.peers.places,
+        })
+    }
+}
+
+/// What a service is made of, beside its core.
+#[derive(Drop)]
+struct Parts {
+    maps: Vec<Option<Map>>,
+    round: Round,
+    searches: Vec<Search>,
+    over: Vec<u64>,
+    held: HeldWrites,
+    peers: Peers,
+}
+
+fn parts_of(
+    alloc: Global,
+    site: &Site,
+    links: usize,
+    stations: &[Station],
+    limits: Limits,
+    now: u64,
+) -> Result<Parts, AllocError>
+    ensures maps { IfOk result (λ parts. parts.maps.items ≡ none_of site.now.devices) }
+    ensures round { IfOk result (λ parts. IsRoundFor site.now parts.round) }
+    ensures untold { IfOk result (λ parts. All IsUntold parts.round.told) }
+    ensures searches { IfOk result (λ parts. AreOf site.now parts.searches.items) }
+    ensures rightful { IfOk result (λ parts. (now : Gateway) → AreRightfulBy now parts.peers.lines) }
+    ensures stations { IfOk result (λ parts. parts.peers.lines.links.stations.items ≡ stations.now) }
+    ensures numbers { IfOk result (λ parts. parts.peers.lines.links.numbers.items ≡ replicate links 0) }
+    ensures starts { IfOk result (λ parts. Starts now limits parts.peers.side) }
+    ensures nothing { IfOk result (λ parts. HasNothing parts.held) }
+    ensures places { IfOk result (λ parts. length parts.peers.places.items ≡ limits.clients) }
+{
+    let maps = no_maps(alloc, site.devices())?;
+    let round = Round::new(alloc, site)?;
+    let searches = searches_for(alloc, site.devices())?;
+    let over = vec![in alloc; 0; site.devices().len()]?;
+    let held = HeldWrites::new(alloc, site.outs().len())?;
+    let peers = peers_of(alloc, site, links, stations, limits, now)?;
+    Ok(Parts {
+        maps,
+        round,
+        searches,
+        over,
+        held,
+        peers,
+    })
+}
+
+/// What a service keeps of its peers.
+#[derive(Drop)]
+struct Peers {
+    lines: Connections,
+    side: DeviceSide,
+    places: Vec<ClientPlace>,
+}
+
+/// What a service keeps of so many connections, all of them down, of a site's devices and outputs, and of its clients.
+fn peers_of(
+    alloc: Global,
+    site: &Site,
+    links: usize,
+    stations: &[Station],
+    limits: Limits,
+    now: u64,
+) -> Result<Peers, AllocError>
+    ensures rightful { IfOk result (λ peers. (now : Gateway) → AreRightfulBy now peers.lines) }
+    ensures stations { IfOk result (λ peers. peers.lines.links.stations.items ≡ stations.now) }
+    ensures numbers { IfOk result (λ peers. peers.lines.links.numbers.items ≡ replicate links 0) }
+    ensures starts { IfOk result (λ peers. Starts now limits peers.side) }
+    ensures places { IfOk result (λ peers. length peers.places.items ≡ limits.clients) }
+{
+    let lines = Connections::new(alloc, links, stations, site.devices().len())?;
+    let side = device_side(alloc, site, links, limits, now)?;
+    let places = places_for(alloc, limits.clients)?;
+    Ok(Peers {
+        lines,
+        side,
+        places,
+    })
+}
+
+/// The devices and outputs of a site, and what is asked over so many links.
+fn device_side(
+    alloc: Global,
+    site: &Site,
+    links: usize,
+    limits: Limits,
+    now: u64,
+) -> Result<DeviceSide, AllocError>
+    ensures starts { IfOk result (λ side. Starts now limits side) }
+{
+    let devices = devices_of(alloc, site.devices().len())?;
+    let outputs = outputs_of(alloc, site.outs())?;
+    let links = vec![in alloc; LinkPace::new(); links]?;
+    let notes = Notices::new(alloc, most_notes(devices.len(), outputs.len()))?;
+    Ok(DeviceSide {
+        devices,
+        outputs,
+        links,
+        notes,
+        limits,
+        now,
+        next_scan: now.saturating_add(limits.period),
+        scans: 0,
+        is_writing: false,
+        writes: 0,
+        refused: 0,
+    })
+}
+
+/// A search for each device's map.
+fn searches_for(alloc: Global, devices: &[SiteDevice]) -> Result<Vec<Search>, AllocError>
+    ensures { IfOk result (λ searches. searches.items ≡ map (λ own. record { base = own.base; answers = [] }) devices.now) }
+{
+    devices
+        .iter()
+        .map(|own| Search::new(own.base))
+        .collect(alloc)
+}
+
+/// No map for each device.
+fn no_maps(alloc: Global, devices: &[SiteDevice]) -> Result<Vec<Option<Map>>, AllocError>
+    ensures { IfOk result (λ maps. maps.items ≡ none_of devices.now) }
+{
+    devices.iter().map(|_| None).collect(alloc)
+}
+
+/// How many notes have room.
+fn most_notes(devices: usize, outputs: usize) -> usize
+    ensures { result < 2 ^ 63 → result ≡ most_notes devices outputs }
+{
+    devices
+        .saturating_add(outputs)
+        .saturating_mul(4)
+        .saturating_add(16)
+}
+
+fn devices_of(alloc: Global, count: usize) -> Result<Vec<PolledDevice>, AllocError> {
+    let mut devices = Vec::new(alloc);
+    for _ in 0..count {
+        devices.push(PolledDevice::new())?;
+    }
+    Ok(devices)
+}
+
+fn outputs_of(alloc: Global, outs: &[usize]) -> Result<Vec<Output>, AllocError> {
+    let mut outputs = Vec::new(alloc);
+    for _ in outs {
+        outputs.push(Output::new())?;
+    }
+    Ok(outputs)
+}
+
+fn places_for(alloc: Global, clients: usize) -> Result<Vec<ClientPlace>, AllocError>
+    ensures { IfOk result (λ places. length places.items ≡ clients) }
+{
+    let mut places = Vec::new(alloc);
+    for _ in 0..clients {
+        places.push(ClientPlace::new())?;
+    }
+    Ok(places)
+}

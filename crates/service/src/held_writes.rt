@@ -1,0 +1,166 @@
+//! What devices have of what was written to them.
+ghost use Rattle.std.specs.Prelude.{◌≡◌, ℕ, IfOk, None, Some, length, slice_set};
+ghost use Rattle.site_model.specs.Readings.{known_at};
+ghost use Rattle.service.specs.Rewriting.{had_beside, had_without, is_held, is_of, is_recent, is_same, is_written, write_of};
+ghost use Rattle.service.specs.Having.{Forgets, HasNoMore, HasNothing};
+
+use modbus_frame::{Request, Words};
+use service_parts::{Aim, Asked};
+use std::alloc::{AllocError, Global};
+
+/// What devices have of each output, by their acknowledgements.
+#[derive(Drop)]
+pub(crate) struct HeldWrites {
+    writes: Vec<Option<HeldWrite>>,
+}
+
+/// What a device has of an output.
+#[derive(Drop)]
+pub(crate) struct HeldWrite {
+    device: usize,
+    /// The address of the first register.
+    address: u16,
+    words: Words,
+    /// The number of the connection over which it went.
+    number: u64,
+    /// When the device's answer came, in milliseconds.
+    at: u64,
+}
+
+/// A write that may go out.
+#[derive(Clone, Copy)]
+pub(crate) struct Intended<'a> {
+    pub(crate) device: usize,
+    pub(crate) output: usize,
+    pub(crate) request: &'a Request,
+    /// The number of the connection over which it would go.
+    pub(crate) number: u64,
+}
+
+impl HeldWrites {
+    /// Nothing is had of any of so many outputs.
+    pub(crate) fn new(alloc: Global, outputs: usize) -> Result<HeldWrites, AllocError>
+        ensures { IfOk result HasNothing }
+    {
+        let mut writes = Vec::new(alloc);
+        for _ in 0..outputs {
+            writes.push(None)?;
+        }
+        Ok(HeldWrites { writes })
+    }
+
+    /// A request begins: of an output that it writes nothing is had, until its device took it.
+    #[tactic(auto, using(crate::proofs::Having::had_no_more))]
+    pub(crate) fn begin(&mut self, aim: Aim)
+        ensures had { self.new.writes.items ≡ had_beside aim self.old.writes.items }
+        ensures no_more { HasNoMore self.old self.new }
+    {
+        if let Aim::Output(output) = aim {
+            put(&mut self.writes, output, None);
+        }
+    }
+
+    /// A device took what a request writes for an output.
+    pub(crate) fn take(&mut self, output: usize, write: HeldWrite)
+        ensures { self.new.writes.items ≡ slice_set self.old.writes.items output (Some write) }
+    {
+        put(&mut self.writes, output, Some(write));
+    }
+
+    /// Whether the device has what is to be written: it took just that over this very connection, less than so many
+    /// milliseconds ago, and no other request for the output began since.
+    pub(crate) fn holds(&self, write: Intended<'_>, within: u64, now: u64) -> bool
+        ensures { result ≡ is_held self.now.writes.items write.entry.output write.entry.device write.entry.request.now write.entry.number within now }
+    {
+        match self.writes.get(write.output) {
+            Some(Some(held)) => {
+                is_same(held, write.device, write.request)
+                    && is_recent(held, write.number, within, now)
+            }
+            _ => false,
+        }
+    }
+
+    /// It isn't known any more what a device has.
+    pub(crate) fn forget(&mut self, device: usize)
+        ensures forgotten { Forgets device self.old self.new }
+        ensures no_more { HasNoMore self.old self.new }
+    {
+        for i in 0..self.writes.len() {
+            self.forget_at(device, i);
+        }
+    }
+
+    #[tactic(auto, using(crate::proofs::Having::others_stay))]
+    fn forget_at(&mut self, device: usize, i: usize)
+        ensures len { length self.new.writes.items ≡ length self.old.writes.items }
+        ensures forgotten { self.new.writes.items ≡ slice_set self.old.writes.items i (had_without device (known_at self.old.writes.items i)) }
+    {
+        if self.is_of(device, i) {
+            put(&mut self.writes, i, None);
+        }
+    }
+
+    /// Whether what is had of an output this device has.
+    fn is_of(&self, device: usize, i: usize) -> bool
+        ensures { result ≡ is_of device (known_at self.now.writes.items i) }
+    {
+        match self.writes.get(i) {
+            Some(Some(held)) => held.device == device,
+            _ => false,
+        }
+    }
+}
+
+fn put(writes: &mut [Option<HeldWrite>], i: usize, write: Option<HeldWrite>)
+    ensures put { writes.new ≡ slice_set writes.old i write }
+    ensures len { length writes.new ≡ length writes.old }
+{
+    if i < writes.len() {
+        writes[i] = write;
+    }
+}
+
+/// What a device has that took a request now.
+pub(crate) fn write_of(asked: Asked, now: u64) -> HeldWrite
+    ensures { result ≡ write_of asked now }
+{
+    let Asked {
+        device,
+        address,
+        words,
+        number,
+        ..
+    } = asked;
+    HeldWrite {
+        device,
+        address,
+        words,
+        number,
+        at: now,
+    }
+}
+
+/// Whether a request to a device writes the same words into the same registers.
+fn is_same(held: &HeldWrite, device: usize, request: &Request) -> bool
+    ensures { result ≡ is_same held.now device request.now }
+{
+    match request {
+        Request::Read { .. } => false,
+        Request::WriteOne { addr, value } => is_written(held, device, *addr, &[*value]),
+        Request::WriteMany { addr, words } => is_written(held, device, *addr, words.as_slice()),
+    }
+}
+
+fn is_written(held: &HeldWrite, device: usize, address: u16, words: &[u16]) -> bool
+    ensures { result ≡ is_written held.now device address words.now }
+{
+    held.device == device && held.address == address && held.words.as_slice() == words
+}
+
+/// Whether a device took it over the connection with this number, less than so many milliseconds ago.
+fn is_recent(held: &HeldWrite, number: u64, within: u64, now: u64) -> bool
+    ensures { result ≡ is_recent held.now number within now }
+{
+    held.number == number && now.saturating_sub(held.at) < within
+}

@@ -1,0 +1,142 @@
+//! Scans, by the time.
+ghost use Rattle.std.specs.Prelude.{◌≡◌, All, false, map, max, nat_le};
+ghost use Rattle.service.specs.Losing.{LostByWait};
+ghost use Rattle.service.specs.Told.{Goes, PlansBy};
+ghost use Rattle.service.specs.Cycle.{LeadsOn, stage_of};
+ghost use Rattle.service_parts.specs.Places.{closed_if_idle};
+ghost use Rattle.service.specs.Timing.{RunsNow, ScansNow, Ticks};
+ghost use Rattle.service.specs.Rounds.{IsRecent};
+ghost use Rattle.service.specs.Stages.{RunsIf, RunsOnce, Scans};
+ghost use Rattle.service.specs.Going.{LinksGo, LinksGoByScan};
+ghost use Rattle.service.specs.Having.{HasNoMore, IsToWrite, IsUnplanned, TellsAt, TellsHad, WritesAt, WritesHad};
+ghost use Rattle.service.specs.Staying.{Stays};
+
+use crate::service_state::Service;
+use gateway::Report;
+use service_parts::close_idle;
+
+impl Service {
+    /// The time is this: ends waits, and runs the program once where that is due. It is to be called after each wait.
+    #[tactic(auto, using(crate::proofs::Timing::ticks_ran, crate::proofs::Timing::ticks_rested, crate::proofs::Courses::rests_where))]
+    pub fn tick(&mut self, now: u64)
+        ensures links { self.new.lines.links ≡ self.old.lines.links }
+        ensures lines { nat_le self.old.side.next_scan (max self.old.side.now now) ≡ false → LinksGo self.old self.new }
+        ensures goes { RunsIf (nat_le self.old.side.next_scan (max self.old.side.now now))
+            (λ scanned. TellsAt (LostByWait self.old.lines.links.stations.items self.old.lines.lines.items (max self.old.side.now now)) scanned.core self.old.held self.old.side self.new.side × LinksGoByScan scanned.round.writes self.old self.new)
+            (max self.old.side.now now) (stage_of self.old.cycle) (stage_of self.new.cycle) }
+        ensures held { HasNoMore self.old.held self.new.held }
+        ensures places { self.new.places.items ≡ map (closed_if_idle (max self.old.side.now now) self.old.side.limits.idle) self.old.places.items }
+        ensures time { Ticks now self.old self.new }
+        ensures stands { nat_le self.old.side.next_scan (max self.old.side.now now) ≡ false → TellsHad (LostByWait self.old.lines.links.stations.items self.old.lines.lines.items (max self.old.side.now now)) self.old.held self.old.side self.new.side }
+    {
+        self.side.turn_to(now);
+        close_idle(&mut self.places, self.side.now, self.side.limits.idle);
+        self.end_waits();
+        if self.side.is_due() {
+            self.scan();
+        } else {
+            self.go_on();
+        }
+    }
+
+    /// Asks what can be asked, and tells what the last scan came to once all of it is written.
+    pub(crate) fn go_on(&mut self)
+        ensures rest { Stays self.old self.new }
+        ensures lines { LinksGo self.old self.new }
+        ensures goes { LeadsOn self.old.cycle self.new.cycle }
+        ensures held { HasNoMore self.old.held self.new.held }
+        ensures stands { WritesHad self.old.held self.old.side self.new.side }
+    {
+        self.ask_all();
+        if self.cycle.is_complete() {
+            self.finish();
+        }
+    }
+
+    /// Tells what the last scan came to, where that wasn't told yet.
+    #[tactic(auto, using(crate::proofs::Having::writes_unanswered))]
+    fn finish(&mut self)
+        ensures rest { Stays self.old self.new }
+        ensures lines { LinksGo self.old self.new }
+        ensures goes { LeadsOn self.old.cycle self.new.cycle }
+        ensures held { HasNoMore self.old.held self.new.held }
+        ensures stands { WritesHad self.old.held self.old.side self.new.side }
+    {
+        if self.side.is_writing {
+            let report = self.report();
+            self.side.finish(report, self.cycle.round());
+        }
+    }
+
+    /// What the last scan did.
+    fn report(&self) -> Report
+        ensures writes { result.writes ≡ self.entry.now.side.writes }
+        ensures refused { result.refused ≡ self.entry.now.side.refused }
+    {
+        Report {
+            steps: self.cycle.core().steps(),
+            writes: self.side.writes,
+            refused: self.side.refused,
+            lost: self.cycle.lost(),
+        }
+    }
+
+    /// Runs the program, whatever was read, and goes on. A block that was told too many scans ago isn't known any more.
+    fn scan(&mut self)
+        ensures links { self.new.lines.links ≡ self.old.lines.links }
+        ensures runs { RunsOnce (λ scanned. WritesAt scanned.core self.old.held self.old.side self.new.side × LinksGoByScan scanned.round.writes self.old self.new) self.old.side.now (stage_of self.old.cycle) (stage_of self.new.cycle) }
+        ensures held { HasNoMore self.old.held self.new.held }
+        ensures places { self.new.places.items ≡ self.old.places.items }
+        ensures time { ScansNow self.old self.new }
+    {
+        self.finish();
+        self.side.plan_scan();
+        self.note_devices();
+        self.expire();
+        self.run();
+        self.lines.stir_all();
+        self.go_on();
+    }
+
+    /// Blocks that were told too many scans ago aren't known any more.
+    fn expire(&mut self)
+        ensures recent { All IsRecent self.new.cycle.round.told }
+        ensures rest { Stays self.old self.new }
+        ensures lines { LinksGo self.old self.new }
+        ensures goes { LeadsOn self.old.cycle self.new.cycle }
+        ensures held { HasNoMore self.old.held self.new.held }
+        ensures stands { Goes self.old.side self.new.side }
+    {
+        self.cycle.expire();
+    }
+
+    /// Runs the program.
+    #[tactic(auto, using(crate::proofs::Going::scanned_goes))]
+    fn run(&mut self)
+        requires recent { All IsRecent self.old.cycle.round.told }
+        ensures links { self.new.lines.links ≡ self.old.lines.links }
+        ensures lines { LinksGoByScan self.new.cycle.round.writes self.old self.new }
+        ensures scans { Scans self.old.side.now (stage_of self.old.cycle) (stage_of self.new.cycle) }
+        ensures held { HasNoMore self.old.held self.new.held }
+        ensures places { self.new.places.items ≡ self.old.places.items }
+        ensures time { RunsNow self.old self.new }
+        ensures stands { PlansBy (IsUnplanned self.new.cycle.core.value) (IsToWrite self.new.cycle.core.value) self.old.side self.new.side }
+    {
+        self.cycle.scan(self.side.now);
+        self.side.count_scan(self.cycle.core(), self.cycle.round());
+    }
+
+    /// Which devices the scan plans the outputs of, and which it passes over.
+    fn note_devices(&mut self)
+        ensures rest { Stays self.old self.new }
+        ensures lines { LinksGo self.old self.new }
+        ensures goes { LeadsOn self.old.cycle self.new.cycle }
+        ensures held { HasNoMore self.old.held self.new.held }
+        ensures stands { Goes self.old.side self.new.side }
+    {
+        for device in 0..self.cycle.devices() {
+            let is_planned = self.cycle.round().is_ready(device);
+            self.side.scan_device(device, is_planned);
+        }
+    }
+}

@@ -1,7 +1,0 @@
-use Rattle.service_core.specs.Timing.{CountsScan}
-use Rattle.service_core.specs.Having.{IsToWrite, IsUnplanned}
-use Rattle.service_core.specs.Told.{PlansBy}
-use Rattle.service_core.proofs.device_side.DeviceSide.count_scan.Given as goal
-
-abbrev pub invariant-loop-output : goal.invariant-loop-output
-invariant-loop-output l = CountsScan l.fn.self l.self × (PlansBy (IsUnplanned l.core) (IsToWrite l.core) l.fn.self l.self)

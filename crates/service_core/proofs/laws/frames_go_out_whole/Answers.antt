@@ -1,5 +1,0 @@
-use Rattle.service_parts.proofs.Frames.{frames_go_out_whole}
-use Rattle.service_core.proofs.laws.frames_go_out_whole.Goals as goal
-
-pub returns : goal.returns
-returns c = frames_go_out_whole

@@ -1,5 +1,0 @@
-use Rattle.service_core.proofs.LeftOut.{nothing_is_left_out_without_rewrite}
-use Rattle.service_core.proofs.laws.nothing_is_left_out_without_rewrite.Goals as goal
-
-pub returns : goal.returns
-returns c = nothing_is_left_out_without_rewrite

@@ -1,5 +1,0 @@
-use Rattle.service_core.proofs.Blocks.{scans_are_of_what_was_told}
-use Rattle.service_core.proofs.laws.scans_are_of_what_was_told.Goals as goal
-
-pub returns : goal.returns
-returns c = scans_are_of_what_was_told

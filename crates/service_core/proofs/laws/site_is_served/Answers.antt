@@ -1,5 +1,0 @@
-use Rattle.service_core.proofs.Whole.{site_is_served}
-use Rattle.service_core.proofs.laws.site_is_served.Goals as goal
-
-pub returns : goal.returns
-returns g c = site_is_served g.R.Responder.answers

@@ -1,5 +1,0 @@
-use Rattle.service_core.proofs.ByNotes.{states_are_by_notes}
-use Rattle.service_core.proofs.laws.states_are_by_notes.Goals as goal
-
-pub returns : goal.returns
-returns c = states_are_by_notes

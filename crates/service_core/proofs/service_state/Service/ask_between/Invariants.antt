@@ -1,8 +1,0 @@
-use Rattle.service_core.specs.Going.{LinksGo}
-use Rattle.service_core.specs.Cycle.{LeadsOn}
-use Rattle.service_core.specs.Having.{HasNoMore, WritesHad}
-use Rattle.service_core.specs.Staying.{Stays}
-use Rattle.service_core.proofs.service_state.Service.ask_between.Given as goal
-
-abbrev pub invariant-loop-i : goal.invariant-loop-i
-invariant-loop-i l = Stays l.fn.self l.self × (WritesHad l.fn.self.held l.fn.self.side l.self.side) × LinksGo l.fn.self l.self × LeadsOn l.fn.self.cycle l.self.cycle × HasNoMore l.fn.self.held l.self.held

@@ -1,5 +1,0 @@
-use Rattle.service_core.proofs.Courses.{right_rounds}
-use Rattle.service_core.proofs.service_state.Service.forget.Goals as goal
-
-pub invariant_of-self : goal.invariant_of-self
-invariant_of-self c = record { rightful = right_rounds _ _ c.args.self.now.lines (λ from before. c.seek_anew.ensures.goes from (c.skip_writes.ensures.goes from (c.forget.ensures.goes from before))) c.args.self.now.rightful }

@@ -1,9 +1,0 @@
-use Rattle.service_core.specs.Going.{LinksGo}
-use Rattle.service_core.specs.Cycle.{LeadsOn}
-use Rattle.service_core.specs.Having.{HasNoMore}
-use Rattle.service_core.specs.Told.{Goes}
-use Rattle.service_core.specs.Staying.{Stays}
-use Rattle.service_core.proofs.service_state.Service.note_devices.Given as goal
-
-abbrev pub invariant-loop-device : goal.invariant-loop-device
-invariant-loop-device l = Stays l.fn.self l.self × (Goes l.fn.self.side l.self.side) × LinksGo l.fn.self l.self × LeadsOn l.fn.self.cycle l.self.cycle × HasNoMore l.fn.self.held l.self.held

@@ -1,5 +1,0 @@
-use Rattle.service_core.proofs.Courses.{right_wait}
-use Rattle.service_core.proofs.service_state.Service.pass.Goals as goal
-
-pub invariant_of-self : goal.invariant_of-self
-invariant_of-self c = record { rightful = right_wait _ _ c.args.elapsed c.args.self.now.lines c.pass.ensures.waits c.args.self.now.rightful }

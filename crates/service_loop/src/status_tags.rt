@@ -1,0 +1,126 @@
+//! The numbers of a service, as JSON.
+use crate::members::{put_signed, put_text};
+use gateway::{Core, DEPTH};
+use point_types::{Cause, Reading};
+use serde_json::{Map, Value, put};
+use service::{OutputState, Service};
+use service_alarms::{missing_word, unwritten_word};
+use site_model::{Access, SiteTag};
+use std::alloc::{AllocError, Global};
+
+/// What each tag was in the last scan, by its name.
+pub(crate) fn tags_value(alloc: Global, core: &Core<DEPTH>) -> Result<Value, AllocError> {
+    let mut values = Map::new(alloc);
+    for (tag, reading) in core.site().tags().iter().zip(core.readings()) {
+        let value = tag_value(alloc, tag, *reading)?;
+        put(&mut values, alloc, tag.name.as_str(), value)?;
+    }
+    Ok(Value::Object(values))
+}
+
+fn tag_value(alloc: Global, tag: &SiteTag, reading: Reading) -> Result<Value, AllocError> {
+    let mut value = Map::new(alloc);
+    put_text(&mut value, alloc, "access", access_word(tag.access))?;
+    put_signed(&mut value, alloc, "exponent", Some(i64::from(tag.exponent)))?;
+    match reading {
+        Reading::Value(number) => put_signed(&mut value, alloc, "value", Some(number))?,
+        Reading::Default(number, cause) => {
+            put_signed(&mut value, alloc, "default", Some(number))?;
+            put_cause(&mut value, alloc, tag.access, cause)?;
+        }
+        Reading::Absent(cause) => put_cause(&mut value, alloc, tag.access, cause)?,
+    }
+    Ok(Value::Object(value))
+}
+
+/// Puts why a tag has no value of its own, where one is wanted: of an `in` tag.
+fn put_cause(
+    value: &mut Map<String, Value>,
+    alloc: Global,
+    access: Access,
+    cause: Cause,
+) -> Result<(), AllocError> {
+    if access == Access::Input {
+        put_text(value, alloc, "cause", missing_word(cause))?;
+    }
+    Ok(())
+}
+
+/// The word of an access, as site files have it.
+fn access_word(access: Access) -> &'static str {
+    match access {
+        Access::Input => "in",
+        Access::Output => "out",
+        Access::Setting => "set",
+        Access::Shown => "site",
+        Access::Time => "time",
+    }
+}
+
+/// What the program stored in each `out` tag, and whether its device took it.
+pub(crate) fn outputs_value(alloc: Global, service: &Service) -> Result<Value, AllocError> {
+    let core = service.core();
+    let mut values = Map::new(alloc);
+    for (output, place) in core.site().outs().iter().enumerate() {
+        if let Some(tag) = core.site().tags().get(*place) {
+            let number = number_at(core.outputs(), *place);
+            let value = output_value(alloc, number, service.output_state(output))?;
+            put(&mut values, alloc, tag.name.as_str(), value)?;
+        }
+    }
+    Ok(Value::Object(values))
+}
+
+fn number_at(numbers: &[Option<i64>], place: usize) -> Option<i64> {
+    match numbers.get(place) {
+        Some(number) => *number,
+        None => None,
+    }
+}
+
+fn output_value(
+    alloc: Global,
+    number: Option<i64>,
+    state: Option<OutputState>,
+) -> Result<Value, AllocError> {
+    let mut value = Map::new(alloc);
+    put_signed(&mut value, alloc, "value", number)?;
+    match state {
+        Some(OutputState::Written) => put_text(&mut value, alloc, "state", "written")?,
+        Some(OutputState::Unwritten(cause)) => {
+            put_text(&mut value, alloc, "state", "unwritten")?;
+            put_text(&mut value, alloc, "cause", unwritten_word(cause))?;
+        }
+        None => put(&mut value, alloc, "state", Value::Null)?,
+    }
+    Ok(Value::Object(value))
+}
+
+/// What clients set, for the tags that are set.
+pub(crate) fn set_value(alloc: Global, core: &Core<DEPTH>) -> Result<Value, AllocError> {
+    let mut values = Map::new(alloc);
+    for (tag, number) in core.site().tags().iter().zip(core.settings()) {
+        if let Some(number) = number {
+            put_signed(&mut values, alloc, tag.name.as_str(), Some(*number))?;
+        }
+    }
+    Ok(Value::Object(values))
+}
+
+/// The program's variables, by their names.
+pub(crate) fn variables_value(alloc: Global, core: &Core<DEPTH>) -> Result<Value, AllocError> {
+    let machine = core.machine();
+    let mut values = Map::new(alloc);
+    for (place, variable) in machine
+        .verified()
+        .image()
+        .vars
+        .as_slice()
+        .iter()
+        .enumerate()
+    {
+        let number = machine.var(place);
+        put_signed(&mut values, alloc, variable.name.as_str(), Some(number))?;
+    }
+    Ok(Value::Object(values))
+}

@@ -1,6 +1,0 @@
-use Rattle.std.proofs.Common.{All}
-use Rattle.service_parts.specs.Frames.{IsCut}
-use Rattle.service_parts.proofs.lines.lines_to.Given as goal
-
-abbrev pub invariant-loop-link : goal.invariant-loop-link
-invariant-loop-link l = All IsCut l.lines.items
