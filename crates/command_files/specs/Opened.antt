@@ -8,6 +8,6 @@ use Rattle.gateway.specs.poller.Polling.{Polling}
 abbrev pub opened : LinkState → Polling
 opened a = record { ahead = []; coming = a.coming; sent = a.sent; failures = a.failures; calls = a.calls; id = 0; fault = None }
 
--- the link behind all that was asked
+-- the link after all that was asked
 abbrev pub left_of : Polling → LinkState
 left_of q = record { coming = q.coming; sent = q.sent; failures = q.failures; calls = q.calls }

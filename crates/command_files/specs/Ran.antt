@@ -1,4 +1,4 @@
--- A run: scans over a link that was opened for it, and what is printed behind them.
+-- A run: scans over a link that was opened for it, and what is printed after them.
 -- IEC 61131-3 edition 2, 3.2 (one scan after another); MODBUS Messaging on TCP/IP Implementation Guide, section 4.2.
 use Rattle.std.specs.Prelude.{◌≡◌, ◌≢◌, ◌⊎◌, ℕ, List, map, string_bytes, Option}
 use Rattle.modbus_frame.specs.Link.{LinkState}
@@ -20,12 +20,12 @@ pub record ScansLink (files : Notes) (pace : RunPace) (a b : LinkState) (old new
   pub scans : ScansBy files pace (opened a) behind old new core status
   pub left : b ≡ left_of behind
 
--- behind scans with this status: where it isn't 0 it is told as it is, and nothing more is printed
+-- after scans with this status: where it isn't 0 it is told as it is, and nothing more is printed
 pub record EndsBehind (ended : ℕ) (old new : Option (List ℕ)) (status : ℕ) : Type 0 where
   pub grows : Grows old new
   pub ill : ended ≢ 0 → (status ≡ ended) × (new ≡ old)
 
--- the scans over a link, and then what is printed behind them
+-- the scans over a link, and then what is printed after them
 pub record RunsOver (files : Notes) (pace : RunPace) (a b : LinkState) (old new : Option (List ℕ)) (status : ℕ) : Type 0 where
   pub core : Option Gateway
   pub ended : ℕ

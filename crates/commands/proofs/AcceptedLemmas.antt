@@ -81,7 +81,7 @@ core_accepted texts site program p q given (Ok (Ok core)) h k = (given.site, h.0
 core_accepted texts site program p q given (Ok (Err told)) h k = inr (given.site, h.0, given.verified, h.1, k)
 core_accepted texts site program p q given (Err e) h k = tt
 
--- the poller where memory was refused behind it
+-- the poller where memory was refused after it
 pub left_searched : {T E : Type 0} (texts : List (List ℕ)) (site program : List ℕ) (p q : Polling) (given : Accepted) (r : Result T E)
     → Gives site program texts (Ok given) → OnErr r (IsSearched given.site.devices p q) → OnErr r (LeavesPoller site program texts p q)
 left_searched texts site program p q given (Ok x) h k = tt

@@ -44,7 +44,7 @@ opens_unfound V site a p q fault (Ok none) stops stands told =
     subst (OpensCore site a p q) (sym told.1) (inl (fault, told.0, unfound_by V site.devices p q fault stops stands, refl))
 opens_unfound V site a p q fault (Err e) stops stands told = tt
 
--- the poller behind the search for the maps
+-- the poller after the search for the maps
 pub searched_well : {T E V : Type 0} (devices : List SiteDevice) (p q : Polling) (maps : List (Option Layout)) (v : V) (Same : Type 0) (r : Result T E)
     → (p.fault ≡ None → FindsAll devices p maps q) → IfSome p.fault (λ f. (◌≡◌ {A = Result V LinkFault} (Ok v) (Err f)) × Same) → OnErr r (IsSearched devices p q)
 searched_well devices p q maps v Same (Ok x) found stands = tt

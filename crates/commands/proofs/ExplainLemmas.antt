@@ -40,7 +40,7 @@ use Rattle.commands.proofs.AcceptedLemmas.{by_models, verified_tree}
 ends_alone : (refused told : Told) → told ≡ refused → EndsBy refused told
 ends_alone refused told is = record { before = []; lines = ap (λ (t : Told). t.lines) is; status = ap (λ (t : Told). t.status) is }
 
--- and one behind other lines
+-- and one after other lines
 pub ends_behind : (before line lines : List ℕ) (told : Told) → lines ≡ before ++ line → told ≡ refused_with lines → EndsBy (refused_with line) told
 ends_behind before line lines told split is = record { before = before; lines = ap (λ (t : Told). t.lines) is ∙ split; status = ap (λ (t : Told). t.status) is }
 

@@ -24,7 +24,7 @@ held_fits k n m e = go (is_within (low_of k) (high_of k) n) refl e
     go true f e = let same : n ≡ m = cc in subst (Fits k) same f
     go false f e = absurd (cc)
 
--- the number behind digits lies in its type where the one before it does, or where one must come
+-- the number after digits lies in its type where the one before it does, or where one must come
 digits_fit : (bs : List ℕ) (k : IlType) (negative wanting : Bool) (n m : ℤ) → (wanting ≡ false → Fits k n) → digits k negative wanting n bs ≡ Some m → Fits k m
 digits_fit [] k negative true n m h e = absurd (cc)
 digits_fit [] k negative false n m h e = let same : n ≡ m = cc in subst (Fits k) same (h refl)

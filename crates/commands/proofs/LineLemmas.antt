@@ -8,12 +8,12 @@ use Rattle.std.proofs.Math.Seq.{take-length, take-append_seam, drop-append_seam}
 use Rattle.std.proofs.Common.{◌⊎◌, inl, inr, suc, length-drop, length-append, ◌≤◌, add-one, append_assoc, take-append-drop, drop, nat_eq, ◌<◌, take, get_or, subst, ◌≡◌, ℕ, ◌+◌, ◌-◌, Bool, true, false, List, [], ◌∷◌, ◌++◌, length, refl, ap, sym, ◌∙◌, arith, if◌then◌else◌}
 use Rattle.commands.specs.Input.{is_blank, before_blanks, unless_blank, line_length, lines_of, onto_first, program_text, program_lines, input_lines, joined, is_last_line}
 
--- a blank behind changes nothing
+-- a blank after changes nothing
 pub before_blanks-blank : (xs : List ℕ) (b : ℕ) → is_blank b ≡ true → before_blanks (xs ++ b ∷ []) ≡ before_blanks xs
 before_blanks-blank [] b e = ap (λ t. if t then [] else b ∷ []) e
 before_blanks-blank (x ∷ xs) b e = ap (unless_blank x) (before_blanks-blank xs b e)
 
--- where the last byte is no blank nothing stands behind it
+-- where the last byte is no blank nothing stands after it
 pub before_blanks-other : (xs : List ℕ) (b : ℕ) → is_blank b ≡ false → before_blanks (xs ++ b ∷ []) ≡ xs ++ b ∷ []
 before_blanks-other [] b e = ap (λ t. if t then [] else b ∷ []) e
 before_blanks-other (x ∷ []) b e = ap (unless_blank x) (before_blanks-other [] b e)
@@ -49,7 +49,7 @@ line_length-some (b ∷ bs) some = some_of (nat_eq b 10)
     some_of true = omega arith
     some_of false = omega arith
 
--- the first line, and the lines behind it
+-- the first line, and the lines after it
 pub lines_of-first : (xs : List ℕ) → 0 < length xs → lines_of xs ≡ take (line_length xs) xs ∷ lines_of (drop (line_length xs) xs)
 lines_of-first [] some = absurd (omega arith)
 lines_of-first (b ∷ bs) some = first (nat_eq b 10) (lines_of-first bs)
@@ -131,7 +131,7 @@ cut_nowhere [] text none r = record {
     drop_whole = ap (λ t. drop (length text) t) (sym (append-nil text)) ∙ drop-append_seam text []
 cut_nowhere (b ∷ bs) text none r = absurd (omega arith)
 
--- the first line, and the lines behind it, as they are split
+-- the first line, and the lines after it, as they are split
 pub lines_split : (rest line behind : List ℕ) → 0 < length rest → line ≡ take (line_length rest) rest → behind ≡ drop (line_length rest) rest → lines_of rest ≡ line ∷ lines_of behind
 lines_split rest line behind some l b = lines_of-first rest some ∙ ap (λ t. t ∷ lines_of (drop (line_length rest) rest)) (sym l) ∙ ap (λ t. line ∷ lines_of t) (sym b)
 
@@ -158,7 +158,7 @@ line_end (b ∷ bs) some = first (nat_eq b 10) refl (line_end bs)
     first true e h = inr (same_number b 10 e)
     first false e h = more bs h
 
--- a text may be cut behind a line
+-- a text may be cut after a line
 pub boundary_behind : (rest text line behind : List ℕ) → 0 < length rest → line ≡ take (line_length rest) rest → behind ≡ drop (line_length rest) rest → Reads rest text → IsUtf8 text → IsCharBoundary text (length text - length behind)
 boundary_behind rest text line behind some l b r u = at (line_end rest some)
   where

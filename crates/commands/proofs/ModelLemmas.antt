@@ -168,7 +168,7 @@ outline_told (Some n) (Some g) o e = by_points (option_and_then as_array (get (c
         let same : own ≡ o = some_is own o f in
         (ap (λ (x : Outline). Some x.id) same, ap (λ (x : Outline). Some x.group) same, subst (λ (x : Outline). option_and_then as_array (get (codes "points") x.group) ≡ Some x.points) same p)
 
--- a rule that isn't broken, and those behind it
+-- a rule that isn't broken, and those after it
 unless : {A : Type 0} (b : Bool) (x : A) (o : Option A) → (if b then Some x else o) ≡ None → o ≡ None
 unless true x o e = absurd (cc)
 unless false x o e = e

@@ -198,7 +198,7 @@ module _ (site : Site) (p : Program) (a : Acceptance) (right : DoesWhatItMeans p
       let here : Steps site a.image (numbers_of a) a.budget s.standing event.Scan r t.standing = subst (λ (x : Acceptance). Steps site x.image (numbers_of x) x.budget s.standing event.Scan r t.standing) on.on_program there in
       here.1
 
-  -- the core behind it, where the machine's variables were those of the site run
+  -- the core after it, where the machine's variables were those of the site run
   behind_here : (s : Gateway) (r : Answer) (t : Gateway) (on : IsOn s) → IsHeld s → (last : TakesEvent most_deferred s event.Scan r t) → (h : IsScan site a.image (numbers_of a) a.budget s.standing t.standing)
       → IsBehind most_deferred s t h.readings h.steps h.end
   behind_here s r t on held last h =

@@ -9,7 +9,7 @@ use Rattle.site_model.specs.Readings.{AreReadings, AreSettings, known_at}
 use Rattle.site_model.specs.declared.site.Site.{Site}
 use Rattle.site_model.specs.declared.tag.SiteTag.{SiteTag}
 use Rattle.site_model.specs.declared.want.Want.{Want}
-use Rattle.point_writer.specs.SetPoint.{IsPlan, IsPlanAt, IsSetPoint, Place}
+use Rattle.point_writer.specs.SetPoint.{IsPlan, IsPlanAt, IsSetPoint, PointPlace}
 use Rattle.point_writer.specs.declared.write.NoWrite.{NoWrite}
 use Rattle.point_writer.specs.declared.write.Write.{Write}
 use Rattle.verifier.specs.Verified.{Acceptance}
@@ -157,7 +157,7 @@ abbrev end_in : State → Ending → State
 end_in d (Ended n x) = x
 end_in d other = d
 
--- the core behind a scan
+-- the core after a scan
 pub record IsBehind (depth : ℕ) (s t : Gateway) (readings : List Reading) (steps : ℕ) (end : State) : Type 0 where
   pub core : t ≡ after_scan s readings steps end
   pub shallow : IsShallow depth s readings
@@ -229,7 +229,7 @@ module _ (g : Gateway) (i : ℕ) (w : Write) (of : SetsItsTag g i w) where
 planned_at : (g : Gateway) (i : ℕ) (w : Write) (t : SiteTag) (n : Option ℤ) (value : ℤ) → n ≡ Some value → IsSetPoint g.maps g.site.wants (g.standing.last).blocks t value w → IsPlan g.maps g.site.wants (g.standing.last).blocks t n (Ok w)
 planned_at g i w t n value e set =
     subst (λ (k : Option ℤ). IsPlan g.maps g.site.wants (g.standing.last).blocks t k (Ok w)) (sym e)
-    (subst (λ (k : Option Place). IsPlanAt k t value (Ok w)) (sym set.placed) set.sets)
+    (subst (λ (k : Option PointPlace). IsPlanAt k t value (Ok w)) (sym set.placed) set.sets)
 
 planned_of : (g : Gateway) (i : ℕ) (r : Result Write NoWrite) → AreSettings g.site.tags (g.standing.last).outputs → IsDue g i r → IsPlanned g i r
 planned_of g i (Ok w) ranged h = record {

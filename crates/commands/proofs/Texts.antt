@@ -28,7 +28,7 @@ pub broken_behind : {T : Type 0} (text_of : T → List ℕ) (xs : List T) (i : �
     → i < length xs → x ≡ get_or xs i x → IsRead (text_of x) model → IsFirstBroken (map text_of (drop (i + 1) xs)) fault → IsFirstBroken (map text_of (drop i xs)) fault
 broken_behind text_of xs i x model fault within is read broken = rw (drop_more xs i x within) (rw (← is) (inr (model, read, broken)))
 
--- ---- texts behind texts
+-- ---- texts after texts
 
 pub read_both : (xs ys : List (List ℕ)) (a b c : List ModelDef) → AreRead xs a b → AreRead ys b c → AreRead (xs ++ ys) a c
 read_both [] ys a b c h k = subst (λ m. AreRead ys m c) h k
@@ -43,7 +43,7 @@ pub broken_back : (xs ys : List (List ℕ)) (a b : List ModelDef) (fault : DefFa
 broken_back [] ys a b fault h k = k
 broken_back (x ∷ xs) ys a b fault (model, read, rest) k = inr (model, read, broken_back xs ys (a ++ model ∷ []) b fault rest k)
 
--- ---- the shipped texts, and behind them others
+-- ---- the shipped texts, and after them others
 
 -- models with their texts, as code has them
 abbrev Given : Type 0

@@ -35,7 +35,7 @@ models_more unit models blocks i d es own before with_model with_points points w
     ap (λ l. l ++ more) (w ∙ ap (λ l. l ++ points) m ∙ append_assoc before line points) ∙ append_assoc before (line ++ points) more in
     rw (append_assoc es own others, e) (done (own ++ others) ((line ++ points) ++ more) whole)
 
--- behind the last model, of a list of blocks that are the map's
+-- after the last model, of a list of blocks that are the map's
 pub map_read : (unit : ℕ) (models : List ModelDef) (map : Layout) (blocks : List Block) (i end : ℕ) (es : List Exchange) (before lines : List ℕ) (p q : Polling) → blocks ≡ map.blocks → end ≡ map.end → length blocks ≤ i
     → ((others : List Exchange) (more : List ℕ) → ReadsModels unit models (drop i blocks) others more → ReadsModels unit models blocks (es ++ others) (before ++ more))
     → Talks p es q → lines ≡ before ++ end_line end → ReadsMap unit models map p lines q
@@ -54,7 +54,7 @@ points_read unit b m p q o request is one =
 pub points_unread : (unit : ℕ) (b : Block) (p : Polling) → p.fault ≡ None → PointsRead unit b None p [] p
 points_unread unit b p works = ([], (refl, refl), talks_none p works)
 
--- the link failed at that request, or memory was refused behind it
+-- the link failed at that request, or memory was refused after it
 pub points_stop : (unit : ℕ) (b : Block) (m : ModelDef) (p q : Polling) (fault : LinkFault) (request : Request) → request ≡ points_request b m → p.fault ≡ None → Fails p unit request fault q → StopsReading unit p fault q
 points_stop unit b m p q fault request is works fails = record {
   middle = p;
@@ -87,7 +87,7 @@ searched_reads unit [] (e ∷ es) are = absurd are
 searched_reads unit (r ∷ rs) [] are = absurd are
 searched_reads unit (r ∷ rs) (e ∷ es) are = ((r.address, r.count, are.0.0, are.0.1), searched_reads unit rs es are.1)
 
--- the reads of a model's points behind others
+-- the reads of a model's points after others
 pub alone_more : (unit : ℕ) (b : Block) (m : Option ModelDef) (es own : List Exchange) (lines : List ℕ) → AllByRecursion (IsReadOf unit) es → ReadsPoints unit b m own lines → AllByRecursion (IsReadOf unit) (es ++ own)
 alone_more unit b m es own lines reads read = all_behind (IsReadOf unit) es own reads (points_reads unit b m own lines read)
 
@@ -111,7 +111,7 @@ pub ends_behind : (unit : ℕ) (p m q : Polling) (cause : NoLines) → ReadsAlon
 ends_behind unit p m q (no_lines.Link fault) first second = stops_behind unit p m q fault first second
 ends_behind unit p m q no_lines.OutOfMemory first second = alone_behind unit p m q first second
 
--- ---- behind the search
+-- ---- after the search
 
 pub searched_alone : (unit : ℕ) (p q : Polling) (result : Result Layout MapFault) → Searches unit None p result q → ReadsAlone unit p q
 searched_alone unit p q result (es, found, talks) = record { es = es; reads = searched_reads unit found.reads es found.asked; talks = talks }

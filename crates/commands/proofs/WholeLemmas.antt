@@ -1,4 +1,4 @@
--- From the texts to the core behind all its scans.
+-- From the texts to the core after all its scans.
 use Rattle.std.proofs.Common.{◌≡◌, ℕ, List, Option, Ok, subst, sym}
 use Rattle.scan_code.specs.Image.{Image, IsProper}
 use Rattle.scan_vm.specs.Machine.{opened}

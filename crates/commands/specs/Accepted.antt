@@ -52,7 +52,7 @@ pub record IsAcceptedFor (site : Site) (tree : Tree) (p : Program) (a : Acceptan
   pub right : DoesWhatItMeans p (image_of p)
   pub accepted : IsAcceptedOn site (image_of p) a
 
--- The texts of a site and of a program, over the definitions that are shipped and behind them those of the texts.
+-- The texts of a site and of a program, over the definitions that are shipped and after them those of the texts.
 pub record Accepts (site_text program_text : List ℕ) (texts : List (List ℕ)) (site : Site) (p : Program) (a : Acceptance) : Type 0 where
   pub models : List ModelDef
   pub defined : AreDefined texts models
@@ -81,7 +81,7 @@ abbrev pub RefusesSite : Result Layout SiteFault → List ℕ → Told → Type 
 RefusesSite (Ok layout) program told = (tags : List SiteTag) × (layout.tags ≡ map tag_view tags) × RefusesProgram tags (reading program) told
 RefusesSite (Err fault) program told = told ≡ refused_with (bad_site_line (site.fault_word fault))
 
--- by the definitions that are shipped, and behind them those of the texts
+-- by the definitions that are shipped, and after them those of the texts
 abbrev pub RefusesDefined : List ℕ → List ℕ → List (List ℕ) → Told → Type 0
 RefusesDefined site program texts told =
     (models : List ModelDef) × AreDefined texts models × RefusesSite (site_in models site) program told

@@ -1,4 +1,4 @@
--- The model definitions of a run: those that are shipped, and behind them those that are handed in as texts.
+-- The model definitions of a run: those that are shipped, and after them those that are handed in as texts.
 -- SunSpec Device Information Model Specification, model definitions.
 use Rattle.std.specs.Prelude.{◌≡◌, ◌⊎◌, ℕ, List, [], ◌∷◌, ◌++◌, map}
 use Rattle.model_defs.specs.declared.fault.DefFault.{DefFault}
@@ -6,7 +6,7 @@ use Rattle.model_defs.specs.declared.model.ModelDef.{ModelDef}
 use Rattle.model_defs.specs.Definition.{Breaks, IsRead}
 use Rattle.model_defs.specs.Shipped.{shipped_texts}
 
--- each of the texts is a definition, and stands behind those before it
+-- each of the texts is a definition, and stands after those before it
 abbrev pub AreRead : List (List ℕ) → List ModelDef → List ModelDef → Type 0
 AreRead [] before models = models ≡ before
 AreRead (text ∷ texts) before models = (model : ModelDef) × IsRead text model × AreRead texts (before ++ model ∷ []) models
@@ -16,7 +16,7 @@ abbrev pub IsFirstBroken : List (List ℕ) → DefFault → Type 0
 IsFirstBroken [] fault = ⊥
 IsFirstBroken (text ∷ texts) fault = Breaks text fault ⊎ ((model : ModelDef) × IsRead text model × IsFirstBroken texts fault)
 
--- the shipped texts, and behind them those that are handed in
+-- the shipped texts, and after them those that are handed in
 unfoldable pub all_texts : List (List ℕ) → List (List ℕ)
 all_texts texts = map (λ model. model.1) shipped_texts ++ texts
 

@@ -38,7 +38,7 @@ DefineAll [] (model ∷ models) = ⊥
 DefineAll (text ∷ texts) [] = ⊥
 DefineAll (text ∷ texts) (model ∷ models) = Defines text model × DefineAll texts models
 
--- over the definitions that are shipped and behind them those of the texts
+-- over the definitions that are shipped and after them those of the texts
 pub record Describes (text : List ℕ) (texts : List (List ℕ)) (site : Site) : Type 0 where
   pub models : List ModelDef
   pub defined : DefineAll (all_texts texts) models

@@ -1,4 +1,4 @@
--- What `explain` tells: of a program that is accepted the status 0, and else what `check` tells of the first refusal, behind other lines.
+-- What `explain` tells: of a program that is accepted the status 0, and else what `check` tells of the first refusal, after other lines.
 -- Which lines these are, and those of a program that is accepted, isn't said.
 use Rattle.std.specs.Prelude.{◌≡◌, ◌≢◌, ◌⊎◌, ℕ, List, ◌++◌, Option, Result, Ok, Err}
 use Rattle.model_defs.specs.declared.model.ModelDef.{ModelDef}

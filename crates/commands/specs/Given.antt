@@ -27,7 +27,7 @@ abbrev pub if_some : {A B : Type 0} → Option A → (A → Option B) → Option
 if_some (Some a) f = f a
 if_some None f = None
 
--- the digits of a number behind n, single underscores between them; wanting: a digit must come.
+-- the digits of a number after n, single underscores between them; wanting: a digit must come.
 -- What begins a number of a type lies in the type itself.
 abbrev pub digits : IlType → Bool → Bool → ℤ → List ℕ → Option ℤ
 digits k negative wanting n [] = if wanting then None else Some n
@@ -102,7 +102,7 @@ abbrev pub or_refused : ℕ → Option (List (Option Reading)) → (List (Option
 or_refused k (Some slots) on = on slots
 or_refused k None on = Err k
 
--- what is known of each tag behind these lines, the first of which that isn't blank is the k-th; or the number of the
+-- what is known of each tag after these lines, the first of which that isn't blank is the k-th; or the number of the
 -- first line that is refused
 abbrev pub slots_given : List Tag → List (Option Reading) → ℕ → List (List ℕ) → Result (List (Option Reading)) ℕ
 slots_given tags slots k [] = Ok slots

@@ -1,4 +1,4 @@
--- Standard input of the run without arguments: a program text, and input lines behind it.
+-- Standard input of the run without arguments: a program text, and input lines after it.
 -- IEC 61131-3 edition 2, annex B (what a program's text is); how it comes in is this project's.
 use Rattle.std.specs.Prelude.{ℕ, ◌+◌, Bool, ◌||◌, List, [], ◌∷◌, ◌++◌, map, if◌then◌else◌, nat_eq, bytes_eq, codes, ◌-◌, take, length}
 use Rattle.std.specs.List.{ends_with, list_all}
@@ -26,7 +26,7 @@ abbrev pub unless_blank : ℕ → List ℕ → List ℕ
 unless_blank b [] = if is_blank b then [] else b ∷ []
 unless_blank b (c ∷ cs) = b ∷ c ∷ cs
 
--- without the blanks behind
+-- without the blanks after it
 abbrev pub before_blanks : List ℕ → List ℕ
 before_blanks [] = []
 before_blanks (b ∷ bs) = unless_blank b (before_blanks bs)
@@ -51,7 +51,7 @@ abbrev pub program_lines : List (List ℕ) → List (List ℕ)
 program_lines [] = []
 program_lines (line ∷ lines) = line ∷ (if is_last_line line then [] else program_lines lines)
 
--- the lines behind the program text
+-- the lines after the program text
 abbrev pub input_lines : List (List ℕ) → List (List ℕ)
 input_lines [] = []
 input_lines (line ∷ lines) = if is_last_line line then lines else input_lines lines

@@ -72,7 +72,7 @@ ProbesBy unit texts p q old new status =
     ((models : List ModelDef) × AreDefined texts models × ProbesOver p.fault unit models p q old new status)
     ⊎ ((q ≡ p) × TellsNoModels texts old new status)
 
--- by the command, with the core behind its scans
+-- by the command, with the core after its scans
 abbrev pub ObeysOver : LinkCommand → Polling → Polling → Option (List ℕ) → Option (List ℕ) → Option Gateway → ℕ → Type 0
 ObeysOver (Run site program defs n) p q old new core status = Runs site.now program.now (map string_bytes defs.now) n p q old new core status
 ObeysOver (Probe unit defs) p q old new core status = ProbesBy unit (map string_bytes defs.now) p q old new status

@@ -77,7 +77,7 @@ TellsKnown image (Err k) told = told ≡ refused_with (bad_input_line k)
 abbrev pub TellsGivenImage : Image → List (List ℕ) → Told → Type 0
 TellsGivenImage image inputs told = TellsKnown image (readings_given image.tags inputs) told
 
--- the answer of reading a program text, and the input lines behind it
+-- the answer of reading a program text, and the input lines after it
 abbrev pub TellsReading : Result Tree ReadFault → List (List ℕ) → Told → Type 0
 TellsReading (Ok tree) inputs told = TellsTree tree inputs told
 TellsReading (Err fault) inputs told = told ≡ refused_with (unread_line (read.word_of fault.kind) fault.line)

@@ -29,7 +29,7 @@ pub record AreAllDone (series : Series) : Type 0 where
   pub printed : Appends series.out_before series.out_behind (scan_lines 1 series.reports)
   pub well : series.status ≡ 0
 
--- The line of the k-th scan isn't printed: a write failed, behind a front of it; or memory was refused for it.
+-- The line of the k-th scan isn't printed: a write failed, after a front of it; or memory was refused for it.
 abbrev pub IsUnprinted : ℕ → Report → Option (List ℕ) → Option (List ℕ) → ℕ → Type 0
 IsUnprinted k report old new status = (IsCut old new (scan_line k report) × (status ≡ 1)) ⊎ IsTold old new (refused_with no_memory_line) status
 

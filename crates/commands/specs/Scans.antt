@@ -105,7 +105,7 @@ LeavesOff pace p s q t old new status = (events : List Event) × DoesScans (Take
 abbrev pub IsPrinted : RunPace → (k : ℕ) → Polling → Gateway → Polling → Gateway → Option (List ℕ) → Option (List ℕ) → Type 0
 IsPrinted pace k p s q t old new = (report : Report) × (events : List Event) × IsWhole (TakesEvent most_deferred) pace p s q t report events × Appends old new (scan_line k report)
 
--- Its line isn't printed, or the link failed: no scan comes behind it.
+-- Its line isn't printed, or the link failed: no scan comes after it.
 abbrev pub IsLast : RunPace → (k : ℕ) → Polling → Gateway → Polling → Gateway → Option (List ℕ) → Option (List ℕ) → ℕ → Type 0
 IsLast pace k p s q t old new status =
     ((report : Report) × (events : List Event) × IsWhole (TakesEvent most_deferred) pace p s q t report events × IsUnprinted k report old new status)

@@ -15,7 +15,7 @@ pub record Moment : Type 0 where
   pub link : Polling
   pub core : Gateway
 
--- A scan: the moments before it, with its blocks taken, and behind it; a reading of each tag of the site, where the machine
+-- A scan: the moments before it, with its blocks taken, and after it; a reading of each tag of the site, where the machine
 -- ended on these, and what is reported.
 pub record Scan : Type 0 where
   pub before : Moment
@@ -48,8 +48,8 @@ pub record Course : Type 0 where
   pub out_behind : Option (List ℕ)
   pub status : ℕ
 
--- At most so many scans: what is reported of those that were done, the moment behind them, and what is left: the link and the
--- core, what is printed before and behind, and the status.
+-- At most so many scans: what is reported of those that were done, the moment after them, and what is left: the link and the
+-- core, what is printed before and after, and the status.
 pub record Series : Type 0 where
   pub most : ℕ
   pub reports : List Report

@@ -16,7 +16,7 @@ abbrev pub GivesPlant : List ModelDef → List ℕ → Result PlantState Told �
 GivesPlant models plant (Ok p) = StandsFor models plant p
 GivesPlant models plant (Err told) = (fault : PlantFault) × Breaks models plant fault × (told ≡ refused_with (bad_plant_line (fault_word fault)))
 
--- by the definitions that are shipped, and behind them those of the texts
+-- by the definitions that are shipped, and after them those of the texts
 abbrev pub GivesDefined : List ℕ → List (List ℕ) → Result PlantState Told → Type 0
 GivesDefined plant texts given = (models : List ModelDef) × AreDefined texts models × GivesPlant models plant given
 

@@ -22,7 +22,7 @@ pub record IsTextOf (text : List ℕ) (p : Program) : Type 0 where
   pub short : length text ≤ most_bytes
   pub resolved : elaborated tree ≡ Ok p
 
--- a site's text, over the definitions that are shipped and behind them those of the texts
+-- a site's text, over the definitions that are shipped and after them those of the texts
 pub record IsSiteOf (text : List ℕ) (texts : List (List ℕ)) (site : Site) : Type 0 where
   pub models : List ModelDef
   pub defined : AreDefined texts models

@@ -8,7 +8,7 @@ ghost use Rattle.commands.specs.Defined.{AreDefined, AreRead, IsFirstBroken, IsU
 use model_defs::{DefFault, ModelDef, read, shipped_models};
 use std::alloc::Global;
 
-/// The definitions that are shipped, and behind them those of the texts, so that the last one of an ID counts; or the
+/// The definitions that are shipped, and after them those of the texts, so that the last one of an ID counts; or the
 /// fault of the first text that is none.
 pub fn definitions(alloc: Global, texts: &[String]) -> Result<Vec<ModelDef>, DefFault>
     ensures read { IfOk result (λ models. AreDefined (map string_bytes texts.now) models.items) }

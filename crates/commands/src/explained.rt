@@ -24,7 +24,7 @@ use verifier::verify::verify;
 use verifier::{RefusalKind, Refused, RefusedAt};
 
 /// Prints a program that is judged for a site as the verdict sees it: its lines, with the instructions of each and, as
-/// `beside` says, what is known before them, to the end or to the instruction that is refused. Behind a refusal, of the
+/// `beside` says, what is known before them, to the end or to the instruction that is refused. After a refusal, of the
 /// definitions, the site or the program, comes its line. Gives the status, that of `check`, and the cause of a refusal.
 pub fn explain<W: Write>(
     alloc: Global,

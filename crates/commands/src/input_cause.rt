@@ -147,7 +147,7 @@ fn unfit_value(alloc: Global, kind: IlType, value: &[u8]) -> Result<String, Allo
     format!(in alloc; "its type is {word}: a decimal, or absent")
 }
 
-/// Whether it is digits behind at most one sign.
+/// Whether it is digits after at most one sign.
 fn is_decimal(value: &[u8]) -> bool {
     let digits = match value {
         [b'+' | b'-', digits @ ..] => digits,

@@ -39,7 +39,7 @@ fn number_of(kind: IlType, text: &[u8]) -> Option<i64>
     }
 }
 
-// The number that digits behind a sign spell, single underscores between them.
+// The number that digits after a sign spell, single underscores between them.
 fn digits_of(kind: IlType, negative: bool, text: &[u8]) -> Option<i64>
     ensures { result ≡ digits kind negative true (pos 0) text.now }
 {

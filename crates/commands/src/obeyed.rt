@@ -14,7 +14,7 @@ use std::io::Write;
 /// What the program is asked for that needs no link, with the texts of the files that are named.
 #[derive(Clone, Copy)]
 pub enum TextCommand<'a> {
-    /// A trial scan of the program that the input begins with, on the input lines behind it.
+    /// A trial scan of the program that the input begins with, on the input lines after it.
     Trial {
         input: &'a str,
     },

@@ -78,7 +78,7 @@ pub(crate) fn bad_input(alloc: Global, number: usize) -> Result<String, AllocErr
     Ok(text)
 }
 
-/// The line of a word behind these.
+/// The line of a word after these.
 fn with_word(alloc: Global, before: &str, word: &str) -> Result<String, AllocError>
     ensures ok { IfOk result (λ text. string_bytes text ≡ report.line_of (before.now ++ word.now)) }
 {

@@ -55,7 +55,7 @@ fn outcome_of(alloc: Global, input: &str) -> Result<CommandOutcome, AllocError>
     }
 }
 
-/// What is told of a program, with the input lines behind its text.
+/// What is told of a program, with the input lines after its text.
 fn outcome_of_program(
     alloc: Global,
     program: &Program,

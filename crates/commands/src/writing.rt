@@ -7,7 +7,7 @@ use std::io::{ErrorKind, Write};
 /// The most writes of one call.
 const MOST_WRITES: u64 = u64::MAX;
 
-/// Writes all of the bytes. Where a write fails, those of the writes before it went out, and nothing behind them.
+/// Writes all of the bytes. Where a write fails, those of the writes before it went out, and nothing after them.
 pub(crate) fn write_bytes<W: Write>(out: &mut W, bytes: &[u8]) -> io::Result<()>
     ensures { WritesFront (W.contents out.old) (W.contents out.new) bytes.now result }
 {

@@ -169,7 +169,7 @@ way_to n (Some f) = (n, f) ∷ []
 abbrev pub bool_result : Fact → Result AbstractValue RefusalKind
 bool_result f = need NoResult f.result >>= λ r. check WrongType (is_bool r.kind) >>= λ _. Ok r
 
--- the number of the instruction at an address, behind this one
+-- the number of the instruction at an address, after this one
 abbrev pub number_at : List (ℕ × Op) → ℕ → ℕ → Option ℕ
 number_at [] n address = None
 number_at (entry ∷ rest) n address = if nat_eq entry.0 address then Some n else number_at rest (n + 1) address

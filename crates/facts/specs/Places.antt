@@ -2,7 +2,7 @@
 -- IEC 61131-3 edition 2, 2.4.3 (variables); how lists are kept is this project's.
 use Rattle.std.specs.Prelude.{ℕ, suc, ◌≡◌, Bool, true, false, List, [], ◌∷◌, ◌++◌, replicate, Option, Some, None, slice_set}
 
--- each kept item behind so many empty places, and then those at the end
+-- each kept item after so many empty places, and then those at the end
 abbrev pub places : {A : Type 0} → List (ℕ × A) → ℕ → List (Option A)
 places [] at_end = replicate at_end None
 places (k ∷ ks) at_end = replicate k.0 None ++ Some k.1 ∷ places ks at_end

@@ -5,7 +5,7 @@ use Rattle.toml.specs.View.{view, items_view}
 use Rattle.toml.specs.declared.value.Value.{Value}
 use Rattle.file_keys.specs.Refusals.{before, IsRefusedIn}
 
--- reading goes entry by entry, each behind what those before it gave
+-- reading goes entry by entry, each after what those before it gave
 pub record GoesInOrder {A B E : Type 0} (read : A → Items → Result A E) (next : A → Data → Result B E) (more : A → B → A) : Type 0 where
   pub ends : (seen : A) → read seen no_items ≡ Ok seen
   pub goes : (seen : A) (d : Data) (b : B) (ds : Items) → next seen d ≡ Ok b → read seen (item d ds) ≡ read (more seen b) ds

@@ -1,4 +1,4 @@
--- Which entry of a list is refused, where entries are read in order, each behind those before it.
+-- Which entry of a list is refused, where entries are read in order, each after those before it.
 -- No standard says what a reader refuses first; the order is this project's.
 use Rattle.std.specs.Prelude.{◌≡◌, ℕ, zero, suc, Some, Result, Ok, Err}
 use Rattle.toml.specs.Data.{Data, Items, no_items, item, get_item}
@@ -9,8 +9,8 @@ before zero entries = no_items
 before (suc n) no_items = no_items
 before (suc n) (item d ds) = item d (before n ds)
 
--- Entry n is refused by this fault: the entries before it are read, and it is refused behind them. `read` is what entries
--- give, `next` what one gives behind what those before it gave.
+-- Entry n is refused by this fault: the entries before it are read, and it is refused after them. `read` is what entries
+-- give, `next` what one gives after what those before it gave.
 pub record IsRefusedAt {A B E : Type 0} (read : Items → Result A E) (next : A → Data → Result B E) (n : ℕ) (entries : Items) (e : E) : Type 0 where
   pub seen : A
   pub entry : Data

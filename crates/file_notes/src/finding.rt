@@ -54,7 +54,7 @@ pub enum Rule<'a> {
     Missing,
     /// Something of another kind stands there.
     Unlike(ValueKind),
-    /// It in words, behind the key and what stands there.
+    /// It in words, after the key and what stands there.
     Words(&'static str),
     /// A number outside these limits.
     Within(i64, i64),

@@ -105,7 +105,7 @@ fn help_on(finding: Finding<'_>) -> Option<&'static str> {
     }
 }
 
-/// The line and the column behind so many bytes of a text.
+/// The line and the column after so many bytes of a text.
 fn position(text: &str, bytes: usize) -> (usize, usize) {
     let mut line = 1usize;
     let mut column = 1usize;

@@ -109,7 +109,7 @@ fn beginning_of<'a>(model: &'a ModelDef, written: &str) -> Option<&'a str> {
     found
 }
 
-/// The first point whose name goes on behind another one of three letters at least.
+/// The first point whose name goes on after another one of three letters at least.
 fn continuing<'a>(model: &'a ModelDef, written: &str) -> Option<&'a str> {
     if written.len() < 3 {
         return None;

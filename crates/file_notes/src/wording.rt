@@ -74,7 +74,7 @@ fn quoted(alloc: Global, text: &str) -> Result<String, AllocError> {
     Ok(quoted)
 }
 
-/// The rule, as it is told behind what breaks it.
+/// The rule, as it is told after what breaks it.
 pub(crate) fn rule_shown(alloc: Global, rule: Rule<'_>) -> Result<String, AllocError> {
     match rule {
         Rule::Missing => String::from_str(alloc, "is missing"),

@@ -10,7 +10,7 @@ use Rattle.gateway.specs.poller.Polling.{Polling}
 use Rattle.gateway.specs.poller.Finding.{FindsMap, FindsMaps, FindsOne, FindsAll, StopsSearch, StopsFinding}
 use Rattle.gateway.proofs.Talking.{talks_behind}
 
--- the device at a place, and those behind it
+-- the device at a place, and those after it
 from_place : (devices : List SiteDevice) (i : ℕ) (device : SiteDevice) → i < length devices → device ≡ get_or devices i device → drop i devices ≡ device ∷ drop (suc i) devices
 from_place devices i device within is = drop-cons devices i device within ∙ ap (λ d. d ∷ drop (suc i) devices) (sym is)
 

@@ -1,4 +1,4 @@
--- A request that was sent, and the wait behind it.
+-- A request that was sent, and the wait after it.
 use Rattle.std.proofs.Common.{ℕ, List, [], Option, None, Some, Result, Ok, Err, refl, inl, inr}
 use Rattle.std.proofs.KnownBytes.{Consumes-trans, Consumes-kept, Consumes-nil, Appends-kept}
 use Rattle.std.specs.Io.KnownBytes.{Keeps, Appends, Consumes, prepend_known}

@@ -126,7 +126,7 @@ pub set_by : (tags : List SiteTag) (tag : ℕ) (number : ℤ) (point : OwnPoint)
 set_by tags tag number point to None own found none = λ ws h. none ws (subst (λ t. AreRead point t number ws) (same_some h.found found) h.read)
 set_by tags tag number point to (Some ws) own found read = record { own = own; to = to; found = found; read = read }
 
--- ---- the points behind so many registers
+-- ---- the points after so many registers
 
 module _ (p : OwnPoint) (ps : List OwnPoint) (one : 1 ≤ registers_of p) where
   at_more : (n m : ℕ) → m ≡ registers_of p + n → points_behind (p ∷ ps) m ≡ points_behind ps n

@@ -54,7 +54,7 @@ id_after-append : (id : ℕ) (es fs : List Exchange) → id_after id (es ++ fs) 
 id_after-append id [] fs = refl
 id_after-append id (e ∷ es) fs = id_after-append (next_id id) es fs
 
--- requests behind others
+-- requests after others
 pub talks_behind : (p m q : Polling) (es fs : List Exchange) → Talks p es m → Talks m fs q → Talks p (es ++ fs) q
 talks_behind p m q es fs first second =
     let D : ℕ → Type 0 = λ id. AreDecided id fs in

@@ -74,7 +74,7 @@ impl<L: Link> Poller<L> {
         }
     }
 
-    /// The link. Bytes that were read ahead, behind the last frame, don't come from it any more.
+    /// The link. Bytes that were read ahead, after the last frame, don't come from it any more.
     pub fn link(&self) -> &L
         ensures sent { L.sent result.now ≡ self.now.sent }
         ensures failures { L.failures result.now ≡ self.now.failures }
@@ -84,7 +84,7 @@ impl<L: Link> Poller<L> {
         self.line.link()
     }
 
-    /// The link, where the poller's work is over: nothing was sent or read behind its last request. Whoever owns a poller
+    /// The link, where the poller's work is over: nothing was sent or read after its last request. Whoever owns a poller
     /// ends by this, so that what its link carried is known to the end. Bytes that were read ahead are gone.
     pub fn into_link(self) -> L
         ensures sent { L.sent result ≡ self.sent }
@@ -96,7 +96,7 @@ impl<L: Link> Poller<L> {
     }
 
     /// Sends a request to a unit and gives its outcome: what the first frame with its transaction and unit says. Other
-    /// frames are dropped; with the 17th the request is stale. Bytes behind the frame that decides stay for the next
+    /// frames are dropped; with the 17th the request is stale. Bytes after the frame that decides stay for the next
     /// call. A reading request asks for 1 to 125 registers, a writing one carries 1 to 123.
     ///
     /// [`LinkFault`]: Read and Write where the link failed, Frame where the bytes that came are no frame, End where they

@@ -10,7 +10,7 @@ mod words;
 
 use crate::event_core::Memory;
 pub use amount::{own_value, total_of};
-pub(crate) use point::{OwnPoint, Source};
+pub(crate) use point::{OwnPoint, PointSource};
 pub(crate) use points::own_points;
 pub use points::served_factor;
 use site_model::Site;

@@ -70,7 +70,7 @@ here_labelled : (place : ℕ) (o : Option (List ℕ)) → Has o → has_label (l
 here_labelled place None h = absurd h
 here_labelled place (Some name) h = same_number place
 
--- the lines before a place: no label of it or behind it stands there, and each before it does
+-- the lines before a place: no label of it or after it stands there, and each before it does
 record IsBefore (g : Scope) (place : ℕ) (earlier : List Line) : Type 0 where
   later : (j : ℕ) → place ≤ j → stands j earlier ≡ false
   each : (j : ℕ) → j < place → HasLabel (slice_get g.statements j) → stands j earlier ≡ true
@@ -193,7 +193,7 @@ module _ (g : Scope) where
 
   -- Sizes.
 
-  -- the address behind a line's code, wherever labels stand
+  -- the address after a line's code, wherever labels stand
   behind_is : (address : ℕ → ℕ) (a : ℕ) (act : Option resolved.Action) → past a (action_code address act) ≡ behind a act
   behind_is address a act = same_size address act a ∙ sym (long_as_past (action_code (λ label. 0) act) a)
 

@@ -53,7 +53,7 @@ note_append : (us : List (Option Bool)) (xs ys : List Use) → note_all us (xs +
 note_append us [] ys = refl
 note_append us (x ∷ xs) ys = note_append (noted us x.external x.stored) xs ys
 
--- what is noted of an external behind further uses
+-- what is noted of an external after further uses
 abbrev pub behind_uses : Option (Option Bool) → Option Bool → Option (Option Bool)
 behind_uses None r = None
 behind_uses (Some (Some s)) r = Some (Some s)

@@ -28,7 +28,7 @@ move_outcome again onward (Err e) go = refl
 abbrev pub at : ℕ → List Value → Option Value → source.State → State
 at a ds r s = record { address = a; result = r; deferred = ds; variables = s.variables; outputs = s.outputs; taken = s.taken }
 
--- the code behind instructions that stand one after the other
+-- the code after instructions that stand one after the other
 pub past_append : (a : ℕ) (is js : List Op) → past a (is ++ js) ≡ past (past a is) js
 past_append a [] js = refl
 past_append a (i ∷ is) js = past_append (a + length (spelled i)) is js

@@ -44,7 +44,7 @@ label_past (line ∷ lines) a label = either (label_past lines (past a (action_c
     either h true = omega arith
     either h false = omega (arith, past_grows a (action_code (λ l. 0) line.action), h)
 
--- a label that stands on no earlier line is looked for from here on, and one that does lies behind
+-- a label that stands on no earlier line is looked for from here on, and one that does lies after
 record IsPlaced (address : ℕ → ℕ) (earlier lines : List Line) (a : ℕ) : Type 0 where
   later : (label : ℕ) → stands label earlier ≡ false → address label ≡ label_address lines a label
   before : (label : ℕ) → stands label earlier ≡ true → address label ≤ a

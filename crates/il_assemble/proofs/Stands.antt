@@ -19,7 +19,7 @@ use Rattle.il_assemble.specs.Written.{Written, Load, Apply, Defer, Limit, Select
 use Rattle.il_assemble.proofs.FirstUses.{at_head, head_or_tail, in_none, in_tail}
 use Rattle.il_assemble.proofs.Listing.{Chain, listed, listed_action, listed_inner, listed_inside, listed_line, standing}
 
--- Lines one behind the other.
+-- Lines one after the other.
 
 follow_again : (front : Inner) (line : ℕ) (head : Written) (tail : Inner) → followed_by (followed_by front (Then line head Close)) tail ≡ followed_by front (Then line head tail)
 follow_again Close line head tail = refl

@@ -84,7 +84,7 @@ body_tabled address g end_line counter running (s ∷ ss) =
     ∙ ap (λ l. action_lines s.line s.action ++ l) (body_tabled address g end_line next after ss)
     ∙ sym (append_assoc (action_lines s.line s.action) (body_lines ss) (end_line ∷ []))
 
--- the table is that of the statements' forms, and behind it the line of the end
+-- the table is that of the statements' forms, and after it the line of the end
 pub tabled : (t : Tree) → instruction_lines t ≡ body_lines t.statements ++ t.end_line ∷ []
 tabled t = body_tabled (label_address (program_of (scope_of t)).body 0) (scope_of t) t.end_line 0 None t.statements
 

@@ -26,7 +26,7 @@ use Rattle.il_assemble.proofs.TextTokens.{AreNamed, IsNamed}
 use Rattle.point_types.proofs.Truths.{both}
 use Rattle.point_types.proofs.Truths.{and_both}
 
--- ---- tokens behind tokens
+-- ---- tokens after tokens
 
 past_named : (ts : List Placed) → AreNamed ts → AreNamed (past ts)
 past_named [] h = tt
@@ -42,7 +42,7 @@ unlike : (m n : List ℕ) (b : Bool) → bytes_eq n m ≡ b → bytes_eq m n ≡
 unlike m n true e h = absurd (true≢false (sym ((bytes_eq-Decides m n).1 (sym ((bytes_eq-Decides n m).0 e))) ∙ h))
 unlike m n false e h = e
 
--- names that stay new behind one more name, which isn't among them
+-- names that stay new after one more name, which isn't among them
 stay_new : (before after names : List (List ℕ)) (n : List ℕ) → ((m : List ℕ) → is_among after m ≡ (is_among before m || bytes_eq m n)) → among n names ≡ false → are_new before names ≡ true → are_new after names ≡ true
 stay_new before after [] n one free h = refl
 stay_new before after (m ∷ names) n one free h =

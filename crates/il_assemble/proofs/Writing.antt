@@ -22,7 +22,7 @@ spelled_append (i ∷ is) js = ap (λ rest. spelled i ++ rest) (spelled_append i
 joined : (old : List ℕ) (is js : List Op) → (old ++ spelled_all is) ++ spelled_all js ≡ old ++ spelled_all (is ++ js)
 joined old is js = append_assoc old (spelled_all is) (spelled_all js) ∙ ap (λ rest. old ++ rest) (sym (spelled_append is js))
 
--- the bytes behind the lines inside parentheses
+-- the bytes after the lines inside parentheses
 abbrev pub after_inner : List ℕ → Scope → Option IlType → IlType → Inner → List ℕ
 after_inner code g running else_type Close = code
 after_inner code g running else_type (Then line head tail) =
@@ -37,7 +37,7 @@ after_inner_is code g running else_type (Then line head tail) =
     after_inner_is (code ++ spelled_all here) g (type_after g running loaded head) il.Dint tail
     ∙ joined code here (inner_code (resolved_inner g (type_after g running loaded head) il.Dint tail))
 
--- the bytes behind the lines of the body, and the END behind them
+-- the bytes after the lines of the body, and the END after them
 abbrev pub after_lines : List ℕ → (ℕ → ℕ) → Scope → ℕ → Option IlType → List Statement → List ℕ
 after_lines code address g counter running [] = code ++ spelled does.End
 after_lines code address g counter running (s ∷ ss) =

@@ -27,7 +27,7 @@ pub record IsAssembled (tree : Tree) (image : Image) : Type 0 where
   pub right : DoesWhatItMeans program image
   pub short : length image.code < 65536
 
--- the code of parts, one behind the other
+-- the code of parts, one after the other
 abbrev pub code_of : List Part → List Op
 code_of [] = []
 code_of (p ∷ ps) = p.code ++ code_of ps

@@ -31,7 +31,7 @@ load_of (Input i) = does.LoadInput i
 load_of (Presence i) = does.LoadPresence i
 load_of (Constant v) = constant_of v.kind v.number
 
--- the N behind an operator
+-- the N after an operator
 abbrev pub not_code : Bool → List Op
 not_code true = does.Not ∷ []
 not_code false = []
@@ -84,14 +84,14 @@ action_code address (Some (Jump condition label)) = does.Jump condition (address
 action_code address (Some (Repeat condition label counter limit)) = does.Repeat condition counter limit (address label) ∷ []
 action_code address (Some (Return condition)) = return_of condition ∷ []
 
--- behind the last line the end
+-- after the last line the end
 abbrev pub lines_code : (ℕ → ℕ) → List Line → List Op
 lines_code address [] = does.End ∷ []
 lines_code address (line ∷ lines) = action_code address line.action ++ lines_code address lines
 
 -- Addresses.
 
--- the address behind instructions that begin at an address
+-- the address after instructions that begin at an address
 abbrev pub past : ℕ → List Op → ℕ
 past a [] = a
 past a (i ∷ is) = past (a + length (spelled i)) is

@@ -171,7 +171,7 @@ abbrev pub counted : List Variable → List External → List Statement → Resu
 counted variables externals statements =
     unless_variable (slice_get variables most_names) >>= λ _. unless_external (slice_get externals most_names) >>= λ _. nested statements
 
--- the address behind the code of a line that begins at an address
+-- the address after the code of a line that begins at an address
 abbrev pub behind : ℕ → Option resolved.Action → ℕ
 behind a action = a + length (spelled_all (action_code (λ label. 0) action))
 
@@ -180,7 +180,7 @@ pub record Part : Type 0 where
   pub line : ℕ
   pub code : List Op
 
--- An instruction's code in parts, in order: what stands before the lines inside parentheses and the operator behind them
+-- An instruction's code in parts, in order: what stands before the lines inside parentheses and the operator after them
 -- belong to the line of the opening one, and each line inside has its own. Without parentheses there is one part.
 abbrev mutual
   pub parts_of : Scope → ℕ → Option IlType → IlType → Written → List Part
@@ -195,7 +195,7 @@ abbrev mutual
       parts_of g line running (loaded_inner_type g else_type tail) head
       ++ inner_parts g (type_after g running (loaded_inner_type g else_type tail) head) il.Dint tail
 
--- where the first part begins at an address: the address behind the last one, or the line of the first whose code passes the limit
+-- where the first part begins at an address: the address after the last one, or the line of the first whose code passes the limit
 abbrev pub reached : ℕ → List Part → Result ℕ ℕ
 reached a [] = Ok a
 reached a (p ∷ ps) = let b = a + length (spelled_all p.code) in if nat_le b most_code then reached b ps else Err p.line

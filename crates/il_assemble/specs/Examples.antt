@@ -62,11 +62,11 @@ seen = record {
   statements = [];
 }
 
--- LD 4 / MUL w, inside parentheses behind an INT
+-- LD 4 / MUL w, inside parentheses after an INT
 abbrev pub product : form.Inner
 product = form.Then 8 (form.Load false (Number (pos 4))) (form.Then 9 (form.Apply op.Mul false (Named (codes "w"))) form.Close)
 
--- an instruction behind others, where the result is a DINT
+-- an instruction after others, where the result is a DINT
 abbrev pub behind : List TreeAction → TreeAction → Standing
 behind before a = record { line = 10; place = 0; running = Some il.Dint; loaded = il.Dint; action = a; before = before }
 

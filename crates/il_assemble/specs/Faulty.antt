@@ -97,7 +97,7 @@ OperandFault g before wanted (Typed given n) kind.LiteralType = is_literal_of gi
 OperandFault g before wanted x k = ⊥
 
 -- a jump from a place among the lines to the target, the place of the first line with its label: no line has it; a jump without a
--- count to a line that isn't behind it; a counted one to a line behind it, or with a count outside 1..255
+-- count to a line that isn't after it; a counted one to a line after it, or with a count outside 1..255
 abbrev pub JumpFault : ℕ → Option ℕ → Option ℕ → AsmFaultKind → Type 0
 JumpFault place turns None kind.UnknownLabel = Unit {0}
 JumpFault place None (Some target) kind.BackwardJump = target ≤ place

@@ -38,26 +38,26 @@ of_line (Some a) = a ∷ inside_action a
 abbrev pub of_lines : List Statement → List Action
 of_lines = flat_map (λ s. of_line s.action)
 
--- The running type behind lines.
+-- The running type after lines.
 
 -- by that before them; rest: the lines that follow
 abbrev pub type_behind : Scope → Option IlType → List Statement → List Statement → Option IlType
 type_behind g running [] rest = running
 type_behind g running (s ∷ ss) rest = type_behind g (type_after_line g running (ss ++ rest) s.action) ss rest
 
--- behind lines inside parentheses: the type of a literal that is loaded where no next instruction gives it one, which is given for the
+-- after lines inside parentheses: the type of a literal that is loaded where no next instruction gives it one, which is given for the
 -- first line, and DINT for each later one
 abbrev pub else_behind : IlType → Inner → IlType
 else_behind else_type Close = else_type
 else_behind else_type (Then line head tail) = il.Dint
 
--- the running type behind them
+-- the running type after them
 abbrev pub inner_type_behind : Scope → Option IlType → IlType → Inner → Inner → Option IlType
 inner_type_behind g running else_type Close rest = running
 inner_type_behind g running else_type (Then line head tail) rest = inner_type_behind g (type_after g running (loaded_inner_type g else_type (followed_by tail rest)) head) il.Dint tail rest
 
 -- An instruction as it stands: its line, how many lines of the body are before the one that it is in, the running type before it, the
--- type that a literal takes behind its LD, what it does, and the instructions before it.
+-- type that a literal takes after its LD, what it does, and the instructions before it.
 pub record Standing : Type 0 where
   pub line : ℕ
   pub place : ℕ
@@ -66,7 +66,7 @@ pub record Standing : Type 0 where
   pub action : Action
   pub before : List Action
 
--- an instruction of the body, between the lines before and behind its own
+-- an instruction of the body, between the lines before and after its own
 abbrev pub in_body : Scope → List Statement → Statement → List Statement → Action → Standing
 in_body g front s behind a = record {
   line = s.line;
@@ -77,7 +77,7 @@ in_body g front s behind a = record {
   before = of_lines front;
 }
 
--- one inside the parentheses of x, between the lines there before and behind its own; first: the operand right behind the parenthesis
+-- one inside the parentheses of x, between the lines there before and after its own; first: the operand right after the parenthesis
 abbrev pub in_parentheses : Scope → Standing → Option Operand → Inner → ℕ → Written → Inner → Standing
 in_parentheses g x first front line head tail = record {
   line = line;

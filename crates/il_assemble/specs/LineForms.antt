@@ -12,7 +12,7 @@ abbrev pub count_not : Bool → ℕ
 count_not true = 1
 count_not false = 0
 
--- how many the operand right behind a parenthesis makes
+-- how many the operand right after a parenthesis makes
 abbrev pub count_first : Option Operand → ℕ
 count_first None = 0
 count_first (Some operand) = 1

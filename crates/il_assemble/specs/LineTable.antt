@@ -15,12 +15,12 @@ use Rattle.il_assemble.specs.Names.{Scope}
 use Rattle.il_assemble.specs.Typing.{loaded_type, type_after_line}
 
 -- The code of a statement in parts, each with its line: inside parentheses each instruction has its own, all else is one part.
--- Where so many counted jumps stand before it and the lines rest behind it.
+-- Where so many counted jumps stand before it and the lines rest after it.
 abbrev pub statement_parts : (ℕ → ℕ) → Scope → ℕ → Option IlType → List Statement → ℕ → Option Action → List Part
 statement_parts address g counter running rest line (Some (action.Compute simple)) = parts_of g line running (loaded_type g rest) simple
 statement_parts address g counter running rest line a = record { line = line; code = action_code address (option_map (resolved_action g counter running rest) a) } ∷ []
 
--- the code of all lines, and behind the last one the end, which has the line of END_PROGRAM
+-- the code of all lines, and after the last one the end, which has the line of END_PROGRAM
 abbrev pub body_parts : (ℕ → ℕ) → Scope → ℕ → ℕ → Option IlType → List Statement → List Part
 body_parts address g end_line counter running [] = record { line = end_line; code = does.End ∷ [] } ∷ []
 body_parts address g end_line counter running (s ∷ ss) =

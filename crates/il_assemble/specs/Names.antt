@@ -31,7 +31,7 @@ is_called name v = bytes_eq v.var.name name
 abbrev pub is_external : List ℕ → External → Bool
 is_external name e = bytes_eq e.name name
 
--- the external's name, and _OK behind it
+-- the external's name, and _OK after it
 abbrev pub is_presence_of : List ℕ → External → Bool
 is_presence_of name e = bytes_eq (take (length e.name) name) e.name && bytes_eq (drop (length e.name) name) (codes "_ok")
 

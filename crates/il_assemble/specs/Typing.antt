@@ -109,7 +109,7 @@ is_comparison op.Max = false
 abbrev pub type_after_operator : Option IlType → Operator → Option IlType
 type_after_operator running o = if is_comparison o then Some il.Bool else running
 
--- the running type behind an instruction, by the one before it: a load has its operand's, a comparison BOOL, also behind its parentheses, SEL its first operand's, a conversion its target; all others keep it
+-- the running type after an instruction, by the one before it: a load has its operand's, a comparison BOOL, also after its parentheses, SEL its first operand's, a conversion its target; all others keep it
 abbrev pub type_after : Scope → Option IlType → IlType → Written → Option IlType
 type_after g running loaded (Load negated operand) = Some (operand_type g loaded operand)
 type_after g running loaded (Apply o negated operand) = type_after_operator running o
@@ -120,7 +120,7 @@ type_after g running loaded Invert = running
 type_after g running loaded Absolute = running
 type_after g running loaded (Convert from to) = Some to
 
--- the running type behind a parenthesis, by that before it
+-- the running type after a parenthesis, by that before it
 abbrev pub type_inside : Scope → Option IlType → Option Operand → Option IlType
 type_inside g running None = None
 type_inside g running (Some operand) = Some (operand_type g (or_dint running) operand)
@@ -130,7 +130,7 @@ unless_always when.Always running = None
 unless_always when.IfTrue running = running
 unless_always when.IfFalse running = running
 
--- behind a jump or a return that always acts there is none; behind a counted jump, which may fall through, the one before
+-- after a jump or a return that always acts there is none; after a counted jump, which may fall through, the one before
 abbrev pub type_after_line : Scope → Option IlType → List Statement → Option Action → Option IlType
 type_after_line g running rest None = running
 type_after_line g running rest (Some (action.Compute simple)) = type_after g running (loaded_type g rest) simple

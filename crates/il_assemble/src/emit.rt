@@ -121,7 +121,7 @@ fn address_in(addresses: &[u16], place: usize) -> u16
     }
 }
 
-/// The N behind an operator.
+/// The N after an operator.
 pub(crate) fn emit_not(code: &mut Vec<u8>, negated: bool) -> Result<(), AllocError>
     ensures { OnOk result (code.new.items ≡ code.old.items ++ spelled_all (not_code negated)) }
 {
@@ -131,7 +131,7 @@ pub(crate) fn emit_not(code: &mut Vec<u8>, negated: bool) -> Result<(), AllocErr
     Ok(())
 }
 
-/// The load of an operand right behind a parenthesis, where there is one.
+/// The load of an operand right after a parenthesis, where there is one.
 pub(crate) fn emit_first(
     code: &mut Vec<u8>,
     scope: Scope<'_, '_, '_>,
@@ -269,7 +269,7 @@ fn emit_inner(
 }
 
 /// Appends the code of what a line does, where so many counted jumps stand before it and the lines `rest`
-/// behind it.
+/// after it.
 fn emit_action(
     code: &mut Vec<u8>,
     scope: Scope<'_, '_, '_>,
@@ -340,7 +340,7 @@ pub(crate) fn count_turns(action: &Option<Action>) -> usize
     }
 }
 
-/// The second pass: appends the code of all lines, and the END behind them.
+/// The second pass: appends the code of all lines, and the END after them.
 pub(crate) fn emit_lines(
     code: &mut Vec<u8>,
     scope: Scope<'_, '_, '_>,

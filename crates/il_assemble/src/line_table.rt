@@ -90,7 +90,7 @@ fn push_times(lines: &mut Vec<u32>, line: u32, times: usize) -> Result<(), Alloc
     Ok(())
 }
 
-/// How many instructions the N behind an operator makes.
+/// How many instructions the N after an operator makes.
 fn count_not(negated: bool) -> usize
     ensures is { result ≡ count_not negated }
     ensures few { result ≤ 1 }
@@ -98,7 +98,7 @@ fn count_not(negated: bool) -> usize
     if negated { 1 } else { 0 }
 }
 
-/// How many instructions an operand right behind a parenthesis makes.
+/// How many instructions an operand right after a parenthesis makes.
 fn count_first(first: &Option<Operand>) -> usize
     ensures is { result ≡ count_first first.now }
     ensures few { result ≤ 1 }

@@ -17,7 +17,7 @@ pub(crate) enum Known {
     Presence(usize),
 }
 
-/// What stands behind the name of a presence's external.
+/// What stands after the name of a presence's external.
 const PRESENCE: &[u8] = b"_ok";
 
 /// Whether a name is an external's with the ending of a presence.

@@ -17,7 +17,7 @@ use point_types::{IlType, Operator};
 use scan_code::Op;
 use std::alloc::AllocError;
 
-/// The line of a statement where its code passes the limit, behind the code of those before it: inside
+/// The line of a statement where its code passes the limit, after the code of those before it: inside
 /// parentheses that of the inner instruction.
 pub(crate) fn passing_line(
     code: &mut Vec<u8>,
@@ -106,7 +106,7 @@ fn write_opening(
     Ok(within(code.as_slice(), line))
 }
 
-/// The operator behind the lines inside parentheses.
+/// The operator after the lines inside parentheses.
 fn write_closing(
     code: &mut Vec<u8>,
     line: u32,

@@ -126,7 +126,7 @@ pub(crate) fn loaded_inner_type(
     }
 }
 
-/// The lines behind the first one.
+/// The lines after the first one.
 pub(crate) fn behind_first(lines: &[InnerLine]) -> &[InnerLine]
     ensures { result.now ≡ drop 1 lines.now }
 {
@@ -155,7 +155,7 @@ fn type_after_operator(running: Option<IlType>, operator: Operator) -> Option<Il
     }
 }
 
-/// The type of the result behind an instruction, as far as the text shows it, by that before it and the type
+/// The type of the result after an instruction, as far as the text shows it, by that before it and the type
 /// of a literal that it loads.
 pub(crate) fn type_after(
     scope: Scope<'_, '_, '_>,
@@ -178,7 +178,7 @@ pub(crate) fn type_after(
     }
 }
 
-/// The type of the result behind an opening parenthesis.
+/// The type of the result after an opening parenthesis.
 pub(crate) fn type_inside(
     scope: Scope<'_, '_, '_>,
     running: Option<IlType>,
@@ -201,7 +201,7 @@ fn unless_always(condition: Condition, running: Option<IlType>) -> Option<IlType
     }
 }
 
-/// The type of the result behind a line of the body, where the lines `rest` stand behind it.
+/// The type of the result after a line of the body, where the lines `rest` stand after it.
 pub(crate) fn type_after_line(
     scope: Scope<'_, '_, '_>,
     running: Option<IlType>,

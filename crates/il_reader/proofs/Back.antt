@@ -1,4 +1,4 @@
--- From reading to the grammar: what a token and what remains behind it are for the state before it.
+-- From reading to the grammar: what a token and what remains after it are for the state before it.
 use Rattle.std.proofs.Common.{◌≡◌, ℕ, Bool, true, false, List, [], ◌∷◌, Option, Some, None, Ok, Err, inl, inr, refl, sym, ap, ◌∙◌, subst, append_assoc, if◌then◌else◌}
 use Rattle.std.proofs.lemmas.List.{append-nil}
 use Rattle.point_types.specs.declared.il_type.IlType.{IlType}
@@ -231,7 +231,7 @@ back_block (block.BehindStart z) d t m ts p h = back_behind_start z d t m ts p h
 
 -- Lines.
 
--- a line without a label, and the lines behind it
+-- a line without a label, and the lines after it
 action_body : (d : Draft) (m : ℕ) (ts : List Placed) (p : Program) → past ts ≡ ts → RestAction d (record { line = m; label = None }) m ts p → RestBody d ts p
 action_body d m ts p e (x, a, h, (b, q, (body, end, i, w))) =
     (s ∷ body, end, (a, b, subst (λ z. IsAction m x z a) (sym e) h, q, i), w ∙ ap (λ z. record { name = d.name; variables = d.variables; externals = d.externals; statements = z; end_line = end }) (append_assoc d.statements (s ∷ []) body))

@@ -253,7 +253,7 @@ body_ends : (d : Draft) (n l : ℕ) → Ends_at (clear n l (at_line [] d))
 unfolding keyword is_reserved plain_words conversions
 body_ends d n l = (codes "END_PROGRAM\n", _, _, _, refl)
 
--- parentheses are closed one by one, each behind a further line
+-- parentheses are closed one by one, each after a further line
 filled_line : (x : Option Operand) (inner : Inner) (l : ℕ) (y : Written) → is_filled x (followed_by inner (form.Then l y form.Close)) ≡ true
 filled_line (Some x) inner l y = refl
 filled_line None form.Close l y = refl

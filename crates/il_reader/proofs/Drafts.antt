@@ -12,17 +12,17 @@ use Rattle.il_reader.specs.Declaration.{with_name, variable_of, external_of}
 use Rattle.il_reader.specs.Drafting.{with_entry, with_variables, with_externals, titled_draft}
 use Rattle.il_reader.specs.Grammar.{Nature, OfVariable, OfExternal, Declaration, Block, entries_of, with_entries, with_declarations, variables_with, externals_with, block_variables, block_externals, variables_of, externals_of}
 
--- behind some names of a declaration
+-- after some names of a declaration
 abbrev pub listed : Bool → Draft → List Entry → Draft
 listed x d [] = d
 listed x d (e ∷ es) = listed x (with_entry x d e.line e.name) es
 
--- behind the end of a declaration
+-- after the end of a declaration
 abbrev pub closed : Draft → Nature → Draft
 closed d (OfVariable y) = with_variables d y
 closed d (OfExternal k) = with_externals d k
 
--- behind a declaration, a block, all blocks
+-- after a declaration, a block, all blocks
 abbrev pub after_one : Bool → Draft → Declaration → Draft
 after_one x d y = closed (listed x d (entries_of y)) y.nature
 

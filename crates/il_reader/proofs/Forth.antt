@@ -98,7 +98,7 @@ ended_run nest d a b (k, e) = ap (run (at (stage.BehindInstruction nest) d)) e
 
 -- Parentheses.
 
--- an opening one, behind an operator
+-- an opening one, after an operator
 enter_run : (nest : List OpenParenthesis) (d : Draft) (h : Head) (o : Operator) (negated : Bool) (to : List Placed) → takes_parentheses o ≡ true → has_depth (length nest) ≡ true → onward (with_fault token.Open (enter_step nest h o negated d)) (λ s'. run s' to) ≡ run (in_part (part.BehindParenthesis o negated) nest d h) to
 enter_run nest d h o negated to takes deep =
     ap (λ z. onward (with_fault token.Open (if z then (if has_depth (length nest) then continues nest h (part.BehindParenthesis o negated) d else Err fault.TooLong) else Err fault.Operand)) (λ s'. run s' to)) takes ∙ ap (λ z. onward (with_fault token.Open (if z then continues nest h (part.BehindParenthesis o negated) d else Err fault.TooLong)) (λ s'. run s' to)) deep
@@ -146,7 +146,7 @@ mutual
 
 -- Instructions of the body.
 
--- a state that begins an instruction as the line's beginning and the place behind a label do
+-- a state that begins an instruction as the line's beginning and the place after a label do
 abbrev Begins : State → Draft → Head → ℕ → Type 0
 Begins s d h m = ((k : Keyword) → (k ≡ word.EndProgram → ⊥) → step s (token.Keyword k) m ≡ with_fault (token.Keyword k) (begin_step d h (token.Keyword k))) × (step s token.OpenBrace m ≡ with_fault token.OpenBrace (begin_step d h token.OpenBrace))
 
@@ -183,7 +183,7 @@ labelled_run : (d : Draft) (h : Head) (x : Option Action) (from a to : List Plac
 labelled_run d h None from a to e (k, q) = ap (run (at (stage.AtInstruction h) d)) (e ∙ q)
 labelled_run d h (Some x) from a to (m, i) q = action_run (at (stage.AtInstruction h) d) d h m (instruction_begins d h m) x from a i ∙ ended_run [] (with_statement d h (Some x)) a to q
 
--- the draft behind a line
+-- the draft after a line
 abbrev behind_line : Draft → ℕ → Option (List ℕ) → Option Action → Draft
 behind_line d l None x = with_statement d (record { line = l; label = None }) x
 behind_line d l (Some n) x = with_statement (with_label d n) (record { line = l; label = Some n }) x

@@ -103,7 +103,7 @@ picked (suc k) ds h = either (picked k (tails 97 ds)) (picked k (tails 98 ds)) (
         few : (b : Bool) → nat_le (length (tails 97 ds)) (length (tails 98 ds)) ≡ b → b ≡ false → length (tails 98 ds) < doubled k
         few b c d = let sums : length (tails 97 ds) + length (tails 98 ds) ≤ length ds = all in let w : nat_le (length (tails 97 ds)) (length (tails 98 ds)) ≡ false = c ∙ d in grind (arith, le-leb (length (tails 97 ds)) (length (tails 98 ds)))
 
--- the letters of the fresh name behind its q
+-- the letters of the fresh name after its q
 abbrev pub fresh_for : Scope → List Bool
 fresh_for s = pick 11 (tails 113 (s.variables ++ s.externals))
 

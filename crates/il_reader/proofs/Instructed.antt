@@ -25,7 +25,7 @@ use Rattle.il_reader.specs.Grammar.{past, IsSimple, IsInner}
 use Rattle.il_reader.specs.Lexemes.{Placed, placed}
 use Rattle.il_reader.proofs.Rest.{RestInside, RestComputed, RestAction, RestSimple, RestOperand, RestName, RestEntry, RestPart, Rest, Back}
 
--- Lines behind lines.
+-- Lines after lines.
 
 pub follow_none : (i : Inner) → followed_by i form.Close ≡ i
 follow_none form.Close = refl
@@ -35,7 +35,7 @@ pub follow_one : (i : Inner) (l : ℕ) (x : Written) (rest : Inner) → followed
 follow_one form.Close l x rest = refl
 follow_one (form.Then k y i) l x rest = ap (form.Then k y) (follow_one i l x rest)
 
--- What remains inside parentheses: lines, the closing one, and what is behind it.
+-- What remains inside parentheses: lines, the closing one, and what is after it.
 
 abbrev RestClose : OpenParenthesis → List OpenParenthesis → Draft → List Placed → Program → Type 0
 RestClose f nest d ts p =
@@ -53,7 +53,7 @@ computed_rest : (nest : List OpenParenthesis) (d : Draft) (h : Head) (x : Writte
 computed_rest [] d h x ts p r = r
 computed_rest (f ∷ nest) d h x ts p r = r
 
--- Behind an instruction's first token.
+-- After an instruction's first token.
 
 back_operand : (nest : List OpenParenthesis) (d : Draft) (h : Head) (f : Operand → Written) (t : Token) (m : ℕ) (ts : List Placed) (p : Program) → Back (simple_step nest d h (option_map f (operand_of t))) ts p → RestOperand nest d h f (placed t m ∷ ts) p
 back_operand nest d h f t m ts p w = go (operand_of t) refl w
@@ -110,7 +110,7 @@ back_pragma nest d h turns (token.Keyword (word.Jump c)) m ts p (n, q, a, g, r) 
 back_pragma nest d h turns (token.Keyword _) m ts p r = absurd r
 back_pragma nest d h turns _ m ts p r = absurd r
 
--- Behind an operator: an operand, or parentheses.
+-- After an operator: an operand, or parentheses.
 
 back_operator : (nest : List OpenParenthesis) (d : Draft) (h : Head) (o : Operator) (negated : Bool) (t : Token) (m : ℕ) (ts : List Placed) (p : Program) → Back (behind_operator_step nest h o negated d t) ts p → RestPart (part.BehindOperator o negated) nest d h (placed t m ∷ ts) p
 back_operator nest d h o negated token.Open m ts p w = go (takes_parentheses o) (has_depth (length nest)) refl refl w
@@ -203,7 +203,7 @@ inside_closed f nest d m ts p e r =
     let none : f.inner ≡ followed_by f.inner form.Close = sym (follow_none f.inner) in
     (form.Close, ts, (m, refl), subst (λ z. is_filled f.operand z ≡ true) none e, subst (λ z. RestComputed nest d f.head (deferred f z) ts p) none (computed_rest nest d f.head (deferred f f.inner) ts p r))
 
--- one more line, and the lines behind it
+-- one more line, and the lines after it
 inside_line : (f : OpenParenthesis) (nest : List OpenParenthesis) (d : Draft) (m : ℕ) (ts : List Placed) (p : Program) → past ts ≡ ts → RestSimple (f ∷ nest) d (record { line = m; label = None }) m ts p → RestClose f nest d ts p
 inside_line f nest d m ts p e (x, a, i, (b, q, r)) = go (inside_to (with_line f m x) nest d b p r)
   where

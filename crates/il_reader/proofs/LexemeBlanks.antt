@@ -42,7 +42,7 @@ with_star true xs = 42 ∷ xs
 
 -- From the inside on to the end.
 
--- what is known of the bytes behind
+-- what is known of the bytes after it
 abbrev Closes : List ℕ → List ℕ → Type 0
 Closes bs rest = (star : Bool) (n : ℕ) → IsOpen (with_star star (bs ++ codes "*")) → scanned n (inside_mode star) (bs ++ (42 ∷ 41 ∷ rest)) ≡ scanned (n + line_ends bs) mode.Clear rest
 
@@ -102,7 +102,7 @@ inside_with b n bs ts c x = record {
   behind = ap (λ z. scanned z mode.Clear x.rest) (sym (lines_on b n (line_ends x.inside))) ∙ x.behind;
 }
 
--- the bytes behind a star begin with no closing parenthesis
+-- the bytes after a star begin with no closing parenthesis
 star_before : (n : ℕ) (b : ℕ) (bs : List ℕ) (ts : List Placed) → nat_eq b 41 ≡ false → Inside false n (b ∷ bs) ts → Inside true n (b ∷ bs) ts
 star_before n b bs ts c x = record {
   inside = 42 ∷ x.inside;
@@ -116,7 +116,7 @@ star_before n b bs ts c x = record {
     go [] e h = open_before 42 42 [] refl h
     go (y ∷ ys) e h = let same : b ≡ y = cc in open_before 42 y (ys ++ codes "*") (subst (λ z. nat_eq z 41 ≡ false) same c) h
 
--- behind a star
+-- after a star
 star_on : (b n : ℕ) (bs : List ℕ) (ts : List Placed) → nat_eq b 42 ≡ true → Inside true (line_behind b n) bs ts → Inside false n (b ∷ bs) ts
 star_on b n bs ts c x =
     let same : b ≡ 42 = eqb-true b 42 c in
@@ -157,7 +157,7 @@ inside_back [] true n ts h = absurd (cc)
 inside_back (b ∷ bs) false n ts h = inside_on b n bs ts (λ star m k. inside_back bs star m ts k) h
 inside_back (b ∷ bs) true n ts h = closed_on b n bs ts (λ star m k. inside_back bs star m ts k) h
 
--- behind the star that opens a comment
+-- after the star that opens a comment
 pub comment_next : (n : ℕ) (bs : List ℕ) (ts : List Placed) → scanned n mode.Comment bs ≡ Tokens ts → Next n 40 (42 ∷ bs) ts
 comment_next n bs ts h = go (inside_back bs false n ts h)
   where

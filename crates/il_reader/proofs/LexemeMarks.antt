@@ -23,7 +23,7 @@ given q b n t behind e =
 stays : (n : ℕ) (t : Token) (behind : List ℕ) → joined (placed t n ∷ []) (scanned n mode.Clear behind) ≡ joined (placed t n ∷ []) (scanned (n + 0) mode.Clear behind)
 stays n t behind = ap (λ z. joined (placed t n ∷ []) (scanned z mode.Clear behind)) (sym (add-zero n))
 
--- A token that the byte behind it ends.
+-- A token that the byte after it ends.
 
 abbrev pub IsEndedBy : Mode → Token → List ℕ → Type 0
 IsEndedBy q t [] = at_end q ≡ Ok (Some t)
@@ -63,7 +63,7 @@ n_begins b n bs h = go (n_is b h)
     go (inl e) = ap (λ z. scanned n mode.Clear (z ∷ bs)) e ∙ goes n 78 mode.Clear (mode.Word (110 ∷ []) false) bs refl refl
     go (inr e) = ap (λ z. scanned n mode.Clear (z ∷ bs)) e ∙ goes n 110 mode.Clear (mode.Word (110 ∷ []) false) bs refl refl
 
--- behind &N a word goes on with the N
+-- after &N a word goes on with the N
 pub and_word : (b c n : ℕ) (bs : List ℕ) → is_n b ≡ true → is_word_byte c ≡ true → scanned n mode.AndNot (c ∷ bs) ≡ joined (placed (and_token false) n ∷ []) (scanned n mode.Clear (b ∷ c ∷ bs))
 and_word b c n bs h w =
     ap (λ z. scanned_on n z (on n c bs)) (taken (is_word_byte c) _ _ w)
@@ -101,7 +101,7 @@ and_scanned (b ∷ bs) n h = go (is_n b) refl h
 
 -- From marks to what is scanned.
 
--- what is scanned of a token's bytes, and behind them
+-- what is scanned of a token's bytes, and after them
 abbrev pub Scans : List ℕ → List ℕ → ℕ → Token → Type 0
 Scans own behind n t = scanned n mode.Clear (own ++ behind) ≡ joined (placed t n ∷ []) (scanned (n + line_ends own) mode.Clear behind)
 

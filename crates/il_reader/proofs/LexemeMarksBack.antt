@@ -46,7 +46,7 @@ dot_next : (bs : List ℕ) (n : ℕ) (ts : List Placed) → scanned n mode.Dot b
 dot_next [] n ts h = absurd (cc)
 dot_next (b ∷ bs) n ts h = chosen n b bs ts (nat_eq b 46) _ _ h (λ c h. completed (b ∷ []) n 46 b (b ∷ bs) bs ts token.Dots refl refl (ap (λ z. 46 ∷ z ∷ []) (eqb-true b 46 c)) h) (λ c h. absurd (cc))
 
--- Tokens that the byte behind them ends.
+-- Tokens that the byte after them ends.
 
 ended_next : (q : Mode) (t : Token) (n b : ℕ) (bs : List ℕ) (ts : List Placed) → nat_eq b 10 ≡ false → IsMark (b ∷ []) bs t → IsEndedBy q t bs → scanned n q bs ≡ Tokens ts → Next n b bs ts
 ended_next q t n b bs ts line mark e h = lexeme_next (b ∷ []) bs t n b bs ts refl (omega arith) (inr mark) (ap (λ z. if z then 1 else 0) line) (others_joined n t bs ts (sym (ended_scanned q t n bs e) ∙ h))
@@ -71,7 +71,7 @@ colon_next (b ∷ bs) n ts h = go (nat_eq b 61) refl h
         subst (λ z. Next n 58 (z ∷ bs) ts) (sym same) (completed (61 ∷ []) n 58 61 (61 ∷ bs) bs ts token.Assign refl refl refl (ap (λ z. scanned n mode.Colon (z ∷ bs)) (sym same) ∙ h))
     go false c h = ended_next mode.Colon token.Colon n 58 (b ∷ bs) ts refl (refl, c) (colon_ended (b ∷ bs) c) h
 
--- behind &N
+-- after &N
 and_n_next : (bs : List ℕ) (n b : ℕ) (ts : List Placed) → is_n b ≡ true → scanned n mode.AndNot bs ≡ Tokens ts → Next n 38 (b ∷ bs) ts
 and_n_next bs n b ts e h = go (starts is_word_byte bs) refl
   where
@@ -102,7 +102,7 @@ sign_next negative n b bs ts e h = number_next None [] (b ∷ bs) n b bs ts refl
 
 -- A byte that begins no word and no number without a sign.
 
--- the byte is x, and q stands behind it
+-- the byte is x, and q stands after it
 opened : (n b x : ℕ) (q : Mode) (bs : List ℕ) (ts : List Placed) → nat_eq b x ≡ true → nat_eq x 10 ≡ false → scanned_on n (stands q) (on n b bs) ≡ Tokens ts → (scanned n q bs ≡ Tokens ts → Next n x bs ts) → Next n b bs ts
 opened n b x q bs ts c line h next =
     let same : b ≡ x = eqb-true b x c in

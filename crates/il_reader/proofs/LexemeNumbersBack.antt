@@ -24,7 +24,7 @@ abbrev ArePlain : List ℕ → List ℕ → Type 0
 ArePlain own [] = own ≡ []
 ArePlain own (d ∷ ds) = (b : ℕ) × (bs : List ℕ) × (below 10 (digit_of b) ≡ Some d) × (own ≡ b ∷ bs) × ArePlain bs ds
 
--- the rest of a number behind digits that make m
+-- the rest of a number after digits that make m
 record Further (k : Option IlType) (f : Front) (m n : ℕ) (bs : List ℕ) (ts : List Placed) : Type 0 where
   figures : List ℕ
   values : List ℕ
@@ -35,7 +35,7 @@ record Further (k : Option IlType) (f : Front) (m n : ℕ) (bs : List ℕ) (ts :
   ends : Ends rest
   others : Others n (literal_token k f (with_sign f (number_from (front_radix f) m values))) rest ts
 
--- digits that are a base, and # behind them
+-- digits that are a base, and # after them
 record Hash (k : Option IlType) (m n : ℕ) (bs : List ℕ) (ts : List Placed) : Type 0 where
   base : Base
   figures : List ℕ
@@ -46,7 +46,7 @@ record Hash (k : Option IlType) (m n : ℕ) (bs : List ℕ) (ts : List Placed) :
   named : base_named spelling.Plain (pos (number_from 10 m values)) ≡ Some base
   behind : scanned n (mode.Number k (spelling.Based base) (pos 0) true) rest ≡ Tokens ts
 
--- a base comes only behind plain digits
+-- a base comes only after plain digits
 abbrev MayHash : Spelling → Option IlType → ℕ → ℕ → List ℕ → List Placed → Type 0
 MayHash spelling.Plain k m n bs ts = Hash k m n bs ts
 MayHash s k m n bs ts = ⊥
@@ -94,7 +94,7 @@ digit_before spelling.Decimal k f m n b d bs ts e digit (inr x) = absurd x
 digit_before (spelling.Signed negative) k f m n b d bs ts e digit (inr x) = absurd x
 digit_before (spelling.Based y) k f m n b d bs ts e digit (inr x) = absurd x
 
--- no base comes behind an underscore
+-- no base comes after an underscore
 no_hash : (s : Spelling) (k : Option IlType) (m n : ℕ) (bs : List ℕ) (ts : List Placed) → MayHash (spelled_on s) k m n bs ts → ⊥
 no_hash spelling.Plain k m n bs ts h = h
 no_hash spelling.Decimal k m n bs ts h = h
@@ -150,7 +150,7 @@ done_here k f m n bs ts within ends others = record {
 stood : (k : Option IlType) (s : Spelling) (v : ℤ) (n b : ℕ) (bs : List ℕ) (ts : List Placed) → nat_eq b 10 ≡ false → scanned_on n (number_stands k s v) (on n b bs) ≡ Tokens ts → IsIn k v × (scanned n (mode.Number k s v false) bs ≡ Tokens ts)
 stood k s v n b bs ts line h = chosen n b bs ts (is_within (low_of (limits_of k)) (high_of (limits_of k)) v) _ _ h (λ c h. (c, went n b (mode.Number k s v false) bs ts line h)) (λ c h. absurd (cc))
 
--- what is known of the bytes behind
+-- what is known of the bytes after it
 abbrev Known : List ℕ → Option IlType → ℕ → List Placed → Type 0
 Known bs k n ts = (wanting : Bool) (s : Spelling) (f : Front) (m : ℕ) → front_of s ≡ f → IsIn k (with_sign f m) → scanned n (mode.Number k s (with_sign f m) wanting) bs ≡ Tokens ts → Found wanting s k f m n bs ts
 
@@ -203,7 +203,7 @@ number_back (b ∷ bs) k n ts wanting s f m e within h = byte_on wanting s k f m
 
 -- Whole numbers.
 
--- the digits of a number, and what is behind
+-- the digits of a number, and what is after it
 pub record Digits (k : Option IlType) (f : Front) (n : ℕ) (bs : List ℕ) (ts : List Placed) : Type 0 where
   pub figures : List ℕ
   pub values : List ℕ
@@ -230,7 +230,7 @@ digits_from k f n b d bs ts digit x = record {
   others = x.others;
 }
 
--- behind a sign or a base
+-- after a sign or a base
 wanted_digits : (s : Spelling) (k : Option IlType) (f : Front) (n : ℕ) (bs : List ℕ) (ts : List Placed) → ((m : ℕ) (cs : List ℕ) → MayHash s k m n cs ts → ⊥) → Wanted s k f 0 n bs ts → Digits k f n bs ts
 wanted_digits s k f n bs ts none w = go w.after
   where
@@ -354,7 +354,7 @@ first_back k n b bs ts c h = chosen n b bs ts (nat_eq b 48) _ _ h zero other
 pub sign_back : (negative : Bool) (n : ℕ) (bs : List ℕ) (ts : List Placed) → scanned n (mode.Sign negative) bs ≡ Tokens ts → Digits None (Signed negative) n bs ts
 sign_back negative n bs ts h = signed_back negative None n bs ts (sym (sign_scanned bs negative n) ∙ h)
 
--- behind a type and #
+-- after a type and #
 pub typed_back : (k : IlType) (n : ℕ) (bs : List ℕ) (ts : List Placed) → scanned n (mode.Typed k) bs ≡ Tokens ts → Counted (Some k) n bs ts
 typed_back k n [] ts h = absurd (cc)
 typed_back k n (b ∷ bs) ts h =

@@ -18,7 +18,7 @@ use Rattle.il_reader.proofs.LexemeNumbers.{IsIn, IsWhole, decimal, digit_differs
 no_underscore : (b : ℕ) → is_word_byte b ≡ false → nat_eq b 95 ≡ false
 no_underscore b h = differs (λ z. not (is_word_byte z)) b 95 (ap not h) refl
 
--- behind the last digit
+-- after the last digit
 number_over : (k : Option IlType) (s : Spelling) (v : ℤ) (b : ℕ) → (is_word_byte b || nat_eq b 35) ≡ false → lexed (mode.Number k s v false) b ≡ ended_by (number_token k s v) (first_byte b)
 number_over k s v b h =
     let no_word : is_word_byte b ≡ false = or_left (is_word_byte b) (nat_eq b 35) h in
@@ -76,7 +76,7 @@ digits_scanned q (d ∷ ds) own behind k f n takes (b, bs, digit, i, more) ends 
     go (s, e, l) =
         ap (λ z. scanned n q (z ++ behind)) i ∙ goes n b q (mode.Number k s (with_sign f first) false) (bs ++ behind) l (digit_differs (front_radix f) b 10 d digit refl) ∙ further_scanned ds bs behind k s f first n e more ends within
 
--- where no digit has come yet: behind a type and #, or where nothing is open
+-- where no digit has come yet: after a type and #, or where nothing is open
 abbrev pub opens : Option IlType → Mode
 opens None = mode.Clear
 opens (Some k) = mode.Typed k
@@ -108,11 +108,11 @@ zero_with_sign (Signed false) = refl
 zero_with_sign (Signed true) = refl
 zero_with_sign (Based x) = refl
 
--- behind a sign or a base
+-- after a sign or a base
 front_takes : (k : Option IlType) (s : Spelling) (f : Front) → front_of s ≡ f → Takes (mode.Number k s (pos 0) true) k f
 front_takes k s f e b d digit within = (s, e, ap (λ z. lexed (mode.Number k s z true) b) (sym (zero_with_sign f)) ∙ digit_lexed k s f 0 b d true e digit within)
 
--- a sign alone is read as one behind a type
+-- a sign alone is read as one after a type
 pub sign_scanned : (bs : List ℕ) (negative : Bool) (n : ℕ) → scanned n (mode.Sign negative) bs ≡ scanned n (mode.Number None (spelling.Signed negative) (pos 0) true) bs
 sign_scanned [] negative n = refl
 sign_scanned (b ∷ bs) negative n = go (is_digit b) refl
@@ -141,7 +141,7 @@ based_opens k base.Sixteen n bs w =
     ∙ goes n 54 (mode.Number k spelling.Plain (pos 1) false) (mode.Number k spelling.Plain (pos 16) false) (35 ∷ bs) (digit_stands k spelling.Plain (pos 16) (small k 16 w (omega arith))) refl
     ∙ goes n 35 (mode.Number k spelling.Plain (pos 16) false) (mode.Number k (spelling.Based base.Sixteen) (pos 0) true) bs refl refl
 
--- a number behind its type, or without one
+-- a number after its type, or without one
 pub number_scanned : (f : Front) (k : Option IlType) (own ds behind : List ℕ) (n : ℕ) → IsWhole k → AreDigits (front_radix f) own ds → Ends behind → IsIn k (number_of f ds) → scanned n (opens k) (front_bytes f ++ (own ++ behind)) ≡ joined (placed (literal_token k f (number_of f ds)) n ∷ []) (scanned n mode.Clear behind)
 number_scanned Bare k own ds behind n w digits ends within = digits_scanned (opens k) ds own behind k Bare n (bare_takes k) digits ends within
 number_scanned (Signed negative) k own ds behind n w digits ends within = signed_opens k negative n (own ++ behind) ∙ digits_scanned (mode.Number k (spelling.Signed negative) (pos 0) true) ds own behind k (Signed negative) n (front_takes k (spelling.Signed negative) (Signed negative) refl) digits ends within

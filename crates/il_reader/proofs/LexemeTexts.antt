@@ -30,7 +30,7 @@ literal_scanned None f before figures values behind n e digits ends within = ap 
 literal_scanned (Some k) f before figures values behind n (w, e, h) digits ends within =
     ap (λ z. scanned n mode.Clear (z ++ (front_bytes f ++ (figures ++ behind)))) e ∙ ap (scanned n mode.Clear) (append_assoc w (codes "#") (front_bytes f ++ (figures ++ behind))) ∙ type_scanned w (front_bytes f ++ (figures ++ behind)) k n h ∙ number_scanned f (Some k) figures values behind n (type_is_whole (keyword (map folded w)) k h) digits ends within
 
--- the line behind a token that has no line end
+-- the line after a token that has no line end
 in_line : (own behind : List ℕ) (t : Token) (n : ℕ) → line_ends own ≡ 0 → scanned n mode.Clear (own ++ behind) ≡ joined (placed t n ∷ []) (scanned n mode.Clear behind) → scanned n mode.Clear (own ++ behind) ≡ joined (placed t n ∷ []) (scanned (n + line_ends own) mode.Clear behind)
 in_line own behind t n line e = e ∙ ap (joined (placed t n ∷ [])) (same_line n own behind line)
 

@@ -72,7 +72,7 @@ all_folded : (own : List ℕ) → list_all is_name_byte (map folded own) ≡ tru
 all_folded [] h = refl
 all_folded (b ∷ bs) h = ap (λ z. z && list_all is_word_byte bs) (and_left (is_word_byte b) (list_all is_name_byte (map folded bs)) h) ∙ all_folded bs (and_right (is_word_byte b) (list_all is_name_byte (map folded bs)) h)
 
--- From a word's bytes to what stands open behind them.
+-- From a word's bytes to what stands open after them.
 
 abbrev gap_behind : Bool → List ℕ → Bool
 gap_behind gap [] = gap
@@ -142,7 +142,7 @@ word_open (b ∷ bs) rest n h = (
         let same : length w ≡ length bs = length_folded bs in
         omega arith
 
--- behind its last character
+-- after its last character
 word_over : (behind w : List ℕ) (gap : Bool) (n : ℕ) (t : Token) → Ends behind → word_token w ≡ Some t → scanned n (mode.Word w gap) behind ≡ joined (placed t n ∷ []) (scanned n mode.Clear behind)
 word_over [] w gap n t h e = ap (λ z. last_tokens n (grows z)) e
 word_over (b ∷ bs) w gap n t h e =

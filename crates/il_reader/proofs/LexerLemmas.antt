@@ -24,7 +24,7 @@ outside il.Udint n f = grind (arith, ints)
 pub number_fails : (k : Option IlType) (s : Spelling) (n : ℤ) → (SFits w64 n → ⊥) → fails fault.Literal ≡ number_stands k s n
 number_fails k s n f = ap (λ z. if z then stands (mode.Number k s n false) else fails fault.Literal) (sym (outside (limits_of k) n f))
 
--- The bytes behind the first.
+-- The bytes after the first.
 
 abbrev pub behind_first : List ℕ → List ℕ
 behind_first rest = take (length rest - 1) (drop 1 rest)

@@ -27,7 +27,7 @@ use Rattle.il_reader.proofs.Completion.{Ends_at, IsCalm, calm_ends}
 abbrev FailsIn : ℕ → Result Reader ReadFault → Type 0
 FailsIn n x = (k : ReadFaultKind) × (x ≡ Err (record { line = n; kind = k }))
 
--- What stands behind a byte tells the kind of its fault alone: it is read in front of any bytes to the same, or refused in
+-- What stands after a byte tells the kind of its fault alone: it is read in front of any bytes to the same, or refused in
 -- its line in front of any.
 abbrev InFrontOf : Reader → Result Reader ReadFault → Result Reader ReadFault → Type 0
 InFrontOf r (Ok q) y = y ≡ Ok q
@@ -44,7 +44,7 @@ in_front_read r b bs cs (Err k) = (refl, (_, refl))
 in_front : (r : Reader) (b : ℕ) (bs cs : List ℕ) (x : Result Reader ReadFault) → byte_fed r b bs ≡ x → InFrontOf r x (byte_fed r b cs)
 in_front r b bs cs x e = subst (λ z. InFrontOf r z (byte_fed r b cs)) e (in_front_read r b bs cs (lexed r.mode b))
 
--- Bytes behind bytes.
+-- Bytes after bytes.
 
 fed_append : (a b : List ℕ) (r q : Reader) → fed r a ≡ Ok q → fed r (a ++ b) ≡ fed q b
 fed_append [] b r q e = let same : r ≡ q = cc in ap (λ z. fed z b) same
@@ -125,7 +125,7 @@ calm_after r q b bs c e =
     let h : CalmReader (byte_fed r b bs) = subst (λ z. CalmReader (byte_fed r z bs)) same (calm_byte r bs) in
     subst CalmReader e h
 
--- the line behind a byte that is read, and the line of the byte
+-- the line after a byte that is read, and the line of the byte
 line_state : (r q : Reader) (b : ℕ) (bs : List ℕ) (x : Lexed) (m : Move) → state_read r b bs x m ≡ Ok q → (q.line ≡ line_behind b r.line) × (q.last ≡ r.line)
 line_state r q b bs x (Ok s) e = (sym (ap line_in e), sym (ap last_in e))
   where
@@ -145,7 +145,7 @@ line_read r q b bs (Err k) e = absurd (cc)
 line_byte : (r q : Reader) (b : ℕ) (bs : List ℕ) → byte_fed r b bs ≡ Ok q → (q.line ≡ line_behind b r.line) × (q.last ≡ r.line)
 line_byte r q b bs e = line_read r q b bs (lexed r.mode b) e
 
--- behind k lines: nothing has happened, or nothing but a comment is open
+-- after k lines: nothing has happened, or nothing but a comment is open
 abbrev Calmed : ℕ → Mode → Mode → Type 0
 Calmed zero q q' = q ≡ q'
 Calmed (suc k) q q' = IsCalm q'

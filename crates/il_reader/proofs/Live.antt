@@ -1,4 +1,4 @@
--- What the states that are reached keep: behind a comma there is room for one more name.
+-- What the states that are reached keep: after a comma there is room for one more name.
 use Rattle.std.proofs.Common.{◌≡◌, ℕ, Bool, true, false, List, [], ◌∷◌, length, Option, Some, None, Result, Ok, Err, refl, subst, if◌then◌else◌, option_map}
 use Rattle.point_types.specs.declared.il_type.IlType.{IlType}
 use Rattle.point_types.specs.declared.operator.Condition.{Condition}

@@ -19,7 +19,7 @@ use Rattle.il_reader.specs.Reading.{step, stepped, onward, state_read, byte_read
 abbrev pub clear : ℕ → ℕ → State → Reader
 clear n l s = record { line = n; last = l; mode = mode.Clear; state = s }
 
--- the text and a blank behind it are one token
+-- the text and a blank after it are one token
 abbrev pub Prints : List ℕ → Token → Type 0
 Prints text t = (n l : ℕ) (s s' : State) (rest : List ℕ) → step s t n ≡ Ok s' → fed (clear n l s) (text ++ (32 ∷ rest)) ≡ fed (clear n n s') rest
 

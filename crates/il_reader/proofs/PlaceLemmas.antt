@@ -16,7 +16,7 @@ use Rattle.il_reader.specs.Tokens.{at_end, line_behind}
 use Rattle.il_reader.specs.Tracing.{IsFound, IsPassed, IsThere}
 use Rattle.il_reader.proofs.LexerLemmas.{behind_first}
 
--- the line behind a byte
+-- the line after a byte
 pub line_more : (text : List ℕ) (k : ℕ) → k < length text → line_of text (suc k) ≡ line_behind (get_or text k 0) (line_of text k)
 line_more [] k h = absurd (omega arith)
 line_more (b ∷ bs) zero h = either (nat_eq b 10)

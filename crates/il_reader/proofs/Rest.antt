@@ -45,7 +45,7 @@ run s (placed t m ∷ ts) = onward (step s t m) (λ s'. run s' ts)
 abbrev pub RestBody : Draft → List Placed → Program → Type 0
 RestBody d ts p = (body : List Statement) × (e : ℕ) × IsBody d.labels body e ts × (p ≡ finished d body e)
 
--- at the beginning of a line inside parentheses: first those of the inmost, up to the line behind the closing one
+-- at the beginning of a line inside parentheses: first those of the inmost, up to the line after the closing one
 abbrev pub RestInside : OpenParenthesis → List OpenParenthesis → Draft → List Placed → Program → Type 0
 RestInside f [] d ts p =
     (rest : Inner) × (a b : List Placed) × IsInner 1 rest ts a × (is_filled f.operand (followed_by f.inner rest) ≡ true) × IsEnd a b × RestBody (with_statement d f.head (Some (action.Compute (deferred f (followed_by f.inner rest))))) b p
@@ -59,7 +59,7 @@ RestLines (f ∷ nest) d ts p = RestInside f nest d ts p
 abbrev pub RestWhole : List OpenParenthesis → Draft → List Placed → Program → Type 0
 RestWhole nest d ts p = (b : List Placed) × IsEnd ts b × RestLines nest d b p
 
--- behind an instruction on the result alone
+-- after an instruction on the result alone
 abbrev pub RestComputed : List OpenParenthesis → Draft → Head → Written → List Placed → Program → Type 0
 RestComputed [] d h x ts p = RestWhole [] (with_statement d h (Some (action.Compute x))) ts p
 RestComputed (f ∷ nest) d h x ts p = RestWhole (with_line f h.line x ∷ nest) d ts p
@@ -82,7 +82,7 @@ RestOperand nest d h f ts p =
 abbrev pub RestName : List OpenParenthesis → Draft → Head → (List ℕ → Action) → List Placed → Program → Type 0
 RestName nest d h f ts p = (n : List ℕ) × (m : ℕ) × (a : List Placed) × (ts ≡ placed (token.Name n) m ∷ a) × RestWhole nest (with_statement d h (Some (f n))) a p
 
--- behind an operator and an opening parenthesis
+-- after an operator and an opening parenthesis
 abbrev pub RestEntry : List OpenParenthesis → Draft → Head → Operator → Bool → List Placed → Program → Type 0
 RestEntry nest d h o negated ts p = (first : Option Operand) × (a : List Placed) × IsEntry first ts a × RestInside (frame_of h o negated first) nest d a p
 

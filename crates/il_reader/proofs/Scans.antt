@@ -61,7 +61,7 @@ pub joined_none : (z : Scan) → joined [] z ≡ z
 joined_none (Tokens us) = refl
 joined_none NoTokens = refl
 
--- what is scanned behind a byte
+-- what is scanned after a byte
 abbrev pub on : ℕ → ℕ → List ℕ → Mode → Scan
 on n b bs q = scanned (line_behind b n) q bs
 
@@ -94,7 +94,7 @@ opening_ends_none b =
 first_ends_none : (b : ℕ) → EndsNone (first_byte b)
 first_ends_none b = either (is_letter (folded b)) _ _ refl (either (is_digit b) (first_digit None b) (opening_of b) (digit_ends_none None b) (opening_ends_none b))
 
--- a byte behind a token
+-- a byte after a token
 pub ended : (n b : ℕ) (bs : List ℕ) (t : Token) → scanned_on n (ended_by t (first_byte b)) (on n b bs) ≡ joined (placed t n ∷ []) (scanned n mode.Clear (b ∷ bs))
 ended n b bs t = go (first_byte b) (first_ends_none b)
   where
@@ -109,7 +109,7 @@ ended n b bs t = go (first_byte b) (first_ends_none b)
 
 -- What a scan that gives tokens says of its first byte.
 
--- the tokens behind a first one
+-- the tokens after a first one
 pub record Others (n : ℕ) (t : Token) (bs : List ℕ) (ts : List Placed) : Type 0 where
   pub others : List Placed
   pub behind : scanned n mode.Clear bs ≡ Tokens others
@@ -147,7 +147,7 @@ pub record Next (n b : ℕ) (bs : List ℕ) (ts : List Placed) : Type 0 where
 
 -- Lines.
 
--- the line behind a byte, and behind others
+-- the line after a byte, and after others
 pub lines_on : (b n k : ℕ) → line_behind b n + k ≡ n + (if nat_eq b 10 then suc k else k)
 lines_on b n k = go (nat_eq b 10)
   where

@@ -19,7 +19,7 @@ use Rattle.il_reader.specs.Limit.{most_names}
 abbrev pub among : List ℕ → List (List ℕ) → Bool
 among n names = list_any (bytes_eq n) names
 
--- the first name is the second with _ok behind it, as that of the presence of an external is
+-- the first name is the second with _ok after it, as that of the presence of an external is
 abbrev pub is_presence : List ℕ → List ℕ → Bool
 is_presence n [] = bytes_eq n (95 ∷ 111 ∷ 107 ∷ [])
 is_presence [] (b ∷ p) = false

@@ -42,7 +42,7 @@ with_statement d h a = record d { statements = d.statements ++ (record { line = 
 abbrev pub program_of : Draft → ℕ → Program
 program_of d m = record { name = d.name; variables = d.variables; externals = d.externals; statements = d.statements; end_line = m }
 
--- One token: the state behind it, or its fault.
+-- One token: the state after it, or its fault.
 
 abbrev pub Move : Type 0
 Move = Result State ReadFaultKind

@@ -24,13 +24,13 @@ use Rattle.il_reader.specs.Lexemes.{Placed, placed, AreTokens}
 use Rattle.il_reader.specs.Written.{Written, Inner}
 use Rattle.il_reader.specs.Written as form
 
--- the tokens behind line ends
+-- the tokens after line ends
 abbrev pub past : List Placed → List Placed
 past [] = []
 past (placed token.LineEnd l ∷ ts) = past ts
 past (t ∷ ts) = t ∷ ts
 
--- behind line ends comes a token of a line
+-- after line ends comes a token of a line
 abbrev pub IsNext : Token → ℕ → List Placed → List Placed → Type 0
 IsNext t l from to = past from ≡ placed t l ∷ to
 
@@ -38,7 +38,7 @@ IsNext t l from to = past from ≡ placed t l ∷ to
 abbrev pub IsEnd : List Placed → List Placed → Type 0
 IsEnd from to = (l : ℕ) × (from ≡ placed token.LineEnd l ∷ to)
 
--- what stands behind an opening parenthesis: an operand or nothing, and the line's end
+-- what stands after an opening parenthesis: an operand or nothing, and the line's end
 abbrev pub IsEntry : Option Operand → List Placed → List Placed → Type 0
 IsEntry None from to = IsEnd from to
 IsEntry (Some x) from to = (t : Token) × (m : ℕ) × (a : List Placed) × (operand_of t ≡ Some x) × (from ≡ placed t m ∷ a) × IsEnd a to
@@ -77,7 +77,7 @@ IsAction l (action.Set value n) from to = (m : ℕ) × (from ≡ placed (token.K
 IsAction l (action.Jump c n turns) from to = IsJump l c n turns from to
 IsAction l (action.Return c) from to = from ≡ placed (token.Keyword (word.Return c)) l ∷ to
 
--- what stands behind a label: an instruction, or nothing
+-- what stands after a label: an instruction, or nothing
 abbrev pub IsLabelled : Option Action → List Placed → List Placed → Type 0
 IsLabelled None from to = from ≡ to
 IsLabelled (Some x) from to = (l : ℕ) × IsAction l x from to
@@ -142,7 +142,7 @@ abbrev pub IsSubrange : IlType → Typing → List Placed → List Placed → Ty
 IsSubrange k y from to =
     (t u : Token) × (z : Typing) × (g h i j l : ℕ) × (a b c d : List Placed) × (is_bool k ≡ false) × IsNext token.Open g from a × IsNext t h a b × (made (begun k) (value_of k t) ≡ Some z) × IsNext token.Dots i b c × IsNext u j c d × (made (bounded z) (value_of z.kind u) ≡ Some y) × IsNext token.Close l d to
 
--- behind a type: a subrange, or none
+-- after a type: a subrange, or none
 abbrev pub IsRange : Typing → Typing → List Placed → List Placed → Type 0
 IsRange w y from to = ((w ≡ y) × (from ≡ to)) ⊎ IsSubrange w.kind y from to
 
@@ -151,14 +151,14 @@ abbrev pub IsStart : Typing → Typing → List Placed → List Placed → Type 
 IsStart y z from to =
     ((i : ℕ) × (y ≡ z) × IsNext token.Semicolon i from to) ⊎ ((t : Token) × (i j l : ℕ) × (a b : List Placed) × IsNext token.Assign i from a × IsNext t j a b × (made (started y) (value_of y.kind t) ≡ Some z) × IsNext token.Semicolon l b to)
 
--- behind the colon: a type with what belongs to it
+-- after the colon: a type with what belongs to it
 abbrev pub IsNature : Bool → Nature → List Placed → List Placed → Type 0
 IsNature false (OfVariable z) from to =
     (k : IlType) × (w y : Typing) × (j : ℕ) × (a b : List Placed) × IsNext (token.Keyword (word.Type k)) j from a × (whole k ≡ Some w) × IsRange w y a b × IsStart y z b to
 IsNature true (OfExternal k) from to = (j l : ℕ) × (a : List Placed) × IsNext (token.Keyword (word.Type k)) j from a × IsNext token.Semicolon l a to
 IsNature x n from to = ⊥
 
--- behind the names
+-- after the names
 abbrev pub IsTyped : Bool → Nature → List Placed → List Placed → Type 0
 IsTyped x n from to = (i : ℕ) × (a : List Placed) × IsNext token.Colon i from a × IsNature x n a to
 

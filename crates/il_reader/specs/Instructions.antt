@@ -88,7 +88,7 @@ abbrev pub begun_step : List OpenParenthesis → Draft → Head → Keyword → 
 begun_step nest d h w (Some s) = continues nest h s d
 begun_step nest d h w None = single_step nest d h w
 
--- an instruction's first token, behind the label where there is one
+-- an instruction's first token, after the label where there is one
 abbrev pub begin_step : Draft → Head → Token → Move
 begin_step d h (token.Keyword w) = begun_step [] d h w (part_begun w)
 begin_step d h token.OpenBrace = continues [] h part.BehindBrace d
@@ -143,7 +143,7 @@ behind_jump_step nest h c turns d _ = Err fault.Label
 
 -- Parentheses over lines.
 
--- behind an operator and an opening parenthesis
+-- after an operator and an opening parenthesis
 abbrev pub enter_step : List OpenParenthesis → Head → Operator → Bool → Draft → Move
 enter_step nest h o negated d =
     if takes_parentheses o then (if has_depth (length nest) then continues nest h (part.BehindParenthesis o negated) d else Err fault.TooLong) else Err fault.Operand
@@ -225,7 +225,7 @@ goes_unless nest d (Some k) = Err k
 abbrev pub StopsOn : List OpenParenthesis → Option ReadFaultKind → (Draft → Move) → Type 0
 StopsOn nest k on = (d : Draft) → goes_unless nest d k ≡ on d
 
--- behind a whole instruction
+-- after a whole instruction
 abbrev pub whole_step : List OpenParenthesis → Draft → Token → Move
 whole_step nest d token.LineEnd = goes (stage.AtLine nest) d
 whole_step nest d token.Close = Err (close_fault nest)

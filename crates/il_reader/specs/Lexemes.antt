@@ -20,7 +20,7 @@ pub record Lexeme : Type 0 where
   pub own : List ℕ
   pub spells : Option Token
 
--- What comes behind a piece.
+-- What comes after a piece.
 
 -- the first byte passes a test
 abbrev pub starts : (ℕ → Bool) → List ℕ → Bool
@@ -95,7 +95,7 @@ IsLexeme own behind (Some t) = ((IsWord own t ⊎ IsNumber own t) × Ends behind
 abbrev pub bytes_of : List Lexeme → List ℕ
 bytes_of xs = flat_map (λ x. x.own) xs
 
--- each piece is a lexeme before those behind it
+-- each piece is a lexeme before those after it
 abbrev pub AreLexemes : List Lexeme → Type 0
 AreLexemes [] = Unit {0}
 AreLexemes (x ∷ xs) = IsLexeme x.own (bytes_of xs) x.spells × AreLexemes xs

@@ -32,7 +32,7 @@ front_radix (Based base.Eight) = 8
 front_radix (Based base.Sixteen) = 16
 front_radix f = 10
 
--- digits of base r behind the first, an underscore before each or none, and their values
+-- digits of base r after the first, an underscore before each or none, and their values
 abbrev pub AreFurther : ℕ → List ℕ → List ℕ → Type 0
 AreFurther r own [] = own ≡ []
 AreFurther r own (d ∷ ds) = (b : ℕ) × (bs : List ℕ) × (below r (digit_of b) ≡ Some d) × ((own ≡ b ∷ bs) ⊎ (own ≡ 95 ∷ b ∷ bs)) × AreFurther r bs ds
@@ -42,7 +42,7 @@ abbrev pub AreDigits : ℕ → List ℕ → List ℕ → Type 0
 AreDigits r own [] = ⊥
 AreDigits r own (d ∷ ds) = (b : ℕ) × (bs : List ℕ) × (below r (digit_of b) ≡ Some d) × (own ≡ b ∷ bs) × AreFurther r bs ds
 
--- what the digits behind a number m make of it
+-- what the digits after a number m make of it
 abbrev pub number_from : ℕ → ℕ → List ℕ → ℕ
 number_from r m [] = m
 number_from r m (d ∷ ds) = number_from r (r * m + d) ds

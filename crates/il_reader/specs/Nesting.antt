@@ -28,13 +28,13 @@ abbrev pub is_open : List OpenParenthesis → Bool
 is_open [] = false
 is_open (f ∷ nest) = true
 
--- inside stands an operand behind the opening parenthesis, or a line
+-- inside stands an operand after the opening parenthesis, or a line
 abbrev pub is_filled : Option Operand → Inner → Bool
 is_filled (Some x) inner = true
 is_filled None Close = false
 is_filled None (Then line head tail) = true
 
--- parentheses that are just opened, behind an operator
+-- parentheses that are just opened, after an operator
 abbrev pub frame_of : Head → Operator → Bool → Option Operand → OpenParenthesis
 frame_of h o negated first = record { head = h; operator = o; negated = negated; operand = first; inner = Close }
 
@@ -60,7 +60,7 @@ is_outer (word.Jump c) = true
 is_outer (word.Return c) = true
 is_outer _ = false
 
--- the fault of a closing parenthesis behind a whole instruction: outside it closes nothing, inside it has a line of its own
+-- the fault of a closing parenthesis after a whole instruction: outside it closes nothing, inside it has a line of its own
 abbrev pub close_fault : List OpenParenthesis → ReadFaultKind
 close_fault [] = fault.Parenthesis
 close_fault (f ∷ nest) = fault.Operand

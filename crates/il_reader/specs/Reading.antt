@@ -32,7 +32,7 @@ use Rattle.il_reader.specs.Tokens.{lexed, at_end, is_none, colon_comes, line_beh
 use Rattle.il_reader.specs.Drafting.{Move, declares, goes, titled_draft, with_entry, with_externals, with_variables}
 use Rattle.il_reader.specs.Instructions.{at_instruction_step, at_line_step, behind_label_step, between_step, part_step, whole_step}
 
--- One token: the state behind it, or its fault.
+-- One token: the state after it, or its fault.
 
 abbrev pub start_step : Token → Move
 start_step token.LineEnd = Ok state.Start
@@ -99,7 +99,7 @@ behind_external_step k d token.LineEnd = declares (block.BehindExternal k) d
 behind_external_step k d token.Semicolon = declares (block.InBlock true) (with_externals d k)
 behind_external_step k d _ = Err fault.Declaration
 
--- behind a range: a start value, or the end of the declaration
+-- after a range: a start value, or the end of the declaration
 abbrev pub behind_range_step : Typing → Draft → Token → Move
 behind_range_step y d token.LineEnd = declares (block.BehindRange y) d
 behind_range_step y d token.Assign = declares (block.BehindAssign y) d
@@ -200,7 +200,7 @@ abbrev pub taken : State → Lexed → ℕ → Move
 taken s x m = onward (stepped s x.ended m) (λ s'. stepped s' x.own m)
 
 -- A name at the beginning of a line inside parentheses is no operator; where its colon comes next it is a label, which
--- isn't allowed there. So the kind of this fault hangs on the bytes behind it.
+-- isn't allowed there. So the kind of this fault hangs on the bytes after it.
 
 abbrev pub is_inner_line : Stage → Bool
 is_inner_line (stage.AtLine nest) = is_open nest
@@ -223,7 +223,7 @@ abbrev pub told : Bool → ReadFaultKind → ReadFaultKind
 told true k = fault.Parenthesis
 told false k = k
 
--- One byte, with the bytes behind it.
+-- One byte, with the bytes after it.
 
 abbrev pub state_read : Reader → ℕ → List ℕ → Lexed → Move → Result Reader ReadFault
 state_read r b behind x (Ok s) = Ok (record { line = line_behind b r.line; last = r.line; mode = x.mode; state = s })
@@ -245,7 +245,7 @@ abbrev pub fed_on : Result Reader ReadFault → (Reader → Result Reader ReadFa
 fed_on (Ok r) on = on r
 fed_on (Err f) on = Err f
 
--- bytes in turn: how the reader stands behind them, or the first line at fault
+-- bytes in turn: how the reader stands after them, or the first line at fault
 abbrev pub fed : Reader → List ℕ → Result Reader ReadFault
 fed r [] = Ok r
 fed r (b ∷ bs) = fed_on (byte_fed r b bs) (λ r'. fed r' bs)
@@ -281,7 +281,7 @@ abbrev pub half_fault : ReadFaultKind → ReadFaultKind → ReadFaultKind
 half_fault fault.Word k = fault.Word
 half_fault _ k = k
 
--- behind the last token; k: why the text has ended too soon where that token can't follow, since it could still grow
+-- after the last token; k: why the text has ended too soon where that token can't follow, since it could still grow
 abbrev pub end_reached : ℕ → ReadFaultKind → Move → Outcome
 end_reached l k (Ok (state.Over p)) = Reads p
 end_reached l k (Ok s) = TooSoon (record { line = l; kind = early s })

@@ -102,7 +102,7 @@ abbrev pub grown : Spelling → ℤ → ℕ → ℤ
 grown (spelling.Signed true) n d = (pos 10 *ℤ n) -ℤ pos d
 grown s n d = (pos (radix s) *ℤ n) +ℤ pos d
 
--- behind an underscore no base can follow
+-- after an underscore no base can follow
 abbrev pub spelled_on : Spelling → Spelling
 spelled_on spelling.Plain = spelling.Decimal
 spelled_on s = s
@@ -148,7 +148,7 @@ gives t = Ok (record { ended = None; own = Some t; mode = mode.Clear })
 abbrev pub number_stands : Option IlType → Spelling → ℤ → Result Lexed ByteFault
 number_stands k s n = if is_within (low_of (limits_of k)) (high_of (limits_of k)) n then stands (mode.Number k s n false) else fails fault.Literal
 
--- the first digit of a number without a sign; behind a zero no base can follow
+-- the first digit of a number without a sign; after a zero no base can follow
 abbrev pub first_digit : Option IlType → ℕ → Result Lexed ByteFault
 first_digit k b = if nat_eq b 48 then number_stands k spelling.Decimal (pos 0) else number_stands k spelling.Plain (pos (b - 48))
 
@@ -203,14 +203,14 @@ abbrev pub literal_begun : Option IlType → Result Lexed ByteFault
 literal_begun (Some k) = stands (mode.Typed k)
 literal_begun None = fails fault.Word
 
--- behind a word
+-- after a word
 abbrev pub word_byte : List ℕ → Bool → ℕ → Result Lexed ByteFault
 word_byte w gap b =
     if is_name_byte (folded b) then word_grown w gap (folded b)
     else if nat_eq b 35 then literal_begun (literal_type (keyword w))
     else word_ended (word_token w) b
 
--- behind a type and #: a number
+-- after a type and #: a number
 abbrev pub typed_byte : IlType → ℕ → Result Lexed ByteFault
 typed_byte k b =
     if is_digit b then first_digit (Some k) b
@@ -218,7 +218,7 @@ typed_byte k b =
     else if nat_eq b 45 then stands (mode.Number (Some k) (spelling.Signed true) (pos 0) true)
     else fails fault.Literal
 
--- behind a sign
+-- after a sign
 abbrev pub sign_byte : Bool → ℕ → Result Lexed ByteFault
 sign_byte negative b = if is_digit b then number_stands None (spelling.Signed negative) (grown (spelling.Signed negative) (pos 0) (b - 48)) else fails fault.Word
 
@@ -226,7 +226,7 @@ abbrev pub based : Option IlType → Option Base → Result Lexed ByteFault
 based k (Some x) = stands (mode.Number k (spelling.Based x) (pos 0) true)
 based k None = fails fault.Literal
 
--- behind a digit: no digit of the same number
+-- after a digit: no digit of the same number
 abbrev pub number_ended : Option IlType → Spelling → ℤ → ℕ → Result Lexed ByteFault
 number_ended k s n b =
     if nat_eq b 95 then stands (mode.Number k (spelled_on s) n true)
@@ -238,15 +238,15 @@ abbrev pub number_grown : Option ℕ → Option IlType → Spelling → ℤ → 
 number_grown (Some d) k s n wanting b = number_stands k s (grown s n d)
 number_grown None k s n wanting b = if wanting then fails fault.Literal else number_ended k s n b
 
--- behind the digits of a number, or where it wants one
+-- after the digits of a number, or where it wants one
 abbrev pub number_byte : Option IlType → Spelling → ℤ → Bool → ℕ → Result Lexed ByteFault
 number_byte k s n wanting b = number_grown (digit_in s b) k s n wanting b
 
--- behind &
+-- after &
 abbrev pub and_byte : ℕ → Result Lexed ByteFault
 and_byte b = if nat_eq b 78 || nat_eq b 110 then stands mode.AndNot else ended_by (and_token false) (first_byte b)
 
--- behind &N, which is one operator where no word goes on with the N
+-- after &N, which is one operator where no word goes on with the N
 abbrev pub and_n_byte : ℕ → Result Lexed ByteFault
 and_n_byte b = if is_name_byte (folded b) then ended_by (and_token false) (word_byte (110 ∷ []) false b) else ended_by (and_token true) (first_byte b)
 
@@ -286,7 +286,7 @@ at_end mode.Carriage = Err fault.Header
 at_end mode.Colon = Ok (Some token.Colon)
 at_end mode.Dot = Err fault.Header
 
--- Whether a colon comes next, as behind a label.
+-- Whether a colon comes next, as after a label.
 
 abbrev pub is_colon : Mode → Bool
 is_colon mode.Colon = true
@@ -296,7 +296,7 @@ abbrev pub is_none : Option Token → Bool
 is_none None = true
 is_none (Some t) = false
 
--- what stands open behind a byte that ends no token and is none
+-- what stands open after a byte that ends no token and is none
 abbrev pub behind_blank : Result Lexed ByteFault → Option Mode
 behind_blank (Ok x) = if is_none x.ended && is_none x.own then Some x.mode else None
 behind_blank (Err f) = None
@@ -305,11 +305,11 @@ abbrev pub colon_behind : Option Mode → (Mode → Bool) → Bool
 colon_behind (Some q) on = on q
 colon_behind None on = false
 
--- behind blanks; := is no colon
+-- after blanks; := is no colon
 abbrev pub colon_comes : Mode → List ℕ → Bool
 colon_comes q [] = is_colon q
 colon_comes q (b ∷ bs) = if is_colon q then not (nat_eq b 61) else colon_behind (behind_blank (lexed q b)) (λ q'. colon_comes q' bs)
 
--- the line behind a byte
+-- the line after a byte
 abbrev pub line_behind : ℕ → ℕ → ℕ
 line_behind b n = if nat_eq b 10 then suc n else n

@@ -38,7 +38,7 @@ pub record IsMoved (b : ℕ) (s t : Spots) : Type 0 where
   pub next : t.next ≡ s.next + 1
   pub start : t.start ≡ (if nat_eq b 10 then s.next + 1 else s.start)
 
--- behind a byte of a reader's line
+-- after a byte of a reader's line
 pub record IsPassed (b : ℕ) (s t : Tracer) : Type 0 where
   pub ordered : AreInOrder t.spots
   pub moved : IsMoved b s.spots t.spots

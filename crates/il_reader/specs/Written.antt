@@ -21,7 +21,7 @@ mutual
     Close : Inner
     Then : (line : ℕ) (head : Written) (tail : Inner) → Inner
 
--- lines, and behind them further ones
+-- lines, and after them further ones
 abbrev pub followed_by : Inner → Inner → Inner
 followed_by Close rest = rest
 followed_by (Then line head tail) rest = Then line head (followed_by tail rest)

@@ -180,7 +180,7 @@ impl Draft {
 ghost use Rattle.std.specs.Prelude.{◌++◌, ◌∷◌, []};
 ghost use Rattle.il_reader.specs.Declaration.{external_of, variable_of};
 
-// The variables, and behind them those of a declaration.
+// The variables, and after them those of a declaration.
 fn with_typed(
     mut variables: Items<Variable>,
     entries: &[Entry],
@@ -194,7 +194,7 @@ fn with_typed(
     Ok(variables)
 }
 
-// The externals, and behind them those of a declaration.
+// The externals, and after them those of a declaration.
 fn with_named(
     mut externals: Items<External>,
     entries: &[Entry],

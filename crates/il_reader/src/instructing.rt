@@ -88,7 +88,7 @@ fn part_begun_by(word: Keyword) -> Option<PartStage>
 }
 
 impl PartStage {
-    /// Reads a token behind the first one of an instruction, inside these parentheses.
+    /// Reads a token after the first one of an instruction, inside these parentheses.
     pub fn step(
         self,
         alloc: Global,

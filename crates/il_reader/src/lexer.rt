@@ -21,7 +21,7 @@ pub(crate) enum Mode {
     /// An opening parenthesis, which may begin a comment.
     Bracket,
     Comment,
-    /// A comment, behind a star.
+    /// A comment, after a star.
     Star,
     /// A carriage return, which wants its line feed.
     Carriage,
@@ -44,7 +44,7 @@ pub(crate) enum Mode {
 }
 
 /// What a byte makes of a text: the token that it ends, the token that is whole with it, and what
-/// stands open behind it.
+/// stands open after it.
 #[derive(Drop)]
 pub(crate) struct Lexed {
     pub ended: Option<Token>,
@@ -88,7 +88,7 @@ impl Mode {
         }
     }
 
-    /// Whether a colon comes next in these bytes, behind blanks; `:=` is no colon.
+    /// Whether a colon comes next in these bytes, after blanks; `:=` is no colon.
     pub(crate) fn is_before_colon(self, bytes: &[u8]) -> bool
         ensures { result ≡ colon_comes self bytes.now }
     {
@@ -153,7 +153,7 @@ impl Mode {
 }
 
 impl Lexed {
-    /// Whether the byte has ended a name whose colon comes next in the bytes behind it.
+    /// Whether the byte has ended a name whose colon comes next in the bytes after it.
     pub fn is_label(self, behind: &[u8]) -> bool
         ensures { result ≡ is_label self behind.now }
     {
@@ -164,7 +164,7 @@ impl Lexed {
     }
 }
 
-// What stands open behind a byte that ends no token and is none.
+// What stands open after a byte that ends no token and is none.
 fn behind_blank(read: Result<Lexed, ByteFault>) -> Option<Mode>
     ensures { result ≡ behind_blank read }
 {
@@ -278,7 +278,7 @@ fn read_mark(byte: u8) -> Result<Lexed, ByteFault>
     }
 }
 
-// What stands open in a comment, behind a star and a byte.
+// What stands open in a comment, after a star and a byte.
 fn behind_star(byte: u8) -> Mode
     ensures { Ok (record { ended = None; own = None; mode = result }) ≡ lexed Mode.Star byte }
 {
@@ -289,7 +289,7 @@ fn behind_star(byte: u8) -> Mode
     }
 }
 
-// A byte behind `&`.
+// A byte after `&`.
 fn read_behind_and(byte: u8) -> Result<Lexed, ByteFault>
     ensures { result ≡ and_byte byte }
 {
@@ -300,7 +300,7 @@ fn read_behind_and(byte: u8) -> Result<Lexed, ByteFault>
     }
 }
 
-// A byte behind `&N`: what goes on with the N is a word.
+// A byte after `&N`: what goes on with the N is a word.
 fn read_behind_and_not(byte: u8) -> Result<Lexed, ByteFault>
     ensures { result ≡ and_n_byte byte }
 {
@@ -322,7 +322,7 @@ fn token_of_and(negated: bool) -> Token
     Token::Keyword(Keyword::Apply(Operator::And, negated))
 }
 
-// A byte behind a word.
+// A byte after a word.
 fn read_behind_word(word: Lexeme, gap: bool, byte: u8) -> Result<Lexed, ByteFault>
     ensures { result ≡ word_byte word gap byte }
 {
@@ -366,7 +366,7 @@ fn literal_type_of(keyword: Option<Keyword>) -> Option<IlType>
     }
 }
 
-// A byte behind a type and `#`.
+// A byte after a type and `#`.
 fn read_behind_type(kind: IlType, byte: u8) -> Result<Lexed, ByteFault>
     ensures { result ≡ typed_byte kind byte }
 {
@@ -380,7 +380,7 @@ fn read_behind_type(kind: IlType, byte: u8) -> Result<Lexed, ByteFault>
     }
 }
 
-// A byte behind a sign.
+// A byte after a sign.
 fn read_behind_sign(negative: bool, byte: u8) -> Result<Lexed, ByteFault>
     ensures { result ≡ sign_byte negative byte }
 {
@@ -391,7 +391,7 @@ fn read_behind_sign(negative: bool, byte: u8) -> Result<Lexed, ByteFault>
     }
 }
 
-// The first digit of a number without a sign. Behind a zero no base can follow.
+// The first digit of a number without a sign. After a zero no base can follow.
 fn read_first_digit(kind: Option<IlType>, byte: u8) -> Result<Lexed, ByteFault>
     requires { 48 ≤ byte }
     ensures { result ≡ first_digit kind byte }
@@ -403,7 +403,7 @@ fn read_first_digit(kind: Option<IlType>, byte: u8) -> Result<Lexed, ByteFault>
     }
 }
 
-// A byte behind the digits of a number, or where it wants one.
+// A byte after the digits of a number, or where it wants one.
 fn read_behind_digits(
     kind: Option<IlType>,
     spelling: Spelling,
@@ -420,7 +420,7 @@ fn read_behind_digits(
     }
 }
 
-// A byte behind a digit of a number that is no digit of it.
+// A byte after a digit of a number that is no digit of it.
 fn end_digits(
     kind: Option<IlType>,
     spelling: Spelling,

@@ -26,7 +26,7 @@ pub(crate) struct OpenParenthesis {
     pub head: Head,
     pub operator: Operator,
     pub negated: bool,
-    /// What stands right behind the opening parenthesis.
+    /// What stands right after the opening parenthesis.
     pub operand: Option<Operand>,
     pub inner: InnerLines,
 }
@@ -105,7 +105,7 @@ impl Nest {
         self.depth() != 0
     }
 
-    /// The fault of a closing parenthesis behind a whole instruction.
+    /// The fault of a closing parenthesis after a whole instruction.
     pub(crate) fn close_fault(&self) -> ReadFaultKind
         ensures { result ≡ close_fault self.now }
     {

@@ -42,7 +42,7 @@ pub(crate) fn compute(
     Ok(State::Within(Stage::BehindInstruction(nest), draft))
 }
 
-/// An opening parenthesis behind an operator.
+/// An opening parenthesis after an operator.
 pub(crate) fn enter(
     nest: &Nest,
     operator: Operator,
@@ -69,7 +69,7 @@ fn may_open(operator: Operator) -> bool
     }
 }
 
-/// Behind an operator and an opening parenthesis.
+/// After an operator and an opening parenthesis.
 pub(crate) fn behind_parenthesis(
     nest: Nest,
     head: Head,
@@ -103,7 +103,7 @@ fn entered(
     }
 }
 
-/// Behind an operator, an opening parenthesis and an operand.
+/// After an operator, an opening parenthesis and an operand.
 pub(crate) fn behind_entry(
     nest: Nest,
     head: Head,

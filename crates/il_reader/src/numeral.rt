@@ -21,9 +21,9 @@ pub(crate) enum Spelling {
     Plain,
     /// Decimal digits without a sign.
     Decimal,
-    /// Decimal digits behind a sign: minus where true.
+    /// Decimal digits after a sign: minus where true.
     Signed(bool),
-    /// Digits behind a base.
+    /// Digits after a base.
     Based(Base),
 }
 
@@ -53,7 +53,7 @@ impl Spelling {
         }
     }
 
-    /// The spelling behind an underscore.
+    /// The spelling after an underscore.
     pub fn parted(self) -> Spelling
         ensures { result ≡ spelled_on self }
     {

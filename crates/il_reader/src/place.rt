@@ -18,7 +18,7 @@ pub struct FaultPlace {
 
 /// Where a text is at fault; None where it is a program. The refusal is the one that `read` gives. At fault is
 /// - the token that can't stand, from its first byte to its last one: a line end where something is missing before
-///   it, and in place of the token behind it a name that stands where an operator must;
+///   it, and in place of the token after it a name that stands where an operator must;
 /// - of bytes that make no token what has been met of it, as `12a` of `12abc`, or the one byte that begins none;
 /// - of a text that ends too soon its last byte.
 ///
@@ -88,7 +88,7 @@ pub(crate) struct Tracer {
 }
 
 impl Tracer {
-    /// Reads one byte; the bytes behind it tell what a name at fault is.
+    /// Reads one byte; the bytes after it tell what a name at fault is.
     fn feed(
         self,
         alloc: Global,
@@ -187,7 +187,7 @@ pub(crate) fn take(
     }
 }
 
-/// Reads a token, where there is one, which stands at these bytes behind another token.
+/// Reads a token, where there is one, which stands at these bytes after another token.
 fn step(
     alloc: Global,
     state: State,

@@ -37,7 +37,7 @@ impl Reader {
     ghost use Rattle.il_reader.specs.Reading.{answered, byte_fed, judged};
     ghost use Rattle.il_reader.specs.Tracing.{AreInOrder, IsPassed, IsThere, fault_or_reader};
 
-    /// Reads one byte; the bytes behind it tell what a name at fault is.
+    /// Reads one byte; the bytes after it tell what a name at fault is.
     fn feed(
         self,
         alloc: Global,
@@ -200,7 +200,7 @@ fn read_bytes(alloc: Global, text: &[u8]) -> Result<Result<Program, ReadFault>, 
     reader.finish(alloc)
 }
 
-// The answer behind the last token of a text: its program, or why it has ended too soon.
+// The answer after the last token of a text: its program, or why it has ended too soon.
 fn ended(moved: Move, early: ReadFaultKind, line: u32) -> Result<Program, ReadFault>
     ensures { result ≡ answered (end_reached line early moved) }
 {
@@ -245,7 +245,7 @@ fn fault_told(inner_label: bool, kind: ReadFaultKind) -> ReadFaultKind
     }
 }
 
-// The line behind a byte.
+// The line after a byte.
 fn line_after(byte: u8, line: u32) -> u32
     requires { line < 2 ^ 31 }
     ensures { result ≡ line_behind byte line }

@@ -89,7 +89,7 @@ fn has_presence(name: &[u8], names: &[Name]) -> bool
         .any(|other| names_presence(other.as_bytes(), name))
 }
 
-// Whether the first name is the second with `_ok` behind it.
+// Whether the first name is the second with `_ok` after it.
 fn names_presence(presence: &[u8], name: &[u8]) -> bool
     ensures { result ≡ is_presence presence.now name.now }
 {

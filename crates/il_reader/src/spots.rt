@@ -6,7 +6,7 @@ use crate::lexer::{Lexed, Mode};
 use crate::text::{is_decimal_digit, is_word_letter};
 use point_types::lower_case;
 
-/// Bytes of a text: the number of the first one, and the number of the byte behind them.
+/// Bytes of a text: the number of the first one, and the number of the byte after them.
 #[derive(Clone, Copy)]
 pub(crate) struct Span {
     pub at: usize,
@@ -96,7 +96,7 @@ impl Spots {
         }
     }
 
-    /// Behind the next byte, which has made these tokens.
+    /// After the next byte, which has made these tokens.
     pub(crate) fn pass(self, byte: u8, lexed: &Lexed, tokens: Tokens) -> Spots
         requires order { AreInOrder self }
         requires few { self.next < 2 ^ 31 }
@@ -132,7 +132,7 @@ impl Spots {
         }
     }
 
-    /// The byte behind the token that the next one ends.
+    /// The byte after the token that the next one ends.
     fn seam(self, turned: bool) -> usize
         requires { self.begun ≤ self.next }
         ensures least { self.begun ≤ result }
@@ -146,7 +146,7 @@ impl Spots {
     }
 }
 
-/// Whether the next byte makes a word of the N behind `&`.
+/// Whether the next byte makes a word of the N after `&`.
 pub(crate) fn is_turned(mode: &Mode, byte: u8) -> bool {
     match mode {
         Mode::AndNot => goes_on(byte),
@@ -154,7 +154,7 @@ pub(crate) fn is_turned(mode: &Mode, byte: u8) -> bool {
     }
 }
 
-/// Whether a byte may stand in a word or a number behind its first one.
+/// Whether a byte may stand in a word or a number after its first one.
 fn goes_on(byte: u8) -> bool {
     let lower = lower_case(byte);
     is_word_letter(lower) || is_decimal_digit(byte) || byte == b'#'

@@ -12,17 +12,17 @@ use point_types::{Condition, IlType, Name, Operator};
 /// Where a text stands between its name and END_PROGRAM, inside the parentheses of a nest.
 #[derive(Drop)]
 pub(crate) enum Stage {
-    /// Behind the name or END_VAR: a block, or the body.
+    /// After the name or END_VAR: a block, or the body.
     BetweenBlocks,
     Block(BlockStage),
     /// At the beginning of a line of the body, or inside parentheses.
     AtLine(Nest),
-    /// Behind a name at the beginning of this line.
+    /// After a name at the beginning of this line.
     BehindLabel(u32, Name),
-    /// Behind a label and its colon.
+    /// After a label and its colon.
     AtInstruction(Head),
     Part(Nest, Head, PartStage),
-    /// Behind a whole instruction.
+    /// After a whole instruction.
     BehindInstruction(Nest),
 }
 
@@ -35,52 +35,52 @@ pub(crate) enum BlockStage {
     BehindName(bool),
     BehindComma(bool),
     BehindColon(bool),
-    /// Behind the type of externals.
+    /// After the type of externals.
     BehindExternal(IlType),
-    /// Behind the type of variables.
+    /// After the type of variables.
     BehindType(Typing),
-    /// Behind the parenthesis of a subrange.
+    /// After the parenthesis of a subrange.
     BehindOpen(IlType),
-    /// Behind the low end of a subrange.
+    /// After the low end of a subrange.
     BehindLow(Typing),
-    /// Behind the dots of a subrange.
+    /// After the dots of a subrange.
     BehindDots(Typing),
-    /// Behind the high end of a subrange.
+    /// After the high end of a subrange.
     BehindHigh(Typing),
-    /// Behind a subrange.
+    /// After a subrange.
     BehindRange(Typing),
     BehindAssign(Typing),
-    /// Behind a start value.
+    /// After a start value.
     BehindStart(Typing),
 }
 
-/// Where a text stands behind the first token of an instruction.
+/// Where a text stands after the first token of an instruction.
 #[derive(Clone, Copy)]
 pub(crate) enum PartStage {
-    /// Behind LD or LDN.
+    /// After LD or LDN.
     BehindLoad(bool),
     BehindOperator(Operator, bool),
-    /// Behind an operator and an opening parenthesis.
+    /// After an operator and an opening parenthesis.
     BehindParenthesis(Operator, bool),
-    /// Behind an operator, an opening parenthesis and an operand.
+    /// After an operator, an opening parenthesis and an operand.
     BehindEntry(Operator, bool, Operand),
-    /// Behind LIMIT or SEL.
+    /// After LIMIT or SEL.
     BehindPair(Pair),
-    /// Behind the first operand of LIMIT or SEL.
+    /// After the first operand of LIMIT or SEL.
     BehindFirst(Pair, Operand),
     BehindFirstComma(Pair, Operand),
-    /// Behind ST or STN.
+    /// After ST or STN.
     BehindStore(bool),
-    /// Behind S or R.
+    /// After S or R.
     BehindSet(bool),
     BehindJump(Condition, Option<u8>),
-    /// Behind an opening brace.
+    /// After an opening brace.
     BehindBrace,
-    /// Behind LOOP.
+    /// After LOOP.
     BehindLoop,
-    /// Behind the number of turns of a counted jump.
+    /// After the number of turns of a counted jump.
     BehindTurns(u8),
-    /// Behind a pragma.
+    /// After a pragma.
     BehindPragma(u8),
 }
 

@@ -21,10 +21,10 @@ use std::alloc::{AllocError, Global};
 pub(crate) enum State {
     /// Before PROGRAM.
     Start,
-    /// Behind PROGRAM.
+    /// After PROGRAM.
     Titled,
     Within(Stage, Draft),
-    /// Behind END_PROGRAM.
+    /// After END_PROGRAM.
     Over(Program),
 }
 
@@ -67,7 +67,7 @@ impl State {
         }
     }
 
-    /// Whether this is behind a name at the beginning of a line of the body.
+    /// Whether this is after a name at the beginning of a line of the body.
     pub(crate) fn is_behind_name(&self) -> bool {
         match self {
             State::Within(Stage::BehindLabel(_, _), _) => true,

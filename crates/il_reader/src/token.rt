@@ -38,7 +38,7 @@ pub enum Token {
     Decimal(i64),
     /// A number with a sign or a base.
     Number(i64),
-    /// A number behind its type, as INT#5.
+    /// A number after its type, as INT#5.
     Typed(IlType, i64),
     Colon,
     Assign,

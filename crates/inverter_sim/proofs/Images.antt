@@ -4,7 +4,7 @@ use Rattle.std.proofs.lemmas.List.{append-nil, length-set}
 use Rattle.std.specs.List.{flat_map}
 use Rattle.model_defs.specs.declared.model.ModelDef.{ModelDef}
 use Rattle.model_defs.specs.declared.point.Point.{Point}
-use Rattle.inverter_sim.specs.declared.place.Place.{Place}
+use Rattle.inverter_sim.specs.declared.place.RegisterPlace.{RegisterPlace}
 use Rattle.std.specs.Prelude.{ℤ, pos, Option, Some, None, ◌^◌, true, if◌then◌else◌, unsigned_abs}
 use Rattle.std.specs.Int.{int_rem_euclid}
 use Rattle.inverter_sim.specs.File.{is_spelled, spelled, wrapped}
@@ -36,12 +36,12 @@ points_match (p ∷ ps) =
     let words = padded p.size (unimplemented p.kind) in let places = places_from p.writable 0 p.size in
     omega (arith, length-append words (flat_map blank_words ps), length-append places (flat_map places_of_point ps), length_padded p.size (unimplemented p.kind), length_places p.writable 0 p.size, points_match ps)
 
-model_matches : (registers : List ℕ) (places : List Place) (m : ModelDef) → length registers ≡ length places → length (with_model registers m) ≡ length (places ++ places_of_model m)
+model_matches : (registers : List ℕ) (places : List RegisterPlace) (m : ModelDef) → length registers ≡ length places → length (with_model registers m) ≡ length (places ++ places_of_model m)
 model_matches registers places m same =
     length_stored (length registers) (m.id ∷ m.length ∷ []) (registers ++ flat_map blank_words m.points)
     ∙ omega (arith, length-append registers (flat_map blank_words m.points), length-append places (flat_map places_of_point m.points), points_match m.points, same)
 
-models_match : (registers : List ℕ) (places : List Place) (ms : List ModelDef) → length registers ≡ length places → length (with_models registers ms) ≡ length (places ++ flat_map places_of_model ms)
+models_match : (registers : List ℕ) (places : List RegisterPlace) (ms : List ModelDef) → length registers ≡ length places → length (with_models registers ms) ≡ length (places ++ flat_map places_of_model ms)
 models_match registers places [] same = same ∙ ap length (sym (append-nil places))
 models_match registers places (m ∷ ms) same =
     models_match (with_model registers m) (places ++ places_of_model m) ms (model_matches registers places m same)

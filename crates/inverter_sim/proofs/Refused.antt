@@ -7,7 +7,7 @@ use Rattle.file_keys.specs.Refusals.{before, IsRefusedIn}
 use Rattle.file_keys.proofs.InOrder.{GoesInOrder, item_at}
 use Rattle.model_defs.specs.declared.model.ModelDef.{ModelDef}
 use Rattle.inverter_sim.specs.State.{DeviceState}
-use Rattle.inverter_sim.specs.File.{any_of, blank_device, definitions_of, device_has_too_many, device_keys, device_of, devices_from, fault_of, faults_from, has_too_many, is_duplicate, is_in_range, valued, valued_all, DeviceKeys}
+use Rattle.inverter_sim.specs.File.{any_of, blank_device, definitions_of, device_has_too_many, device_keys, device_of, devices_from, fault_of, faults_from, has_too_many, is_duplicate, is_in_range, valued, valued_all, PlantDeviceKeys}
 use Rattle.inverter_sim.specs.Parts.{IsDeviceRefused, IsFirst, IsInDevice, IsInValues, IsTooLong}
 use Rattle.inverter_sim.specs.declared.part.PlantPart.{PlantPart}
 use Rattle.inverter_sim.specs.declared.part.PlantPart.TheVariants as parts
@@ -79,7 +79,7 @@ long_is_many doc part (inr (n, entries, is, few, listed, first)) = rw (few, list
 
 -- a device whose values are refused is read apart from them
 pub in_values :
-    (defs : List ModelDef) (seen : List DeviceState) (n : ℕ) (tree : Data) (part : PlantPart) (e : PlantFault) (keys : DeviceKeys) (models : List ModelDef) (registers : List ℕ) →
+    (defs : List ModelDef) (seen : List DeviceState) (n : ℕ) (tree : Data) (part : PlantPart) (e : PlantFault) (keys : PlantDeviceKeys) (models : List ModelDef) (registers : List ℕ) →
     device_keys tree ≡ Ok keys → definitions_of defs keys.models ≡ Some models → is_in_range seen keys models ≡ true → is_duplicate seen keys ≡ false → registers ≡ (blank_device keys models).registers →
     IsInValues models registers n tree (parts.Device n) part e → IsInDevice defs seen n tree part e
 in_values defs seen n tree part e keys models registers keyed defined ranged new blank (inl (is, same, unlisted)) =

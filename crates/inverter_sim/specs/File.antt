@@ -79,7 +79,7 @@ pub data WorksKeys : Type 0 where
   inverter : (wmax : ℤ) (available : List ℤ) (ramp : Option ℤ) → WorksKeys
   meter : (load behind : List ℤ) → WorksKeys
 
-pub record DeviceKeys : Type 0 where
+pub record PlantDeviceKeys : Type 0 where
   pub unit : ℤ
   pub models : List ℤ
   pub works : WorksKeys
@@ -101,7 +101,7 @@ works_keys kind.Meter tree =
     (integers_at (codes "behind") tree))
     (integers_at (codes "load") tree)
 
-abbrev pub keys_of : DeviceKind → Data → Option DeviceKeys
+abbrev pub keys_of : DeviceKind → Data → Option PlantDeviceKeys
 keys_of kind tree =
     option_and_then (λ unit.
     option_and_then (λ models.
@@ -115,7 +115,7 @@ keys_of kind tree =
     (number_at (codes "unit") tree)
 
 -- the kind comes first, since it says which keys there are
-abbrev pub device_keys : Data → Result DeviceKeys PlantFault
+abbrev pub device_keys : Data → Result PlantDeviceKeys PlantFault
 device_keys tree = kind_of tree >>= λ kind. ok_or (keys_of kind tree) fault.MissingKey
 
 -- of two definitions with one id the last one counts
@@ -156,7 +156,7 @@ abbrev pub is_in_works_range : List DeviceState → List ℤ → WorksKeys → B
 is_in_works_range seen models (inverter wmax available ramp) = is_in (pos 0) (pos 1000000) wmax && (are_watts available && option_map_or (is_in (pos 0) (pos 1000000)) ramp true)
 is_in_works_range seen models (meter load behind) = are_watts load && (list_all (is_inverter_of seen) behind && list_any (is_in (pos 201) (pos 204)) models)
 
-abbrev pub is_in_range : List DeviceState → DeviceKeys → List ModelDef → Bool
+abbrev pub is_in_range : List DeviceState → PlantDeviceKeys → List ModelDef → Bool
 is_in_range seen keys models =
     is_in (pos 0) (pos 255) keys.unit && (begins_with_one keys.models && (has_room keys.base models && (is_in (pos 0) (pos 60000) keys.slow && is_in_works_range seen keys.models keys.works)))
 
@@ -169,7 +169,7 @@ works_has_repeat (inverter wmax available ramp) = false
 works_has_repeat (meter load behind) = has_repeat behind
 
 -- a unit that a device before it has, a model twice, or an inverter twice
-abbrev pub is_duplicate : List DeviceState → DeviceKeys → Bool
+abbrev pub is_duplicate : List DeviceState → PlantDeviceKeys → Bool
 is_duplicate seen keys = list_any (λ d. int_eq (pos d.unit) keys.unit) seen || (has_repeat keys.models || works_has_repeat keys.works)
 
 -- nothing is produced before the first tick
@@ -180,7 +180,7 @@ first_works models (meter load behind) =
     works.Meter (record { load = map unsigned_abs load; behind = map unsigned_abs behind; points = meter_points models })
 
 -- the device before its points have values
-abbrev pub blank_device : DeviceKeys → List ModelDef → DeviceState
+abbrev pub blank_device : PlantDeviceKeys → List ModelDef → DeviceState
 blank_device keys models = record {
   unit = unsigned_abs keys.unit;
   base = unsigned_abs keys.base;
@@ -264,7 +264,7 @@ values_of models registers tree =
 
 -- ---- a device with its values
 
-abbrev pub checked : List DeviceState → DeviceKeys → List ModelDef → Result DeviceState PlantFault
+abbrev pub checked : List DeviceState → PlantDeviceKeys → List ModelDef → Result DeviceState PlantFault
 checked seen keys models =
     if not (is_in_range seen keys models) then Err fault.BadRange else
     (if is_duplicate seen keys then Err fault.Duplicate else Ok (blank_device keys models))

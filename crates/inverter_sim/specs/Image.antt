@@ -11,7 +11,7 @@ use Rattle.model_defs.specs.declared.model.ModelDef.{ModelDef}
 use Rattle.model_defs.specs.declared.point.Point.{Point}
 use Rattle.model_defs.specs.declared.point.Sf.{Sf}
 use Rattle.model_defs.specs.declared.point.Sf.TheVariants as factors
-use Rattle.inverter_sim.specs.declared.place.Place.{Place}
+use Rattle.inverter_sim.specs.declared.place.RegisterPlace.{RegisterPlace}
 use Rattle.inverter_sim.specs.declared.points.FlowPoints.{FlowPoints}
 use Rattle.inverter_sim.specs.declared.points.InverterPoints.{InverterPoints}
 use Rattle.inverter_sim.specs.declared.points.MeterPoints.{MeterPoints}
@@ -31,7 +31,7 @@ split (suc k) n = split k (n / 65536) ++ (n % 65536) ∷ []
 abbrev pub unimplemented : Kind → List ℕ
 unimplemented k = option_map_or (λ r. split r.registers r.unimplemented) (row_of k) []
 
--- so many registers with these words, and zeros behind them
+-- so many registers with these words, and zeros after them
 abbrev pub first : List ℕ → ℕ
 first [] = 0
 first (w ∷ words) = w
@@ -53,7 +53,7 @@ abbrev pub stored : ℕ → List ℕ → List ℕ → List ℕ
 stored at [] registers = registers
 stored at (w ∷ words) registers = stored (at + 1) words (slice_set registers at w)
 
--- the model behind these registers: points without values, and its ID and length in the first two registers
+-- the model after these registers: points without values, and its ID and length in the first two registers
 abbrev pub with_model : List ℕ → ModelDef → List ℕ
 with_model registers m = stored (length registers) (m.id ∷ m.length ∷ []) (registers ++ flat_map blank_words m.points)
 
@@ -75,36 +75,36 @@ image_of models = with_models mark models ++ end_model
 -- ---- what the registers belong to
 
 -- the registers of a point, of which so many stand before these
-abbrev pub places_from : Bool → ℕ → ℕ → List Place
+abbrev pub places_from : Bool → ℕ → ℕ → List RegisterPlace
 places_from writable before zero = []
 places_from writable before (suc behind) = record { writable = writable; before = before; behind = behind } ∷ places_from writable (before + 1) behind
 
-abbrev pub places_of_point : Point → List Place
+abbrev pub places_of_point : Point → List RegisterPlace
 places_of_point p = places_from p.writable 0 p.size
 
-abbrev pub places_of_model : ModelDef → List Place
+abbrev pub places_of_model : ModelDef → List RegisterPlace
 places_of_model m = flat_map places_of_point m.points
 
 -- nobody writes the mark and the end model
-abbrev pub fixed_pair : List Place
+abbrev pub fixed_pair : List RegisterPlace
 fixed_pair = places_from false 0 2
 
-abbrev pub places_of : List ModelDef → List Place
+abbrev pub places_of : List ModelDef → List RegisterPlace
 places_of models = (fixed_pair ++ flat_map places_of_model models) ++ fixed_pair
 
 -- ---- where the models and their points lie
 
 -- a model of a device, and where its ID stands, counted from the base
-pub record Placed : Type 0 where
+pub record PlacedModel : Type 0 where
   pub at : ℕ
   pub model : ModelDef
 
 -- the first model with an ID from lowest to highest, where the first model's ID stands here
-abbrev pub placed_from : ℕ → ℤ → ℤ → List ModelDef → Option Placed
+abbrev pub placed_from : ℕ → ℤ → ℤ → List ModelDef → Option PlacedModel
 placed_from at lowest highest [] = None
 placed_from at lowest highest (m ∷ ms) = if int_le lowest (pos m.id) && int_le (pos m.id) highest then Some (record { at = at; model = m }) else placed_from (at + (m.length + 2)) lowest highest ms
 
-abbrev pub placed : ℤ → ℤ → List ModelDef → Option Placed
+abbrev pub placed : ℤ → ℤ → List ModelDef → Option PlacedModel
 placed lowest highest models = placed_from 2 lowest highest models
 
 -- the point of a name
@@ -128,26 +128,26 @@ is_sunssf kinds.Sunssf = true
 is_sunssf other = false
 
 -- the point of a name, where its kind is the one that is wanted
-abbrev pub point_of_kind : (Kind → Bool) → List ℕ → Placed → Option Point
+abbrev pub point_of_kind : (Kind → Bool) → List ℕ → PlacedModel → Option Point
 point_of_kind is_kind name m = option_and_then (λ p. if is_kind p.kind then Some p else None) (point_named name m.model)
 
 -- its first register, counted from the base
-abbrev pub register_of : (Kind → Bool) → List ℕ → Placed → Option ℕ
+abbrev pub register_of : (Kind → Bool) → List ℕ → PlacedModel → Option ℕ
 register_of is_kind name m = option_map (λ p. m.at + p.offset) (point_of_kind is_kind name m)
 
 -- what scales a point of a model
-abbrev pub scale_by : Placed → Sf → Scale
+abbrev pub scale_by : PlacedModel → Sf → Scale
 scale_by m factors.None = scale.Fixed (pos 0)
 scale_by m (factors.Fixed n) = scale.Fixed n
 scale_by m (factors.At i) = option_map_or (λ q. scale.At (m.at + q.offset)) (slice_get m.model.points i) (scale.Fixed (pos 0))
 
-abbrev pub scale_of : List ℕ → Placed → Scale
+abbrev pub scale_of : List ℕ → PlacedModel → Scale
 scale_of name m = option_map_or (λ p. scale_by m p.sf) (point_named name m.model) (scale.Fixed (pos 0))
 
 -- The points of the rule of ticks: of an inverter W, W_SF and St of the first of models 101 to 103, and Conn, WMaxLim_Ena
 -- and WMaxLimPct of model 123; of a meter W, A and those of its phases, their factors, PhV and V_SF of the first of models
 -- 201 to 204.
-abbrev pub inverter_points_of : Option Placed → Option Placed → InverterPoints
+abbrev pub inverter_points_of : Option PlacedModel → Option PlacedModel → InverterPoints
 inverter_points_of inverter controls = record {
   inverter = option_map (λ m. m.at) inverter;
   watts = option_and_then (register_of is_int16 (codes "W")) inverter;
@@ -163,7 +163,7 @@ abbrev pub inverter_points : List ModelDef → InverterPoints
 inverter_points models = inverter_points_of (placed (pos 101) (pos 103) models) (placed (pos 123) (pos 123) models)
 
 -- model 201 counts one phase, 202 two, 203 and 204 three
-abbrev pub phases_of : Placed → Phases
+abbrev pub phases_of : PlacedModel → Phases
 phases_of m = if m.model.id == 201 then phases.One else (if m.model.id == 202 then phases.Two else phases.Three)
 
 abbrev pub number_of : Phases → ℕ
@@ -172,17 +172,17 @@ number_of phases.Two = 2
 number_of phases.Three = 3
 
 -- the meter model, where it counts so many phases
-abbrev pub counting : ℕ → Option Placed → Option Placed
+abbrev pub counting : ℕ → Option PlacedModel → Option PlacedModel
 counting n meter = option_and_then (λ m. if nat_le n (number_of (phases_of m)) then Some m else None) meter
 
 -- the points of these names
-abbrev pub flow_points_of : List ℕ → List ℕ → Option Placed → FlowPoints
+abbrev pub flow_points_of : List ℕ → List ℕ → Option PlacedModel → FlowPoints
 flow_points_of watts current meter = record {
   watts = option_and_then (register_of is_int16 watts) meter;
   current = option_and_then (register_of is_int16 current) meter;
 }
 
-abbrev pub meter_points_of : Option Placed → MeterPoints
+abbrev pub meter_points_of : Option PlacedModel → MeterPoints
 meter_points_of meter = record {
   meter = option_map (λ m. m.at) meter;
   phases = option_map_or phases_of meter phases.One;

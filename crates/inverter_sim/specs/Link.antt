@@ -109,14 +109,14 @@ spelled_by other reply = frame_bytes reply
 abbrev pub sent_by : Option Misbehaviour → Frame → List ℕ
 sent_by fault reply = copies (copies_by fault) (frame_bytes (stale reply)) ++ spelled_by fault reply
 
--- nothing goes out behind a reply that is cut
+-- nothing goes out after a reply that is cut
 abbrev pub goes_on_by : Option Misbehaviour → Bool
 goes_on_by (Some (wrong.Cut n)) = false
 goes_on_by other = true
 
 -- ---- the answered stream
 
--- What goes out for a frame, and the plant behind it.
+-- What goes out for a frame, and the plant after it.
 abbrev pub sent_for : PlantState → Frame → List ℕ
 sent_for p frame = sent_by (next_fault p) (reply_to frame (reply_by (next_fault p) (one_frame_more p) frame))
 

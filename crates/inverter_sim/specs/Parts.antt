@@ -1,4 +1,4 @@
--- Which part of a plant file breaks the first rule: all that is before it is read, and it is refused behind that.
+-- Which part of a plant file breaks the first rule: all that is before it is read, and it is refused after that.
 -- No standard says what a plant file is; it is this project's, written in TOML 1.0.
 use Rattle.std.specs.Prelude.{◌≡◌, ◌⊎◌, ℕ, nat_lt, Bool, true, false, List, [], None, Some, Result, Ok, Err, codes}
 use Rattle.std.specs.Option.{ok_or}
@@ -64,7 +64,7 @@ IsInDevice defs seen n tree part e =
     ((v : Valueless) × (valueless defs seen tree ≡ Ok v) ×
     IsRefusedIn (parts.Value n) (valued_all v.models (unvalued v)) (valued v.models) v.values part e)
 
--- the devices before number n are read, and the one there is refused behind them
+-- the devices before number n are read, and the one there is refused after them
 pub record IsDeviceRefused (defs : List ModelDef) (entries : Items) (part : PlantPart) (e : PlantFault) : Type 0 where
   pub number : ℕ
   pub seen : List DeviceState
@@ -89,7 +89,7 @@ IsInSection key is_refused doc part e =
     ((part ≡ parts.File) × (e ≡ fault.MissingKey) × (section_at key doc ≡ None)) ⊎
     ((entries : Items) × (section_at key doc ≡ Some entries) × is_refused entries part e)
 
--- what is too long is told before anything is read; the faults are read behind the devices
+-- what is too long is told before anything is read; the faults are read after the devices
 pub data IsTreeFault (defs : List ModelDef) (doc : Data) (part : PlantPart) (e : PlantFault) : Type 0 where
   too_long : e ≡ fault.TooMany → IsTooLong doc part → IsTreeFault defs doc part e
   in_devices : has_too_many doc ≡ false → IsInSection (codes "device") (IsDeviceRefused defs) doc part e → IsTreeFault defs doc part e

@@ -8,7 +8,7 @@ use Rattle.modbus_frame.specs.declared.message.Response.TheVariants.{Words, Wrot
 use Rattle.modbus_frame.specs.declared.message.Exception.{Exception}
 use Rattle.modbus_frame.specs.Message.{illegal_address, request_of, answer_bytes, refusal_bytes}
 use Rattle.modbus_frame.specs.Served.{target_failed}
-use Rattle.inverter_sim.specs.declared.place.Place.{Place}
+use Rattle.inverter_sim.specs.declared.place.RegisterPlace.{RegisterPlace}
 use Rattle.inverter_sim.specs.State.{DeviceState, PlantState}
 
 -- all n registers from the address on are the device's
@@ -17,7 +17,7 @@ is_within d addr n = nat_le d.base addr && nat_le (addr + n) (d.base + length d.
 
 -- Each register belongs to a point that clients may write, and that begins and ends among these registers. The first of
 -- them has `before` others in front of it.
-abbrev pub are_whole : ℕ → List Place → Bool
+abbrev pub are_whole : ℕ → List RegisterPlace → Bool
 are_whole before [] = true
 are_whole before (p ∷ ps) = (p.writable && (nat_le p.before before && nat_le p.behind (length ps))) && are_whole (before + 1) ps
 

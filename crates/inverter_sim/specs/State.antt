@@ -2,7 +2,7 @@
 -- SunSpec Device Information Model Specification, device modbus maps.
 use Rattle.std.specs.Prelude.{ℕ, List, Option}
 use Rattle.inverter_sim.specs.declared.misbehaviour.Fault.{Fault}
-use Rattle.inverter_sim.specs.declared.place.Place.{Place}
+use Rattle.inverter_sim.specs.declared.place.RegisterPlace.{RegisterPlace}
 use Rattle.inverter_sim.specs.declared.works.Works.{Works}
 
 -- a device: its registers from the base on with the place of each, and what it works as: an inverter with the watts that
@@ -13,7 +13,7 @@ pub record DeviceState : Type 0 where
   pub base : ℕ
   pub works : Works
   pub registers : List ℕ
-  pub places : List Place
+  pub places : List RegisterPlace
   pub slow : ℕ
 
 -- a plant: its devices, its faults, how many frames it was sent, and the unit whose requests tick it; none where that is

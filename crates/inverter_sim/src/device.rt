@@ -4,7 +4,7 @@ ghost use Rattle.std.specs.Option.{SomeIff};
 ghost use Rattle.modbus_frame.specs.Message.{IsRequest};
 ghost use Rattle.inverter_sim.specs.Serve.{is_within, is_writable, are_whole, written, acknowledged, after_request, answer_to, after_pdu, reply_pdu};
 
-use crate::place::Place;
+use crate::place::RegisterPlace;
 use crate::works::Works;
 use modbus_frame::{
     Exception, Pdu, Request, Response, Words, exception_pdu, parse_request, response_pdu,
@@ -20,7 +20,7 @@ pub(crate) struct Device {
     pub(crate) base: u16,
     pub(crate) works: Works,
     pub(crate) registers: Vec<u16>,
-    pub(crate) places: Vec<Place>,
+    pub(crate) places: Vec<RegisterPlace>,
     /// How many milliseconds late it answers.
     pub(crate) slow: u32,
 }
@@ -123,7 +123,7 @@ impl Device {
 }
 
 // Whether each register belongs to a point that clients may write, and that begins and ends among these registers.
-fn are_whole(places: &[Place]) -> bool
+fn are_whole(places: &[RegisterPlace]) -> bool
     ensures { result ≡ are_whole 0 places.now }
 {
     let mut before: usize = 0;

@@ -28,5 +28,5 @@ pub use plant::Plant;
 // a plant on a link
 pub use serving::serve_link;
 // where a device's points lie, and which of them its ticks set
-pub use place::Place;
+pub use place::RegisterPlace;
 pub use points::{FlowPoints, InverterPoints, MeterPoints, Phases, Scale};

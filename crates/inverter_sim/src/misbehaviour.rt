@@ -11,7 +11,7 @@ pub enum Misbehaviour {
     Garbage(u16),
     /// The reply's length field is 255.
     Length,
-    /// At most so many bytes of the reply go out, and nothing behind them.
+    /// At most so many bytes of the reply go out, and nothing after them.
     Cut(u16),
 }
 

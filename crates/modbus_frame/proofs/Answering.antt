@@ -206,7 +206,7 @@ module _ {S : Type 0} (Answers : S → Frame → List ℕ → Bool → S → Typ
         fresh = ap (λ (h : Held). h.fault) (read.reads).2;
       }
 
-  -- the stream ended behind the last frame
+  -- the stream ended after the last frame
   pub serves_all : (a b c : LinkState) (s t : S) (r q : Reading) (served turns spent : ℕ)
       → ServedSoFar a b s t r served turns → ReadsOne b c r q (Ok None) turns spent → Serves Answers a c s t (Ok served)
   unfolding done_kept

@@ -41,7 +41,7 @@ used_behind (Ok done) [] y turns spare rest first most less second = λ some. om
 used_behind (Ok done) (a ∷ x) y turns spare rest first most less second = λ some. omega (arith, first (omega arith))
 used_behind (Err fault) x y turns spare rest first most less second = tt
 
--- one send behind another
+-- one send after another
 pub sends_both : (a b c : LinkState) (r : Sent) (x y : List ℕ) (turns spare rest : ℕ) → Sends a b (Ok tt) x turns spare → Sends b c r y spare rest → Sends a c r (x ++ y) turns rest
 sends_both a b c r x y turns spare rest first second = record {
   sends = front_behind a.sent b.sent c.sent r x y first.sends second.sends;

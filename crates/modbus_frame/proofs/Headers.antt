@@ -15,7 +15,7 @@ length_of-append bytes more h =
     let sixth = get_or_append_left bytes more 0 5 (omega arith) in
     omega (arith, fifth, sixth)
 
--- a header with fewer bytes behind it than its length says
+-- a header with fewer bytes after it than its length says
 pub IsRest-append : (bytes more : List ℕ) → 6 ≤ length bytes → protocol_of bytes ≡ 0 → IsLength (length_of bytes) → length (bytes ++ more) < 6 + length_of bytes → IsRest (bytes ++ more)
 IsRest-append bytes more header protocol long short = record {
   protocol = λ _. omega (arith, protocol_of-append bytes more (omega arith));

@@ -25,7 +25,7 @@ pub without_fault : (fault : Option FrameFault) (old : Held) (piece : List ℕ) 
 without_fault None old piece result new none feeds = feeds
 without_fault (Some f) old piece result new none feeds = cc
 
--- One feed of all that was read, told of the bytes behind what it used.
+-- One feed of all that was read, told of the bytes after what it used.
 pub feeds_unfed : (held : Held) (piece : List ℕ) (used : ℕ) (frame : Option Frame) (new : Held) (unfed : List ℕ) → GivesOrKeeps held.kept piece used frame new → unfed ≡ drop used piece → length piece ≤ 260 → FeedsUnfed (record { held = held; unfed = piece }) (Ok frame) (record { held = new; unfed = unfed })
 feeds_unfed held piece used (Some frame) new unfed gives behind few =
     let parts : held.kept ++ piece ≡ (held.kept ++ take used piece) ++ drop used piece = ap (λ l. held.kept ++ l) (sym (take-append-drop used piece)) ∙ sym (append_assoc held.kept (take used piece) (drop used piece)) in

@@ -43,7 +43,7 @@ module _ (bytes : List ℕ) where
 same_function : {f g : ℕ} {xs ys : List ℕ} → f ∷ xs ≡ g ∷ ys → f ≡ g
 same_function same = ap (λ l. get_or l 0 0) same
 
--- A text behind function 3 of another length, or with a quantity that isn't allowed, is no request.
+-- A text after function 3 of another length, or with a quantity that isn't allowed, is no request.
 no_read_by_length : (fields : List ℕ) → length fields ≢ 4 → IsNoRequest (3 ∷ fields)
 no_read_by_length fields other (Read addr qty) quantity same = other (let long : length (3 ∷ fields) ≡ 5 = ap length same in omega arith)
 no_read_by_length fields other (WriteOne addr value) quantity same = absurd (let f = same_function same in omega arith)

@@ -39,7 +39,7 @@ pub AllByRecursion-more : (frames : List Frame) (frame : Frame) → AllByRecursi
 AllByRecursion-more [] frame each one = (one, tt)
 AllByRecursion-more (first ∷ frames) frame each one = (each.0, AllByRecursion-more frames frame each.1 one)
 
--- The bytes that came behind a whole frame's first ones make it one of the stream's.
+-- The bytes that came after a whole frame's first ones make it one of the stream's.
 pub Splits-frame : {stream : List ℕ} {frames : List Frame} {kept : List ℕ} (used : List ℕ) (frame : Frame) → Splits stream frames kept → kept ++ used ≡ frame_bytes frame → IsFrame frame → Splits (stream ++ used) (frames ++ frame ∷ []) []
 Splits-frame {stream} {frames} {kept} used frame split spelled one = record {
   whole = ap (λ s. s ++ used) split.whole ∙ append_assoc (flat_map frame_bytes frames) kept used ∙ ap (λ s. flat_map frame_bytes frames ++ s) (spelled ∙ sym (append-nil (frame_bytes frame))) ∙ sym (flat_map-append frame_bytes frames (frame ∷ [])) ∙ sym (append-nil (flat_map frame_bytes (frames ++ frame ∷ [])));
@@ -47,7 +47,7 @@ Splits-frame {stream} {frames} {kept} used frame split spelled one = record {
   partial = IsRest-nil;
 }
 
--- More that is still less than a frame stays behind the stream's frames.
+-- More that is still less than a frame stays after the stream's frames.
 pub Splits-rest : {stream : List ℕ} {frames : List Frame} {kept : List ℕ} (more : List ℕ) → Splits stream frames kept → IsRest (kept ++ more) → Splits (stream ++ more) frames (kept ++ more)
 Splits-rest {stream} {frames} {kept} more split rest = record {
   whole = ap (λ s. s ++ more) split.whole ∙ append_assoc (flat_map frame_bytes frames) kept more;

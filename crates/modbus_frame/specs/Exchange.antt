@@ -27,7 +27,7 @@ CountsSent old new (Err fault.End) turns = ⊥
 CountsSent old new (Err fault.Turns) turns = FailsBy 0 0 0 old new × (turns ≡ 0)
 CountsSent old new (Err fault.OutOfMemory) turns = ⊥
 
--- What is left of the stream behind its last frame, where the link tells what is to come.
+-- What is left of the stream after its last frame, where the link tells what is to come.
 abbrev pub left : Reading → Option (List ℕ) → Option (List ℕ)
 left r coming = prepend_known (r.held.kept ++ r.unfed) coming
 

@@ -38,7 +38,7 @@ abbrev pub IsFaulty : FrameFault → List ℕ → Type 0
 IsFaulty BadProtocol bytes = (4 ≤ length bytes) × (protocol_of bytes ≢ 0)
 IsFaulty BadLength bytes = (6 ≤ length bytes) × (protocol_of bytes ≡ 0) × (¬ (IsLength (length_of bytes)))
 
--- frames one after another, and what comes behind them
+-- frames one after another, and what comes after them
 abbrev pub stream_of : List Frame → List ℕ → List ℕ
 stream_of frames rest = flat_map frame_bytes frames ++ rest
 

@@ -60,7 +60,7 @@ addressed addr qty r = if nat_le (addr + qty) 65536 then Ok r else Err illegal_a
 abbrev pub is_quantity : ℕ → ℕ → Bool
 is_quantity most qty = nat_le 1 qty && nat_le qty most
 
--- The request that the bytes behind a function stand for, or the exception that answers them.
+-- The request that the bytes after a function stand for, or the exception that answers them.
 abbrev pub read_of : List ℕ → Result Request Exception
 read_of (a ∷ b ∷ c ∷ d ∷ []) = if is_quantity 125 (number c d) then addressed (number a b) (number c d) (Read (number a b) (number c d)) else Err illegal_value
 read_of _ = Err illegal_value

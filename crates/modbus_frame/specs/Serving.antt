@@ -13,7 +13,7 @@ use Rattle.modbus_frame.specs.Served.{Answered}
 
 -- ---- one answer
 
--- the bytes that go out for a frame, and whether more frames may be answered behind it
+-- the bytes that go out for a frame, and whether more frames may be answered after it
 pub record ReplyBytes : Type 0 where
   pub bytes : List ℕ
   pub goes_on : Bool
@@ -56,7 +56,7 @@ EndsReplying link.Write = ⊤
 EndsReplying link.Turns = ⊤
 EndsReplying other = ⊥
 
--- A frame is next in what is left, and at most a buffer of bytes was read ahead behind it.
+-- A frame is next in what is left, and at most a buffer of bytes was read ahead after it.
 pub record ComesNext (left : Option (List ℕ)) (frame : Frame) (coming : Option (List ℕ)) : Type 0 where
   pub is_frame : IsFrame frame
   pub ahead : List ℕ
@@ -65,9 +65,9 @@ pub record ComesNext (left : Option (List ℕ)) (frame : Frame) (coming : Option
 
 -- ---- the answered stream
 
--- `Answers` says which bytes answer a frame, whether more may be answered behind them, and what that leaves.
+-- `Answers` says which bytes answer a frame, whether more may be answered after them, and what that leaves.
 module _ {S : Type 0} (Answers : S → Frame → List ℕ → Bool → S → Type 0) where
-  -- an answer behind which more frames may be answered
+  -- an answer after which more frames may be answered
   abbrev pub GoesOn : S → Frame → List ℕ → S → Type 0
   GoesOn s frame bytes t = Answers s frame bytes true t
 
@@ -88,7 +88,7 @@ module _ {S : Type 0} (Answers : S → Frame → List ℕ → Bool → S → Typ
     pub failures : FailsBy 0 0 1 a.failures b.failures
     pub number : served ≡ length done.frames
 
-  -- Frames were answered, and behind the answer to the next one no more may be.
+  -- Frames were answered, and after the answer to the next one no more may be.
   pub record ServesLast (a b : LinkState) (s t : S) (served : ℕ) : Type 0 where
     pub left : Option (List ℕ)
     pub now : Option (List ℕ)

@@ -12,7 +12,7 @@ use crate::framer::Framer;
 use crate::link::{Down, Link, LinkFault};
 use std::marker::Model;
 
-/// Reads frames from a link in pieces of at most 260 bytes, and keeps what came behind a frame for the next one.
+/// Reads frames from a link in pieces of at most 260 bytes, and keeps what came after a frame for the next one.
 ///
 /// A contract sees what its framer holds, and the bytes that it read and didn't feed.
 #[derive(Debug, Drop)]
@@ -47,7 +47,7 @@ impl FrameReader {
         }
     }
 
-    /// The next frame, or `None` where the stream ended behind the last one, by at most `turns` reads, of which it
+    /// The next frame, or `None` where the stream ended after the last one, by at most `turns` reads, of which it
     /// takes off those that it made. After a fault of the stream each call answers that fault; after another one the
     /// next call reads on.
     pub fn next_frame<L: Link>(

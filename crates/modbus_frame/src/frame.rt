@@ -24,7 +24,7 @@ impl Frame {
     pub const MAX_LEN: usize = 260;
 }
 
-/// Writes the frame to the front of the buffer, and gives the number of its bytes. The bytes behind it stay.
+/// Writes the frame to the front of the buffer, and gives the number of its bytes. The bytes after it stay.
 pub fn write_frame(frame: &Frame, out: &mut [u8; 260]) -> usize
     ensures len { result ≡ length (frame_bytes frame.now) }
     ensures bytes { out.new ≡ frame_bytes frame.now ++ drop result out.old }

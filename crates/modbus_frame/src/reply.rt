@@ -9,7 +9,7 @@ use crate::link::{Link, LinkFault};
 use arrayvec::ArrayVec;
 use std::marker::Model;
 
-/// What answers a frame: bytes, and whether more frames may be answered behind them.
+/// What answers a frame: bytes, and whether more frames may be answered after them.
 #[derive(Drop)]
 pub struct FrameReply {
     first: ArrayVec<u8, 260>,
@@ -30,7 +30,7 @@ impl Model for FrameReply {
 }
 
 impl FrameReply {
-    /// No bytes, behind which frames may be answered.
+    /// No bytes, after which frames may be answered.
     pub fn nothing() -> FrameReply
         ensures { result ≡ record { bytes = []; goes_on = true } }
     {
@@ -42,7 +42,7 @@ impl FrameReply {
         }
     }
 
-    /// A frame, behind which more may be answered.
+    /// A frame, after which more may be answered.
     pub fn whole(reply: &Frame) -> FrameReply
         ensures { result ≡ record { bytes = frame_bytes reply.now; goes_on = true } }
     {
@@ -67,7 +67,7 @@ impl FrameReply {
         }
     }
 
-    /// Whether more frames may be answered behind it.
+    /// Whether more frames may be answered after it.
     pub fn goes_on(&self) -> bool
         ensures { result ≡ self.now.goes_on }
     {

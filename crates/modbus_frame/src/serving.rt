@@ -15,7 +15,7 @@ pub trait Responder {
     ghost use Rattle.std.specs.Prelude.{◌≡◌, ◌<◌, ℕ, List, Bool, true, length};
     ghost use Rattle.modbus_frame.specs.declared.frame.Frame.{Frame};
 
-    /// Which bytes answer a frame, whether more may be answered behind them, and what that leaves.
+    /// Which bytes answer a frame, whether more may be answered after them, and what that leaves.
     ghost answers: { Self → Frame → List ℕ → Bool → Self → Type 0 };
 
     /// Answers a frame, by at least one byte where more may be answered.
@@ -25,7 +25,7 @@ pub trait Responder {
 }
 
 /// Answers the frames that come over a link, one after another, to the link's end between two frames or to an answer
-/// behind which none may be, and gives their number (MODBUS Messaging on TCP/IP Implementation Guide, section 4.4.2).
+/// after which none may be, and gives their number (MODBUS Messaging on TCP/IP Implementation Guide, section 4.4.2).
 ///
 /// [`LinkFault`]: Read and Write where the link failed, Frame where the bytes that came are no frame, End where they end
 /// inside one, Turns after 1,000,000 reads and writes. What was answered so far stands.

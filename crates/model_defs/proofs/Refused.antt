@@ -16,7 +16,7 @@ use Rattle.model_defs.specs.declared.fault.DefFault.TheVariants as fault
 
 -- ---- one point more
 
--- what is behind a point breaks no rule, where the point breaks none
+-- what is after a point breaks no rule, where the point breaks none
 past : (b : Bool) (old new : Option DefFault) → (if b then Some fault.DuplicateName else old) ≡ None → (old ≡ None → new ≡ None) → (if b then Some fault.DuplicateName else new) ≡ None
 past true old new none behind = none
 past false old new none behind = behind none

@@ -93,7 +93,7 @@ is_there ds ps i p are has at j factor =
     let q = is_some_kind (slice_get ps j) kinds.Sunssf (has i j p at factor) in
     (description_told ds q.0, ap (λ xs. slice_get xs j) (sym are) ∙ slice_get-map (description_told ds) ps j ∙ ap (option_map (description_told ds)) q.1)
 
--- a point begins behind the registers of those described before it
+-- a point begins after the registers of those described before it
 offset_told : (ds : List Description) (ps : List Point) (i : ℕ) (p : Point) → ArePoints ds ps → IsInOrder ps → slice_get ps i ≡ Some p → p.offset ≡ all_registers (take i ds)
 offset_told ds ps i p are order at =
     order i p at ∙ sym (sums ds (take i ps)) ∙ ap all_registers (sym (take-map (description_told ds) i ps)) ∙ ap (λ xs. all_registers (take i xs)) are

@@ -157,7 +157,7 @@ descriptions_of (item tree trees) = joined (description_of tree) (descriptions_o
 abbrev pub has_name : List ℕ → Description → Bool
 has_name name d = bytes_eq name d.name
 
--- the rule that this point breaks, or else the first that the points behind it break
+-- the rule that this point breaks, or else the first that the points after it break
 abbrev pub broken_from : List Description → Result Description DefFault → (List Description → Option DefFault) → Option DefFault
 broken_from seen (Err e) behind = Some e
 broken_from seen (Ok d) behind = if list_any (has_name d.name) seen then Some fault.DuplicateName else behind (seen ++ d ∷ [])

@@ -14,7 +14,7 @@ use std::alloc::AllocError;
 pub struct ModelDef {
     /// The model's ID, in 1..65534.
     pub id: u16,
-    /// The registers behind ID and L, at most 123.
+    /// The registers after ID and L, at most 123.
     pub length: u16,
     /// The points, ID and L first.
     pub points: Points,

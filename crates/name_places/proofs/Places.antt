@@ -10,7 +10,7 @@ use Rattle.std.specs.Str.{bytes_eq}
 use Rattle.indexmap.specs.IndexMap.{insert_entry}
 use Rattle.name_places.specs.Places.{Entries, IsPlaced, Notes, or_else, place_in}
 
--- a new name's place stands behind the others
+-- a new name's place stands after the others
 pub inserted : (other : List ℕ) (es : Entries) (k : Bor (List ℕ)) (n : ℕ) → lookup (λ q. bytes_eq k.now q.now) es ≡ None
     → lookup (λ q. bytes_eq other q.now) (insert_entry (λ a b. bytes_eq a.now b.now) es k n) ≡ or_else (lookup (λ q. bytes_eq other q.now) es) (if bytes_eq other k.now then Some n else None)
 inserted other [] k n e = go (bytes_eq other k.now)

@@ -16,7 +16,7 @@ is_control code = nat_lt code 0x20 || is_within code 0x7f 0x9f || code == 0x61c 
 abbrev pub escaped_letter : ℕ → List ℕ
 escaped_letter code = if is_control code then escape_unicode code else code ∷ []
 
--- a letter of a line that moves nothing behind it: a blank for a tab, and `?` for another control character
+-- a letter of a line that moves nothing after it: a blank for a tab, and `?` for another control character
 abbrev pub plain_letter : ℕ → ℕ
 plain_letter code = if code == 9 then 32 else if is_control code then 63 else code
 

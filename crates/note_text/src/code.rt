@@ -16,7 +16,7 @@ enum CodePlace {
     /// An opening parenthesis, which may begin a comment.
     Bracket,
     Inside,
-    /// Inside, behind a star.
+    /// Inside, after a star.
     Star,
     /// The end of a comment.
     End,

@@ -44,7 +44,7 @@ fn push_code(lines: &mut String, letter: char) -> Result<(), AllocError>
     Ok(())
 }
 
-/// A letter of a line that moves nothing behind it: a blank for a tab, and `?` for another control character.
+/// A letter of a line that moves nothing after it: a blank for a tab, and `?` for another control character.
 pub fn plain_letter(letter: char) -> char
     ensures { result ≡ escaping.plain_letter letter }
 {

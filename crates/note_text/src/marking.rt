@@ -5,22 +5,22 @@
 pub enum Mark {
     /// All that stands on it.
     Line,
-    /// The operator, which is the first word behind a label.
+    /// The operator, which is the first word after a label.
     Operator,
-    /// What stands behind the operator; the operator, where nothing does.
+    /// What stands after the operator; the operator, where nothing does.
     Operand,
     /// The letter of this number, counted from 1; all that stands on the line, where it has none.
     Column(usize),
     /// The bytes from this place on, counted from 0, so many.
     Bytes(usize, usize),
-    /// What is missing behind all that stands on the line.
+    /// What is missing after all that stands on the line.
     Behind,
     /// The name that the note speaks of; the operand, where it doesn't stand on the line.
     Name,
 }
 
 /// The bytes of a line that are meant, where this is its code and the note speaks of this name: the first one's place,
-/// and the place behind the last one.
+/// and the place after the last one.
 pub(crate) fn marked(line: &str, code: &str, mark: Mark, name: &str) -> (usize, usize) {
     let code = if code.trim().is_empty() {
         line.trim_end()
@@ -98,7 +98,7 @@ fn letter_at(line: &str, number: usize) -> (usize, usize) {
     whole(line.trim_end())
 }
 
-/// What stands behind a label and its colon.
+/// What stands after a label and its colon.
 fn behind_label(code: &str) -> &str {
     match code.split_once(':') {
         Some((label, rest)) if is_word(label) => rest.trim_start(),
@@ -111,7 +111,7 @@ fn is_word(text: &str) -> bool {
     text.split_whitespace().count() == 1
 }
 
-/// What stands behind `{LOOP n}`.
+/// What stands after `{LOOP n}`.
 fn behind_count(code: &str) -> &str {
     match code.split_once('}') {
         Some((_, rest)) => rest.trim_start(),
@@ -119,7 +119,7 @@ fn behind_count(code: &str) -> &str {
     }
 }
 
-/// What stands behind the operator, and its parenthesis.
+/// What stands after the operator, and its parenthesis.
 fn operand_of(body: &str) -> &str {
     let rest = behind_word(body).trim_start();
     match rest.strip_prefix("(") {
@@ -128,7 +128,7 @@ fn operand_of(body: &str) -> &str {
     }
 }
 
-/// What stands behind the first word.
+/// What stands after the first word.
 fn behind_word(body: &str) -> &str {
     for (place, letter) in body.char_indices() {
         if letter == ' ' || letter == '\t' || letter == '(' {

@@ -26,7 +26,7 @@ pub struct Note<'a> {
     pub help: &'a str,
     /// The name that both speak of; where it is empty they say `it`.
     pub name: &'a str,
-    /// What is known there, behind the carets; empty where nothing is.
+    /// What is known there, after the carets; empty where nothing is.
     pub detail: &'a str,
 }
 
@@ -120,7 +120,7 @@ fn push_named(lines: &mut String, text: &str, name: &str) -> Result<(), AllocErr
     Ok(())
 }
 
-/// Appends a line with nothing in it that moves what stands behind.
+/// Appends a line with nothing in it that moves what stands after it.
 fn push_shown(lines: &mut String, line: &str) -> Result<(), AllocError> {
     for letter in line.chars() {
         lines.push(plain_letter(letter))?;
@@ -128,7 +128,7 @@ fn push_shown(lines: &mut String, line: &str) -> Result<(), AllocError> {
     Ok(())
 }
 
-/// Appends a caret below each letter that is meant, and one where what is meant comes behind the last; blanks before.
+/// Appends a caret below each letter that is meant, and one where what is meant comes after the last; blanks before.
 fn push_carets(lines: &mut String, line: &str, start: usize, end: usize) -> Result<(), AllocError> {
     for (place, _) in line.char_indices() {
         if place >= end {

@@ -1,4 +1,4 @@
--- Names: zeros behind a text that grows, and bytes that are all ASCII.
+-- Names: zeros after a text that grows, and bytes that are all ASCII.
 use Rattle.std.proofs.Common.{◌≡◌, ℕ, suc, ◌+◌, ◌-◌, ◌<◌, List, [], ◌∷◌, ◌++◌, length, map, set, take, replicate, get_or, refl, sym, ap, ◌∙◌, arith, length-append, length-take-le, ◌≤◌, Option, None, if◌then◌else◌, nat_le, Bool, false, true, ◌&&◌, leb-true, zero, lit<, not}
 use Rattle.std.specs.Prelude.{IsTrue, IsUtf8}
 use Rattle.std.specs.List.{list_all}

@@ -30,6 +30,6 @@ bool_kind il.Usint h = absurd (true≢false (sym h))
 bool_kind il.Uint h = absurd (true≢false (sym h))
 bool_kind il.Udint h = absurd (true≢false (sym h))
 
--- one number alone stands behind a given one
+-- one number alone stands after a given one
 pub same_some : {A : Type 0} {a b : A} → Some a ≡ Some b → b ≡ a
 same_some e = cc

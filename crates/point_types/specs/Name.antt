@@ -22,7 +22,7 @@ abbrev pub folded : ℕ → ℕ
 folded b = if is_between 65 90 b then b + 32 else b
 
 -- no underscore is the last character or stands before another one
--- (cut off: behind an underscore comes nothing, or another one)
+-- (cut off: after an underscore comes nothing, or another one)
 abbrev pub is_cut_off : List ℕ → Bool
 is_cut_off [] = true
 is_cut_off (b ∷ bs) = is_underscore b
@@ -53,11 +53,11 @@ is_name bs = nat_le (length bs) most_characters && is_name_word bs
 abbrev pub name_of : List ℕ → Option (List ℕ)
 name_of text = if is_name (map folded text) then Some (map folded text) else None
 
--- the bytes in 32 places, zeros behind
+-- the bytes in 32 places, zeros after it
 abbrev pub padded : List ℕ → List ℕ
 padded bs = bs ++ replicate (32 - length bs) 0
 
--- a name of so many characters in 32 places, zeros behind
+-- a name of so many characters in 32 places, zeros after it
 pub record IsPadded (characters : ℕ) (cells : List ℕ) : Type 0 where
   pub short : characters ≤ 32
   pub places : length cells ≡ 32

@@ -23,7 +23,7 @@ pub enum Kind {
     String,
 }
 
-/// The table of the numeric kinds, handed to another macro behind its context: the kind, its registers, how their
+/// The table of the numeric kinds, handed to another macro after its context: the kind, its registers, how their
 /// number is read, and the number of the unimplemented words.
 macro_rules! numeric_kinds {
     ($then:ident $context:tt) => {

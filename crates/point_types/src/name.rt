@@ -101,7 +101,7 @@ pub fn lower_case(byte: u8) -> u8
     }
 }
 
-// The text in lower case, and zeros behind it.
+// The text in lower case, and zeros after it.
 fn in_lower_case(text: &[u8]) -> [u8; 32]
     requires { length text.now ≤ 32 }
     ensures { result ≡ padded (map folded text.now) }

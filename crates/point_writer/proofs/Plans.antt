@@ -18,7 +18,7 @@ use Rattle.point_writer.specs.declared.write.Write.{Write}
 use Rattle.point_writer.specs.declared.write.NoWrite.{NoWrite}
 use Rattle.point_writer.specs.declared.write.NoWrite.TheVariants as refusal
 use Rattle.point_writer.specs.Fault.{no_write_of}
-use Rattle.point_writer.specs.SetPoint.{Place, place_of, SetsAt, IsSetPoint, IsPlanAt, IsPlan}
+use Rattle.point_writer.specs.SetPoint.{PointPlace, place_of, SetsAt, IsSetPoint, IsPlanAt, IsPlan}
 use Rattle.point_writer.specs.Laws.{AtMostOneSetPoint, RefusedHasNoSetPoint}
 
 -- words that encode a number are those that read as it
@@ -30,18 +30,18 @@ encoded : (k : Kind) (v e low high raw : ℤ) (o : Option ℤ) (ws : List ℕ) �
 encoded k v e low high raw None ws s h = cc
 encoded k v e low high raw (Some f) ws s h = (raw, s, h.0)
 
-pub plan-at : (maps : List (Option Layout)) (wants : List Want) (blocks : List (Option (List ℕ))) (t : SiteTag) (v : ℤ) (o : Option ℤ) (place : Place) (r : Result Write NoWrite) →
+pub plan-at : (maps : List (Option Layout)) (wants : List Want) (blocks : List (Option (List ℕ))) (t : SiteTag) (v : ℤ) (o : Option ℤ) (place : PointPlace) (r : Result Write NoWrite) →
     o ≡ Some v → Some place ≡ place_of maps wants blocks t → IsPlanAt (Some place) t v r → IsPlan maps wants blocks t o r
 plan-at maps wants blocks t v o place r e p h =
-    let a = subst (λ (q : Option Place). IsPlanAt q t v r) p h in
+    let a = subst (λ (q : Option PointPlace). IsPlanAt q t v r) p h in
     subst (λ (x : Option ℤ). IsPlan maps wants blocks t x r) (sym e) a
 
-pub sets-at : (place : Place) (t : SiteTag) (v : ℤ) (w : Write) → w.device ≡ place.device → w.addr ≡ place.addr → t.low ≤ℤ v → v ≤ℤ t.high → IsEncoding t.point v t.exponent place.factor (Ok w.words) → SetsAt place t v w
+pub sets-at : (place : PointPlace) (t : SiteTag) (v : ℤ) (w : Write) → w.device ≡ place.device → w.addr ≡ place.addr → t.low ≤ℤ v → v ≤ℤ t.high → IsEncoding t.point v t.exponent place.factor (Ok w.words) → SetsAt place t v w
 sets-at place t v w d a l m h =
     let x = read_back t.point v t.exponent t.low t.high (factor_of place.factor) w.words l m h in
     record { device = d; addr = a; raw = x.0; stands = x.1; reads = x.2 }
 
-pub refused-at : (place : Place) (t : SiteTag) (v : ℤ) (fault : Unencodable) (r : NoWrite) → r ≡ no_write_of fault → IsEncoding t.point v t.exponent place.factor (Err fault) → IsPlanAt (Some place) t v (Err r)
+pub refused-at : (place : PointPlace) (t : SiteTag) (v : ℤ) (fault : Unencodable) (r : NoWrite) → r ≡ no_write_of fault → IsEncoding t.point v t.exponent place.factor (Err fault) → IsPlanAt (Some place) t v (Err r)
 refused-at place t v fault r e h = subst (λ (x : NoWrite). IsPlanAt (Some place) t v (Err x)) (sym e) (go fault h)
   where
     go : (f : Unencodable) → IsEncoding t.point v t.exponent place.factor (Err f) → IsPlanAt (Some place) t v (Err (no_write_of f))
@@ -50,7 +50,7 @@ refused-at place t v fault r e h = subst (λ (x : NoWrite). IsPlanAt (Some place
     go unencodable.OutOfType k = k
 
 -- the words of a set point are an encoding
-words-encode : (place : Place) (t : SiteTag) (v : ℤ) (w : Write) → SetsAt place t v w → IsEncoding t.point v t.exponent place.factor (Ok w.words)
+words-encode : (place : PointPlace) (t : SiteTag) (v : ℤ) (w : Write) → SetsAt place t v w → IsEncoding t.point v t.exponent place.factor (Ok w.words)
 words-encode place t v w s = encoded t.point v t.exponent t.low t.high s.raw (factor_of place.factor) w.words s.stands s.reads
 
 pub same_ok : {ws us : List ℕ} → ◌≡◌ {A = Result (List ℕ) Unencodable} (Ok ws) (Ok us) → ws ≡ us
@@ -65,13 +65,13 @@ same_made d e a b ws us p q r = ap (λ n. made n a ws) p ∙ ap (λ n. made e n 
 same_write : (w x : Write) → w.device ≡ x.device → w.addr ≡ x.addr → w.words ≡ x.words → w ≡ x
 same_write w x p q r = same_made w.device x.device w.addr x.addr w.words x.words p q r
 
-same_place : {a b : Place} {o : Option Place} → o ≡ Some a → o ≡ Some b → b ≡ a
+same_place : {a b : PointPlace} {o : Option PointPlace} → o ≡ Some a → o ≡ Some b → b ≡ a
 same_place p q = cc
 
 pub at_most_one : AtMostOneSetPoint
 at_most_one maps wants blocks t v w x h k =
     let e = same_place {a = h.place} {b = k.place} h.placed k.placed in
-    let s = subst (λ (p : Place). SetsAt p t v x) e k.sets in
+    let s = subst (λ (p : PointPlace). SetsAt p t v x) e k.sets in
     let u = at_most_one_encoding t.point v t.exponent h.place.factor (Ok w.words) (Ok x.words) (words-encode h.place t v w h.sets) (words-encode h.place t v x s) in
     same_write w x (h.sets.device ∙ sym s.device) (h.sets.addr ∙ sym s.addr) (same_ok u)
 
@@ -79,7 +79,7 @@ not_both : (k : Kind) (v e : ℤ) (f : Option ℤ) (ws : List ℕ) (fault : Unen
 not_both k v e f ws fault h l = let q = at_most_one_encoding k v e f (Ok ws) (Err fault) h l in cc
 
 pub refused_has_none : RefusedHasNoSetPoint
-refused_has_none maps wants blocks t v e w h s = go e (subst (λ (p : Option Place). IsPlanAt p t v (Err e)) s.placed h)
+refused_has_none maps wants blocks t v e w h s = go e (subst (λ (p : Option PointPlace). IsPlanAt p t v (Err e)) s.placed h)
   where
     go : (x : NoWrite) → IsPlanAt (Some s.place) t v (Err x) → ⊥
     go refusal.NotSet k = k
@@ -103,6 +103,6 @@ pub writes-set_point : (maps : List (Option Layout)) (wants : List Want) (blocks
 writes-set_point maps wants blocks t None w a h = cc
 writes-set_point maps wants blocks t (Some v) w a h = (v, refl, go (place_of maps wants blocks t) refl h)
   where
-    go : (p : Option Place) → place_of maps wants blocks t ≡ p → IsPlanAt p t v (Ok w) → IsSetPoint maps wants blocks t v w
+    go : (p : Option PointPlace) → place_of maps wants blocks t ≡ p → IsPlanAt p t v (Ok w) → IsSetPoint maps wants blocks t v w
     go None e k = cc
     go (Some place) e k = record { output = a; writable = writes_writable t.access t.writable t.writes a; place = place; placed = e; sets = k }

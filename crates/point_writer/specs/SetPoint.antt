@@ -20,7 +20,7 @@ use Rattle.point_writer.specs.declared.write.NoWrite.TheVariants as refusal
 -- ---- where a tag's point lies
 
 -- a device, the address of the point's first register, and the point's factor: none where it is absent
-pub record Place : Type 0 where
+pub record PointPlace : Type 0 where
   pub device : ℕ
   pub addr : ℕ
   pub factor : Option ℤ
@@ -30,19 +30,19 @@ abbrev pub mapped_words : Block → List ℕ → List ℕ
 mapped_words block words = take (block.length + 2) words
 
 -- in a block of which these words are known: the point and its factor lie inside them
-abbrev pub place_in : SiteTag → ℕ → Block → List ℕ → Option Place
+abbrev pub place_in : SiteTag → ℕ → Block → List ℕ → Option PointPlace
 place_in t device block words =
     option_and_then (λ registers. option_map (λ factor. record { device = device; addr = block.addr + t.offset; factor = factor }) (scale_at words t.sf)) (registers_at words t.offset (size_of t.point))
 
 -- by the maps of the devices, and the words that are known of the wanted blocks
-abbrev pub place_of : List (Option Layout) → List Want → List (Option (List ℕ)) → SiteTag → Option Place
+abbrev pub place_of : List (Option Layout) → List Want → List (Option (List ℕ)) → SiteTag → Option PointPlace
 place_of maps wants blocks t =
     option_and_then (λ device. option_and_then (λ (layout : Layout). option_and_then (λ block. option_and_then (λ words. place_in t device block (mapped_words block words)) (block_of wants blocks t)) (map.block_of layout t.model)) (known_at maps device)) t.device
 
 -- ---- set points
 
 -- at a place, the words read back as the number, by the factor that the device gave
-pub record SetsAt (place : Place) (t : SiteTag) (v : ℤ) (w : Write) : Type 0 where
+pub record SetsAt (place : PointPlace) (t : SiteTag) (v : ℤ) (w : Write) : Type 0 where
   pub device : w.device ≡ place.device
   pub addr : w.addr ≡ place.addr
   pub raw : ℤ
@@ -53,13 +53,13 @@ pub record SetsAt (place : Place) (t : SiteTag) (v : ℤ) (w : Write) : Type 0 w
 pub record IsSetPoint (maps : List (Option Layout)) (wants : List Want) (blocks : List (Option (List ℕ))) (t : SiteTag) (v : ℤ) (w : Write) : Type 0 where
   pub output : t.access ≡ access.Output
   pub writable : t.writable ≡ true
-  pub place : Place
+  pub place : PointPlace
   pub placed : place_of maps wants blocks t ≡ Some place
   pub sets : SetsAt place t v w
 
 -- ---- what is written of a tag, or the first cause why nothing is
 
-abbrev pub IsPlanAt : Option Place → SiteTag → ℤ → Result Write NoWrite → Type 0
+abbrev pub IsPlanAt : Option PointPlace → SiteTag → ℤ → Result Write NoWrite → Type 0
 IsPlanAt None t v r = r ≡ Err refusal.NoBlock
 IsPlanAt (Some place) t v (Ok w) = SetsAt place t v w
 IsPlanAt (Some place) t v (Err refusal.NotSet) = ⊥
@@ -87,7 +87,7 @@ WritesASetPoint tags outs wants maps blocks outputs i r =
 -- ---- by which factor
 
 abbrev pub factor_of : List (Option Layout) → List Want → List (Option (List ℕ)) → SiteTag → Option ℤ
-factor_of maps wants blocks t = option_and_then (λ (place : Place). place.factor) (place_of maps wants blocks t)
+factor_of maps wants blocks t = option_and_then (λ (place : PointPlace). place.factor) (place_of maps wants blocks t)
 
 -- the same for the tag whose number is the i-th of these
 abbrev pub IsFactorFor : List SiteTag → (outs : List ℕ) → List Want → List (Option Layout) → List (Option (List ℕ)) → ℕ → Option ℤ → Type 0

@@ -10,7 +10,7 @@ use site_model::{SiteTag, Want, Words};
 
 /// A device, the address of the point's first register, and the point's factor: None where it is absent.
 #[derive(Clone, Copy)]
-pub(crate) struct Place {
+pub(crate) struct PointPlace {
     pub(crate) device: usize,
     pub(crate) addr: u16,
     pub(crate) factor: Option<i16>,
@@ -22,7 +22,7 @@ pub(crate) fn place_of(
     wants: &[Want],
     blocks: &[Option<Words>],
     maps: &[Option<Map>],
-) -> Option<Place>
+) -> Option<PointPlace>
     requires { length blocks.now ≡ length wants.now }
     ensures { option_map place_view result ≡ place_of maps.now wants.now blocks.now tag.now }
 {
@@ -45,14 +45,14 @@ fn mapped_words(block: Block, words: &[u16]) -> &[u16]
     }
 }
 
-fn place_in(tag: &SiteTag, device: usize, block: Block, words: &[u16]) -> Option<Place>
+fn place_in(tag: &SiteTag, device: usize, block: Block, words: &[u16]) -> Option<PointPlace>
     requires mapped { length words.now ≤ block.length + 2 }
     requires in_registers { block.addr + 2 + block.length < 65536 }
     ensures { option_map place_view result ≡ place_in tag.now device block words.now }
 {
     let _point = registers_at(words, tag.offset, tag.point.size())?;
     let factor = scale_at(words, tag.sf)?;
-    Some(Place {
+    Some(PointPlace {
         device,
         addr: block.addr + tag.offset,
         factor,

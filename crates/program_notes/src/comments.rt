@@ -14,7 +14,7 @@ const STRAY: Hint = Hint {
 };
 
 /// What is told of the first end of a comment that closes nothing, where it is at fault, or what stands before it and
-/// behind a comment in which another one opens; none elsewhere.
+/// after a comment in which another one opens; none elsewhere.
 pub(crate) fn stray_end(
     alloc: Global,
     text: &str,

@@ -33,7 +33,7 @@ pub enum Way {
 pub enum MendPlace {
     /// On a line before the one that is refused.
     Before,
-    /// In parentheses behind the operator, which take the operand.
+    /// In parentheses after the operator, which take the operand.
     Inside,
     /// On lines before, with a variable for the operand: the operator takes no parentheses.
     Apart,

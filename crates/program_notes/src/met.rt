@@ -10,7 +10,7 @@ pub(crate) struct Met<'p, 'a> {
     pub code: &'a str,
     pub at: usize,
     pub before: &'p [TextPiece<'a>],
-    /// What is at fault, and all behind it.
+    /// What is at fault, and all after it.
     pub rest: &'p [TextPiece<'a>],
 }
 
@@ -67,7 +67,7 @@ impl<'p, 'a> Met<'p, 'a> {
         self.text() == "\n" || self.rest.is_empty()
     }
 
-    /// What stands behind what is met.
+    /// What stands after what is met.
     pub(crate) fn next(&self) -> &'a str {
         match self.rest.get(1) {
             Some(piece) => piece.text,
@@ -155,7 +155,7 @@ impl<'p, 'a> Met<'p, 'a> {
     }
 }
 
-/// The pieces behind so many.
+/// The pieces after so many.
 fn behind<'p, 'a>(pieces: &'p [TextPiece<'a>], count: usize) -> &'p [TextPiece<'a>] {
     pieces.get(count..).unwrap_or(pieces)
 }

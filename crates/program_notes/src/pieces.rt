@@ -10,7 +10,7 @@ pub(crate) struct TextPiece<'a> {
 }
 
 impl TextPiece<'_> {
-    /// The place behind its last byte.
+    /// The place after its last byte.
     pub(crate) fn behind(&self) -> usize {
         self.at.saturating_add(self.text.len())
     }
@@ -123,7 +123,7 @@ pub(crate) fn has(pieces: &[TextPiece<'_>], word: &str) -> bool {
     false
 }
 
-/// The piece behind the first one that is this word or mark.
+/// The piece after the first one that is this word or mark.
 pub(crate) fn behind_first<'a>(pieces: &[TextPiece<'a>], word: &str) -> Option<TextPiece<'a>> {
     let mut met = false;
     for piece in pieces {

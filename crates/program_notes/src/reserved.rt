@@ -80,7 +80,7 @@ pub(crate) fn is_conversion(word: &str) -> bool {
     false
 }
 
-/// What stands in a word behind a type and `_TO_`.
+/// What stands in a word after a type and `_TO_`.
 fn behind_type(word: &str, from: IlType) -> Option<&str> {
     behind_word(behind_word(word, type_word(from))?, "_TO_")
 }
@@ -96,7 +96,7 @@ pub(crate) fn is_like_conversion(word: &str) -> bool {
     false
 }
 
-/// What stands behind a word at the beginning, in capital or small letters.
+/// What stands after a word at the beginning, in capital or small letters.
 fn behind_word<'a>(text: &'a str, word: &str) -> Option<&'a str> {
     match text.get(..word.len()) {
         Some(front) if front.eq_ignore_ascii_case(word) => text.get(word.len()..),

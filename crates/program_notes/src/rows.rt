@@ -12,7 +12,7 @@ use std::alloc::{AllocError, Global};
 use verifier::known::all_told;
 use verifier::told::Standing;
 
-/// An instruction: its line in the text, its number, what it is, and what is told before it; None behind a
+/// An instruction: its line in the text, its number, what it is, and what is told before it; None after a
 /// refused one.
 #[derive(Drop)]
 pub struct Row {
@@ -61,7 +61,7 @@ fn rows_in(
     Ok(rows)
 }
 
-/// Appends the instructions behind one that is refused.
+/// Appends the instructions after one that is refused.
 fn push_unjudged(
     rows: &mut Items<Row>,
     lines: &[u32],

@@ -17,7 +17,7 @@ use site_model::Site;
 use std::alloc::{AllocError, Global};
 use verifier::known::framed;
 
-/// The column behind a line of the text, the letters that are shown of one that is cut, and the column that no line that
+/// The column after a line of the text, the letters that are shown of one that is cut, and the column that no line that
 /// is shown longer passes.
 const SOURCE_END: usize = 38;
 
@@ -36,7 +36,7 @@ pub enum Beside {
 
 /// The lines of a program's text, each with its instructions, and where that is asked for with what is known before them:
 /// the result (r), the deferred values (d), the last one first, the variables and tags that lie in less than their range,
-/// and the inputs that are present. Behind them stands the longest path, which makes the budget. Where an instruction is
+/// and the inputs that are present. After them stands the longest path, which makes the budget. Where an instruction is
 /// refused, of which `refused` is the number, the lines end with it.
 pub fn table_of(
     alloc: Global,

@@ -3,7 +3,7 @@ use il_reader::{Action, External, InnerLine, Operand, Program, Simple};
 use point_types::Name;
 use std::alloc::{AllocError, Global};
 
-/// What stands behind the name of an external whose presence is meant.
+/// What stands after the name of an external whose presence is meant.
 const PRESENCE: &[u8] = b"_ok";
 
 /// A load or a store of a name, and its line.

@@ -62,7 +62,7 @@ fn put_place(cause: &mut RefusalNote, text: &str, place: Option<FilePlace>) {
     }
 }
 
-/// Puts the line and the column at which a text goes wrong. A place behind the last line is the end of that one.
+/// Puts the line and the column at which a text goes wrong. A place after the last line is the end of that one.
 fn put_position(cause: &mut RefusalNote, text: &str, line: usize, column: usize) {
     let last = text.lines().count();
     cause.line = u32::try_from(line.min(last)).unwrap_or(0);

@@ -7,7 +7,7 @@ use Rattle.register_map.specs.Layout.{LiesBefore}
 use Rattle.register_map.specs.Chain.{IsModel, AreModels}
 
 module _ {S : Type 0} (reads : S → ℕ → ℕ → Answer → S → Type 0) where
-  -- one more model behind the others
+  -- one more model after the others
   pub AreModels-append : (limit : ℕ) (s : S) (k a : ℕ) (bs : List Block) (n : ℕ) (u : S) (b : Block) (t : S) (m : ℕ) → m ≡ k + length bs →
       AreModels reads limit s k a bs n u → IsModel reads limit u m n t b → AreModels reads limit s k a (bs ++ b ∷ []) (n + 2 + b.length) t
   AreModels-append limit s k a [] n u b t m e p q =

@@ -8,7 +8,7 @@ use Rattle.register_map.specs.Chain.{end_id, most_models, IsModelId, Holds, AreM
 use Rattle.register_map.specs.Search.{answer_from, all_registers}
 use Rattle.register_map.specs.Laws.{ModelWords, laid_out, blocks_from, end_from}
 
--- the word behind a prefix is read at the prefix's length
+-- the word after a prefix is read at the prefix's length
 word-behind : (words pre post : List ℕ) (w : ℕ) → words ≡ pre ++ w ∷ post → ◌≡◌ {A = Answer} (Ok (w ∷ [])) (answer_from words (length pre) 1)
 word-behind words pre post w e =
     let long : length pre + 1 ≤ length (pre ++ w ∷ post) = rw length-append (omega arith) in
@@ -20,7 +20,7 @@ end_from-grows : (a : ℕ) (ms : List ModelWords) → a ≤ end_from a ms
 end_from-grows a [] = omega arith
 end_from-grows a (m ∷ ms) = omega (arith, end_from-grows (a + 2 + length m.words) ms)
 
--- their IDs are those of models, behind so many others
+-- their IDs are those of models, after so many others
 abbrev pub HaveModelIds : ℕ → List ModelWords → Type 0
 HaveModelIds before [] = Unit {0}
 HaveModelIds before (m ∷ ms) = IsModelId before m.id × HaveModelIds (before + 1) ms

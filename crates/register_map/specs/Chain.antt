@@ -19,7 +19,7 @@ end_id = 0xFFFF
 abbrev pub most_models : ℕ
 most_models = 64
 
--- the ID of a model, behind so many others: the common model is the first
+-- the ID of a model, after so many others: the common model is the first
 abbrev pub IsModelId : ℕ → ℕ → Type 0
 IsModelId before id = (id ≢ end_id) × (before ≡ 0 → id ≡ common_id)
 
@@ -33,7 +33,7 @@ module _ {S : Type 0} (reads : S → ℕ → ℕ → Answer → S → Type 0) wh
   abbrev pub IsUnread : S → ℕ → S → Type 0
   IsUnread s address t = (fault : ReadFault) × reads s address 1 (Err fault) t
 
-  -- behind so many models, the header at an address is that of one more
+  -- after so many models, the header at an address is that of one more
   abbrev pub IsModel : ℕ → S → ℕ → ℕ → S → Block → Type 0
   IsModel limit s before address t block =
       (block.addr ≡ address) × IsModelId before block.id × (address + 1 < limit) × (before < most_models)
@@ -58,7 +58,7 @@ module _ {S : Type 0} (reads : S → ℕ → ℕ → Answer → S → Type 0) wh
       ⊎ ((before < most_models) × (address + 1 < limit)
       × ((id : ℕ) × (u : S) × IsModelId before id × Holds s address id u × IsUnread u (address + 1) t))
 
-  -- behind so many others, the models of these blocks follow one another from an address on, and the next header is at `next`
+  -- after so many others, the models of these blocks follow one another from an address on, and the next header is at `next`
   abbrev pub AreModels : ℕ → S → ℕ → ℕ → List Block → ℕ → S → Type 0
   AreModels limit s before address [] next t = (address ≡ next) × (s ≡ t)
   AreModels limit s before address (b ∷ bs) next t =

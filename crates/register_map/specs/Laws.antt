@@ -13,7 +13,7 @@ pub record ModelWords : Type 0 where
   pub id : ℕ
   pub words : List ℕ
 
--- models laid out one behind another, up to the end model's ID
+-- models laid out one after another, up to the end model's ID
 abbrev pub laid_out : List ModelWords → List ℕ
 laid_out [] = end_id ∷ []
 laid_out (m ∷ ms) = m.id ∷ length m.words ∷ m.words ++ laid_out ms
@@ -28,7 +28,7 @@ abbrev pub end_from : ℕ → List ModelWords → ℕ
 end_from address [] = address
 end_from address (m ∷ ms) = end_from (address + 2 + length m.words) ms
 
--- the common model and at most 63 others behind the mark are a map, whatever words follow the end model's ID
+-- the common model and at most 63 others after the mark are a map, whatever words follow the end model's ID
 abbrev pub LaidOutIsRead : Type 0
 LaidOutIsRead =
     (common : ModelWords) (others : List ModelWords) (rest : List ℕ) →

@@ -22,7 +22,7 @@ abbrev pub due_fault : Option PlannedFault → Option ReadFault
 due_fault None = None
 due_fault (Some p) = elim p.reads_before [ zero ↦ Some p.fault | suc _ ↦ None ]
 
--- what is planned for the reads behind it
+-- what is planned for the reads after it
 abbrev pub next_planned : Option PlannedFault → Option PlannedFault
 next_planned None = None
 next_planned (Some p) = elim p.reads_before [ zero ↦ None | suc n ↦ Some (record p { reads_before = n }) ]

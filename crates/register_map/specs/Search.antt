@@ -1,4 +1,4 @@
--- The search for a device's map: the first base with the mark, and the chain behind it (SunSpec Device Information Model Specification, the base addresses of Modbus devices).
+-- The search for a device's map: the first base with the mark, and the chain after it (SunSpec Device Information Model Specification, the base addresses of Modbus devices).
 use Rattle.std.specs.Prelude.{◌≡◌, ◌≢◌, ◌⊎◌, ℕ, ◌+◌, List, [], ◌∷◌, length, slice_range, nat_le, min, Result, Ok, Err, if◌then◌else◌}
 use Rattle.register_map.specs.declared.access.ReadFault.TheVariants.{Refused, Failed}
 use Rattle.register_map.specs.declared.layout.MapFault.{MapFault}

@@ -21,7 +21,7 @@ const END: u16 = 0xFFFF;
 /// How many registers a device has.
 const REGISTERS: u32 = 65536;
 
-/// Finds the map of a device: the chain of models behind the mark at the first of `bases` that has it
+/// Finds the map of a device: the chain of models after the mark at the first of `bases` that has it
 /// (SunSpec Device Information Model Specification, the layout of a device's Modbus registers).
 ///
 /// The mark is read as two registers, then ID and length of each model by a read of one register each. The length of the end model
@@ -32,8 +32,8 @@ const REGISTERS: u32 = 65536;
 /// # Errors
 /// [`MapFault::NoMark`] where no base has the mark, [`MapFault::NotCommon`] where the first model isn't the common one,
 /// [`MapFault::PastEnd`] where a header lies past register 65535, [`MapFault::TooMany`] at a 65th model,
-/// [`MapFault::Read`] where a read behind a mark gave no words, or one of a mark failed.
-/// Of two faults at one header the first in this order is given. A fault behind a mark ends the search.
+/// [`MapFault::Read`] where a read after a mark gave no words, or one of a mark failed.
+/// Of two faults at one header the first in this order is given. A fault after a mark ends the search.
 pub fn discover<R: Registers>(registers: &mut R, bases: &[u16]) -> Result<Map, MapFault>
     requires { All (λ b. b < 65535) bases.now }
     ensures searched { (log : List RegisterRead) × IsDiscovery R.reads registers.old bases.now registers.new log result }
@@ -55,7 +55,7 @@ pub fn chain(words: &[u16]) -> Result<Map, MapFault>
     search(&mut WordList { words }, limit, &[0])
 }
 
-/// Looks for the mark at each base in turn, and follows the models behind it. Registers lie below the address `limit`.
+/// Looks for the mark at each base in turn, and follows the models after it. Registers lie below the address `limit`.
 fn search<R: Registers>(registers: &mut R, limit: u32, bases: &[u16]) -> Result<Map, MapFault>
     requires limit { limit ≤ REGISTERS }
     requires bases { All (λ b. b < 65535) bases.now }
@@ -98,7 +98,7 @@ fn models<R: Registers>(registers: &mut R, limit: u32, start: u32) -> Result<Map
     Ok(Map::new(blocks, next as u16))
 }
 
-/// The model whose header is at `address`, behind `before` others, or `None` at the end model.
+/// The model whose header is at `address`, after `before` others, or `None` at the end model.
 fn model<R: Registers>(
     registers: &mut R,
     limit: u32,

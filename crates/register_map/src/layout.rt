@@ -69,7 +69,7 @@ impl Map {
         self.blocks.iter().copied().find(|block| block.id == id)
     }
 
-    /// The address of the end model's ID, behind all blocks.
+    /// The address of the end model's ID, after all blocks.
     pub fn end(&self) -> u16
         ensures { result ≡ self.now.end }
     {

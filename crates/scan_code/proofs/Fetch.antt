@@ -112,7 +112,7 @@ counted_read : (made : ℕ → Op) (limit to : ℕ) → 0 < limit → (if nat_eq
 counted_read made limit to h =
     ap (λ b. if b then None else read (made (number_from 0 (place_bytes to))) 4) (not_zero limit h) ∙ ap (λ n. read (made n) 4) (place_read to)
 
--- so many bytes behind the first
+-- so many bytes after the first
 abbrev Decodes : Op → List ℕ → Type 0
 Decodes i rest = (n : ℕ) × (length (spelled i) ≡ n + 1) × (decoded (spelled i ++ rest) ≡ Some (i, n))
 

@@ -22,6 +22,6 @@ ImagesHaveOneSpelling = (bytes : List ℕ) (image : Image) → AreBytes bytes �
 abbrev pub PrefixesAreCut : Type 0
 PrefixesAreCut = (image : Image) (before after : List ℕ) (b : ℕ) → IsProper image → before ++ b ∷ after ≡ spelled_image image → image_in before ≡ Err fault.Cut
 
--- bytes behind an image are Rest
+-- bytes after an image are Rest
 abbrev pub MoreIsRest : Type 0
 MoreIsRest = (image : Image) (after : List ℕ) (b : ℕ) → IsProper image → image_in (spelled_image image ++ b ∷ after) ≡ Err fault.Rest

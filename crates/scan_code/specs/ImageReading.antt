@@ -12,7 +12,7 @@ use Rattle.scan_code.specs.Instruction.{number_from, signed_from, types}
 use Rattle.scan_code.specs.Image.{Image, names_of, is_version, is_new, most_entries}
 use Rattle.scan_code.specs.ImageSpelling.{mark}
 
--- a part and the bytes behind it, or a fault
+-- a part and the bytes after it, or a fault
 abbrev pub Taken : Type 0 → Type 0
 Taken A = Result (A × List ℕ) ImageFault
 
@@ -117,7 +117,7 @@ image_at bytes =
     then_take (behind_mark mark bytes) (λ _ rest. then_take (version_at rest) (λ version rest. then_take (count_at rest) (λ variables rest.
     then_take (count_at rest) (λ tags rest. then_take (place_at rest) (λ size rest. tables_at version variables tags size rest)))))
 
--- nothing may stand behind the code
+-- nothing may stand after the code
 abbrev pub ended : {A : Type 0} → A → List ℕ → Result A ImageFault
 ended a [] = Ok a
 ended a (b ∷ rest) = Err fault.Rest
@@ -129,7 +129,7 @@ whole (Ok found) = ended found.0 found.1
 abbrev pub image_in : List ℕ → Result Image ImageFault
 image_in bytes = whole (image_at bytes)
 
--- what a reader that stood before the bytes answers, and the bytes behind
+-- what a reader that stood before the bytes answers, and the bytes after it
 abbrev pub Takes : {A : Type 0} → Taken A → Result A ImageFault → List ℕ → Type 0
 Takes taken answer rest = MatchResult answer (λ a. taken ≡ Ok (a, rest)) (λ e. taken ≡ Err e)
 

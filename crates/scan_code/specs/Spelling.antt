@@ -115,7 +115,7 @@ IsFine (does.Return when.IfTrue) = Unit {0}
 IsFine (does.Return when.IfFalse) = Unit {0}
 IsFine (does.Repeat condition k limit to) = 0 < limit
 
--- what was spelled is decoded, wherever it stands, and the next address is the one behind it
+-- what was spelled is decoded, wherever it stands, and the next address is the one after it
 abbrev pub SpelledInstructionsDecode : Type 0
 SpelledInstructionsDecode =
     (i : Op) (before rest : List ℕ) → IsFine i

@@ -10,7 +10,7 @@ use crate::instructions;
 use crate::op::Op;
 use point_types::{Condition, IlType, Operator};
 
-/// What the bytes behind a code byte make of it, by the instruction's shape: the instruction, and how many of them it takes.
+/// What the bytes after a code byte make of it, by the instruction's shape: the instruction, and how many of them it takes.
 macro_rules! complete {
     (bare $name:ident $arguments:ident) => { Some((Op::$name, 0)) };
     (operator $name:ident $arguments:ident) => { Some((Op::Apply(Operator::$name), 0)) };
@@ -44,7 +44,7 @@ macro_rules! complete_by {
     };
 }
 
-/// The instruction at an address of the code, and the address behind it. None where no instruction
+/// The instruction at an address of the code, and the address after it. None where no instruction
 /// stands there: past the code, or at another code byte, at arguments that are cut short, at a truth
 /// value over 1, a type that isn't allowed, a number outside its type, or a count of 0.
 pub fn decode(code: &[u8], at: usize) -> Option<(Op, usize)>

@@ -12,7 +12,7 @@ pub enum ImageFault {
     Version,
     /// The bytes end too soon.
     Cut,
-    /// Bytes behind the code.
+    /// Bytes after the code.
     Rest,
     /// A count of over 1,024 variables or tags, a name that isn't one in lower case or comes twice, a type
     /// over 7, a direction over 1, or a range or a start value outside its bounds.

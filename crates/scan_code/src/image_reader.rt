@@ -148,7 +148,7 @@ impl<'a> Unread<'a> {
         Ok(tags)
     }
 
-    /// A variable, behind these ones.
+    /// A variable, after these ones.
     fn var(&mut self, before: &[Var]) -> Result<Var, ImageFault>
         ensures { Takes (var_at (names_of before.now []) self.old) result self.new }
     {
@@ -199,7 +199,7 @@ impl<'a> Unread<'a> {
         }
     }
 
-    /// A tag, behind these variables and tags.
+    /// A tag, after these variables and tags.
     fn tag(&mut self, vars: &[Var], before: &[Tag]) -> Result<Tag, ImageFault>
         ensures { Takes (tag_at (names_of vars.now before.now) self.old) result self.new }
     {

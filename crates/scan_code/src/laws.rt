@@ -8,7 +8,7 @@ pub fn spelled_instructions_decode()
     ensures { SpelledInstructionsDecode }
 {}
 
-/// The bytes of an image are read as that image, and with bytes behind them refused.
+/// The bytes of an image are read as that image, and with bytes after them refused.
 pub fn images_read_back()
     ensures alone { ImagesReadBack }
     ensures more { MoreIsRest }

@@ -98,7 +98,7 @@ impl Trial {
         self.execution.outputs()[i]
     }
 
-    /// The address of the instruction that stopped the last scan, behind a trap.
+    /// The address of the instruction that stopped the last scan, after a trap.
     pub fn stopped_at(&self) -> usize {
         self.execution.address()
     }
@@ -108,7 +108,7 @@ impl Trial {
         typed(self.execution.result())
     }
 
-    /// The deferred value that the last instruction to take one took, behind a trap that isn't Stack; with 1 the one
+    /// The deferred value that the last instruction to take one took, after a trap that isn't Stack; with 1 the one
     /// before it.
     pub fn last_taken(&self, number: usize) -> Option<(IlType, i64)> {
         typed(self.execution.taken(number))

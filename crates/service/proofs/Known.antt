@@ -53,7 +53,7 @@ not_among w (x ∷ ws) zero v none at same =
     differs e = cc
 not_among w (x ∷ ws) (suc i) v none at same = not_among w ws i v (or_right (same_want w x) _ none) at same
 
--- an entry of a list with one more behind it
+-- an entry of a list with one more after it
 behind_cases : (ws : List Want) (x : Want) (i : ℕ) (v : Want) → slice_get (ws ++ x ∷ []) i ≡ Some v → (slice_get ws i ≡ Some v) ⊎ ((i ≡ length ws) × (v ≡ x))
 behind_cases [] x zero v at = inr (refl, cc)
 behind_cases [] x (suc i) v at = absurd (cc)

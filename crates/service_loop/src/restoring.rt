@@ -69,7 +69,7 @@ fn left_out(alloc: Global, line: &str) -> Result<String, AllocError> {
     left_out_setting_line(alloc, shown.as_str())
 }
 
-/// The beginning of a text, with nothing in it that moves what stands behind.
+/// The beginning of a text, with nothing in it that moves what stands after it.
 fn shown(alloc: Global, text: &str) -> Result<String, AllocError> {
     let mut shown = String::new(alloc);
     for (number, letter) in text.chars().enumerate() {

@@ -14,10 +14,10 @@ module _ {X : Type 0} (P : X → Type 0) (places : List X) (place : ℕ) where
       let at : slice_get places place ≡ Some one = ap (λ (l : List X). slice_get l place) same ∙ slice_get_read seen _ place one refl within is in
       subst P (same_Some _ _ (sym at ∙ there)) told
 
-  -- nobody stands at a place behind the last one
+  -- nobody stands at a place after the last one
   pub stands_none : length places ≤ place → (x : X) → slice_get places place ≡ Some x → P x
   stands_none past x there = absurd (none-some x (sym (slice_get_past places place past) ∙ there))
 
--- nothing is at a place behind the last one
+-- nothing is at a place after the last one
 pub none_there : {X : Type 0} {A : Type 0} (places : List X) (place : ℕ) → length places ≤ place → (x : X) → slice_get places place ≡ Some x → A
 none_there places place past x there = absurd (none-some x (sym (slice_get_past places place past) ∙ there))

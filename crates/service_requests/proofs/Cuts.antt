@@ -234,11 +234,11 @@ good_takes old bytes a new wait good is hears =
     let Q : Option Wait → Type 0 = λ w. HearsFor w (with_bytes old.reading bytes) a new in
     subst P (sym good) (subst Q (sym is) hears)
 
--- behind a fate nothing is under way, and bytes are kept
+-- after a fate nothing is under way, and bytes are kept
 kept_behind : (middle : Wire) (q : List ℕ) (second : Option RequestEnd) (new : Wire) → (middle.reading).held.fault ≡ None → middle.wait ≡ None → Takes middle q second new → (second ≡ None) × (new ≡ record { reading = with_bytes middle.reading q; wait = None })
 kept_behind middle q second new good idle takes = takes_good middle q second new None good idle takes
 
--- and behind a fault nothing is kept
+-- and after a fault nothing is kept
 broken_behind : (middle : Wire) (q : List ℕ) (second : Option RequestEnd) (new : Wire) (fault : FrameFault) → (middle.reading).held.fault ≡ Some fault → Takes middle q second new → (second ≡ lost_by middle.wait) × (new ≡ record middle { wait = None })
 broken_behind middle q second new fault broken takes =
     let P : Option FrameFault → Type 0 = λ f. TakesUnless f middle q second new in

@@ -42,7 +42,7 @@ turns_of s (Some frame) t = record { before = s; frame = frame; after = t } ∷ 
 abbrev pub frames_in : {S : Type 0} → List (Turn S) → List Frame
 frames_in {S} turns = map (λ (turn : Turn S). turn.frame) turns
 
--- `Answers` says which bytes answer a frame, whether more may be answered behind them, and what that leaves.
+-- `Answers` says which bytes answer a frame, whether more may be answered after them, and what that leaves.
 module _ {S : Type 0} (Answers : S → Frame → List ℕ → Bool → S → Type 0) where
   -- A whole frame is answered; without one nothing waits, and nothing changes.
   abbrev pub AnswersNext : S → Option Frame → List ℕ → Bool → S → Type 0
@@ -70,7 +70,7 @@ module _ {S : Type 0} (Answers : S → Frame → List ℕ → Bool → S → Typ
   AnsweredEach [] bytes = bytes ≡ []
   AnsweredEach (turn ∷ turns) bytes = (own : List ℕ) × (more : List ℕ) × Answers turn.before turn.frame own true turn.after × (bytes ≡ own ++ more) × AnsweredEach turns more
 
-  -- The same, and behind the answer to the last one no more may be.
+  -- The same, and after the answer to the last one no more may be.
   pub record AnsweredLast (turns : List (Turn S)) (bytes : List ℕ) : Type 0 where
     pub before : List (Turn S)
     pub last : Turn S
@@ -86,7 +86,7 @@ module _ {S : Type 0} (Answers : S → Frame → List ℕ → Bool → S → Typ
   AnsweredTo false turns bytes = AnsweredLast turns bytes
 
   -- However a stream is cut into pieces: what went out, and what waits, are the answers to its frames, in order, each at
-  -- its turn. Frames behind a fault are none.
+  -- its turn. Frames after a fault are none.
   abbrev pub AnyCutIsAnswered : Type 0
   AnyCutIsAnswered = (turns : List (Turn S)) (stream sent : List ℕ) (t : S) (talk : Talk) → Serving turns stream sent t talk →
       IsRead stream (frames_in turns) talk.held × AnsweredTo talk.goes_on turns (sent ++ talk.waiting)

@@ -15,7 +15,7 @@ pub fn outcomes_are_decided()
 {}
 
 /// However a stream is cut into pieces, and whatever others do to what answers between two calls, what goes out are the
-/// answers to the stream's frames, in order, each from the state at its turn; behind a fault of the stream nothing more.
+/// answers to the stream's frames, in order, each from the state at its turn; after a fault of the stream nothing more.
 pub fn any_cut_is_answered<R: Responder>()
     ensures { AnyCutIsAnswered R.answers }
 {}

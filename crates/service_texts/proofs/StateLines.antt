@@ -80,7 +80,7 @@ apart line more h =
     let some : 0 < length parts = omega (arith, length-slice_split (λ b. eqb b 10) more) in
     ap lines_of_parts split ∙ first_of_parts line parts some ∙ ap (λ l. l ∷ lines_of_parts parts) (not_stripped line h)
 
--- the name stands before the sign, the number behind it
+-- the name stands before the sign, the number after it
 sign_at : (name rest : List ℕ) → AllByRecursion IsPlain name → position_or_len is_equals_sign (name ++ 61 ∷ rest) ≡ length name
 sign_at [] rest h = refl
 sign_at (b ∷ bs) rest h = rw h.0.0 ((omega arith) ∙ ap suc (sign_at bs rest h.1))

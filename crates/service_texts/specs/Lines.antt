@@ -6,7 +6,7 @@ use Rattle.std.specs.Fmt.{decimal}
 abbrev pub stamp : ℕ → List ℕ
 stamp now = decimal (now / 1000) ++ codes "." ++ decimal (now / 100 % 10) ++ decimal (now / 10 % 10) ++ decimal (now % 10)
 
--- a line behind the time
+-- a line after the time
 abbrev pub stamped_line : ℕ → List ℕ → List ℕ
 stamped_line now line = stamp now ++ codes " " ++ line ++ codes "\n"
 

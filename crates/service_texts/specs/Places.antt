@@ -22,7 +22,7 @@ place_of n entry =
     ok_or (remote_unit entry) (fault.BadUnit n) >>= λ unit.
     Ok (record { address = address; unit = unit })
 
--- the devices' places in order, behind those before them, or what is wrong with the first that has none
+-- the devices' places in order, after those before them, or what is wrong with the first that has none
 abbrev pub places_behind : List DevicePlace → Items → Result (List DevicePlace) AddressFault
 places_behind seen no_items = Ok seen
 places_behind seen (item entry entries) =

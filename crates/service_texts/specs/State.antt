@@ -29,7 +29,7 @@ state_text (tag ∷ tags) (number ∷ numbers) = tag_line tag.name number ++ sta
 abbrev pub is_equals_sign : ℕ → Bool
 is_equals_sign b = b == 61
 
--- a line says a setting: the name before its first equals sign, and the number behind that sign, which is a decimal
+-- a line says a setting: the name before its first equals sign, and the number after that sign, which is a decimal
 -- of 64 bits, with a sign or without one
 pub record Says (line name : List ℕ) (number : ℤ) : Type 0 where
   pub parted : position_or_len is_equals_sign line < length line

@@ -23,7 +23,7 @@ with_station None place s = record {
   stations = s.stations ++ record { link = length s.links; unit = place.unit } ∷ [];
 }
 
--- the addresses of devices behind those before them
+-- the addresses of devices after those before them
 abbrev pub addresses_behind : Addresses → List DevicePlace → Addresses
 addresses_behind s [] = s
 addresses_behind s (place ∷ places) = addresses_behind (with_station (number_from 0 place.address s.links) place s) places

@@ -6,7 +6,7 @@ ghost use Rattle.service_texts.specs.Lines as told;
 use std::alloc::{AllocError, Global};
 use std::net::SocketAddr;
 
-/// A line behind the seconds since the start, to the thousandth.
+/// A line after the seconds since the start, to the thousandth.
 pub fn stamped(alloc: Global, now: u64, line: &str) -> Result<String, AllocError>
     ensures { IfOk result (λ text. string_bytes text ≡ told.stamped_line now line.now) }
 {

@@ -12,7 +12,7 @@ use std::alloc::{AllocError, Global};
 pub struct KeptSetting<'a> {
     /// What stands before the line's first equals sign.
     pub name: &'a str,
-    /// The number behind it.
+    /// The number after it.
     pub number: i64,
 }
 

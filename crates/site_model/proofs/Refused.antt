@@ -38,7 +38,7 @@ next_of xs i x within is = rw (drop-cons xs i x, add-one) (rw (← is) refl)
 next_item : (vs : List Value) (i : ℕ) (v : Value) → i < length vs → v ≡ get_or vs i v → items_view (drop i vs) ≡ item (view v) (items_view (drop (i + 1) vs))
 next_item vs i v within is = ap items_view (next_of vs i v within is)
 
--- what the entries behind give after one more
+-- what the later entries give after one more
 pub rest_read :
     {A B E : Type 0} {read : A → Items → Result A E} {next : A → Data → Result B E} {more : A → B → A} → GoesInOrder read next more →
     (seen : A) (vs : List Value) (i : ℕ) (v : Value) (b : B) → i < length vs → v ≡ get_or vs i v → next seen (view v) ≡ Ok b →

@@ -15,7 +15,7 @@ use Rattle.model_defs.specs.declared.model.ModelDef.{ModelDef}
 use Rattle.file_keys.specs.Keys.{natural_within, number_at, number_or, optional_number_at, text_at}
 use Rattle.site_model.specs.Devices.{DeviceKeys, device_keys, device_of, device_within, devices_behind, has_name_or_unit, optional_base, write_of}
 use Rattle.site_model.specs.Gateway.{definition_of, has_id}
-use Rattle.site_model.specs.Tagging.{Measures, Numbers, Place, TagKeys, bit_of, device_for, device_named, device_number, ends_in_ok, exponent_of, has_range, is_bit_place, is_device_named, is_input, is_rounding, lapse_of, last_bit, measures_of, measures_within, model_for, point_for, point_number, tag_name}
+use Rattle.site_model.specs.Tagging.{Measures, Numbers, TagPlace, TagKeys, bit_of, device_for, device_named, device_number, ends_in_ok, exponent_of, has_range, is_bit_place, is_device_named, is_input, is_rounding, lapse_of, last_bit, measures_of, measures_within, model_for, point_for, point_number, tag_name}
 use Rattle.site_model.specs.Tag.{start_of}
 use Rattle.site_model.specs.Told.{AreTold, IsDevice, IsPlaced}
 use Rattle.site_model.specs.Wants.{is_of_device}
@@ -94,19 +94,19 @@ numbers_told (Some x) (Some l) (Some h) (Some d) n e =
     let same : own ≡ n = some_is own n e in
     (ap (λ (k : Numbers). Some k.exponent) same, ap (λ (k : Numbers). Some k.low) same, ap (λ (k : Numbers). Some k.high) same, ap (λ (k : Numbers). Some k.default) same)
 
-pub place_told : (device : Option (Option (List ℕ))) (model : Option ℤ) (point : Option (List ℕ)) (p : Place)
+pub place_told : (device : Option (Option (List ℕ))) (model : Option ℤ) (point : Option (List ℕ)) (p : TagPlace)
     → option_and_then (λ d. option_and_then (λ m. option_map (λ q. record { device = d; model = m; point = q }) point) model) device ≡ Some p
     → (device ≡ Some p.device) × (model ≡ Some p.model) × (point ≡ Some p.point)
 place_told None model point p e = absurd (cc)
 place_told (Some d) None point p e = absurd (cc)
 place_told (Some d) (Some m) None p e = absurd (cc)
 place_told (Some d) (Some m) (Some q) p e =
-    let own : Place = record { device = d; model = m; point = q } in
+    let own : TagPlace = record { device = d; model = m; point = q } in
     let same : own ≡ p = some_is own p e in
-    (ap (λ (k : Place). Some k.device) same, ap (λ (k : Place). Some k.model) same, ap (λ (k : Place). Some k.point) same)
+    (ap (λ (k : TagPlace). Some k.device) same, ap (λ (k : TagPlace). Some k.model) same, ap (λ (k : TagPlace). Some k.point) same)
 
 -- what the eight parts of a tag's keys are
-pub record AreKeys (name access kind : Option (List ℕ)) (place : Option Place) (numbers : Option Numbers) (bit : Option (Option ℤ)) (round : Option (Option (List ℕ))) (lapse : Option (Option ℤ)) (keys : TagKeys) : Type 0 where
+pub record AreKeys (name access kind : Option (List ℕ)) (place : Option TagPlace) (numbers : Option Numbers) (bit : Option (Option ℤ)) (round : Option (Option (List ℕ))) (lapse : Option (Option ℤ)) (keys : TagKeys) : Type 0 where
   pub name_is : name ≡ Some keys.name
   pub access_is : access ≡ Some keys.access
   pub kind_is : kind ≡ Some keys.kind
@@ -116,7 +116,7 @@ pub record AreKeys (name access kind : Option (List ℕ)) (place : Option Place)
   pub round_is : round ≡ Some keys.round
   pub lapse_is : lapse ≡ Some keys.lapse
 
-pub keys_told : (name access kind : Option (List ℕ)) (place : Option Place) (numbers : Option Numbers) (bit : Option (Option ℤ)) (round : Option (Option (List ℕ))) (lapse : Option (Option ℤ)) (keys : TagKeys)
+pub keys_told : (name access kind : Option (List ℕ)) (place : Option TagPlace) (numbers : Option Numbers) (bit : Option (Option ℤ)) (round : Option (Option (List ℕ))) (lapse : Option (Option ℤ)) (keys : TagKeys)
     → option_and_then (λ n. option_and_then (λ a. option_and_then (λ k. option_and_then (λ p. option_and_then (λ m. option_and_then (λ b.
     option_and_then (λ r. option_map (λ l. record { name = n; access = a; kind = k; place = p; numbers = m; bit = b; round = r; lapse = l }) lapse) round) bit) numbers) place) kind) access) name ≡ Some keys
     → AreKeys name access kind place numbers bit round lapse keys

@@ -58,7 +58,7 @@ device_within keys =
 abbrev pub has_name_or_unit : List ℕ → ℕ → SiteDevice → Bool
 has_name_or_unit name unit d = bytes_eq d.name name || nat_eq d.unit unit
 
--- a device behind those before it, or the first rule that is broken
+-- a device after those before it, or the first rule that is broken
 abbrev pub device_of : List SiteDevice → Data → Result SiteDevice SiteFault
 device_of seen tree =
     ok_or (device_keys tree) fault.MissingKey >>= λ keys.

@@ -42,7 +42,7 @@ latest id found (d ∷ ds) = latest id (if has_id id d then Some d else found) d
 abbrev pub definition_of : List ModelDef → ℤ → Option ModelDef
 definition_of defs id = latest id None defs
 
--- the definitions of some ids behind those that are found; nothing where one has none
+-- the definitions of some ids after those that are found; nothing where one has none
 abbrev pub definitions_behind : List ModelDef → List ModelDef → Items → Option (List ModelDef)
 definitions_behind defs found no_items = Some found
 definitions_behind defs found (item d ds) =

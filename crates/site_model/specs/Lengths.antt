@@ -1,5 +1,5 @@
 -- The lengths of the models that a site names: those of their definitions.
--- SunSpec Device Information Model Specification, models: the length counts the registers behind ID and L.
+-- SunSpec Device Information Model Specification, models: the length counts the registers after ID and L.
 use Rattle.std.specs.Prelude.{ℕ, pos, List, ◌++◌, map}
 use Rattle.std.specs.Option.{option_map_or}
 use Rattle.model_defs.specs.declared.model.ModelDef.{ModelDef}

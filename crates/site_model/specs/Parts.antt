@@ -1,4 +1,4 @@
--- Which part of a site file breaks the first rule: all that is before it is read, and it is refused behind that.
+-- Which part of a site file breaks the first rule: all that is before it is read, and it is refused after that.
 -- No standard says what a site file is; it is this project's, written in TOML 1.0.
 use Rattle.std.specs.Prelude.{◌≡◌, ◌⊎◌, ℕ, true, false, List, [], None, Some, Ok, Err, codes}
 use Rattle.toml.specs.Data.{Data, table, Items, Members}

@@ -111,7 +111,7 @@ part_from i exponent name (t ∷ ts) = if is_part exponent name t then Some i el
 abbrev pub part_number : ℤ → List Tag → Data → Option ℕ
 part_number exponent tags part = option_and_then (λ name. part_from 0 exponent name tags) (as_str part)
 
--- the numbers of some inputs of one exponent behind those before
+-- the numbers of some inputs of one exponent after those before
 abbrev pub parts_behind : ℤ → List Tag → List ℕ → Items → Option (List ℕ)
 parts_behind exponent tags found no_items = Some found
 parts_behind exponent tags found (item part parts) =
@@ -160,7 +160,7 @@ served_over tags seen model i s = if is_used tags seen model i then Err fault.Du
 abbrev pub served_at : List Tag → List Served → ModelDef → ℕ → Point → Given → Result Served SiteFault
 served_at tags seen model i p given = source_for tags p given >>= served_over tags seen model i
 
--- an entry behind those before it, or the first rule that is broken
+-- an entry after those before it, or the first rule that is broken
 abbrev pub served_of : List ModelDef → List Tag → List Served → Data → Result Served SiteFault
 served_of own tags seen tree =
     ok_or (served_keys tree) fault.MissingKey >>= λ keys.

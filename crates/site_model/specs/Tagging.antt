@@ -35,7 +35,7 @@ pub record Numbers : Type 0 where
   pub default : Option ℤ
 
 -- where the tag's point is
-pub record Place : Type 0 where
+pub record TagPlace : Type 0 where
   pub device : Option (List ℕ)
   pub model : ℤ
   pub point : List ℕ
@@ -44,7 +44,7 @@ pub record TagKeys : Type 0 where
   pub name : List ℕ
   pub access : List ℕ
   pub kind : List ℕ
-  pub place : Place
+  pub place : TagPlace
   pub numbers : Numbers
   pub bit : Option ℤ
   pub round : Option (List ℕ)
@@ -61,7 +61,7 @@ numbers_of tree =
     (number_at (codes "low") tree))
     (number_at (codes "exponent") tree)
 
-abbrev pub place_of : Data → Option Place
+abbrev pub place_of : Data → Option TagPlace
 place_of tree =
     option_and_then (λ device.
     option_and_then (λ model.

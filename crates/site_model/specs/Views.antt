@@ -11,7 +11,7 @@ use Rattle.site_model.specs.declared.serving.Given.{Given}
 use Rattle.site_model.specs.declared.serving.ServedKeys.{ServedKeys}
 use Rattle.site_model.specs.declared.site.Site.{Site}
 use Rattle.site_model.specs.declared.tag_keys.Numbers.{Numbers}
-use Rattle.site_model.specs.declared.tag_keys.Place.{Place}
+use Rattle.site_model.specs.declared.tag_keys.TagPlace.{TagPlace}
 use Rattle.site_model.specs.declared.tag_keys.TagKeys.{TagKeys}
 use Rattle.site_model.specs.declared.time_tag.TimeKeys.{TimeKeys}
 use Rattle.site_model.specs.declared.measures.Measures.{Measures}
@@ -32,7 +32,7 @@ device_keys_view keys = record { name = keys.name.now; unit = keys.unit; base = 
 abbrev pub numbers_view : Numbers → tagging.Numbers
 numbers_view n = record { exponent = n.exponent; low = n.low; high = n.high; default = n.default }
 
-abbrev pub place_view : Place → tagging.Place
+abbrev pub place_view : TagPlace → tagging.TagPlace
 place_view p = record { device = option_map (λ s. s.now) p.device; model = p.model; point = p.point.now }
 
 abbrev pub tag_keys_view : TagKeys → tagging.TagKeys

@@ -22,7 +22,7 @@ is_of_device access.Time = false
 abbrev pub want_of : SiteTag → Option Want
 want_of t = if is_of_device t.access then option_map (λ d. record { device = d; model = t.model }) t.device else None
 
--- with one more behind them, where it isn't among them
+-- with one more after them, where it isn't among them
 abbrev pub with_want : List Want → Option Want → List Want
 with_want ws None = ws
 with_want ws (Some w) = if list_any (same_want w) ws then ws else ws ++ w ∷ []

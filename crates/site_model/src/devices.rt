@@ -47,7 +47,7 @@ pub(crate) fn read_devices(
     Ok(devices)
 }
 
-/// Reads a device behind those before it.
+/// Reads a device after those before it.
 fn read_device(alloc: Global, seen: &[SiteDevice], entry: &Value) -> Result<SiteDevice, SiteFault>
     ensures told { IfOk result (λ d. device_of seen.now (view entry.now) ≡ Ok d) }
     ensures refused { IfErr result (λ e. e ≢ fault.OutOfMemory → device_of seen.now (view entry.now) ≡ Err e) }

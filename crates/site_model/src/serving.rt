@@ -63,7 +63,7 @@ pub(crate) fn read_served(
     Ok(served)
 }
 
-/// Reads an entry behind those before it.
+/// Reads an entry after those before it.
 fn read_entry(
     alloc: Global,
     own: &[ModelDef],

@@ -16,7 +16,7 @@ pub(crate) struct TagKeys<'a> {
     pub(crate) name: &'a str,
     pub(crate) access: &'a str,
     pub(crate) kind: &'a str,
-    pub(crate) place: Place<'a>,
+    pub(crate) place: TagPlace<'a>,
     pub(crate) numbers: Numbers,
     pub(crate) bit: Option<i64>,
     pub(crate) round: Option<&'a str>,
@@ -25,7 +25,7 @@ pub(crate) struct TagKeys<'a> {
 
 /// The keys that say where the tag's point is.
 #[derive(Clone, Copy)]
-pub(crate) struct Place<'a> {
+pub(crate) struct TagPlace<'a> {
     pub(crate) device: Option<&'a str>,
     pub(crate) model: i64,
     pub(crate) point: &'a str,
@@ -55,10 +55,10 @@ pub(crate) fn keys_of(entry: &Value) -> Option<TagKeys<'_>>
     })
 }
 
-fn place_of(entry: &Value) -> Option<Place<'_>>
+fn place_of(entry: &Value) -> Option<TagPlace<'_>>
     ensures { option_map place_view result ≡ place_of (view entry.now) }
 {
-    Some(Place {
+    Some(TagPlace {
         device: optional_text_at(entry, "device")?,
         model: number_at(entry, "model")?,
         point: text_at(entry, "point")?,

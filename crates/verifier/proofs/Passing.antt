@@ -127,11 +127,11 @@ module _ (c : Context) where
       let e : 0 + length (slots c n) ≡ n = omega (arith, slots_long n) in
       subst (λ (k : ℕ). gathered c m 0 (slots c n ++ slot_of n ∷ []) (opening c m) ≡ arriving m (ways_of (flow_of c k (slot_of n) (slice_get c.listing k))) (gathered_to n m)) e (gathered_more m 0 (slots c n) (slot_of n) (opening c m))
 
-  -- what is pending, at instruction n and behind it
+  -- what is pending, at instruction n and after it
   abbrev pub ArePending : ℕ → List Slot → Type 0
   ArePending n ss = AreGathered c n n ss
 
-  -- and behind it alone, once that is taken
+  -- and after it alone, once that is taken
   pub pending_left : (n : ℕ) (ss : List Slot) → ArePending n ss → AreGathered c n (suc n) (slice_set ss n Unreached)
   pending_left n ss h m s k e = h m s (omega arith) (sym (get_set_other ss n m Unreached (λ p. omega arith)) ∙ e)
 

@@ -95,7 +95,7 @@ IsLast does.End = Unit {0}
 IsLast (does.Return condition) = Unit {0}
 IsLast other = ⊥
 
--- behind an instruction comes the next one, but never behind END or JMP, or a later one that it jumps to
+-- after an instruction comes the next one, but never after END or JMP, or a later one that it jumps to
 abbrev pub Follows : List (ℕ × Op) → ℕ → Op → ℕ → Type 0
 Follows listing n does.End m = ⊥
 Follows listing n (does.Return when.Always) m = ⊥

@@ -57,7 +57,7 @@ listed_with image at n jumps None others = wrong_at n
 listed_with image at n jumps (Some found) others =
     if is_placed image jumps found.0 then (others found.0 found.1 >>= λ rest. Ok ((at, found.0) ∷ rest)) else wrong_at n
 
--- from an address on, where instruction number n stands behind so many counted jumps, and ended says
+-- from an address on, where instruction number n stands after so many counted jumps, and ended says
 -- whether the one before it is END; most is a bound on the number of instructions
 abbrev pub listed_from : Image → (most : ℕ) → (at n jumps : ℕ) → (ended : Bool) → Result (List Entry) Refusal
 listed_from image zero at n jumps ended = if ended && nat_le (length image.code) at then Ok [] else wrong_at n

@@ -50,7 +50,7 @@ fn wrong_at(at: usize) -> Refusal
     }
 }
 
-/// Whether what an instruction names is there, behind so many counted jumps.
+/// Whether what an instruction names is there, after so many counted jumps.
 fn is_placed(image: &Image, jumps: usize, op: Op) -> bool
     ensures { result ≡ is_placed image.now jumps op }
 {

@@ -34,7 +34,7 @@ pub fn cause_of_link<L: Link>(
     Some(cause)
 }
 
-/// The fault that ended a poller's work: it answers each request behind it by that fault, and sends nothing.
+/// The fault that ended a poller's work: it answers each request after it by that fault, and sends nothing.
 fn fault_of<L: Link>(poller: &mut Poller<WatchedLink<L>>) -> Option<LinkFault>
     ensures { IfSome poller.old.fault (λ fault. (result ≡ Some fault) × (poller.new ≡ poller.old)) }
 {

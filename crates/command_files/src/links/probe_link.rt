@@ -96,7 +96,7 @@ fn probe_by<R: Net + Eprint, W: Write>(
     }
 }
 
-/// Prints the points of a unit over a link, over which nothing else goes, and gives it back behind the status.
+/// Prints the points of a unit over a link, over which nothing else goes, and gives it back after the status.
 fn probe_link<L: Link, W: Write>(
     alloc: Global,
     link: L,

@@ -68,7 +68,7 @@ fn known_value<'a>(before: &[Value], device: usize, entry: &'a Value) -> Finding
     Finding::at(entry, "point", "has a value before it")
 }
 
-/// What breaks the rule in a fault behind those before it.
+/// What breaks the rule in a fault after those before it.
 pub(super) fn fault_finding<'a>(
     before: &[Value],
     entry: &'a Value,

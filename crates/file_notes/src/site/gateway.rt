@@ -31,7 +31,7 @@ fn unfit_gateway(gateway: &Value) -> Finding<'_> {
     }
 }
 
-/// The model that is there twice, behind 1.
+/// The model that is there twice, after 1.
 fn twice_in(gateway: &Value) -> Option<Finding<'_>> {
     if !begins_with_one(gateway) {
         return None;

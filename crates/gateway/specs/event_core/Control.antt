@@ -34,7 +34,7 @@ Notes old (event.Time ms) a new = new ≡ after_wait ms old
 Notes old event.Scan a new = ⊥
 Notes old (event.Client pdu) a new = ⊥
 
--- behind a scan that ended so: the machine has the new variables and outputs, and nothing else changes
+-- after a scan that ended so: the machine has the new variables and outputs, and nothing else changes
 abbrev pub after_scan : Gateway → List Reading → (steps : ℕ) → State → Gateway
 after_scan old readings steps end = record old {
   machine = record { accepted = old.machine.accepted; variables = end.variables; outputs = end.outputs };

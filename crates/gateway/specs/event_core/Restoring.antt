@@ -1,4 +1,4 @@
--- What sets a tag again behind a restart: the request by which a client sets it alone.
+-- What sets a tag again after a restart: the request by which a client sets it alone.
 -- Modbus Application Protocol V1.1b3, section 6.12; SunSpec Device Information Model Specification, points and scale factors.
 use Rattle.std.specs.Prelude.{◌≡◌, ◌≤◌, ◌+◌, ℕ, ℤ, List, ◌∷◌, length, slice_get, slice_set, Some, Result, Ok}
 use Rattle.point_types.specs.declared.reading.Reading.TheVariants as reading

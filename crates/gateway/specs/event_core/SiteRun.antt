@@ -29,8 +29,8 @@ use Rattle.gateway.specs.declared.event_core.event.Answer.{Answer}
 use Rattle.gateway.specs.declared.event_core.event.Answer.TheVariants as answer
 use Rattle.gateway.specs.declared.served.point.OwnPoint.{OwnPoint}
 use Rattle.gateway.specs.declared.served.point.OwnPoint.TheVariants as own
-use Rattle.gateway.specs.declared.served.point.Source.{Source}
-use Rattle.gateway.specs.declared.served.point.Source.TheVariants as source
+use Rattle.gateway.specs.declared.served.point.PointSource.{PointSource}
+use Rattle.gateway.specs.declared.served.point.PointSource.TheVariants as source
 use Rattle.gateway.specs.served.Points.{own_points, registers_of}
 use Rattle.gateway.specs.served.ServedImage.{IsServedImage}
 
@@ -134,7 +134,7 @@ after_time site ms s = record s {
 abbrev pub if_setting : ℕ → SiteTag → Option ℕ
 if_setting n t = if is_setting t.access then Some n else None
 
-abbrev pub setting_from : List SiteTag → Source → Option ℕ
+abbrev pub setting_from : List SiteTag → PointSource → Option ℕ
 setting_from tags (source.Tag n) = option_and_then (if_setting n) (slice_get tags n)
 setting_from tags other = None
 
@@ -143,7 +143,7 @@ abbrev pub setting_of : List SiteTag → OwnPoint → Option ℕ
 setting_of tags (own.Number kind factor from) = setting_from tags from
 setting_of tags other = None
 
--- the points behind so many registers, where one begins there
+-- the points after so many registers, where one begins there
 abbrev pub points_behind : List OwnPoint → ℕ → Option (List OwnPoint)
 points_behind points zero = Some points
 points_behind [] (suc n) = None

@@ -44,7 +44,7 @@ Suits request (outcome.Exception e) = ⊤
 Suits request outcome.Mismatch = ⊤
 Suits request outcome.Stale = ⊤
 
--- an outcome, and the frames that came behind the one that decided it
+-- an outcome, and the frames that came after the one that decided it
 pub record Decided : Type 0 where
   pub outcome : Outcome
   pub behind : List Frame
@@ -63,7 +63,7 @@ most_dropped = 17
 abbrev pub decided_by : Asked → List Frame → Option Decided
 decided_by asked frames = decided_within asked most_dropped frames
 
--- These frames, and none behind them, give the request this outcome.
+-- These frames, and none after them, give the request this outcome.
 abbrev pub IsDecided : Asked → List Frame → Outcome → Type 0
 IsDecided asked frames o = AllByRecursion IsFrame frames × (decided_by asked frames ≡ Some (record { outcome = o; behind = [] }))
 
@@ -102,7 +102,7 @@ bytes_out id (e ∷ es) = frame_bytes (frame_of (asked_in id e)) ++ bytes_out (n
 abbrev pub bytes_in : List Exchange → List ℕ
 bytes_in es = flat_map (λ e. flat_map frame_bytes e.frames) es
 
--- the transaction of the request behind them
+-- the transaction of the request after them
 abbrev pub id_after : ℕ → List Exchange → ℕ
 id_after id [] = id
 id_after id (e ∷ es) = id_after (next_id id) es

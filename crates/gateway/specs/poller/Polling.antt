@@ -13,7 +13,7 @@ use Rattle.modbus_frame.specs.Serving.{IsInPart}
 use Rattle.gateway.specs.declared.poller.outcome.Outcome.{Outcome}
 use Rattle.gateway.specs.poller.LinkRun.{Asked, frame_of, next_id, IsDecided, IsOpen, Exchange, AreDecided, bytes_out, bytes_in, id_after}
 
--- What contracts see of a poller: the bytes that it read ahead, behind the last frame. Of its link, where that tells
+-- What contracts see of a poller: the bytes that it read ahead, after the last frame. Of its link, where that tells
 -- them: the bytes that it has still to give, the bytes sent, what went wrong and how many calls were made. Then the
 -- transaction of the next request, and the fault that ended its work.
 pub record Polling : Type 0 where
@@ -25,7 +25,7 @@ pub record Polling : Type 0 where
   pub id : ℕ
   pub fault : Option LinkFault
 
--- the bytes behind the last frame: those that were read ahead, and those to come
+-- the bytes after the last frame: those that were read ahead, and those to come
 abbrev pub stream : Polling → Option (List ℕ)
 stream p = prepend_known p.ahead p.coming
 
@@ -35,7 +35,7 @@ asked_next p unit request = record { id = p.id; unit = unit; request = request }
 
 -- ---- one request
 
--- The request went out, and the frames that came gave it this outcome; bytes behind them stay.
+-- The request went out, and the frames that came gave it this outcome; bytes after them stay.
 pub record Decides (p : Polling) (unit : ℕ) (request : Request) (outcome : Outcome) (q : Polling) : Type 0 where
   pub frames : List Frame
   pub decided : IsDecided (asked_next p unit request) frames outcome
@@ -72,7 +72,7 @@ pub record StaysOpen (p : Polling) (unit : ℕ) (request : Request) (fault : Lin
   pub went : Appends p.sent q.sent (frame_bytes (frame_of (asked_next p unit request)))
   pub ends : EndsWaiting fault left q.ahead q.coming
 
--- A write fails before all went out, a read behind that, and turns run out before or behind.
+-- A write fails before all went out, a read after that, and turns run out before or after.
 abbrev pub FailsAt : LinkFault → Polling → ℕ → Request → Polling → Type 0
 FailsAt link.Write p unit request q = BreaksOff p unit request q
 FailsAt link.Turns p unit request q = BreaksOff p unit request q ⊎ StaysOpen p unit request link.Turns q

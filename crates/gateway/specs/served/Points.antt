@@ -19,8 +19,8 @@ use Rattle.site_model.specs.Serving.{is_entry_of}
 use Rattle.site_model.specs.Tagging.{is_own}
 use Rattle.gateway.specs.declared.served.point.OwnPoint.{OwnPoint}
 use Rattle.gateway.specs.declared.served.point.OwnPoint.TheVariants as own
-use Rattle.gateway.specs.declared.served.point.Source.{Source as From}
-use Rattle.gateway.specs.declared.served.point.Source.TheVariants as source
+use Rattle.gateway.specs.declared.served.point.PointSource.{PointSource as From}
+use Rattle.gateway.specs.declared.served.point.PointSource.TheVariants as source
 
 -- ---- what a point of a model is served with
 

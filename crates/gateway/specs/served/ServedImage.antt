@@ -21,8 +21,8 @@ use Rattle.modbus_frame.specs.Bytes.{number}
 use Rattle.gateway.specs.declared.served.amount.Amount.{Amount}
 use Rattle.gateway.specs.declared.served.point.OwnPoint.{OwnPoint}
 use Rattle.gateway.specs.declared.served.point.OwnPoint.TheVariants as own
-use Rattle.gateway.specs.declared.served.point.Source.{Source as From}
-use Rattle.gateway.specs.declared.served.point.Source.TheVariants as source
+use Rattle.gateway.specs.declared.served.point.PointSource.{PointSource as From}
+use Rattle.gateway.specs.declared.served.point.PointSource.TheVariants as source
 use Rattle.gateway.specs.served.Points.{own_points}
 
 -- ---- words
@@ -36,7 +36,7 @@ split (suc k) n = split k (n / 65536) ++ (n % 65536) ∷ []
 abbrev pub unimplemented : Kind → List ℕ
 unimplemented k = option_map_or (λ r. split r.registers r.unimplemented) (row_of k) (0 ∷ [])
 
--- the first two bytes of a text in a register, and the bytes behind them
+-- the first two bytes of a text in a register, and the bytes after them
 abbrev pub first_word : List ℕ → ℕ
 first_word [] = 0
 first_word (a ∷ []) = number a 0
@@ -47,7 +47,7 @@ behind_word [] = []
 behind_word (a ∷ []) = []
 behind_word (a ∷ b ∷ bytes) = bytes
 
--- a text in so many registers, and zeros behind it
+-- a text in so many registers, and zeros after it
 abbrev pub text_words : ℕ → List ℕ → List ℕ
 text_words zero bytes = []
 text_words (suc n) bytes = first_word bytes ∷ text_words n (behind_word bytes)

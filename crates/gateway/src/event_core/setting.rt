@@ -7,7 +7,7 @@ ghost use Rattle.point_types.specs.Point.{size_of};
 ghost use Rattle.point_types.specs.Reading.{IsReading};
 ghost use Rattle.site_model.specs.Readings.{AreSettings};
 
-use crate::served::{OwnPoint, Source, own_value};
+use crate::served::{OwnPoint, PointSource, own_value};
 use modbus_frame::{Exception, Response};
 use point_types::{Kind, Reading, scaled, value};
 use site_model::{Access, Site, SiteTag};
@@ -97,7 +97,7 @@ fn written_points<'a>(
     }
 }
 
-/// The points behind so many registers, where one begins there.
+/// The points after so many registers, where one begins there.
 fn points_behind(points: &[OwnPoint], registers: usize) -> Option<&[OwnPoint]>
     ensures { option_copied result ≡ points_behind points.now registers }
 {
@@ -148,13 +148,13 @@ pub(crate) fn setting_of(tags: &[SiteTag], point: OwnPoint) -> Option<usize>
     }
 }
 
-fn setting_from(tags: &[SiteTag], source: Source) -> Option<usize>
+fn setting_from(tags: &[SiteTag], source: PointSource) -> Option<usize>
     ensures value { result ≡ setting_from tags.now source }
     ensures inside { IfSome result (λ i. i < length tags.now) }
 {
     match source {
-        Source::Tag(n) if n < tags.len() => if_setting(n, &tags[n]),
-        Source::Nothing | Source::Entry(_) | Source::Tag(_) => None,
+        PointSource::Tag(n) if n < tags.len() => if_setting(n, &tags[n]),
+        PointSource::Nothing | PointSource::Entry(_) | PointSource::Tag(_) => None,
     }
 }
 

@@ -111,7 +111,7 @@ impl<L: Link> Line<L> {
         self.turns = turns;
     }
 
-    /// Sends a request and gives its outcome. A fault is kept, and answers each request behind it.
+    /// Sends a request and gives its outcome. A fault is kept, and answers each request after it.
     pub(crate) fn ask(&mut self, request: &Request) -> Result<Outcome, LinkFault>
         requires { HasQuantity request.now }
         ensures asks { AsksUnless self.old.polling.fault self.old request.now result self.new }

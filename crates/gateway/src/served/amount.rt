@@ -4,7 +4,7 @@ ghost use Rattle.point_types.specs.Reading.{IsExponent};
 ghost use Rattle.gateway.specs.served.ServedImage.{amount_from, amount_given, amount_of_tag, in_lint, number_of_tag, own_value, sum_of, sum_with, total_of, total_over};
 
 use crate::event_core::Memory;
-use crate::served::point::Source;
+use crate::served::point::PointSource;
 use point_types::Reading;
 use site_model::{Access, Site, SiteTag, Source as Given};
 
@@ -23,20 +23,20 @@ pub(crate) fn amount_from(
     site: &Site,
     known: &Memory,
     factor: Option<i16>,
-    source: Source,
+    source: PointSource,
 ) -> Option<Amount>
     ensures value { result ≡ amount_from site.now known.now.outputs.items known.now.readings.items known.now.sets.items factor source }
     ensures scalable { IfSome result (λ a. IsExponent a.exponent) }
 {
     match source {
-        Source::Nothing => None,
-        Source::Entry(n) => amount_given(
+        PointSource::Nothing => None,
+        PointSource::Entry(n) => amount_given(
             site.tags(),
             &known.readings,
             factor,
             &site.served().get(n)?.source,
         ),
-        Source::Tag(n) => amount_of_tag(known, factor, n, site.tags().get(n)?),
+        PointSource::Tag(n) => amount_of_tag(known, factor, n, site.tags().get(n)?),
     }
 }
 

@@ -3,7 +3,7 @@ use point_types::Kind;
 
 /// Where the number of a point of the gateway's own models comes from.
 #[derive(Clone, Copy)]
-pub(crate) enum Source {
+pub(crate) enum PointSource {
     /// From nowhere: it is unimplemented.
     Nothing,
     /// The served entry of this number.
@@ -26,6 +26,6 @@ pub enum OwnPoint {
     Number {
         kind: Kind,
         factor: Option<i16>,
-        source: Source,
+        source: PointSource,
     },
 }

@@ -7,7 +7,7 @@ ghost use Rattle.point_types.specs.Point.{size_of};
 ghost use Rattle.point_types.specs.Reading.{factor_of};
 ghost use Rattle.gateway.specs.served.Points.{entry_for, first_of, is_tag_at, model_points, own_point, own_points, raw_for, raw_in, registers_of, served_factor, tag_for, value_point};
 
-use crate::served::point::{OwnPoint, Source};
+use crate::served::point::{OwnPoint, PointSource};
 use model_defs::{ModelDef, Point, Sf};
 use point_types::{Items, Kind};
 use site_model::{Access, Served, Site, SiteTag, Source as Given};
@@ -90,13 +90,13 @@ fn value_point(
     }
 }
 
-fn first_of(entry: Option<usize>, tag: Option<usize>) -> Source
+fn first_of(entry: Option<usize>, tag: Option<usize>) -> PointSource
     ensures { result ≡ first_of entry tag }
 {
     match (entry, tag) {
-        (Some(n), _) => Source::Entry(n),
-        (None, Some(n)) => Source::Tag(n),
-        (None, None) => Source::Nothing,
+        (Some(n), _) => PointSource::Entry(n),
+        (None, Some(n)) => PointSource::Tag(n),
+        (None, None) => PointSource::Nothing,
     }
 }
 

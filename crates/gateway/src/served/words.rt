@@ -165,7 +165,7 @@ fn text_given(given: &Given) -> &[u8]
     }
 }
 
-/// Puts a text into registers, two bytes each, and zeros behind it.
+/// Puts a text into registers, two bytes each, and zeros after it.
 fn put_text(text: &[u8], into: &mut [u16])
     ensures { into.new ≡ text_words (length into.old) text.now }
 {

@@ -8,7 +8,7 @@ ghost use Rattle.inverter_sim.specs.Parts.{IsDeviceRefused, IsInDevice, IsInSect
 ghost use Rattle.inverter_sim.specs.Reading.{models_view, works_keys_view, device_keys_view};
 ghost use Rattle.inverter_sim.specs.declared.fault.PlantFault.TheVariants as fault;
 
-use super::device_entry::{DeviceKeys, WorksKeys, device_keys};
+use super::device_entry::{PlantDeviceKeys, WorksKeys, device_keys};
 use super::image::{image_of, places_of};
 use super::keys::within;
 use super::layout::has_room;
@@ -116,7 +116,7 @@ fn has_repeat(numbers: &[i64]) -> bool
     false
 }
 
-fn is_duplicate(seen: &[Device], keys: &DeviceKeys) -> bool
+fn is_duplicate(seen: &[Device], keys: &PlantDeviceKeys) -> bool
     ensures { result ≡ is_duplicate seen.now (device_keys_view keys.now) }
 {
     has_unit(seen, keys.unit) || has_repeat(&keys.models) || works_has_repeat(&keys.works)
@@ -195,7 +195,7 @@ fn device_of(
 fn ranges_of(
     alloc: Global,
     seen: &[Device],
-    keys: &DeviceKeys,
+    keys: &PlantDeviceKeys,
     models: &[&ModelDef],
 ) -> Result<Ranges, PlantFault>
     ensures ranges { MatchResult result

@@ -20,7 +20,7 @@ const USUAL_SLOW: i64 = 0;
 
 /// The keys of an entry.
 #[derive(Drop)]
-pub(super) struct DeviceKeys {
+pub(super) struct PlantDeviceKeys {
     pub(super) unit: i64,
     pub(super) models: Vec<i64>,
     pub(super) works: WorksKeys,
@@ -49,7 +49,7 @@ pub(super) struct MeterKeys {
 }
 
 /// The keys of a device's entry.
-pub(super) fn device_keys(alloc: Global, entry: &Value) -> Result<DeviceKeys, PlantFault>
+pub(super) fn device_keys(alloc: Global, entry: &Value) -> Result<PlantDeviceKeys, PlantFault>
     ensures { MatchResult result (λ k. device_keys (view entry.now) ≡ Ok (device_keys_view k))
         (λ e. e ≢ fault.OutOfMemory → device_keys (view entry.now) ≡ Err e) }
 {
@@ -70,7 +70,7 @@ fn kind_of(entry: &Value) -> Result<DeviceKind, PlantFault>
     }
 }
 
-fn keys_of(alloc: Global, entry: &Value, kind: DeviceKind) -> Result<DeviceKeys, PlantFault>
+fn keys_of(alloc: Global, entry: &Value, kind: DeviceKind) -> Result<PlantDeviceKeys, PlantFault>
     ensures { MatchResult result (λ k. keys_of kind (view entry.now) ≡ Some (device_keys_view k))
         (λ e. e ≢ fault.OutOfMemory → (e ≡ fault.MissingKey) × (keys_of kind (view entry.now) ≡ None)) }
 {
@@ -85,7 +85,7 @@ fn keys_of(alloc: Global, entry: &Value, kind: DeviceKind) -> Result<DeviceKeys,
     let Some(slow) = number_or(entry, "slow", USUAL_SLOW) else {
         return Err(PlantFault::MissingKey);
     };
-    Ok(DeviceKeys {
+    Ok(PlantDeviceKeys {
         unit,
         models,
         works,

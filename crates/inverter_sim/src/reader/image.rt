@@ -4,7 +4,7 @@ ghost use Rattle.std.specs.List.{flat_map};
 ghost use Rattle.inverter_sim.specs.Image.{first, behind, unimplemented, padded, blank_words, stored, with_model, with_models, image_of, places_from, places_of_point, places_of_model, places_of};
 ghost use Rattle.inverter_sim.specs.Reading.{models_view};
 
-use crate::place::Place;
+use crate::place::RegisterPlace;
 use crate::tick::set_at;
 use model_defs::ModelDef;
 use point_types::Kind;
@@ -104,7 +104,10 @@ fn unimplemented(kind: Kind) -> &'static [u16]
 }
 
 /// What each of these registers belongs to.
-pub(super) fn places_of(alloc: Global, models: &[&ModelDef]) -> Result<Vec<Place>, AllocError>
+pub(super) fn places_of(
+    alloc: Global,
+    models: &[&ModelDef],
+) -> Result<Vec<RegisterPlace>, AllocError>
     ensures { IfOk result (λ v. v.items ≡ places_of (models_view models.now)) }
 {
     let mut places = Vec::new(alloc);
@@ -116,7 +119,7 @@ pub(super) fn places_of(alloc: Global, models: &[&ModelDef]) -> Result<Vec<Place
     Ok(places)
 }
 
-fn push_places_of(places: &mut Vec<Place>, model: &ModelDef) -> Result<(), AllocError>
+fn push_places_of(places: &mut Vec<RegisterPlace>, model: &ModelDef) -> Result<(), AllocError>
     ensures { OnOk result (places.new.items ≡ places.old.items ++ places_of_model model.now) }
 {
     for point in model.points.as_slice() {
@@ -126,11 +129,11 @@ fn push_places_of(places: &mut Vec<Place>, model: &ModelDef) -> Result<(), Alloc
 }
 
 /// The places of a point's registers.
-fn push_places(places: &mut Vec<Place>, writable: bool, size: u16) -> Result<(), AllocError>
+fn push_places(places: &mut Vec<RegisterPlace>, writable: bool, size: u16) -> Result<(), AllocError>
     ensures { OnOk result (places.new.items ≡ places.old.items ++ places_from writable 0 size) }
 {
     for before in 0..size {
-        places.push(Place {
+        places.push(RegisterPlace {
             writable,
             before,
             behind: size - 1 - before,

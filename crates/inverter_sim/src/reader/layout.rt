@@ -11,7 +11,7 @@ use point_types::Kind;
 
 /// A model of a device, and where its ID stands, counted from the device's base.
 #[derive(Clone, Copy)]
-pub(super) struct Placed<'a> {
+pub(super) struct PlacedModel<'a> {
     pub(super) at: u16,
     pub(super) model: &'a ModelDef,
 }
@@ -34,7 +34,11 @@ pub(super) fn has_room(base: i64, models: &[&ModelDef]) -> bool
 }
 
 /// The first of the models with an ID from lowest to highest.
-pub(super) fn locate<'a>(models: &[&'a ModelDef], lowest: i64, highest: i64) -> Option<Placed<'a>>
+pub(super) fn locate<'a>(
+    models: &[&'a ModelDef],
+    lowest: i64,
+    highest: i64,
+) -> Option<PlacedModel<'a>>
     requires { map_length (models_view models.now) ≤ 65536 }
     ensures { option_map placed_view result ≡ placed lowest highest (models_view models.now) }
 {
@@ -42,7 +46,7 @@ pub(super) fn locate<'a>(models: &[&'a ModelDef], lowest: i64, highest: i64) -> 
     for model in models {
         let id = i64::from(model.id);
         if lowest <= id && id <= highest {
-            return Some(Placed { at, model });
+            return Some(PlacedModel { at, model });
         }
         at += model.length + 2;
     }
@@ -57,7 +61,7 @@ pub(super) fn point_named<'a>(model: &'a ModelDef, name: &str) -> Option<&'a Poi
     model.points.as_slice().get(number)
 }
 
-fn int16_at(placed: Placed<'_>, name: &str) -> Option<usize>
+fn int16_at(placed: PlacedModel<'_>, name: &str) -> Option<usize>
     ensures { result ≡ register_of is_int16 name.now (placed_view placed.entry) }
 {
     let point = point_named(placed.model, name)?;
@@ -67,7 +71,7 @@ fn int16_at(placed: Placed<'_>, name: &str) -> Option<usize>
     }
 }
 
-fn uint16_at(placed: Placed<'_>, name: &str) -> Option<usize>
+fn uint16_at(placed: PlacedModel<'_>, name: &str) -> Option<usize>
     ensures { result ≡ register_of is_uint16 name.now (placed_view placed.entry) }
 {
     let point = point_named(placed.model, name)?;
@@ -77,7 +81,7 @@ fn uint16_at(placed: Placed<'_>, name: &str) -> Option<usize>
     }
 }
 
-fn enum16_at(placed: Placed<'_>, name: &str) -> Option<usize>
+fn enum16_at(placed: PlacedModel<'_>, name: &str) -> Option<usize>
     ensures { result ≡ register_of is_enum16 name.now (placed_view placed.entry) }
 {
     let point = point_named(placed.model, name)?;
@@ -87,7 +91,7 @@ fn enum16_at(placed: Placed<'_>, name: &str) -> Option<usize>
     }
 }
 
-fn sunssf_at(placed: Placed<'_>, name: &str) -> Option<usize>
+fn sunssf_at(placed: PlacedModel<'_>, name: &str) -> Option<usize>
     ensures { result ≡ register_of is_sunssf name.now (placed_view placed.entry) }
 {
     let point = point_named(placed.model, name)?;
@@ -97,7 +101,7 @@ fn sunssf_at(placed: Placed<'_>, name: &str) -> Option<usize>
     }
 }
 
-fn scale_by(placed: Placed<'_>, factor: Sf) -> Scale
+fn scale_by(placed: PlacedModel<'_>, factor: Sf) -> Scale
     ensures { result ≡ scale_by (placed_view placed.entry) factor }
 {
     match factor {
@@ -111,7 +115,7 @@ fn scale_by(placed: Placed<'_>, factor: Sf) -> Scale
 }
 
 /// What scales the point of a name.
-fn scale_of(placed: Placed<'_>, name: &str) -> Scale
+fn scale_of(placed: PlacedModel<'_>, name: &str) -> Scale
     ensures { result ≡ scale_of name.now (placed_view placed.entry) }
 {
     match point_named(placed.model, name) {
@@ -137,7 +141,7 @@ pub(super) fn meter_points(models: &[&ModelDef]) -> MeterPoints
     meter_points_of(locate(models, 201, 204))
 }
 
-fn meter_points_of(meter: Option<Placed<'_>>) -> MeterPoints
+fn meter_points_of(meter: Option<PlacedModel<'_>>) -> MeterPoints
     ensures { result ≡ meter_points_of (option_map placed_view meter.entry) }
 {
     MeterPoints {
@@ -157,7 +161,7 @@ fn meter_points_of(meter: Option<Placed<'_>>) -> MeterPoints
     }
 }
 
-fn phases_of(placed: Placed<'_>) -> Phases
+fn phases_of(placed: PlacedModel<'_>) -> Phases
     ensures { result ≡ phases_of (placed_view placed.entry) }
 {
     if placed.model.id == 201 {
@@ -170,7 +174,7 @@ fn phases_of(placed: Placed<'_>) -> Phases
 }
 
 // The meter model, where it counts so many phases.
-fn counting<'a>(phases: u32, meter: Option<Placed<'a>>) -> Option<Placed<'a>>
+fn counting<'a>(phases: u32, meter: Option<PlacedModel<'a>>) -> Option<PlacedModel<'a>>
     ensures { option_map placed_view result ≡ counting phases (option_map placed_view meter.entry) }
 {
     let placed = meter?;
@@ -182,7 +186,7 @@ fn counting<'a>(phases: u32, meter: Option<Placed<'a>>) -> Option<Placed<'a>>
 }
 
 // The points of these names.
-fn flow_points_of(watts: &str, current: &str, meter: Option<Placed<'_>>) -> FlowPoints
+fn flow_points_of(watts: &str, current: &str, meter: Option<PlacedModel<'_>>) -> FlowPoints
     ensures { result ≡ flow_points_of watts.now current.now (option_map placed_view meter.entry) }
 {
     match meter {
@@ -197,7 +201,10 @@ fn flow_points_of(watts: &str, current: &str, meter: Option<Placed<'_>>) -> Flow
     }
 }
 
-fn inverter_points_of(inverter: Option<Placed<'_>>, controls: Option<Placed<'_>>) -> InverterPoints
+fn inverter_points_of(
+    inverter: Option<PlacedModel<'_>>,
+    controls: Option<PlacedModel<'_>>,
+) -> InverterPoints
     ensures { result ≡ inverter_points_of (option_map placed_view inverter.entry) (option_map placed_view controls.entry) }
 {
     InverterPoints {

@@ -4,12 +4,12 @@ use crate::tests::{assert_same, assert_true};
 use point_types::{Condition, IlType};
 use scan_code::{Op, decode};
 
-/// Three instructions, one behind the other.
+/// Three instructions, one after the other.
 static BYTES: [u8; 16] = [
     0x05, 0x02, 0xFF, 0xFF, 0xFF, 0xFF, 0xFF, 0xFF, 0xFF, 0xF9, 0x26, 0x00, 0x09, 0x00, 0x0D, 0x25,
 ];
 
-/// An address in these bytes, the instruction there, and the address behind it.
+/// An address in these bytes, the instruction there, and the address after it.
 static DECODED: [(usize, Op, usize); 3] = [
     (0, Op::LoadNumber(IlType::Int, -7), 10),
     (10, Op::Repeat(Condition::Always, 0, 9, 13), 15),

@@ -25,7 +25,7 @@ fn simple_at<'a>(rt: &impl Abort, program: &'a Program, place: usize) -> &'a Sim
     }
 }
 
-/// The instruction is this one, and what stands right behind its parenthesis is this.
+/// The instruction is this one, and what stands right after its parenthesis is this.
 fn opens(rt: &impl Abort, simple: &Simple, spelled: Spelled, first: Want) {
     assert_true(rt, simple_spelling(simple) == spelled);
     let (operand, _) = simple_operands(simple);

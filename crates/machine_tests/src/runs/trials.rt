@@ -43,7 +43,7 @@ const OLD_TURNS: Program = Program {
     ],
 };
 
-/// A scan: its readings, its steps or its trap, and the variables and outputs behind it.
+/// A scan: its readings, its steps or its trap, and the variables and outputs after it.
 struct Tried {
     readings: &'static [Reading],
     outcome: Result<Scan, Trap>,

@@ -4,7 +4,7 @@ use crate::runs::programs::{DEFERRED, LIMITED, NO_REST, TOWARD_ZERO};
 use crate::worked::programs::{BRANCHES, GUARDED, MOST_TURNS, NINE_TURNS, Program, SUM};
 use point_types::{Cause, Reading};
 
-/// A scan: its readings, its steps, and the variables and outputs behind it.
+/// A scan: its readings, its steps, and the variables and outputs after it.
 pub struct Worked {
     pub readings: &'static [Reading],
     pub steps: u32,

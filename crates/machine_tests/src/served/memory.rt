@@ -176,7 +176,7 @@ fn poller(alloc: Global) -> Option<Poller<MemLink>> {
     Some(Poller::new(link))
 }
 
-/// Whether memory is left: all behind a refused allocation may be refused too.
+/// Whether memory is left: all after a refused allocation may be refused too.
 fn has_memory(alloc: Global) -> bool {
     Vec::<u8>::with_capacity(alloc, 1).is_ok()
 }

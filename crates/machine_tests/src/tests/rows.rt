@@ -47,7 +47,7 @@ const AROUND_ZERO: Program = Program {
     ],
 };
 
-/// `LD x / EQ 0 / JMPC e / LD 0 / ST x / LD 100 / DIV x / ST y / e:`, where x is stored behind its test.
+/// `LD x / EQ 0 / JMPC e / LD 0 / ST x / LD 100 / DIV x / ST y / e:`, where x is stored after its test.
 const STORED_ZERO: Program = Program {
     version: 2,
     vars: &[
@@ -88,7 +88,7 @@ const UNBOUNDED: Program = Program {
     ],
 };
 
-/// A counted jump behind the test of the input.
+/// A counted jump after the test of the input.
 const BEHIND_THE_TEST: Program = Program {
     version: 2,
     vars: &[("w", IlType::Dint, -2_147_483_648, 2_147_483_647)],
@@ -215,7 +215,7 @@ pub(crate) fn judge_results(rt: &impl Abort, alloc: Global, site: &Site) {
     );
 }
 
-/// Jumps, turns and what is known behind a test.
+/// Jumps, turns and what is known after a test.
 pub(crate) fn judge_ways(rt: &impl Abort, alloc: Global, site: &Site) {
     judge(
         rt,

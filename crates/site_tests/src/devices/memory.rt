@@ -17,7 +17,7 @@ fn a_definition_reads(rt: HostRuntime) {
     }
 }
 
-/// The second unit shows its 2500 watts behind a tick.
+/// The second unit shows its 2500 watts after a tick.
 fn assert_worked(rt: &impl Abort, mut plant: Plant) {
     plant.tick();
     let request = Pdu::from_bytes(&[0x03, 0x9C, 0x94, 0x00, 0x01]).expect(rt, "a PDU");

@@ -153,7 +153,7 @@ fn options_read(rt: HostRuntime) {
     }
 }
 
-/// A shorter model 103, with W behind its factor and in two registers.
+/// A shorter model 103, with W after its factor and in two registers.
 const SHORTER: &str =
     "{\"id\":103,\"group\":{\"points\":[{\"name\":\"ID\",\"type\":\"uint16\",\"size\":1},{\"name\":\"L\",\"type\":\"uint16\",\"size\":1},{\"name\":\"W_SF\",\"type\":\"sunssf\",\"size\":1},{\"name\":\"W\",\"type\":\"int32\",\"size\":2,\"sf\":\"W_SF\"}]}}";
 

@@ -8,7 +8,7 @@ use site_model::{Site, SiteFault};
 use std::alloc::Global;
 use std::process::Abort;
 
-/// A model with a point of each kind, behind ID and L.
+/// A model with a point of each kind, after ID and L.
 const KINDS: &str = r#"{"id": 64001, "group": {"points": [
     {"name": "ID", "type": "uint16", "size": 1}, {"name": "L", "type": "uint16", "size": 1},
     {"name": "Int16", "type": "int16", "size": 1}, {"name": "Sunssf", "type": "sunssf", "size": 1},

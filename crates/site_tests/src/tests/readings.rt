@@ -36,7 +36,7 @@ fn power(rt: &impl Abort) -> SiteTag
     }
 }
 
-/// A bit of a bitfield32 at offset 14, behind which a factor lies past the block.
+/// A bit of a bitfield32 at offset 14, after which a factor lies past the block.
 fn flag(rt: &impl Abort, bit: u8) -> SiteTag
     ensures { (result.low ≡ pos 0) × (result.high ≡ pos 1) × (result.kind ≡ il.Bool) × (result.default ≡ None) }
 {

@@ -41,7 +41,7 @@ pub(crate) fn flow(
     Ok(ways)
 }
 
-/// What is known behind an instruction that neither jumps forward nor ends the scan.
+/// What is known after an instruction that neither jumps forward nor ends the scan.
 fn behind(
     alloc: Global,
     context: &Context,

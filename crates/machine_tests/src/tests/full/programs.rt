@@ -1,4 +1,4 @@
-//! Programs of three lines, behind each of some starts and before its end: both kinds of facts say the same of them.
+//! Programs of three lines, after each of some starts and before its end: both kinds of facts say the same of them.
 
 use crate::tests::assert_same;
 use crate::tests::full::first_difference;

@@ -4,7 +4,7 @@ use borrow.Rule.Slice.PartMut.{put_mid}
 use Rattle.modbus_frame.specs.Bytes.{number_bytes}
 use Rattle.modbus_frame.proofs.frame.write_frame.Goals as goal
 
--- A header over the front, and the PDU behind it.
+-- A header over the front, and the PDU after it.
 put_mid-header : (out header body old : List ℕ) (k : ℕ) → length header ≡ 7 → old ≡ header ++ drop 7 out → k ≡ length body → put_mid 7 k old body ≡ header ++ (body ++ drop (7 + length body) out)
 put_mid-header out header body old k seven was len =
     let front : take 7 old ≡ header = ap (take 7) was ∙ take_at header (drop 7 out) 7 seven in

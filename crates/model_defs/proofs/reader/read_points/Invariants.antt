@@ -6,7 +6,7 @@ use Rattle.model_defs.specs.Parts.{before}
 use Rattle.model_defs.proofs.Refused.{AreSeen}
 use Rattle.model_defs.proofs.reader.read_points.Given as goal
 
--- what remains to be read behind the points so far, which break no rule
+-- what remains to be read after the points so far, which break no rule
 abbrev pub invariant-loop-tree : goal.invariant-loop-tree
 invariant-loop-tree l =
     (broken_among [] (items_view l.trees.items) ≡ broken_among (descriptions_view l.points.entries) (items_view (drop l.tree-index l.trees.items)))

@@ -1,4 +1,4 @@
--- A model that was read is one more behind the others.
+-- A model that was read is one more after the others.
 use Rattle.std.proofs.Common.{◌≡◌, ◌+◌, ◌≤◌, length, false, arith}
 use Rattle.register_map.specs.declared.layout.TheConstants.{MOST_MODELS}
 use Rattle.register_map.proofs.ReadsLemmas.{Counts-then}

@@ -1,4 +1,4 @@
--- The mark is read, then the models behind it.
+-- The mark is read, then the models after it.
 use Rattle.std.proofs.Common.{ℕ, ◌≤◌, List, ◌∷◌, ◌++◌, length, min, inl, inr, refl, arith}
 use Rattle.std.proofs.lemmas.Bool.{le-leb}
 use Rattle.register_map.specs.Search.{mark, all_registers}

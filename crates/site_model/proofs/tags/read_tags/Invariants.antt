@@ -5,7 +5,7 @@ use Rattle.site_model.specs.Tagging.{tags_behind}
 use Rattle.site_model.specs.Views.{tag_view}
 use Rattle.site_model.proofs.tags.read_tags.Given as goal
 
--- the tags so far are those of the entries so far, and what the entries behind give after them is what all give
+-- the tags so far are those of the entries so far, and what the later entries give after them is what all give
 abbrev pub invariant-loop-entry : goal.invariant-loop-entry
 invariant-loop-entry l =
     (tags_behind l.scope.devices.now l.scope.own.now l.scope.defs.now [] (items_view l.entries)

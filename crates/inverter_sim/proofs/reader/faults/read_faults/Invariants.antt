@@ -4,7 +4,7 @@ use Rattle.file_keys.specs.Refusals.{before}
 use Rattle.inverter_sim.specs.File.{faults_from}
 use Rattle.inverter_sim.proofs.reader.faults.read_faults.Given as goal
 
--- the faults so far are those of the entries so far, and what the entries behind give after them is what all give
+-- the faults so far are those of the entries so far, and what the later entries give after them is what all give
 abbrev pub invariant-loop-entry : goal.invariant-loop-entry
 invariant-loop-entry l =
     (faults_from [] (items_view l.entries) ≡ faults_from l.faults.items (items_view (drop l.entry-index l.entries)))

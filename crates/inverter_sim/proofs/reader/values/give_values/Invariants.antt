@@ -5,7 +5,7 @@ use Rattle.inverter_sim.specs.File.{valued_all}
 use Rattle.inverter_sim.specs.Reading.{models_view}
 use Rattle.inverter_sim.proofs.reader.values.give_values.Given as goal
 
--- the registers so far are those of the entries so far, and what the entries behind give after them is what all give
+-- the registers so far are those of the entries so far, and what the later entries give after them is what all give
 abbrev pub invariant-loop-entry : goal.invariant-loop-entry
 invariant-loop-entry l =
     (valued_all (models_view l.models) (record { registers = l.initial.registers.items; seen = [] }) (items_view l.entries)
