@@ -18,6 +18,7 @@ pub mod Planned
 pub mod Carried
 pub mod ByNotes
 pub mod Losing
+pub mod Counted
 pub mod Forgetting
 pub mod LeftOut
 pub mod Timing

@@ -1,6 +1,6 @@
 -- How often devices were asked, planned and lost, and how long their replies take. No standard says what is counted; it is this
 -- project's.
-use Rattle.std.specs.Prelude.{ℕ, ◌+◌, ◌-◌, ◌/◌, ◌^◌, ◌==◌, min, max, Bool, not, Option, option_map, slice_get, if◌then◌else◌}
+use Rattle.std.specs.Prelude.{◌≡◌, ◌⊎◌, ℕ, ◌+◌, ◌-◌, ◌/◌, ◌^◌, ◌==◌, min, max, Bool, not, Option, option_map, slice_get, if◌then◌else◌}
 use Rattle.service.specs.declared.counts.Counts.{Counts}
 use Rattle.service.specs.declared.polled_device.PolledDevice.{PolledDevice}
 use Rattle.service.specs.declared.device_side.DeviceSide.{DeviceSide}
@@ -41,3 +41,16 @@ scanned_by is_planned own = record own {
 -- what is counted of a device
 abbrev pub counts_at : DeviceSide → ℕ → Option Counts
 counts_at side device = option_map (λ (own : PolledDevice). own.counts) (slice_get side.devices.items device)
+
+-- What is counted of each device stays.
+abbrev pub KeepsLosses : DeviceSide → DeviceSide → Type 0
+KeepsLosses old new = (device : ℕ) → counts_at new device ≡ counts_at old device
+
+-- This device is lost once more for this; what is counted of each other one stays.
+pub record CountsLoss (device : ℕ) (cause : Loss) (old new : DeviceSide) : Type 0 where
+  pub own : counts_at new device ≡ option_map (lost_once_more cause) (counts_at old device)
+  pub others : (other : ℕ) → (other ≡ device → ⊥) → counts_at new other ≡ counts_at old other
+
+-- Each device is lost once more for this, or isn't: none is counted twice.
+abbrev pub CountsOneLossAtMost : Loss → DeviceSide → DeviceSide → Type 0
+CountsOneLossAtMost cause old new = (device : ℕ) → (counts_at new device ≡ counts_at old device) ⊎ (counts_at new device ≡ option_map (lost_once_more cause) (counts_at old device))

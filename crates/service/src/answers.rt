@@ -8,6 +8,7 @@ ghost use Rattle.service.specs.declared.notice.Unwritten.TheVariants.{Unanswered
 ghost use Rattle.service.specs.declared.output.OutputState.TheVariants.{Unwritten as unwritten_for};
 ghost use Rattle.service.specs.declared.polled_device.PolledDevice.{PolledDevice as DeviceValue};
 ghost use Rattle.service.specs.declared.refusals.ReadRefusal.{ReadRefusal as RefusalValue};
+ghost use Rattle.service.specs.Counting.{CountsOneLossAtMost, KeepsLosses};
 ghost use Rattle.service.specs.Noting.{Refuses};
 ghost use Rattle.service.specs.Refusing.{refusal_by};
 ghost use Rattle.service.specs.Losing.{AreLost, AreLostWith, LostByFate, LostByHearing, LostByWait, LostByWaitAt, loss_by};
@@ -186,21 +187,23 @@ impl Service {
         }
     }
 
-    /// A device didn't answer, and is lost: it isn't asked for a while.
+    /// A device didn't answer, and is lost: it isn't asked for a while. Where its connection is at fault all devices of that are lost.
     fn miss(&mut self, link: usize, device: usize, loss: Loss)
         ensures rest { Stays self.old self.new }
         ensures lines { LinksGo self.old self.new }
         ensures goes { LeadsOn self.old.cycle self.new.cycle }
         ensures held { HasNoMore self.old.held self.new.held }
         ensures others { (other : ℕ) → (other ≡ link → ⊥) → slice_get self.new.lines.lines.items other ≡ slice_get self.old.lines.lines.items other }
+        ensures counts { CountsOneLossAtMost loss self.old.side self.new.side }
         ensures stands { LosesBy (AreLostWith self.old.lines.links.stations.items link device loss) self.old.side self.new.side }
     {
         self.side.miss(device);
         self.lines.missed(link);
         self.cycle.seek_anew(device, self.lines.number_for(device));
-        self.lose(device, loss);
         if self.lines.is_bad(link) {
             self.lose_all(link, loss);
+        } else {
+            self.lose(device, loss);
         }
     }
 
@@ -285,16 +288,35 @@ impl Service {
         ensures goes { LeadsOn self.old.cycle self.new.cycle }
         ensures held { HasNoMore self.old.held self.new.held }
         ensures others { (other : ℕ) → (other ≡ link → ⊥) → slice_get self.new.lines.lines.items other ≡ slice_get self.old.lines.lines.items other }
+        ensures counts { CountsOneLossAtMost silent self.old.side self.new.side }
         ensures stands { LosesBy (AreLostWith self.old.lines.links.stations.items link asked.device silent) self.old.side self.new.side }
     {
         self.side.miss_link(link, asked.since);
         self.side.lose_write(asked.aim);
         self.side.note_write(asked.device, asked.aim, false);
-        if self.side.had_time(asked.since) || !self.side.is_good(asked.device) {
+        if self.is_silent(&asked) {
             self.miss(link, asked.device, Loss::Silent);
         } else {
             self.doubt(link, asked.device);
+            self.lose_if_bad(link);
         }
+    }
+
+    /// Whether a device that didn't answer is lost: it had all of the time that it may take, or didn't answer before either.
+    fn is_silent(&self, asked: &Asked) -> bool {
+        self.side.had_time(asked.since) || !self.side.is_good(asked.device)
+    }
+
+    /// All devices of a connection that is at fault are lost.
+    fn lose_if_bad(&mut self, link: usize)
+        ensures rest { Stays self.old self.new }
+        ensures lines { LinksGo self.old self.new }
+        ensures goes { LeadsOn self.old.cycle self.new.cycle }
+        ensures held { HasNoMore self.old.held self.new.held }
+        ensures same { self.new.lines ≡ self.old.lines }
+        ensures counts { CountsOneLossAtMost silent self.old.side self.new.side }
+        ensures stands { LosesBy (AreLost self.old.lines.links.stations.items link silent) self.old.side self.new.side }
+    {
         if self.lines.is_bad(link) {
             self.lose_all(link, Loss::Silent);
         }
@@ -307,6 +329,7 @@ impl Service {
         ensures goes { LeadsOn self.old.cycle self.new.cycle }
         ensures held { HasNoMore self.old.held self.new.held }
         ensures others { (other : ℕ) → (other ≡ link → ⊥) → slice_get self.new.lines.lines.items other ≡ slice_get self.old.lines.lines.items other }
+        ensures counts { KeepsLosses self.old.side self.new.side }
         ensures stands { Goes self.old.side self.new.side }
     {
         self.side.miss(device);

@@ -6,6 +6,7 @@ ghost use Rattle.service_parts.specs.Backing.{after};
 ghost use Rattle.service_parts.specs.Requests.{IsRightfulOn};
 ghost use Rattle.service_parts.specs.Waking.{IsToDial, IsToHangUp};
 ghost use Rattle.service.specs.declared.notice.Loss.TheVariants.{Down as down, Frame as frame};
+ghost use Rattle.service.specs.Counting.{CountsLoss, CountsOneLossAtMost, counts_at};
 ghost use Rattle.service.specs.Losing.{AreLost, IsLost};
 ghost use Rattle.service.specs.Told.{Goes, LosesBy};
 ghost use Rattle.service.specs.Connections.{GoesFrom, Hears};
@@ -217,12 +218,27 @@ impl Service {
         ensures goes { LeadsOn self.old.cycle self.new.cycle }
         ensures held { HasNoMore self.old.held self.new.held }
         ensures same { self.new.lines ≡ self.old.lines }
+        ensures counts { CountsOneLossAtMost loss self.old.side self.new.side }
         ensures stands { LosesBy (AreLost self.old.lines.links.stations.items link loss) self.old.side self.new.side }
     {
         for device in 0..self.cycle.devices() {
-            if self.lines.is_at(device, link) {
-                self.lose(device, loss);
-            }
+            self.lose_if_at(link, device, loss);
+        }
+    }
+
+    /// A device is lost, where it is one of this connection.
+    fn lose_if_at(&mut self, link: usize, device: usize, loss: Loss)
+        ensures rest { Stays self.old self.new }
+        ensures lines { LinksGo self.old self.new }
+        ensures goes { LeadsOn self.old.cycle self.new.cycle }
+        ensures held { HasNoMore self.old.held self.new.held }
+        ensures same { self.new.lines ≡ self.old.lines }
+        ensures counts { CountsOneLossAtMost loss self.old.side self.new.side }
+        ensures others { (other : ℕ) → (other ≡ device → ⊥) → counts_at self.new.side other ≡ counts_at self.old.side other }
+        ensures stands { LosesBy (AreLost self.old.lines.links.stations.items link loss) self.old.side self.new.side }
+    {
+        if self.lines.is_at(device, link) {
+            self.lose(device, loss);
         }
     }
 
@@ -234,6 +250,7 @@ impl Service {
         ensures held { HasNoMore self.old.held self.new.held }
         ensures same { self.new.lines ≡ self.old.lines }
         ensures forgotten { Forgets device self.old.held self.new.held }
+        ensures counts { CountsLoss device loss self.old.side self.new.side }
         ensures stands { LosesBy (IsLost device loss) self.old.side self.new.side }
     {
         self.cycle.give_up(device);

@@ -2,7 +2,7 @@
 ghost use Rattle.std.specs.Prelude.{◌≡◌, ◌≤◌, ◌<◌, ℕ, Bool, Option, Some, true, length, max, slice_get, nat_le};
 ghost use Rattle.service.specs.declared.polled_device.PolledDevice.{PolledDevice as DeviceValue};
 ghost use Rattle.service_parts.specs.Backing.{after};
-ghost use Rattle.service.specs.Counting.{asked_once_more, counts_at};
+ghost use Rattle.service.specs.Counting.{CountsLoss, KeepsLosses, asked_once_more, counts_at};
 ghost use Rattle.service.specs.Noting.{Finds, HearsFrom, Loses, Refuses};
 ghost use Rattle.service.specs.Telling.{told_at};
 ghost use Rattle.service.specs.declared.output.OutputState.{OutputState as StateValue};
@@ -167,6 +167,7 @@ impl DeviceSide {
     /// A device is lost; it is told where it wasn't before.
     pub(crate) fn lose(&mut self, device: usize, loss: Loss)
         ensures loses { (own : DeviceValue) → slice_get self.old.devices.items device ≡ Some own → Loses device loss own self.old self.new }
+        ensures counts { CountsLoss device loss self.old self.new }
         ensures time { KeepsTime self.old self.new }
         ensures stands { LosesBy (IsLost device loss) self.old self.new }
     {
@@ -227,7 +228,7 @@ impl DeviceSide {
 
     /// A request to a device had an answer, or none.
     pub(crate) fn note_write(&mut self, device: usize, aim: Aim, is_answered: bool)
-        ensures counts { counts_at self.new device ≡ counts_at self.old device }
+        ensures counts { KeepsLosses self.old self.new }
         ensures time { KeepsTime self.old self.new }
         ensures stands { Goes self.old self.new }
     {
@@ -240,7 +241,7 @@ impl DeviceSide {
 
     /// A device didn't answer: it isn't asked for a while.
     pub(crate) fn miss(&mut self, device: usize)
-        ensures counts { counts_at self.new device ≡ counts_at self.old device }
+        ensures counts { KeepsLosses self.old self.new }
         ensures time { KeepsTime self.old self.new }
         ensures stands { Goes self.old self.new }
     {
@@ -385,6 +386,7 @@ impl DeviceSide {
     /// A request had no answer: where it wrote, that came to nothing.
     #[tactic(auto, using(crate::proofs::ByNotes::same_goes))]
     pub(crate) fn lose_write(&mut self, aim: Aim)
+        ensures devices { self.new.devices ≡ self.old.devices }
         ensures time { KeepsTime self.old self.new }
         ensures stands { Goes self.old self.new }
     {

@@ -176,6 +176,7 @@ impl DeviceSide {
 
     /// A request that began at this time had no answer over a link.
     pub(crate) fn miss_link(&mut self, link: usize, since: u64)
+        ensures devices { self.new.devices ≡ self.old.devices }
         ensures time { KeepsTime self.old self.new }
         ensures stands { Goes self.old self.new }
     {
@@ -195,6 +196,7 @@ impl DeviceSide {
 
     #[tactic(auto, using(crate::proofs::ByNotes::same_goes))]
     fn set_pace(&mut self, link: usize, pace: LinkPace)
+        ensures devices { self.new.devices ≡ self.old.devices }
         ensures time { KeepsTime self.old self.new }
         ensures stands { Goes self.old self.new }
     {

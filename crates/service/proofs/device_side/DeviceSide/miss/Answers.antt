@@ -1,6 +1,7 @@
 use Rattle.std.proofs.Common.{rules, ◌≡◌, ◌<◌, Some, length, refl, slice_get, ap}
 use Rattle.std.proofs.lemmas.Option.{slice_get_read}
 use Rattle.service.proofs.ByNotes.{device_goes}
+use Rattle.service.proofs.Counted.{keeps_losses}
 use Rattle.service.proofs.device_side.DeviceSide.miss.Goals as goal
 
 pub returns-in-Some-clause-stands : goal.returns-in-Some-clause-stands
@@ -8,3 +9,9 @@ returns-in-Some-clause-stands c =
     let within : c.args.device < length c.args.self.now.devices.items = search rules in
     let at : slice_get c.args.self.now.devices.items c.args.device ≡ Some c.in-Some.found.now = slice_get_read _ _ c.args.device c.in-Some.found.now refl within c.in-Some.ensures.value in
     device_goes c.args.self.now _ c.args.device c.in-Some.found.now at _ refl (ap (λ d. d.is_lost) c.miss.ensures) refl refl refl
+
+pub returns-in-Some-clause-counts : goal.returns-in-Some-clause-counts
+returns-in-Some-clause-counts c =
+    let within : c.args.device < length c.args.self.now.devices.items = search rules in
+    let at : slice_get c.args.self.now.devices.items c.args.device ≡ Some c.in-Some.found.now = slice_get_read _ _ c.args.device c.in-Some.found.now refl within c.in-Some.ensures.value in
+    keeps_losses c.args.self.now.devices.items _ c.args.device c.in-Some.found.now at _ refl (ap (λ d. d.counts) c.miss.ensures)
