@@ -1,7 +1,9 @@
 //! What is asked of devices next.
 ghost use Rattle.std.specs.Prelude.{◌≡◌, ℕ, Some, slice_get};
 ghost use Rattle.modbus_frame.specs.Message.{HasQuantity, address_of};
+ghost use Rattle.service.specs.declared.link_pace.LinkPace.{LinkPace as PaceValue};
 ghost use Rattle.service.specs.Told.{Goes};
+ghost use Rattle.service.specs.Turns.{turn_of};
 ghost use Rattle.service.specs.Rewriting.{had_beside};
 ghost use Rattle.service_parts.specs.Requests.{MayGoOver, words_of};
 ghost use Rattle.service.specs.Staying.{Stays};
@@ -158,6 +160,18 @@ impl Service {
         ensures stands { WritesHad self.old.held self.old.side self.new.side }
     {
         let turn = self.side.turn(link, purpose);
+        self.ask_from(link, purpose, turn)
+    }
+
+    /// The same from the place on that has the turn, around.
+    fn ask_from(&mut self, link: usize, purpose: Purpose, turn: usize) -> bool
+        requires turn { (pace : PaceValue) → slice_get self.old.side.links.items link ≡ Some pace → turn ≡ turn_of purpose pace }
+        ensures rest { Stays self.old self.new }
+        ensures lines { LinksGo self.old self.new }
+        ensures goes { LeadsOn self.old.cycle self.new.cycle }
+        ensures held { HasNoMore self.old.held self.new.held }
+        ensures stands { WritesHad self.old.held self.old.side self.new.side }
+    {
         self.ask_between(link, purpose, turn, usize::MAX)
             || self.ask_between(link, purpose, 0, turn)
     }

@@ -1,4 +1,6 @@
 //! How the devices of a link are asked.
+ghost use Rattle.std.specs.Prelude.{◌≡◌};
+ghost use Rattle.service.specs.Turns.{turn_of, turned_to};
 
 /// What devices are asked for.
 #[derive(Clone, Copy)]
@@ -82,7 +84,9 @@ impl LinkPace {
     }
 
     /// The place from which on the devices are asked.
-    pub(crate) fn turn(&self, purpose: Purpose) -> usize {
+    pub(crate) fn turn(&self, purpose: Purpose) -> usize
+        ensures { result ≡ turn_of purpose self.now }
+    {
         match purpose {
             Purpose::Write => self.writes,
             Purpose::Read => self.reads,
@@ -92,7 +96,9 @@ impl LinkPace {
     }
 
     /// The device at this place was asked.
-    pub(crate) fn turned(self, purpose: Purpose, place: usize) -> LinkPace {
+    pub(crate) fn turned(self, purpose: Purpose, place: usize) -> LinkPace
+        ensures { result ≡ turned_to purpose place self }
+    {
         let mut turned = self;
         match purpose {
             Purpose::Write => turned.writes = place,

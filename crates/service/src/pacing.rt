@@ -1,5 +1,7 @@
 //! How the devices of a link are asked: whose turn it is, how long an answer is waited for, and what there is time for.
-ghost use Rattle.std.specs.Prelude.{◌≡◌};
+ghost use Rattle.std.specs.Prelude.{◌≡◌, Some, set, slice_get};
+ghost use Rattle.service.specs.declared.link_pace.LinkPace.{LinkPace as PaceValue};
+ghost use Rattle.service.specs.Turns.{is_slow, place_after, reply_at, turn_of, turned_to};
 ghost use Rattle.service.specs.Told.{Goes};
 ghost use Rattle.service.specs.Timing.{KeepsTime};
 
@@ -22,7 +24,9 @@ impl DeviceSide {
         sooner(until, self.pace(link).spare_from, self.now)
     }
 
-    fn pace(&self, link: usize) -> LinkPace {
+    fn pace(&self, link: usize) -> LinkPace
+        ensures { (pace : PaceValue) → slice_get self.entry.now.links.items link ≡ Some pace → result ≡ pace }
+    {
         match self.links.get(link) {
             Some(pace) => *pace,
             None => LinkPace::new(),
@@ -108,13 +112,17 @@ impl DeviceSide {
     }
 
     /// The place on a link from which on its devices are asked.
-    pub(crate) fn turn(&self, link: usize, purpose: Purpose) -> usize {
+    pub(crate) fn turn(&self, link: usize, purpose: Purpose) -> usize
+        ensures { (pace : PaceValue) → slice_get self.entry.now.links.items link ≡ Some pace → result ≡ turn_of purpose pace }
+    {
         self.pace(link).turn(purpose)
     }
 
     /// Whose turn it is after the device at this place: its own, until there is nothing more to ask of it; that of the next one where
     /// its replies take long.
-    pub(crate) fn place_after(&self, device: usize, purpose: Purpose, place: usize) -> usize {
+    pub(crate) fn place_after(&self, device: usize, purpose: Purpose, place: usize) -> usize
+        ensures { result ≡ place_after (is_slow self.entry.now device) purpose place }
+    {
         match purpose {
             Purpose::Write | Purpose::Read if self.is_slow(device) => place.saturating_add(1),
             _ => place,
@@ -122,12 +130,15 @@ impl DeviceSide {
     }
 
     /// Whether a device's replies take more than half a period.
-    fn is_slow(&self, device: usize) -> bool {
+    fn is_slow(&self, device: usize) -> bool
+        ensures { result ≡ is_slow self.entry.now device }
+    {
         self.reply_of(device) > self.limits.period / 2
     }
 
     /// The device at this place of a link was asked.
     pub(crate) fn turned(&mut self, link: usize, purpose: Purpose, place: usize)
+        ensures turned { (pace : PaceValue) → slice_get self.old.links.items link ≡ Some pace → self.new.links.items ≡ set self.old.links.items link (turned_to purpose place pace) }
         ensures time { KeepsTime self.old self.new }
         ensures stands { Goes self.old self.new }
     {
@@ -196,6 +207,7 @@ impl DeviceSide {
 
     #[tactic(auto, using(crate::proofs::ByNotes::same_goes))]
     fn set_pace(&mut self, link: usize, pace: LinkPace)
+        ensures links { (own : PaceValue) → slice_get self.old.links.items link ≡ Some own → self.new.links.items ≡ set self.old.links.items link pace }
         ensures devices { self.new.devices ≡ self.old.devices }
         ensures time { KeepsTime self.old self.new }
         ensures stands { Goes self.old self.new }
@@ -269,7 +281,9 @@ impl DeviceSide {
     }
 
     /// How long an answer of a device takes, as far as its replies tell, where it answers.
-    pub(crate) fn reply_of(&self, device: usize) -> u64 {
+    pub(crate) fn reply_of(&self, device: usize) -> u64
+        ensures { result ≡ reply_at self.entry.now device }
+    {
         match self.devices.get(device) {
             Some(found) => found.reply(),
             None => 0,

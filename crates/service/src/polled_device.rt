@@ -83,7 +83,9 @@ impl PolledDevice {
     }
 
     /// The longest of its replies lately, in milliseconds.
-    pub fn reply(&self) -> u64 {
+    pub fn reply(&self) -> u64
+        ensures { result ≡ self.now.replies.lately }
+    {
         self.replies.lately
     }
 
