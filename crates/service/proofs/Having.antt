@@ -27,10 +27,11 @@ use Rattle.service.specs.declared.output.OutputState.{OutputState}
 use Rattle.service.specs.declared.output.OutputState.TheVariants as state
 use Rattle.service.specs.declared.held_writes.HeldWrite.{HeldWrite}
 use Rattle.service.specs.declared.held_writes.HeldWrites.{HeldWrites}
+use Rattle.service.specs.Counting.{came_to}
 use Rattle.service.specs.Having.{Forgets, Has, HasMoreBy, HasNoMore, IsAnsweredBy, IsHad, IsHeardBy, IsOfPlan, IsRefusedAt, IsRefusedBy, IsRefusedIf, IsToldBy, IsToWait, IsToWrite, IsUnplanned, IsWithin, TellsAt, TellsHad, WritesAt, WritesHad, taken_by, taken_for, taken_if}
 use Rattle.service.specs.Rewriting.{after_answer, had_without, held_output, is_held, is_of, is_recent, is_same, write_of}
 use Rattle.service.specs.Telling.{state_by}
-use Rattle.service.specs.Told.{BecomesBy, Goes, IsThis, IsUnanswered, LosesBy, PlansBy, TellsBy}
+use Rattle.service.specs.Told.{BecomesBy, Goes, IsThis, IsUnanswered, LosesBy, PlansBy, RunsBy, TellsBy}
 
 -- ---- one entry changes
 
@@ -294,13 +295,13 @@ becomes_planned core which plan old new is becomes may has waits =
     becomes may (λ output became of. has output became (planned_this core which plan is output became of)) (λ output to. waits output (planned_to core which plan is output to))
 
 -- the program runs amid what else is told
-pub writes_at : (core : Gateway) (held ran : HeldWrites) (first second third last : DeviceSide) → WritesHad held first second → PlansBy (IsUnplanned core) (IsToWrite core) second third → HasNoMore held ran → WritesHad ran third last → WritesAt core held first last
-writes_at core held ran first second third last before plans more on within_ within may has waits from led =
-    on within_ (more within_ within) may (λ output became is. has output became (inl is)) from (plans may (λ output became is. has output became (inr is)) waits from (before within_ within may (λ output became is. has output became (inl is)) from led))
+pub writes_at : (core : Gateway) (held ran : HeldWrites) (first second third last : DeviceSide) → WritesHad held first second → RunsBy (came_to core.standing.last) (IsUnplanned core) (IsToWrite core) second third → HasNoMore held ran → WritesHad ran third last → WritesAt core held first last
+writes_at core held ran first second third last before plans more on within_ within may has waits counted from led =
+    on within_ (more within_ within) may (λ output became is. has output became (inl is)) from (plans may (λ output became is. has output became (inr is)) waits counted from (before within_ within may (λ output became is. has output became (inl is)) from led))
 
 -- a device may be lost before
 pub tells_at : (Why : ℕ → Loss → Type 0) (core : Gateway) (held later : HeldWrites) (first second last : DeviceSide) → LosesBy Why first second → HasNoMore held later → WritesAt core later second last → TellsAt Why core held first last
-tells_at Why core held later first second last loses more writes within_ within may lost has waits from led = writes within_ (more within_ within) may has waits from (loses may lost from led)
+tells_at Why core held later first second last loses more writes within_ within may lost has waits counted from led = writes within_ (more within_ within) may has waits counted from (loses may lost from led)
 
 -- ---- what is held back
 

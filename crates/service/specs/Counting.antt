@@ -1,7 +1,9 @@
 -- How often devices were asked, planned and lost, and how long their replies take. No standard says what is counted; it is this
 -- project's.
-use Rattle.std.specs.Prelude.{◌≡◌, ◌⊎◌, ℕ, ◌+◌, ◌-◌, ◌/◌, ◌^◌, ◌==◌, min, max, Bool, not, Option, option_map, slice_get, if◌then◌else◌}
+use Rattle.std.specs.Prelude.{◌≡◌, ◌⊎◌, ℕ, ◌+◌, ◌-◌, ◌/◌, ◌^◌, ◌==◌, min, max, Bool, not, Option, is_none, option_map, count_by, slice_get, if◌then◌else◌}
+use Rattle.gateway.specs.event_core.SiteRun.{Scanned}
 use Rattle.service.specs.declared.counts.Counts.{Counts}
+use Rattle.service.specs.declared.last_scan.LastScan.{LastScan}
 use Rattle.service.specs.declared.polled_device.PolledDevice.{PolledDevice}
 use Rattle.service.specs.declared.device_side.DeviceSide.{DeviceSide}
 use Rattle.service.specs.declared.notice.Loss.{Loss}
@@ -54,3 +56,9 @@ pub record CountsLoss (device : ℕ) (cause : Loss) (old new : DeviceSide) : Typ
 -- Each device is lost once more for this, or isn't: none is counted twice.
 abbrev pub CountsOneLossAtMost : Loss → DeviceSide → DeviceSide → Type 0
 CountsOneLossAtMost cause old new = (device : ℕ) → (counts_at new device ≡ counts_at old device) ⊎ (counts_at new device ≡ option_map (lost_once_more cause) (counts_at old device))
+
+-- ---- what a scan comes to
+
+-- after how many instructions it ended, and how many wanted blocks it had nothing of
+abbrev pub came_to : Scanned → LastScan
+came_to last = record { steps = last.steps; lost = count_by is_none last.blocks }

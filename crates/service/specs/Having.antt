@@ -21,8 +21,9 @@ use Rattle.service.specs.declared.output.OutputState.{OutputState}
 use Rattle.service.specs.declared.output.OutputState.TheVariants as state
 use Rattle.service.specs.declared.held_writes.HeldWrite.{HeldWrite}
 use Rattle.service.specs.declared.held_writes.HeldWrites.{HeldWrites}
+use Rattle.service.specs.Counting.{came_to}
 use Rattle.service.specs.Rewriting.{had_without, write_of}
-use Rattle.service.specs.Told.{BecomesBy, IsThis, PlansBy, ScansBy, TellsBy}
+use Rattle.service.specs.Told.{BecomesBy, IsThis, RunsBy, ScansBy, TellsBy}
 
 -- This is had of an output: by that device, in those registers, since then, and over that connection.
 pub record Has (held : HeldWrites) (output : ℕ) (write : HeldWrite) : Type 0 where
@@ -158,7 +159,7 @@ TellsHad Why held old new = (first : HeldWrites) → IsWithin first held → Tel
 
 -- Both so by a scan, after which the core is this: those writes are waited for from then on that it plans.
 abbrev pub WritesAt : Gateway → HeldWrites → DeviceSide → DeviceSide → Type 0
-WritesAt core held old new = (first : HeldWrites) → IsWithin first held → PlansBy (IsToldAt core first) (IsToWrite core) old new
+WritesAt core held old new = (first : HeldWrites) → IsWithin first held → RunsBy (came_to core.standing.last) (IsToldAt core first) (IsToWrite core) old new
 
 abbrev pub TellsAt : (ℕ → Loss → Type 0) → Gateway → HeldWrites → DeviceSide → DeviceSide → Type 0
-TellsAt Why core held old new = (first : HeldWrites) → IsWithin first held → ScansBy Why (IsToldAt core first) (IsToWrite core) old new
+TellsAt Why core held old new = (first : HeldWrites) → IsWithin first held → ScansBy (came_to core.standing.last) Why (IsToldAt core first) (IsToWrite core) old new

@@ -3,7 +3,8 @@ use Rattle.std.specs.Prelude.{◌≡◌, ℕ, [], length, ◌+◌, ◌-◌, ◌*
 use Rattle.service_parts.specs.declared.limits.Limits.{Limits}
 use Rattle.service.specs.declared.device_side.DeviceSide.{DeviceSide}
 use Rattle.service.specs.declared.service_state.Service.{Service}
-use Rattle.service.specs.Counting.{one_more}
+use Rattle.service.specs.declared.last_scan.LastScan.{LastScan}
+use Rattle.service.specs.Counting.{came_to, one_more}
 
 -- ---- when the next scan is
 
@@ -38,12 +39,13 @@ pub record Starts (now : ℕ) (limits : Limits) (side : DeviceSide) : Type 0 whe
   pub none : side.notes.items.items ≡ []
   pub room : side.notes.items.cap ≡ most_notes (length side.devices.items) (length side.outputs.items)
 
--- The time stays, no scan is counted, and the next one stays when it is.
+-- The time stays, no scan is counted, and the next one stays when it is; what the last one came to stays.
 pub record KeepsTime (old new : DeviceSide) : Type 0 where
   pub now : new.now ≡ old.now
   pub next : new.next_scan ≡ old.next_scan
   pub scans : new.scans ≡ old.scans
   pub limits : new.limits ≡ old.limits
+  pub last : new.last_scan ≡ old.last_scan
 
 -- How many writes went out of which something came, and how many of these weren't done, stays.
 pub record KeepsCounts (old new : DeviceSide) : Type 0 where
@@ -57,12 +59,13 @@ pub record PlansScan (old new : DeviceSide) : Type 0 where
   pub scans : new.scans ≡ old.scans
   pub limits : new.limits ≡ old.limits
 
--- It is counted.
-pub record CountsScan (old new : DeviceSide) : Type 0 where
+-- It is counted, and came to this.
+pub record CountsScan (came : LastScan) (old new : DeviceSide) : Type 0 where
   pub now : new.now ≡ old.now
   pub next : new.next_scan ≡ old.next_scan
   pub scans : new.scans ≡ one_more old.scans
   pub limits : new.limits ≡ old.limits
+  pub last : new.last_scan ≡ came
 
 -- ---- a service
 
@@ -77,11 +80,12 @@ pub record TurnsTo (time : ℕ) (old new : Service) : Type 0 where
   pub next : new.side.next_scan ≡ old.side.next_scan
   pub scans : new.side.scans ≡ old.side.scans
   pub limits : new.side.limits ≡ old.side.limits
+  pub last : new.side.last_scan ≡ old.side.last_scan
   pub at : new.cycle.round.at ≡ old.cycle.round.at
 
 -- The program runs now, and is counted.
 pub record RunsNow (old new : Service) : Type 0 where
-  pub side : CountsScan old.side new.side
+  pub side : CountsScan (came_to new.cycle.core.value.standing.last) old.side new.side
   pub at : new.cycle.round.at ≡ old.side.now
 
 -- The program runs now, which was planned.

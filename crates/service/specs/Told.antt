@@ -1,10 +1,12 @@
 -- How devices and outputs stand, by what was told of them: over all calls. No standard says what is told; it is this
 -- project's.
-use Rattle.std.specs.Prelude.{◌≡◌, ◌⊎◌, ⊤, ℕ, ◌==◌, Bool, true, false, not, List, [], ◌∷◌, Option, Some, slice_get, if◌then◌else◌}
+use Rattle.std.specs.Prelude.{◌≡◌, ◌⊎◌, ⊤, All, ℕ, ◌==◌, Bool, true, false, not, List, [], ◌∷◌, Option, Some, slice_get, if◌then◌else◌}
 use Rattle.std.specs.List.{list_all}
 use Rattle.std.specs.Option.{option_map_or}
+use Rattle.gateway.specs.declared.poller.cycle.Report.{Report}
 use Rattle.service.specs.declared.polled_device.PolledDevice.{PolledDevice}
 use Rattle.service.specs.declared.device_side.DeviceSide.{DeviceSide}
+use Rattle.service.specs.declared.last_scan.LastScan.{LastScan}
 use Rattle.service.specs.declared.notice.Loss.{Loss}
 use Rattle.service.specs.declared.notice.Notice.{Notice}
 use Rattle.service.specs.declared.notice.Notice.TheVariants as note
@@ -72,10 +74,15 @@ WasAwaited which unwritten.Unanswered side = awaits_at side which ≡ true
 WasAwaited which unwritten.Refused side = ⊤
 WasAwaited which (unwritten.NoSetPoint cause) side = ⊤
 
--- What a note says is so, as far as it speaks of writes: the report of a scan has how many went out of which something came, and
--- how many of these weren't done; and where nothing came of an output's write, that was waited for.
+-- what the report of a scan says: what the last one came to, and what was counted of its writes
+abbrev pub IsReportOf : DeviceSide → Report → Type 0
+IsReportOf side report = (report.steps ≡ side.last_scan.steps) × (report.lost ≡ side.last_scan.lost) × (report.writes ≡ side.writes) × (report.refused ≡ side.refused)
+
+-- What a note says is so, as far as it speaks of scans and writes: the report of a scan has what the last one came to, how many
+-- writes went out of which something came, and how many of these weren't done; and where nothing came of an output's write, that
+-- was waited for.
 abbrev pub IsSo : Notice → DeviceSide → Type 0
-IsSo (note.Scanned report) side = (report.writes ≡ side.writes) × (report.refused ≡ side.refused)
+IsSo (note.Scanned report) side = IsReportOf side report
 IsSo (note.Unwritten which cause) side = WasAwaited which cause side
 IsSo (note.Written which) side = ⊤
 IsSo (note.Found which) side = ⊤
@@ -99,14 +106,17 @@ pub record Tells (n : Notice) (old new : DeviceSide) : Type 0 where
   pub devices : (device : ℕ) → lost_at new device ≡ lost_then n device (lost_at old device)
   pub outputs : (output : ℕ) → state_at new output ≡ state_then n output (state_at old output)
   pub awaited : (output : ℕ) → awaits_at new output ≡ awaited_then n output (awaits_at old output)
+  pub last : new.last_scan ≡ old.last_scan
   pub so : IsSo n old
 
--- Nothing is told, the room for notes stays, and no device is lost or back and nothing else becomes of an output.
+-- Nothing is told, the room for notes stays, no device is lost or back, nothing else becomes of an output, and what the last scan
+-- came to stays.
 pub record TellsNothing (old new : DeviceSide) : Type 0 where
   pub notes : new.notes.items.items ≡ old.notes.items.items
   pub room : new.notes.items.cap ≡ old.notes.items.cap
   pub devices : (device : ℕ) → lost_at new device ≡ lost_at old device
   pub outputs : (output : ℕ) → state_at new output ≡ state_at old output
+  pub last : new.last_scan ≡ old.last_scan
 
 -- No write is waited for that wasn't.
 abbrev pub AwaitsNoMore : DeviceSide → DeviceSide → Type 0
@@ -119,11 +129,12 @@ AwaitsAlso which old new = (output : ℕ) → awaits_at new output ≡ true → 
 -- ---- one step after another
 
 -- which losses may be told, by the number of the device; what may be told to have become of an output, by its number: that it is
--- written, or that it isn't, for this; and the writes of which outputs may be waited for from now on
+-- written, or that it isn't, for this; the writes of which outputs may be waited for from now on; and what a scan may come to
 pub record Allowed : Type 0 where
   pub lost : ℕ → Loss → Bool
   pub became : ℕ → OutputState → Bool
   pub awaits : ℕ → Bool
+  pub scanned : LastScan → Bool
 
 abbrev pub allows : Allowed → Notice → Bool
 allows may (note.Lost device why) = may.lost device why
@@ -142,12 +153,14 @@ pub data Course (may : Allowed) : DeviceSide → DeviceSide → Type 0 where
   tells : {old middle : DeviceSide} → Course may old middle → (n : Notice) (new : DeviceSide) → allows may n ≡ true → Tells n middle new → Course may old new
   goes : {old middle : DeviceSide} → Course may old middle → (new : DeviceSide) → TellsNothing middle new → AwaitsNoMore middle new → Course may old new
   awaits : {old middle : DeviceSide} → Course may old middle → (which : ℕ) (new : DeviceSide) → may.awaits which ≡ true → TellsNothing middle new → AwaitsAlso which middle new → Course may old new
+  scans : {old middle : DeviceSide} → Course may old middle → (new : DeviceSide) → may.scanned new.last_scan ≡ true → TellsNothing (record middle { last_scan = new.last_scan }) new → AwaitsNoMore middle new → Course may old new
 
 -- whatever such steps led to the one, they lead to the other
 abbrev pub GoesBy : Allowed → DeviceSide → DeviceSide → Type 0
 GoesBy may old new = (from : DeviceSide) → ∥ Course may from old ∥₁ → ∥ Course may from new ∥₁
 
--- the same, and on the way no loss is told, and of no output that it is written or isn't; nor is one's write waited for that wasn't
+-- the same, and on the way no loss is told, and of no output that it is written or isn't; nor is one's write waited for that wasn't,
+-- nor is a scan counted
 abbrev pub Goes : DeviceSide → DeviceSide → Type 0
 Goes old new = (may : Allowed) → GoesBy may old new
 
@@ -169,10 +182,15 @@ abbrev pub PlansBy : (ℕ → OutputState → Type 0) → (ℕ → Type 0) → D
 PlansBy Is Waits old new =
     (may : Allowed) → ((output : ℕ) (became : OutputState) → Is output became → may.became output became ≡ true) → ((output : ℕ) → Waits output → may.awaits output ≡ true) → GoesBy may old new
 
--- all three so
-abbrev pub ScansBy : (ℕ → Loss → Type 0) → (ℕ → OutputState → Type 0) → (ℕ → Type 0) → DeviceSide → DeviceSide → Type 0
-ScansBy Why Is Waits old new =
-    (may : Allowed) → ((device : ℕ) (why : Loss) → Why device why → may.lost device why ≡ true) → ((output : ℕ) (became : OutputState) → Is output became → may.became output became ≡ true) → ((output : ℕ) → Waits output → may.awaits output ≡ true) → GoesBy may old new
+-- The same by a scan that came to this.
+abbrev pub RunsBy : LastScan → (ℕ → OutputState → Type 0) → (ℕ → Type 0) → DeviceSide → DeviceSide → Type 0
+RunsBy came Is Waits old new =
+    (may : Allowed) → ((output : ℕ) (became : OutputState) → Is output became → may.became output became ≡ true) → ((output : ℕ) → Waits output → may.awaits output ≡ true) → may.scanned came ≡ true → GoesBy may old new
+
+-- all of it so
+abbrev pub ScansBy : LastScan → (ℕ → Loss → Type 0) → (ℕ → OutputState → Type 0) → (ℕ → Type 0) → DeviceSide → DeviceSide → Type 0
+ScansBy came Why Is Waits old new =
+    (may : Allowed) → ((device : ℕ) (why : Loss) → Why device why → may.lost device why ≡ true) → ((output : ℕ) (became : OutputState) → Is output became → may.became output became ≡ true) → ((output : ℕ) → Waits output → may.awaits output ≡ true) → may.scanned came ≡ true → GoesBy may old new
 
 -- just this became of this output
 abbrev pub IsThis : ℕ → OutputState → ℕ → OutputState → Type 0
@@ -188,6 +206,7 @@ happened (stays side) = []
 happened (tells course n new allowed step) = n ∷ happened course
 happened (goes course new step awaited) = happened course
 happened (awaits course which new allowed step awaited) = happened course
+happened (scans course new allowed step awaited) = happened course
 
 -- a note that says that nothing came of this output's write
 abbrev pub is_unanswered : ℕ → Notice → Bool
@@ -211,9 +230,22 @@ abbrev pub state_after : List Notice → ℕ → Option OutputState → Option O
 state_after [] output was = was
 state_after (n ∷ earlier) output was = state_then n output (state_after earlier output was)
 
+-- The report of a scan says what the last one came to before these calls, or one of them that may be counted.
+abbrev pub IsReported : Allowed → DeviceSide → Notice → Type 0
+IsReported may old (note.Scanned report) = (record { steps = report.steps; lost = report.lost } ≡ old.last_scan) ⊎ (may.scanned (record { steps = report.steps; lost = report.lost }) ≡ true)
+IsReported may old (note.Unwritten which cause) = ⊤
+IsReported may old (note.Written which) = ⊤
+IsReported may old (note.Found which) = ⊤
+IsReported may old (note.NoMap which) = ⊤
+IsReported may old (note.Lost which cause) = ⊤
+IsReported may old (note.Back which) = ⊤
+IsReported may old (note.Refused which refusal) = ⊤
+IsReported may old (note.Late by) = ⊤
+
 -- Over all calls a device is lost, and an output is written or isn't, just by what was told of it; and of losses and of outputs only
 -- that was told that a call may tell. The room for notes stays. Where no call may begin to wait for an output's write, none is waited
--- for that wasn't at first, and of no other one it is told that nothing came of it.
+-- for that wasn't at first, and of no other one it is told that nothing came of it. Each report of a scan says what the last one came
+-- to.
 pub record StatesAreByNotes : Type 0 where
   pub devices : (may : Allowed) (old new : DeviceSide) (course : Course may old new) (device : ℕ) → lost_at new device ≡ lost_after (happened course) device (lost_at old device)
   pub outputs : (may : Allowed) (old new : DeviceSide) (course : Course may old new) (output : ℕ) → state_at new output ≡ state_after (happened course) output (state_at old output)
@@ -221,3 +253,5 @@ pub record StatesAreByNotes : Type 0 where
   pub room : (may : Allowed) (old new : DeviceSide) → Course may old new → new.notes.items.cap ≡ old.notes.items.cap
   pub awaited : (may : Allowed) (old new : DeviceSide) → Course may old new → (output : ℕ) → may.awaits output ≡ false → awaits_at new output ≡ true → awaits_at old output ≡ true
   pub unanswered : (may : Allowed) (old new : DeviceSide) (course : Course may old new) (output : ℕ) → may.awaits output ≡ false → awaits_at old output ≡ false → list_all (λ n. not (is_unanswered output n)) (happened course) ≡ true
+  pub reported : (may : Allowed) (old new : DeviceSide) (course : Course may old new) → All (IsReported may old) (happened course)
+  pub last : (may : Allowed) (old new : DeviceSide) → Course may old new → (new.last_scan ≡ old.last_scan) ⊎ (may.scanned new.last_scan ≡ true)

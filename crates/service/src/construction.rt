@@ -15,6 +15,7 @@ ghost use Rattle.service.specs.Timing.{Starts, most_notes};
 use crate::cycle::Cycle;
 use crate::device_side::DeviceSide;
 use crate::held_writes::HeldWrites;
+use crate::last_scan::LastScan;
 use crate::link_pace::LinkPace;
 use crate::notices::Notices;
 use crate::output::Output;
@@ -168,6 +169,7 @@ fn device_side(
         now,
         next_scan: now.saturating_add(limits.period),
         scans: 0,
+        last_scan: LastScan::none(),
         is_writing: false,
         writes: 0,
         refused: 0,

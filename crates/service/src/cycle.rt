@@ -68,17 +68,6 @@ impl Cycle {
         &self.round
     }
 
-    /// How many wanted blocks the last scan had nothing of.
-    pub fn lost(&self) -> usize {
-        let mut lost: usize = 0;
-        for block in self.core.scanned().iter() {
-            if block.is_none() {
-                lost = lost.saturating_add(1);
-            }
-        }
-        lost
-    }
-
     /// How many devices there are.
     pub fn devices(&self) -> usize
         ensures { result ≡ length self.now.core.value.site.devices }

@@ -2,17 +2,18 @@
 ghost use Rattle.std.specs.Prelude.{◌≡◌, ◌≤◌, ◌<◌, ℕ, Bool, Option, Some, true, length, max, slice_get, nat_le};
 ghost use Rattle.service.specs.declared.polled_device.PolledDevice.{PolledDevice as DeviceValue};
 ghost use Rattle.service_parts.specs.Backing.{after};
-ghost use Rattle.service.specs.Counting.{CountsLoss, KeepsLosses, asked_once_more, counts_at};
+ghost use Rattle.service.specs.Counting.{CountsLoss, KeepsLosses, asked_once_more, came_to, counts_at};
 ghost use Rattle.service.specs.Noting.{Finds, HearsFrom, Loses, Refuses};
 ghost use Rattle.service.specs.Telling.{told_at};
 ghost use Rattle.service.specs.declared.output.OutputState.{OutputState as StateValue};
 ghost use Rattle.service.specs.declared.notice.Unwritten.TheVariants.{Unanswered};
 ghost use Rattle.service.specs.declared.output.OutputState.TheVariants.{Unwritten as unwritten_for};
 ghost use Rattle.service.specs.Losing.{IsLost};
-ghost use Rattle.service.specs.Told.{Allowed, BecomesBy, Goes, IsSo, IsThis, IsUnanswered, LosesBy, PlansBy, allows, awaited_then, awaits_at, lost_then, note_of, state_then};
+ghost use Rattle.service.specs.Told.{Allowed, BecomesBy, Goes, IsReportOf, IsSo, IsThis, IsUnanswered, LosesBy, PlansBy, RunsBy, allows, awaited_then, awaits_at, lost_then, note_of, state_then};
 ghost use Rattle.service.specs.Having.{IsOfPlan, IsToWait, IsToWrite, IsUnplanned};
 ghost use Rattle.service.specs.Timing.{CountsScan, KeepsCounts, KeepsTime, PlansScan, not_over, planned_from, scan_after};
 
+use crate::last_scan::LastScan;
 use crate::link_pace::LinkPace;
 use crate::notice::{Loss, Notice, Unwritten};
 use crate::notices::Notices;
@@ -36,6 +37,8 @@ pub struct DeviceSide {
     /// When the program runs next.
     pub(crate) next_scan: u64,
     pub(crate) scans: u64,
+    /// What the last of them came to.
+    pub(crate) last_scan: LastScan,
     /// Whether what the last scan planned is still written.
     pub(crate) is_writing: bool,
     /// How many writes of the last scan went out, and something came of them.
@@ -309,21 +312,22 @@ impl DeviceSide {
 
     /// The program ran, and this is planned for each output.
     pub(crate) fn count_scan(&mut self, core: &Core<DEPTH>, round: &Round)
-        ensures time { CountsScan self.old self.new }
-        ensures stands { PlansBy (IsUnplanned core.now) (IsToWrite core.now) self.old self.new }
+        ensures time { CountsScan (came_to core.now.standing.last) self.old self.new }
+        ensures stands { RunsBy (came_to core.now.standing.last) (IsUnplanned core.now) (IsToWrite core.now) self.old self.new }
     {
-        self.count();
+        self.count(LastScan::of(core));
         for output in 0..core.site().outs().len() {
             self.plan_output(output, &core.write(output), round.is_open(output));
         }
     }
 
-    #[tactic(auto, using(crate::proofs::ByNotes::same_goes))]
-    fn count(&mut self)
-        ensures time { CountsScan self.old self.new }
-        ensures stands { Goes self.old self.new }
+    #[tactic(auto, using(crate::proofs::ByNotes::counted_goes))]
+    fn count(&mut self, came: LastScan)
+        ensures time { CountsScan came self.old self.new }
+        ensures stands { RunsBy came (λ output became. ⊥) (λ output. ⊥) self.old self.new }
     {
         self.scans = self.scans.saturating_add(1);
+        self.last_scan = came;
     }
 
     /// An output's write is waited for from now on, where one is to be made; where there is no set point for it, it isn't written.
@@ -397,8 +401,7 @@ impl DeviceSide {
 
     /// What the last scan planned is over: what was to be written and isn't any more wasn't done.
     pub(crate) fn finish(&mut self, report: Report, round: &Round)
-        requires writes { report.writes ≡ self.old.writes }
-        requires refused { report.refused ≡ self.old.refused }
+        requires report { IsReportOf self.old report }
         ensures time { KeepsTime self.old self.new }
         ensures stands { BecomesBy IsUnanswered self.old self.new }
     {

@@ -13,6 +13,7 @@ mod cycle;
 mod device_side;
 mod held_back;
 mod held_writes;
+mod last_scan;
 mod last_told;
 pub mod laws;
 mod link_pace;

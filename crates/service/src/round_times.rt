@@ -1,7 +1,8 @@
 //! Scans, by the time.
 ghost use Rattle.std.specs.Prelude.{◌≡◌, All, false, map, max, nat_le};
 ghost use Rattle.service.specs.Losing.{LostByWait};
-ghost use Rattle.service.specs.Told.{Goes, PlansBy};
+ghost use Rattle.service.specs.Counting.{came_to};
+ghost use Rattle.service.specs.Told.{Goes, IsReportOf, RunsBy};
 ghost use Rattle.service.specs.Cycle.{LeadsOn, stage_of};
 ghost use Rattle.service_parts.specs.Places.{closed_if_idle};
 ghost use Rattle.service.specs.Timing.{RunsNow, ScansNow, Ticks};
@@ -22,10 +23,11 @@ impl Service {
         ensures links { self.new.lines.links ≡ self.old.lines.links }
         ensures lines { nat_le self.old.side.next_scan (max self.old.side.now now) ≡ false → LinksGo self.old self.new }
         ensures goes { RunsIf (nat_le self.old.side.next_scan (max self.old.side.now now))
-            (λ scanned. TellsAt (LostByWait self.old.lines.links.stations.items self.old.lines.lines.items (max self.old.side.now now)) scanned.core self.old.held self.old.side self.new.side × LinksGoByScan scanned.round.writes self.old self.new)
+            (λ scanned. TellsAt (LostByWait self.old.lines.links.stations.items self.old.lines.lines.items (max self.old.side.now now)) scanned.core self.old.held self.old.side self.new.side × LinksGoByScan scanned.round.writes self.old self.new × (self.new.side.last_scan ≡ came_to scanned.core.standing.last))
             (max self.old.side.now now) (stage_of self.old.cycle) (stage_of self.new.cycle) }
         ensures held { HasNoMore self.old.held self.new.held }
         ensures places { self.new.places.items ≡ map (closed_if_idle (max self.old.side.now now) self.old.side.limits.idle) self.old.places.items }
+        ensures last { nat_le self.old.side.next_scan (max self.old.side.now now) ≡ false → self.new.side.last_scan ≡ self.old.side.last_scan }
         ensures time { Ticks now self.old self.new }
         ensures stands { nat_le self.old.side.next_scan (max self.old.side.now now) ≡ false → TellsHad (LostByWait self.old.lines.links.stations.items self.old.lines.lines.items (max self.old.side.now now)) self.old.held self.old.side self.new.side }
     {
@@ -70,21 +72,20 @@ impl Service {
 
     /// What the last scan did.
     fn report(&self) -> Report
-        ensures writes { result.writes ≡ self.entry.now.side.writes }
-        ensures refused { result.refused ≡ self.entry.now.side.refused }
+        ensures { IsReportOf self.entry.now.side result }
     {
         Report {
-            steps: self.cycle.core().steps(),
+            steps: self.side.last_scan.steps,
             writes: self.side.writes,
             refused: self.side.refused,
-            lost: self.cycle.lost(),
+            lost: self.side.last_scan.lost,
         }
     }
 
     /// Runs the program, whatever was read, and goes on. A block that was told too many scans ago isn't known any more.
     fn scan(&mut self)
         ensures links { self.new.lines.links ≡ self.old.lines.links }
-        ensures runs { RunsOnce (λ scanned. WritesAt scanned.core self.old.held self.old.side self.new.side × LinksGoByScan scanned.round.writes self.old self.new) self.old.side.now (stage_of self.old.cycle) (stage_of self.new.cycle) }
+        ensures runs { RunsOnce (λ scanned. WritesAt scanned.core self.old.held self.old.side self.new.side × LinksGoByScan scanned.round.writes self.old self.new × (self.new.side.last_scan ≡ came_to scanned.core.standing.last)) self.old.side.now (stage_of self.old.cycle) (stage_of self.new.cycle) }
         ensures held { HasNoMore self.old.held self.new.held }
         ensures places { self.new.places.items ≡ self.old.places.items }
         ensures time { ScansNow self.old self.new }
@@ -120,7 +121,7 @@ impl Service {
         ensures held { HasNoMore self.old.held self.new.held }
         ensures places { self.new.places.items ≡ self.old.places.items }
         ensures time { RunsNow self.old self.new }
-        ensures stands { PlansBy (IsUnplanned self.new.cycle.core.value) (IsToWrite self.new.cycle.core.value) self.old.side self.new.side }
+        ensures stands { RunsBy (came_to self.new.cycle.core.value.standing.last) (IsUnplanned self.new.cycle.core.value) (IsToWrite self.new.cycle.core.value) self.old.side self.new.side }
     {
         self.cycle.scan(self.side.now);
         self.side.count_scan(self.cycle.core(), self.cycle.round());

@@ -8,13 +8,13 @@ pub returns-then-found-clause-stands : goal.returns-then-found-clause-stands
 returns-then-found-clause-stands c =
     let within : c.args.device < length c.args.self.now.devices.items = search rules in
     let at : slice_get c.args.self.now.devices.items c.args.device ≡ Some c.in-Some.found.now = slice_get_read _ _ c.args.device c.in-Some.found.now refl within c.in-Some.ensures.value in
-    found_goes c.args.self.now _ c.args.device c.in-Some.found.now at _ refl (ap (λ d. d.is_lost) c.found.ensures.found) refl c.add.ensures.adds c.add.ensures.room
+    found_goes c.args.self.now _ c.args.device c.in-Some.found.now at _ refl (ap (λ d. d.is_lost) c.found.ensures.found) refl c.add.ensures.adds c.add.ensures.room refl
 
 pub returns-else-found-clause-stands : goal.returns-else-found-clause-stands
 returns-else-found-clause-stands c =
     let within : c.args.device < length c.args.self.now.devices.items = search rules in
     let at : slice_get c.args.self.now.devices.items c.args.device ≡ Some c.in-Some.found.now = slice_get_read _ _ c.args.device c.in-Some.found.now refl within c.in-Some.ensures.value in
-    found_quiet c.args.self.now _ c.args.device c.in-Some.found.now at (sym c.found.ensures.told ∙ c.if-found.false) (ap (λ d. set c.args.self.now.devices.items c.args.device d) c.found.ensures.found) refl refl refl
+    found_quiet c.args.self.now _ c.args.device c.in-Some.found.now at (sym c.found.ensures.told ∙ c.if-found.false) (ap (λ d. set c.args.self.now.devices.items c.args.device d) c.found.ensures.found) refl refl refl refl
 
 pub returns-else-found-clause-finds : goal.returns-else-found-clause-finds
 returns-else-found-clause-finds c own there =

@@ -9,13 +9,13 @@ pub returns-then-lose-clause-stands : goal.returns-then-lose-clause-stands
 returns-then-lose-clause-stands c =
     let within : c.args.device < length c.args.self.now.devices.items = search rules in
     let at : slice_get c.args.self.now.devices.items c.args.device ≡ Some c.in-Some.found.now = slice_get_read _ _ c.args.device c.in-Some.found.now refl within c.in-Some.ensures.value in
-    lost_goes c.args.self.now _ c.args.device c.in-Some.found.now at c.args.loss false (was_by _ true (sym c.lose.ensures.told ∙ c.if-lose.true)) (ap (λ d. set c.args.self.now.devices.items c.args.device d) c.lose.ensures.lost) refl c.add.ensures.adds c.add.ensures.room
+    lost_goes c.args.self.now _ c.args.device c.in-Some.found.now at c.args.loss false (was_by _ true (sym c.lose.ensures.told ∙ c.if-lose.true)) (ap (λ d. set c.args.self.now.devices.items c.args.device d) c.lose.ensures.lost) refl c.add.ensures.adds c.add.ensures.room refl
 
 pub returns-else-lose-clause-stands : goal.returns-else-lose-clause-stands
 returns-else-lose-clause-stands c =
     let within : c.args.device < length c.args.self.now.devices.items = search rules in
     let at : slice_get c.args.self.now.devices.items c.args.device ≡ Some c.in-Some.found.now = slice_get_read _ _ c.args.device c.in-Some.found.now refl within c.in-Some.ensures.value in
-    lost_goes c.args.self.now _ c.args.device c.in-Some.found.now at c.args.loss true (was_by _ false (sym c.lose.ensures.told ∙ c.if-lose.false)) (ap (λ d. set c.args.self.now.devices.items c.args.device d) c.lose.ensures.lost) refl refl refl
+    lost_goes c.args.self.now _ c.args.device c.in-Some.found.now at c.args.loss true (was_by _ false (sym c.lose.ensures.told ∙ c.if-lose.false)) (ap (λ d. set c.args.self.now.devices.items c.args.device d) c.lose.ensures.lost) refl refl refl refl
 
 pub returns-else-lose-clause-loses : goal.returns-else-lose-clause-loses
 returns-else-lose-clause-loses c own there =

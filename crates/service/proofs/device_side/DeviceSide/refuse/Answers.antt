@@ -8,13 +8,13 @@ pub returns-then-refuse-clause-stands : goal.returns-then-refuse-clause-stands
 returns-then-refuse-clause-stands c =
     let within : c.args.device < length c.args.self.now.devices.items = search rules in
     let at : slice_get c.args.self.now.devices.items c.args.device ≡ Some c.in-Some.found.now = slice_get_read _ _ c.args.device c.in-Some.found.now refl within c.in-Some.ensures.value in
-    refused_goes c.args.self.now _ c.args.device c.in-Some.found.now at c.args.refusal true (ap (λ d. set c.args.self.now.devices.items c.args.device d) c.refuse.ensures.refused) refl c.add.ensures.adds c.add.ensures.room
+    refused_goes c.args.self.now _ c.args.device c.in-Some.found.now at c.args.refusal true (ap (λ d. set c.args.self.now.devices.items c.args.device d) c.refuse.ensures.refused) refl c.add.ensures.adds c.add.ensures.room refl
 
 pub returns-else-refuse-clause-stands : goal.returns-else-refuse-clause-stands
 returns-else-refuse-clause-stands c =
     let within : c.args.device < length c.args.self.now.devices.items = search rules in
     let at : slice_get c.args.self.now.devices.items c.args.device ≡ Some c.in-Some.found.now = slice_get_read _ _ c.args.device c.in-Some.found.now refl within c.in-Some.ensures.value in
-    refused_goes c.args.self.now _ c.args.device c.in-Some.found.now at c.args.refusal false (ap (λ d. set c.args.self.now.devices.items c.args.device d) c.refuse.ensures.refused) refl refl refl
+    refused_goes c.args.self.now _ c.args.device c.in-Some.found.now at c.args.refusal false (ap (λ d. set c.args.self.now.devices.items c.args.device d) c.refuse.ensures.refused) refl refl refl refl
 
 pub returns-else-refuse-clause-refuses : goal.returns-else-refuse-clause-refuses
 returns-else-refuse-clause-refuses c own there =

@@ -7,4 +7,4 @@ pub returns-in-Some-clause-stands : goal.returns-in-Some-clause-stands
 returns-in-Some-clause-stands c =
     let within : c.args.device < length c.args.self.now.devices.items = search rules in
     let at : slice_get c.args.self.now.devices.items c.args.device ≡ Some c.in-Some.found.now = slice_get_read _ _ c.args.device c.in-Some.found.now refl within c.in-Some.ensures.value in
-    device_goes c.args.self.now _ c.args.device c.in-Some.found.now at _ refl (ap (λ d. d.is_lost) c.scanned.ensures) refl refl refl
+    device_goes c.args.self.now _ c.args.device c.in-Some.found.now at _ refl (ap (λ d. d.is_lost) c.scanned.ensures) refl refl refl refl

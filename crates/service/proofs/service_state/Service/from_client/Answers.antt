@@ -58,5 +58,6 @@ returns-in-Some-clause-time c = record {
   next = search rules;
   scans = search rules;
   limits = search rules;
+  last = search rules;
   at = chain_at _ (λ s. s.round.at) (λ s frame bytes goes_on t answers. ap (λ (p : Progress). p.at) answers.1) _ _ _ (c.take.ensures.chain).1 ∙ ap (λ (s : Cycle). s.round.at) c.turn_to-in-Some.ensures;
 }

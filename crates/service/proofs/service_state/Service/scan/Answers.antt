@@ -1,4 +1,5 @@
-use Rattle.std.proofs.Common.{subst, ◌∙◌}
+use Rattle.std.proofs.Common.{◌≡◌, subst, ◌∙◌}
+use Rattle.service.specs.Counting.{came_to}
 use Rattle.service.specs.Cycle.{stage_of}
 use Rattle.service.specs.Going.{LinksGoByScan}
 use Rattle.service.specs.Having.{WritesAt}
@@ -15,5 +16,5 @@ returns-clause-runs c =
     (λ first within. c.run.ensures.held first (c.expire.ensures.held first (c.note_devices.ensures.held first (c.finish.ensures.held first within)))) c.go_on.ensures.stands in
     let lines : LinksGoByScan c.run.new.self.cycle.round.writes c.args.self.now c.go_on.new.self = λ link most from led.
     c.go_on.ensures.lines link _ from (c.stir_all.ensures.lines link _ _ from (c.run.ensures.lines link most from (c.expire.ensures.lines link most from (c.note_devices.ensures.lines link most from (c.finish.ensures.lines link most from led))))) in
-    runs_once (λ (scanned : Stage). WritesAt scanned.core c.args.self.now.held c.args.self.now.side c.go_on.new.self.side × LinksGoByScan scanned.round.writes c.args.self.now c.go_on.new.self) c.args.self.now.side.now _ _ _ _ (λ from before. c.expire.ensures.goes from (c.note_devices.ensures.goes from (c.finish.ensures.goes from before)))
-    (subst (λ n. Scans n (stage_of c.expire.new.self.cycle) (stage_of c.run.new.self.cycle)) now c.run.ensures.scans) (after, lines) c.go_on.ensures.goes
+    runs_once (λ (scanned : Stage). WritesAt scanned.core c.args.self.now.held c.args.self.now.side c.go_on.new.self.side × LinksGoByScan scanned.round.writes c.args.self.now c.go_on.new.self × (c.go_on.new.self.side.last_scan ≡ came_to scanned.core.standing.last)) c.args.self.now.side.now _ _ _ _ (λ from before. c.expire.ensures.goes from (c.note_devices.ensures.goes from (c.finish.ensures.goes from before)))
+    (subst (λ n. Scans n (stage_of c.expire.new.self.cycle) (stage_of c.run.new.self.cycle)) now c.run.ensures.scans) (after, lines, c.go_on.ensures.rest.time.side.last ∙ c.run.ensures.time.side.last) c.go_on.ensures.goes

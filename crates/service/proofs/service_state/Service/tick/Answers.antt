@@ -1,5 +1,6 @@
 use Rattle.std.proofs.Common.{rules, ◌≡◌, true, max, nat_le, ap, subst, ◌∙◌}
 use Rattle.service.specs.declared.device_side.DeviceSide.{DeviceSide}
+use Rattle.service.specs.Counting.{came_to}
 use Rattle.service.specs.Cycle.{stage_of}
 use Rattle.service.specs.Going.{LinksGoByScan}
 use Rattle.service.specs.Having.{WritesAt}
@@ -15,8 +16,9 @@ returns-then-is_due-clause-goes c =
     let now = c.end_waits.ensures.rest.time.side.now ∙ ap (λ (x : DeviceSide). x.now) c.turn_to.ensures.now in
     let due : nat_le c.args.self.now.side.next_scan (max c.args.self.now.side.now c.args.now) ≡ true = search rules in
     let lost = subst (λ n. LosesBy (LostByWait c.args.self.now.lines.links.stations.items c.args.self.now.lines.lines.items n) c.turn_to.new.self c.end_waits.new.self.side) (ap (λ (x : DeviceSide). x.now) c.turn_to.ensures.now) c.end_waits.ensures.stands in
-    runs_where _ _ _ _ _ _ _ due c.end_waits.ensures.goes (subst (λ n. RunsOnce (λ (scanned : Stage). WritesAt scanned.core c.end_waits.new.self.held c.end_waits.new.self.side c.scan.new.self.side × LinksGoByScan scanned.round.writes c.end_waits.new.self c.scan.new.self) n (stage_of c.end_waits.new.self.cycle) (stage_of c.scan.new.self.cycle)) now c.scan.ensures.runs)
+    runs_where _ _ _ _ _ _ _ due c.end_waits.ensures.goes (subst (λ n. RunsOnce (λ (scanned : Stage). WritesAt scanned.core c.end_waits.new.self.held c.end_waits.new.self.side c.scan.new.self.side × LinksGoByScan scanned.round.writes c.end_waits.new.self c.scan.new.self × (c.scan.new.self.side.last_scan ≡ came_to scanned.core.standing.last)) n (stage_of c.end_waits.new.self.cycle) (stage_of c.scan.new.self.cycle)) now c.scan.ensures.runs)
     (λ (b : Stage) after. (
       tells_at _ b.core c.args.self.now.held c.end_waits.new.self.held c.args.self.now.side c.end_waits.new.self.side c.scan.new.self.side (λ may has from led. lost may has from (c.turn_to.ensures.stands may from led)) c.end_waits.ensures.held after.0,
       λ link most from led. after.1 link most from (c.end_waits.ensures.lines link most from led),
+      after.2,
     ))
