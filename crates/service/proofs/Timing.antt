@@ -1,6 +1,6 @@
 -- When the program ran last stays but by a scan; and at a scan all that is known is recent.
 use Rattle.std.proofs.Common.{◌≡◌, ◌≢◌, ◌⊎◌, inl, inr, ℕ, zero, suc, ◌+◌, ◌<◌, eqb, Bool, true, false, List, [], ◌∷◌, map, length, get_or, slice_get, slice_set, Option, None, Some, refl, sym, ap, subst, ◌∙◌, arith, if◌then◌else◌}
-use Rattle.std.specs.Prelude.{All, max, nat_le}
+use Rattle.std.specs.Prelude.{All, ◌^◌, ◌-◌, ◌≤◌, min, max, nat_le}
 use Rattle.std.proofs.lemmas.Bool.Decides.{eqb_tells}
 use Rattle.std.proofs.lemmas.Option.{slice_get-get_or}
 use Rattle.modbus_frame.specs.declared.frame.Frame.{Frame}
@@ -15,7 +15,9 @@ use Rattle.service.specs.declared.round.Turn.{Turn}
 use Rattle.site_model.specs.declared.want.Want.{Want}
 use Rattle.service.specs.declared.service_state.Service.{Service}
 use Rattle.service.specs.Counting.{one_more}
-use Rattle.service.specs.Timing.{Ticks, scan_after}
+use Rattle.service_parts.specs.declared.asked.Asked.{Asked}
+use Rattle.service_parts.specs.Backing.{after}
+use Rattle.service.specs.Timing.{IsTimed, Ticks, scan_after}
 use Rattle.service.specs.Rounds.{AreRecentTo, AsksWrite, Closes, ClosesWrite, IsRecent, Opens, OpensWrite, Progress, device_told, device_wanted, told_at, told_now}
 
 -- ---- the writes
@@ -121,4 +123,19 @@ ticks_rested now old new due time limits next scans at = record {
   next = next ∙ left_out _ _ _ due;
   scans = scans ∙ left_out _ _ _ due;
   at = at ∙ left_out _ _ _ due;
+}
+
+-- ---- how long an answer is waited for
+
+not_before : (now wait top : ℕ) → now ≤ top → now ≤ min (now + wait) top
+not_before now wait top fits = omega (arith, fits)
+
+no_later : (now wait timeout top : ℕ) → wait ≤ timeout → min (now + wait) top ≤ min (now + timeout) top
+no_later now wait timeout top less = omega (arith, less)
+
+pub timed : (now wait timeout : ℕ) (asked : Asked) → now ≤ 2 ^ 64 - 1 → wait ≤ timeout → asked.since ≡ now → asked.until ≡ after now wait → IsTimed now timeout asked
+timed now wait timeout asked fits less since until = record {
+  since = since;
+  later = subst (λ n. now ≤ n) (sym until) (not_before now wait (2 ^ 64 - 1) fits);
+  most = subst (λ n. n ≤ after now timeout) (sym until) (no_later now wait timeout (2 ^ 64 - 1) less);
 }

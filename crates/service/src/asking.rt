@@ -7,6 +7,7 @@ ghost use Rattle.service.specs.Turns.{turn_of};
 ghost use Rattle.service.specs.Rewriting.{had_beside};
 ghost use Rattle.service_parts.specs.Requests.{MayGoOver, words_of};
 ghost use Rattle.service.specs.Staying.{Stays};
+ghost use Rattle.service.specs.Timing.{IsTimed};
 ghost use Rattle.service.specs.Going.{BeginsOf, LinksGo};
 ghost use Rattle.service.specs.Having.{HasNoMore, WritesHad};
 ghost use Rattle.service.specs.Cycle.{LeadsOn};
@@ -212,7 +213,7 @@ impl Service {
         }
     }
 
-    #[tactic(auto, using(service_parts::proofs::Frames::not_begun))]
+    #[tactic(auto, using(service_parts::proofs::Frames::not_begun, crate::proofs::Timing::timed))]
     fn begin(&mut self, link: usize, device: usize, wish: Wish)
         requires quantity { HasQuantity wish.request }
         requires asked { MayGoOver self.old.cycle.core.value self.old.lines.links.numbers.items self.old.lines.found_on.items link wish.aim device wish.request }
@@ -248,6 +249,7 @@ impl Service {
     fn start(&mut self, link: usize, asked: Asked, request: Request)
         requires quantity { HasQuantity request }
         requires number { slice_get self.old.lines.links.numbers.items link ≡ Some asked.number }
+        requires timed { IsTimed self.old.side.now self.old.side.limits.timeout asked }
         requires address { asked.address ≡ address_of request }
         requires words { asked.words ≡ words_of request }
         requires asked { MayGoOver self.old.cycle.core.value self.old.lines.links.numbers.items self.old.lines.found_on.items link asked.aim asked.device request }

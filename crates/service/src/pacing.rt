@@ -1,5 +1,5 @@
 //! How the devices of a link are asked: whose turn it is, how long an answer is waited for, and what there is time for.
-ghost use Rattle.std.specs.Prelude.{◌≡◌, Some, set, slice_get};
+ghost use Rattle.std.specs.Prelude.{◌≡◌, ◌≤◌, Some, set, slice_get};
 ghost use Rattle.service.specs.declared.link_pace.LinkPace.{LinkPace as PaceValue};
 ghost use Rattle.service.specs.Turns.{is_slow, place_after, reply_at, turn_of, turned_to};
 ghost use Rattle.service.specs.Told.{Goes};
@@ -220,7 +220,9 @@ impl DeviceSide {
     /// How long an answer of a device is waited for on a link where others answer: twice and a half as long as its replies take;
     /// after a request without an answer as long as one may take, since that may hold the link up; and now and then longer, at last
     /// as long as one may take, since the device may have become slower.
-    pub(crate) fn short_wait(&self, link: usize, device: usize) -> u64 {
+    pub(crate) fn short_wait(&self, link: usize, device: usize) -> u64
+        ensures { result ≤ self.entry.now.limits.timeout }
+    {
         let Some(found) = self.devices.get(device) else {
             return self.limits.timeout;
         };

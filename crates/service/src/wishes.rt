@@ -1,5 +1,5 @@
 //! What a device may be asked next, for each purpose.
-ghost use Rattle.std.specs.Prelude.{◌≡◌, ◌<◌, ℕ, IfSome, Some, [], length, set, slice_get};
+ghost use Rattle.std.specs.Prelude.{◌≡◌, ◌≤◌, ◌<◌, ℕ, IfSome, Some, [], length, set, slice_get};
 ghost use Rattle.modbus_frame.specs.Message.{HasQuantity};
 ghost use Rattle.service_requests.specs.declared.search.SearchStep.TheVariants.{Found};
 ghost use Rattle.service.specs.Told.{Goes};
@@ -275,7 +275,9 @@ impl Service {
     }
 
     /// How long an answer of a device is waited for: as long as one may take, or less on a link where others answer.
-    fn wait_for(&self, link: usize, device: usize) -> u64 {
+    fn wait_for(&self, link: usize, device: usize) -> u64
+        ensures { result ≤ self.now.side.limits.timeout }
+    {
         if self.has_others(link, device) {
             self.side.short_wait(link, device)
         } else {
@@ -285,7 +287,9 @@ impl Service {
 
     /// The same for one of these requests: a write to a device whose last write had no answer has all of the time, since its writes
     /// may take longer than its reads.
-    pub(crate) fn wait_of(&self, link: usize, device: usize, aim: Aim) -> u64 {
+    pub(crate) fn wait_of(&self, link: usize, device: usize, aim: Aim) -> u64
+        ensures { result ≤ self.now.side.limits.timeout }
+    {
         match aim {
             Aim::Output(_) if self.side.is_write_missed(device) => self.side.limits.timeout,
             _ => self.wait_for(link, device),
