@@ -1,5 +1,5 @@
 //! How a service stands, for whoever looks after it.
-ghost use Rattle.std.specs.Prelude.{◌≡◌, ◌≤◌, IfNone, IfSome, Some, length, slice_get};
+ghost use Rattle.std.specs.Prelude.{◌≡◌, ◌≤◌, ◌<◌, IfNone, IfSome, Some, length, slice_get};
 ghost use Rattle.service.specs.declared.polled_device.PolledDevice.{PolledDevice as Own};
 ghost use Rattle.service.specs.Noting.{TakesOldest};
 ghost use Rattle.service.specs.Rounds.{is_ready};
@@ -48,6 +48,7 @@ impl Service {
     pub fn device_status(&self, device: usize) -> Option<DeviceStatus>
         ensures stands { IfSome result (λ status. (own : Own) → slice_get self.now.side.devices.items device ≡ Some own → IsStatus self.now.cycle.core.value self.now.cycle.round.told self.now.lines device own status) }
         ensures none { IfNone result (length self.now.side.devices.items ≤ device) }
+        ensures some { IfSome result (λ status. device < length self.now.side.devices.items) }
     {
         let found = self.side.devices.get(device)?;
         Some(DeviceStatus {
