@@ -208,6 +208,7 @@ def play_rewrite(counts, program, folder):
     counts.note("what another one sets stays for a while", site.limit() == 77, site.limit())
     counts.note("and no longer", until(site.limit, 20) == 20, site.limit())
     play_cut(counts, site, service)
+    play_cut(counts, site, service, b"\0\1\0")
     play_refusal(counts, site, service, client)
     play_silence(counts, site, service)
     service.end()
@@ -222,14 +223,16 @@ def again(counts, what, site, seconds=1.0):
     counts.note(f"{what}: and then not again", len(site.writes()) <= first + 1 and site.limit() == 20, site.writes())
 
 
-def play_cut(counts, site, service):
-    """A new connection, where the old one was cut while nothing was under way: that is no loss, and what the device took over it
-    counts for nothing."""
+def play_cut(counts, site, service, said=b""):
+    """A new connection, where the old one was cut while nothing was under way, and maybe bytes that nobody asked for waited there:
+    that is no loss, and what the device took over it counts for nothing."""
     told, device = len(service.lines), site.devices[0]
     came = device.came
     until(lambda: time.monotonic() - device.asked_at > 0.015, True)
     for it in list(device.sockets):
+        it.sendall(said)
         close(it)
+        device.sockets.remove(it)
     device.units[1][LIMIT] = 77
     counts.note("a connection that is cut is made again at once", until(lambda: device.came > came, True, 1), (device.came, service.lines))
     again(counts, "over a new connection", site)
