@@ -25,3 +25,4 @@ pub mod Timing
 pub mod Having
 pub mod Waking
 pub mod Going
+pub mod ToldWrites

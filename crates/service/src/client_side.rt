@@ -3,10 +3,12 @@ ghost use Rattle.std.specs.Prelude.{◌≡◌, ◌≤◌, ◌<◌, ◌↔◌, []
 ghost use Rattle.service.specs.Told.{Goes};
 ghost use Rattle.service.specs.Cycle.{ClientsLeadOn};
 ghost use Rattle.service_parts.specs.declared.client_place.ClientPlace.{ClientPlace as Place};
-ghost use Rattle.service_parts.specs.Clients.{DoesAt, Hears, IsDeaf, IsDone, IsOpen, OthersStay, Sends, ready_of};
+ghost use Rattle.service_parts.specs.Clients.{DoesAt, IsDeaf, IsDone, IsOpen, OthersStay, Sends, ready_of};
 ghost use Rattle.service_parts.specs.Places.{given_place};
+ghost use Rattle.service.specs.ClientWrites.{HearsWrites};
 ghost use Rattle.service.specs.Timing.{StaysAt, TurnsTo};
 
+use crate::client_writes::ClientWrite;
 use crate::cycle::Cycle;
 use crate::service_state::Service;
 use modbus_frame::Responder;
@@ -51,7 +53,7 @@ impl Service {
     }
 
     /// Bytes of a client; how many of them were used: none while its answers wait, and at most 8 frames. The rest is to be
-    /// given again.
+    /// given again. What the frames asked to be written is told until the next call.
     pub fn from_client(&mut self, place: usize, bytes: &[u8], now: u64) -> usize
         ensures links { self.new.lines.links ≡ self.old.lines.links }
         ensures lines { self.new.lines ≡ self.old.lines }
@@ -61,9 +63,10 @@ impl Service {
         ensures stands { Goes self.old.side self.new.side }
         ensures used { result ≤ length bytes.now }
         ensures takes { (c : Place) → slice_get self.old.places.items place ≡ Some c → (IsDeaf c → ⊥) → ready_of c ≡ [] → 0 < length bytes.now → 0 < result }
-        ensures deaf { DoesAt (λ c d. IsDeaf c → (d ≡ c) × (self.new.cycle.core.value ≡ self.old.cycle.core.value)) self.old.places.items place self.new.places.items }
-        ensures hears { DoesAt (λ c d. (IsDeaf c → ⊥) → Hears ⟦<Cycle as Responder>⟧.answers self.new.side.now (record self.old.cycle { may_write = c.may_write })
-            c (take result bytes.now) self.new.cycle d) self.old.places.items place self.new.places.items }
+        ensures nobody { length self.old.places.items ≤ place → self.new.cycle.writes ≡ [] }
+        ensures deaf { DoesAt (λ c d. IsDeaf c → (d ≡ c) × (self.new.cycle.core.value ≡ self.old.cycle.core.value) × (self.new.cycle.writes ≡ [])) self.old.places.items place self.new.places.items }
+        ensures hears { DoesAt (λ c d. (IsDeaf c → ⊥) → HearsWrites ⟦<Cycle as Responder>⟧.answers self.new.side.now (record self.old.cycle { may_write = c.may_write; writes = [] })
+            c (take result bytes.now) self.new.cycle d self.new.cycle.writes) self.old.places.items place self.new.places.items }
     {
         self.side.turn_to(now);
         let now = self.side.now;
@@ -72,8 +75,19 @@ impl Service {
                 self.cycle.turn_to(client.may_write());
                 client.take(&mut self.cycle, bytes, now)
             }
-            None => bytes.len(),
+            None => {
+                self.cycle.turn_to(false);
+                bytes.len()
+            }
         }
+    }
+
+    /// What clients wrote in the last call of [`from_client`](Service::from_client): each of its frames that was answered and asks
+    /// for a write, in order, with what became of it.
+    pub fn client_writes(&self) -> &[ClientWrite]
+        ensures { result.now ≡ self.now.cycle.writes }
+    {
+        self.cycle.writes()
     }
 
     /// How many frames of the client at the place were answered; 0 where nobody was there yet.

@@ -1,11 +1,12 @@
 //! The core with its round and its searches.
-ghost use Rattle.std.specs.Prelude.{◌≡◌, All, IfOk, IsTrue, Some, length, slice_get};
+ghost use Rattle.std.specs.Prelude.{◌≡◌, [], All, IfOk, IsTrue, Some, length, slice_get};
 ghost use Rattle.service_parts.specs.Course.{IsNew};
 ghost use Rattle.service_parts.specs.Seeking.{AreOf};
 ghost use Rattle.service.specs.Maps.{has_map, is_there};
 ghost use Rattle.service.specs.Rounds.{IsRoundFor, IsUntold};
 ghost use Rattle.service.specs.Stages.{IsReached};
 
+use crate::client_writes::{ClientWrite, ClientWrites};
 use crate::round::Round;
 use gateway::{Core, DEPTH};
 use register_map::Map;
@@ -23,6 +24,8 @@ pub struct Cycle {
     pub(crate) over: Vec<u64>,
     /// Whether the client whose turn it is may write.
     pub(crate) may_write: bool,
+    /// What it wrote in this turn.
+    pub(crate) writes: ClientWrites,
     ghost reached: { ∥ IsReached (record { core = core.value; round = round }) ∥₁ },
     ghost fits: { IsRoundFor core.value.site round },
     ghost sought: { AreOf core.value.site searches.items },
@@ -52,6 +55,7 @@ impl Cycle {
             searches,
             over,
             may_write: false,
+            writes: ClientWrites::new(),
         })
     }
 
@@ -66,6 +70,13 @@ impl Cycle {
         ensures { result.now ≡ self.now.round }
     {
         &self.round
+    }
+
+    /// What the client whose turn it is wrote in it.
+    pub fn writes(&self) -> &[ClientWrite]
+        ensures { result.now ≡ self.now.writes }
+    {
+        self.writes.as_slice()
     }
 
     /// How many devices there are.
@@ -92,11 +103,12 @@ impl Cycle {
         }
     }
 
-    /// From now on the turn is a client's that may write, or may not.
+    /// From now on the turn is a client's that may write, or may not, and that wrote nothing yet.
     pub fn turn_to(&mut self, may_write: bool)
-        ensures { self.new ≡ record self.old { may_write = may_write } }
+        ensures { self.new ≡ record self.old { may_write = may_write; writes = [] } }
     {
         self.may_write = may_write;
+        self.writes.clear();
     }
 }
 

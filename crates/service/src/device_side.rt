@@ -2,7 +2,7 @@
 ghost use Rattle.std.specs.Prelude.{◌≡◌, ◌≤◌, ◌<◌, ℕ, Bool, Option, Some, true, length, max, slice_get, nat_le};
 ghost use Rattle.service.specs.declared.polled_device.PolledDevice.{PolledDevice as DeviceValue};
 ghost use Rattle.service_parts.specs.Backing.{after};
-ghost use Rattle.service.specs.Counting.{CountsLoss, KeepsLosses, asked_once_more, came_to, counts_at};
+ghost use Rattle.service.specs.Counting.{CountsLoss, KeepsLosses, asked_once_more, counts_at};
 ghost use Rattle.service.specs.Noting.{Finds, HearsFrom, Loses, Refuses};
 ghost use Rattle.service.specs.Telling.{told_at};
 ghost use Rattle.service.specs.declared.output.OutputState.{OutputState as StateValue};
@@ -10,7 +10,7 @@ ghost use Rattle.service.specs.declared.notice.Unwritten.TheVariants.{Unanswered
 ghost use Rattle.service.specs.declared.output.OutputState.TheVariants.{Unwritten as unwritten_for};
 ghost use Rattle.service.specs.Losing.{IsLost};
 ghost use Rattle.service.specs.Told.{Allowed, BecomesBy, Goes, IsReportOf, IsSo, IsThis, IsUnanswered, LosesBy, PlansBy, RunsBy, allows, awaited_then, awaits_at, lost_then, note_of, state_then};
-ghost use Rattle.service.specs.Having.{IsOfPlan, IsToWait, IsToWrite, IsUnplanned};
+ghost use Rattle.service.specs.Having.{IsOfPlan, IsToWait};
 ghost use Rattle.service.specs.Timing.{CountsScan, KeepsCounts, KeepsTime, PlansScan, not_over, planned_from, scan_after};
 
 use crate::last_scan::LastScan;
@@ -21,7 +21,7 @@ use crate::output::{Output, OutputState};
 use crate::polled_device::PolledDevice;
 use crate::refusals::ReadRefusal;
 use crate::round::Round;
-use gateway::{Core, DEPTH, Report};
+use gateway::Report;
 use point_writer::{NoWrite, Write};
 use service_parts::{Aim, Limits};
 
@@ -310,19 +310,9 @@ impl DeviceSide {
         }
     }
 
-    /// The program ran, and this is planned for each output.
-    pub(crate) fn count_scan(&mut self, core: &Core<DEPTH>, round: &Round)
-        ensures time { CountsScan (came_to core.now.standing.last) self.old self.new }
-        ensures stands { RunsBy (came_to core.now.standing.last) (IsUnplanned core.now) (IsToWrite core.now) self.old self.new }
-    {
-        self.count(LastScan::of(core));
-        for output in 0..core.site().outs().len() {
-            self.plan_output(output, &core.write(output), round.is_open(output));
-        }
-    }
-
+    /// The program ran, and its scan came to this.
     #[tactic(auto, using(crate::proofs::ByNotes::counted_goes))]
-    fn count(&mut self, came: LastScan)
+    pub(crate) fn count_scan(&mut self, came: LastScan)
         ensures time { CountsScan came self.old self.new }
         ensures stands { RunsBy came (λ output became. ⊥) (λ output. ⊥) self.old self.new }
     {
@@ -331,7 +321,12 @@ impl DeviceSide {
     }
 
     /// An output's write is waited for from now on, where one is to be made; where there is no set point for it, it isn't written.
-    fn plan_output(&mut self, output: usize, plan: &Result<Write, NoWrite>, is_open: bool)
+    pub(crate) fn plan_output(
+        &mut self,
+        output: usize,
+        plan: &Result<Write, NoWrite>,
+        is_open: bool,
+    )
         ensures time { KeepsTime self.old self.new }
         ensures stands { PlansBy (IsOfPlan output plan.now) (IsToWait output plan.now) self.old self.new }
     {

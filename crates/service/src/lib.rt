@@ -5,7 +5,9 @@
 mod adopting;
 mod answers;
 mod asking;
+mod client_frames;
 mod client_side;
+mod client_writes;
 mod connections;
 mod construction;
 mod counts;
@@ -38,6 +40,7 @@ mod wishes;
 pub use service_parts::{Limits, Station};
 pub use service_state::Service;
 // what it tells
+pub use client_writes::{ClientWrite, WriteOutcome};
 pub use notice::{Loss, Notice, Unwritten};
 // how it stands
 pub use counts::Counts;

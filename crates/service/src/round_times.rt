@@ -12,6 +12,7 @@ ghost use Rattle.service.specs.Going.{LinksGo, LinksGoByScan};
 ghost use Rattle.service.specs.Having.{HasNoMore, IsToWrite, IsUnplanned, TellsAt, TellsHad, WritesAt, WritesHad};
 ghost use Rattle.service.specs.Staying.{Stays};
 
+use crate::last_scan::LastScan;
 use crate::service_state::Service;
 use gateway::Report;
 use service_parts::close_idle;
@@ -123,8 +124,9 @@ impl Service {
         ensures time { RunsNow self.old self.new }
         ensures stands { RunsBy (came_to self.new.cycle.core.value.standing.last) (IsUnplanned self.new.cycle.core.value) (IsToWrite self.new.cycle.core.value) self.old.side self.new.side }
     {
-        self.cycle.scan(self.side.now);
-        self.side.count_scan(self.cycle.core(), self.cycle.round());
+        let now = self.side.now;
+        self.cycle.scan(&mut self.side, now);
+        self.side.count_scan(LastScan::of(self.cycle.core()));
     }
 
     /// Which devices the scan plans the outputs of, and which it passes over.

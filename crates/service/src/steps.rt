@@ -21,18 +21,22 @@ ghost use Rattle.service.specs.Cycle.{ClientsLeadOn, EndsOwn, LeadsOn, stage_of}
 ghost use Rattle.service.specs.Forgetting.{first_but, forgotten, with_blocks, without_blocks};
 ghost use Rattle.service.specs.GivingUp.{GivesUp};
 ghost use Rattle.service.specs.Going.{NoMoreDue, TakesNext};
+ghost use Rattle.service.specs.Having.{IsToWrite, IsUnplanned};
 ghost use Rattle.service.specs.LeftOut.{GivesNext};
 ghost use Rattle.service.specs.Rounds.{AreRecentTo, IsRecent, IsSendable, told_at};
 ghost use Rattle.service.specs.Stages.{Ends, OpensNext, Scans, Skips, TakesEvent, Tells, Waits};
+ghost use Rattle.service.specs.Timing.{KeepsTime};
+ghost use Rattle.service.specs.Told.{PlansBy};
 
 use crate::cycle::Cycle;
+use crate::device_side::DeviceSide;
 use crate::round::Turn;
 use crate::wish::Wish;
 use gateway::{Core, DEPTH, Event, Outcome, event_by, read_of};
-use modbus_frame::{Frame, FrameReply, Request, Responder, request_pdu};
+use modbus_frame::{Request, request_pdu};
 use register_map::Map;
 use service_parts::Aim;
-use service_requests::{Search, SearchStep, is_write, refusal};
+use service_requests::{Search, SearchStep};
 use site_model::Want;
 
 impl Cycle {
@@ -408,33 +412,19 @@ impl Cycle {
         self.core.step(Event::Client(request_pdu(request)));
     }
 
-    /// Runs the program once, at this time.
-    pub fn scan(&mut self, now: u64)
+    /// Runs the program once, at this time, and tells the devices' side what is planned for each output.
+    pub(crate) fn scan(&mut self, side: &mut DeviceSide, now: u64)
         requires recent { All IsRecent self.old.round.told }
         ensures scans { Scans now (stage_of self.old) (stage_of self.new) }
+        ensures time { KeepsTime side.old side.new }
+        ensures stands { PlansBy (IsUnplanned self.new.core.value) (IsToWrite self.new.core.value) side.old side.new }
     {
-        self.round.scan(&mut self.core, now);
+        self.round.scan(&mut self.core, side, now);
     }
 
     /// Whether nothing is left to be written.
     pub fn is_complete(&self) -> bool {
         self.round.is_complete()
-    }
-}
-
-impl Responder for Cycle {
-    ghost use Rattle.std.specs.Prelude.{◌≡◌};
-    ghost use Rattle.gateway.specs.event_core.Control.{AnswersFrame};
-    ghost use Rattle.service_requests.specs.Guarding.{Guards};
-
-    ghost answers = { λ old frame bytes goes_on new. (new.may_write ≡ old.may_write) × (new.round ≡ old.round)
-        × Guards AnswersFrame old.may_write old.core.value frame bytes goes_on new.core.value };
-
-    fn answer(&mut self, frame: &Frame) -> FrameReply {
-        if !self.may_write && is_write(&frame.pdu) {
-            return refusal(frame);
-        }
-        self.core.answer(frame)
     }
 }
 

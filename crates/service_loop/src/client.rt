@@ -4,18 +4,19 @@ ghost use Rattle.service_parts.specs.Clients.{DoesAt, Sends};
 
 use mio::net::TcpStream;
 use mio::{Interest, Registry, Token};
-use modbus_frame::Frame;
 use service::Service;
 use service_edges::{Connection, Giver, Taker};
-use service_texts::Ear;
 use std::net::SocketAddr;
+
+/// The fewest bytes of a write that can be done: the seven of its header, function 6, address and value. So what one write set is
+/// told before another one sets something.
+const LEAST_WRITE: usize = 12;
 
 /// A client's connection.
 #[derive(Drop)]
 pub(crate) struct Client {
     pub(crate) address: SocketAddr,
     connection: Connection<TcpStream>,
-    ear: Ear,
 }
 
 impl Client {
@@ -33,7 +34,6 @@ impl Client {
         Some(Client {
             address,
             connection: Connection::new(stream),
-            ear: Ear::new(),
         })
     }
 
@@ -47,15 +47,13 @@ impl Client {
         self.connection.is_busy(waiting)
     }
 
-    /// Hands over what came, up to the end of a frame; that frame, where one was answered.
-    pub(crate) fn receive(
-        &mut self,
-        service: &mut Service,
-        place: usize,
-        now: u64,
-    ) -> Option<Frame> {
-        hand_over(&mut self.connection, &mut self.ear, service, place, now);
-        self.ear.take_frame()
+    /// Hands over what came, until a frame is answered: the service then has what it wrote.
+    pub(crate) fn receive(&mut self, service: &mut Service, place: usize, now: u64) {
+        self.connection.hand_over(&mut FromClient {
+            service,
+            place,
+            now,
+        });
     }
 
     /// Sends what waits.
@@ -71,43 +69,44 @@ impl Client {
     }
 }
 
-fn hand_over(
-    connection: &mut Connection<TcpStream>,
-    ear: &mut Ear,
-    service: &mut Service,
-    place: usize,
-    now: u64,
-) {
-    connection.hand_over(&mut FromClient {
-        service,
-        ear,
-        place,
-        now,
-    });
-}
-
-/// Takes what a client sends, one frame at most: the next one is taken once the answer is gone.
+/// Takes what a client sends, until a frame is answered: the next one is taken once the answer is gone.
 #[derive(Drop)]
-struct FromClient<'s, 'e> {
+struct FromClient<'s> {
     service: &'s mut Service,
-    ear: &'e mut Ear,
     place: usize,
     now: u64,
 }
 
-impl Taker for FromClient<'_, '_> {
+impl Taker for FromClient<'_> {
     ghost use Rattle.std.specs.Prelude.{None};
 
     ghost taken = { λ _. None };
 
     fn take(&mut self, bytes: &[u8]) -> usize {
-        // what is given while an answer waits isn't used
-        let piece = if self.service.to_client(self.place).is_empty() {
-            self.ear.front_of(bytes)
-        } else {
-            bytes
-        };
-        self.service.from_client(self.place, piece, self.now)
+        let mut used: usize = 0;
+        for _ in 0..bytes.len() {
+            let Some((_, rest)) = bytes.split_at_checked(used) else {
+                break;
+            };
+            if rest.is_empty() || self.is_answered() {
+                break;
+            }
+            used = used.saturating_add(self.hand(rest));
+        }
+        used
+    }
+}
+
+impl FromClient<'_> {
+    /// Whether a frame was answered, and its answer waits.
+    fn is_answered(&self) -> bool {
+        !self.service.to_client(self.place).is_empty()
+    }
+
+    /// Hands over the next bytes, so few that they end at most one write that is done; how many were used.
+    fn hand(&mut self, rest: &[u8]) -> usize {
+        let front = rest.split_at(LEAST_WRITE.min(rest.len())).0;
+        self.service.from_client(self.place, front, self.now)
     }
 }
 

@@ -1,11 +1,11 @@
 //! What is told of clients.
 use crate::line_writer::LineWriter;
 use gateway::{Core, DEPTH};
-use modbus_frame::{Exception, Frame, parse_request};
+use modbus_frame::Exception;
+use service::{ClientWrite, Service, WriteOutcome};
 use service_texts::{
-    Change, KnownSettings, Over, Ration, RefusedNumber, RefusedWrite, WriteOutcome, address_of,
-    key_of, lapsed_line, number_text, outcome_of, refused_more_line, refused_number, refused_text,
-    set_line,
+    Change, KnownSettings, Over, Ration, RefusedNumber, address_of, key_of, lapsed_line,
+    number_text, refused_more_line, refused_number, refused_text, set_line,
 };
 use site_model::Site;
 use std::alloc::{AllocError, Global};
@@ -36,6 +36,8 @@ pub(crate) struct ClientWatch {
     left: Ration,
     refused: Ration,
     known: KnownSettings,
+    /// How many times the program had run when it was told last what lapsed: nothing lapses beside its scans.
+    scans: u64,
 }
 
 impl ClientWatch {
@@ -48,6 +50,7 @@ impl ClientWatch {
             left: Ration::new(MOST_MOVES, HOUR),
             refused: Ration::new(MOST_REFUSED, MINUTE),
             known: KnownSettings::new(alloc, &[])?,
+            scans: 0,
         })
     }
 
@@ -79,20 +82,19 @@ impl ClientWatch {
         }
     }
 
-    /// A client's frame was answered by these bytes, which are still to go out: tells what it set, or that it was refused.
-    pub(crate) fn tell_frame<W: Write>(
+    /// Tells what a client wrote just now, which it isn't told yet: what it set, or that it was refused.
+    pub(crate) fn tell_writes<W: Write>(
         &mut self,
         address: SocketAddr,
-        frame: &Frame,
-        reply: &[u8],
-        core: &Core<DEPTH>,
+        service: &Service,
         line_writer: &mut LineWriter<'_, W>,
     ) {
-        match outcome_of(&frame.pdu, reply) {
-            WriteOutcome::NoWrite => {}
-            WriteOutcome::Done => self.tell_changes(address, core, line_writer),
-            WriteOutcome::Refused(refused) => {
-                self.tell_refused(address, frame, refused, core, line_writer);
+        for write in service.client_writes() {
+            match write.outcome {
+                WriteOutcome::Done => self.tell_changes(address, service.core(), line_writer),
+                WriteOutcome::Refused(exception) => {
+                    self.tell_refused(address, write, exception, service.core(), line_writer);
+                }
             }
         }
     }
@@ -115,8 +117,20 @@ impl ClientWatch {
         }
     }
 
-    /// Tells which set values lapsed. What else changed was told of the client that wrote it.
+    /// Tells which set values lapsed, where the program ran since this was asked last. What else changed was told of the client
+    /// that wrote it.
     pub(crate) fn tell_lapsed<W: Write>(
+        &mut self,
+        service: &Service,
+        line_writer: &mut LineWriter<'_, W>,
+    ) {
+        if service.scans() != self.scans {
+            self.scans = service.scans();
+            self.tell_each_lapsed(service.core(), line_writer);
+        }
+    }
+
+    fn tell_each_lapsed<W: Write>(
         &mut self,
         core: &Core<DEPTH>,
         line_writer: &mut LineWriter<'_, W>,
@@ -133,13 +147,13 @@ impl ClientWatch {
     fn tell_refused<W: Write>(
         &mut self,
         address: SocketAddr,
-        frame: &Frame,
-        refused: RefusedWrite,
+        write: &ClientWrite,
+        exception: Exception,
         core: &Core<DEPTH>,
         line_writer: &mut LineWriter<'_, W>,
     ) {
         if self.refused.ask(key_of(address.ip()), line_writer.now()) {
-            let what = refusal_text(self.alloc, frame, refused, core);
+            let what = refusal_text(self.alloc, write, exception, core);
             line_writer.tell_what(address, what);
         }
     }
@@ -188,12 +202,12 @@ fn change_line(
 /// `refused FUNCTION ADDRESS EXCEPTION`, and where a point is known there `NAME NUMBER LOW..HIGH` after it.
 fn refusal_text(
     alloc: Global,
-    frame: &Frame,
-    refused: RefusedWrite,
+    write: &ClientWrite,
+    exception: Exception,
     core: &Core<DEPTH>,
 ) -> Result<String, AllocError> {
-    let mut text = refused_text(alloc, refused)?;
-    if let Some(hit) = number_refused(frame, refused, core) {
+    let mut text = refused_text(alloc, write.function, write.address, exception.0)?;
+    if let Some(hit) = number_refused(write, exception, core) {
         text.push_str(hit_text(alloc, core.site(), hit)?.as_str())?;
     }
     Ok(text)
@@ -201,16 +215,16 @@ fn refusal_text(
 
 /// What the write would have set; none where it was for another unit.
 fn number_refused(
-    frame: &Frame,
-    refused: RefusedWrite,
+    write: &ClientWrite,
+    exception: Exception,
     core: &Core<DEPTH>,
 ) -> Option<RefusedNumber> {
-    if refused.exception == Exception::GATEWAY_TARGET_FAILED.0 {
+    if exception == Exception::GATEWAY_TARGET_FAILED {
         return None;
     }
-    match parse_request(&frame.pdu) {
-        Ok(request) => refused_number(core, &request, refused.exception),
-        Err(_) => None,
+    match &write.request {
+        Some(request) => refused_number(core, request, exception.0),
+        None => None,
     }
 }
 

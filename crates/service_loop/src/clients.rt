@@ -7,7 +7,6 @@ use crate::client_watch::ClientWatch;
 use crate::door::Door;
 use crate::line_writer::LineWriter;
 use crate::tokens::SocketTokens;
-use gateway::{Core, DEPTH};
 use mio::net::TcpStream;
 use mio::{Registry, Token};
 use service::Service;
@@ -51,13 +50,13 @@ impl Clients {
         self.watch.begin(settings)
     }
 
-    /// Tells which set values lapsed.
+    /// Tells which set values lapsed, where the program ran since this was asked last.
     pub(crate) fn tell_lapsed<W: Write>(
         &mut self,
-        core: &Core<DEPTH>,
+        service: &Service,
         line_writer: &mut LineWriter<'_, W>,
     ) {
-        self.watch.tell_lapsed(core, line_writer);
+        self.watch.tell_lapsed(service, line_writer);
     }
 
     /// The system says of the client at a place that there is something to do.
@@ -160,7 +159,7 @@ impl Clients {
         }
     }
 
-    /// Hands over what came, a frame of each client at most, and tells what they set, before it is told that it is done.
+    /// Hands over what came, of each client until a frame is answered, and tells what they set, before they are told that it is done.
     pub(crate) fn receive<W: Write>(
         &mut self,
         service: &mut Service,
@@ -213,7 +212,7 @@ fn admitted(service: &mut Service, writers: &[Writer], address: IpAddr, now: u64
     service.client_came(may_write(writers, address), now)
 }
 
-/// Hands over what came of a client, and tells what it set.
+/// Hands over what came of a client, and tells what it wrote.
 fn receive_at<W: Write>(
     client: &mut Client,
     place: usize,
@@ -221,8 +220,9 @@ fn receive_at<W: Write>(
     service: &mut Service,
     line_writer: &mut LineWriter<'_, W>,
 ) {
-    if let Some(frame) = client.receive(service, place, line_writer.now()) {
-        let reply = service.to_client(place);
-        watch.tell_frame(client.address, &frame, reply, service.core(), line_writer);
+    let answered = service.client_requests(place);
+    client.receive(service, place, line_writer.now());
+    if service.client_requests(place) > answered {
+        watch.tell_writes(client.address, service, line_writer);
     }
 }

@@ -113,7 +113,7 @@ impl Sockets {
             line_writer,
         );
         // a scan may have been made, and a client may write again what lapsed before it
-        self.clients.tell_lapsed(service.core(), line_writer);
+        self.clients.tell_lapsed(service, line_writer);
         self.clients.receive(service, line_writer);
         self.links.hang_up(service, now);
         self.links.dial(rt, registry, service, now);

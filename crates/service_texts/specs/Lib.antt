@@ -12,8 +12,6 @@ pub mod Rationing
 pub mod Beginning
 pub mod Starting
 pub mod Changing
-pub mod Hearing
 pub mod Hitting
 pub mod Numbers
-pub mod Outcomes
 pub mod Telling

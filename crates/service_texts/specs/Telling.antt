@@ -1,7 +1,6 @@
 -- What is told of writes. No standard says what is printed; these lines are this project's.
 use Rattle.std.specs.Prelude.{ℕ, ℤ, List, ◌++◌, Option, Some, None, codes}
 use Rattle.std.specs.Fmt.{decimal, signed_decimal}
-use Rattle.service_texts.specs.declared.outcome.RefusedWrite.{RefusedWrite}
 
 -- a number, or what stands where there is none
 abbrev pub number_or : List ℕ → Option ℤ → List ℕ
@@ -21,8 +20,8 @@ address_text (Some address) = decimal address
 address_text None = codes "-"
 
 -- refused FUNCTION ADDRESS EXCEPTION
-abbrev pub refused_text : RefusedWrite → List ℕ
-refused_text refused = codes "refused " ++ decimal refused.function ++ codes " " ++ address_text refused.address ++ codes " " ++ decimal refused.exception
+abbrev pub refused_text : (function : ℕ) (address : Option ℕ) (exception : ℕ) → List ℕ
+refused_text function address exception = codes "refused " ++ decimal function ++ codes " " ++ address_text address ++ codes " " ++ decimal exception
 
 -- NAME NUMBER LOW..HIGH, after a blank
 abbrev pub number_text : (name : List ℕ) (number : Option ℤ) (low high : ℤ) → List ℕ

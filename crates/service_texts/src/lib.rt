@@ -1,17 +1,15 @@
 //! What a service over sockets reads and writes as text, and what it is told: where a site file says that devices are, who
-//! may write, how long is waited, the file of set values, what clients write, the start, and its lines and how often they come.
+//! may write, how long is waited, the file of set values, what clients set, the start, and its lines and how often they come.
 #![tactic(auto)]
 
 mod addresses;
 mod clock_times;
 mod device_places;
 mod digits;
-mod ear;
 mod hit;
 mod lapsing_lines;
 mod lines;
 mod number;
-mod outcome;
 mod ration;
 mod reaching;
 mod retain_pace;
@@ -50,10 +48,8 @@ pub use lines::{
     listening_line, lost_line, program_refused_line, program_taken_line, stamped, unwritten_line,
     written_line,
 };
-// what clients write: which frame is answered, what comes of it, and what a number that is refused would have been
-pub use ear::Ear;
+// what clients set, and what a number that is refused would have been
 pub use hit::{RefusedNumber, refused_number};
-pub use outcome::{RefusedWrite, WriteOutcome, outcome_of};
 pub use settings::{Change, KnownSettings};
 pub use told::{lapsed_line, number_text, refused_more_line, refused_text, set_line};
 // how often something is told of one address

@@ -3,7 +3,6 @@ ghost use Rattle.std.specs.Prelude.{◌≡◌, ◌++◌, codes, string_bytes, If
 ghost use Rattle.std.specs.Fmt.{decimal, signed_decimal};
 ghost use Rattle.service_texts.specs.Telling as told;
 
-use crate::outcome::RefusedWrite;
 use std::alloc::{AllocError, Global};
 
 /// `set NAME NUMBER was NUMBER by ADDR`, or `was unset`.
@@ -52,11 +51,16 @@ fn number_or(alloc: Global, number: Option<i64>, other: &str) -> Result<String, 
 }
 
 /// `refused FUNCTION ADDRESS EXCEPTION`.
-pub fn refused_text(alloc: Global, refused: RefusedWrite) -> Result<String, AllocError>
-    ensures { IfOk result (λ text. string_bytes text ≡ told.refused_text refused) }
+pub fn refused_text(
+    alloc: Global,
+    function: u8,
+    address: Option<u16>,
+    exception: u8,
+) -> Result<String, AllocError>
+    ensures { IfOk result (λ text. string_bytes text ≡ told.refused_text function address exception) }
 {
-    let address = address_text(alloc, refused.address)?;
-    text_of_refused(alloc, refused.function, address.as_str(), refused.exception)
+    let address = address_text(alloc, address)?;
+    text_of_refused(alloc, function, address.as_str(), exception)
 }
 
 fn address_text(alloc: Global, address: Option<u16>) -> Result<String, AllocError>

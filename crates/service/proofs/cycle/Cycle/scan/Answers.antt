@@ -33,6 +33,8 @@ returns c =
         planned = c.scan.ensures.planned;
         same = c.scan.ensures.same;
       };
+      time = c.scan.ensures.time;
+      stands = c.scan.ensures.stands;
     }
 
 pub invariant_of-self-clause-sought : goal.invariant_of-self-clause-sought

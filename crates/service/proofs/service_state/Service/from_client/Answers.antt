@@ -5,6 +5,7 @@ use Rattle.service_parts.proofs.Heard.{done_at, nobody_at, that_one}
 use Rattle.service_parts.specs.declared.client_place.ClientPlace.{ClientPlace}
 use Rattle.service_parts.specs.Clients.{IsDeaf, ready_of}
 use Rattle.service.specs.Cycle.{ClientsLeadOn, stage_of}
+use Rattle.service.proofs.ToldWrites.{hears_writes}
 use Rattle.service.proofs.Courses.{clients_chain, clients_guarded, hears_from, right_clients}
 use Rattle.service.specs.declared.cycle.Cycle.{Cycle}
 use Rattle.service.specs.Rounds.{Progress}
@@ -17,7 +18,8 @@ returns-in-Some-clause-hears c =
     let within : c.args.place < length places = search rules in
     let at : slice_get places c.args.place ≡ Some c.in-Some.client.now = slice_get_read places _ c.args.place c.in-Some.client.now refl within c.in-Some.ensures.value in
     done_at _ places places c.args.place c.in-Some.client.now c.take.new.self refl at
-    (λ heard. hears_from _ _ _ _ _ _ _ _ (c.turn_to-in-Some.ensures ∙ ap (λ b. record c.args.self.now.cycle { may_write = b }) c.may_write.ensures) (c.take.ensures.hears heard))
+    (λ heard. hears_writes _ (λ (s : Cycle). s.writes) (λ s frame bytes goes_on t answers. answers.3) _ _ _ _ _ _ refl
+    (hears_from _ _ _ _ _ _ _ _ (c.turn_to-in-Some.ensures ∙ ap (λ b. record c.args.self.now.cycle { may_write = b; writes = [] }) c.may_write.ensures) (c.take.ensures.hears heard)))
 
 pub returns-in-None-clause-hears : goal.returns-in-None-clause-hears
 returns-in-None-clause-hears c =
@@ -49,8 +51,9 @@ returns-in-Some-clause-deaf c =
     let places = c.args.self.now.places.items in
     let within : c.args.place < length places = search rules in
     let at : slice_get places c.args.place ≡ Some c.in-Some.client.now = slice_get_read places _ c.args.place c.in-Some.client.now refl within c.in-Some.ensures.value in
-    done_at (λ (old new : ClientPlace). IsDeaf old → (new ≡ old) × (c.take.new.responder.core.value ≡ c.args.self.now.cycle.core.value)) places places c.args.place c.in-Some.client.now c.take.new.self refl at
-    (λ deaf. ((c.take.ensures.deaf deaf).0, ap (λ x. x.core.value) (c.take.ensures.deaf deaf).1 ∙ ap (λ x. x.core.value) c.turn_to-in-Some.ensures))
+    done_at (λ (old new : ClientPlace). IsDeaf old → (new ≡ old) × (c.take.new.responder.core.value ≡ c.args.self.now.cycle.core.value) × (c.take.new.responder.writes ≡ [])) places places c.args.place c.in-Some.client.now c.take.new.self refl at
+    (λ deaf. let (here, still) = c.take.ensures.deaf deaf in
+    (here, ap (λ x. x.core.value) still ∙ ap (λ x. x.core.value) c.turn_to-in-Some.ensures, ap (λ x. x.writes) still ∙ ap (λ x. x.writes) c.turn_to-in-Some.ensures))
 
 pub returns-in-Some-clause-time : goal.returns-in-Some-clause-time
 returns-in-Some-clause-time c = record {
