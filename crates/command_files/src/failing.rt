@@ -74,7 +74,7 @@ pub fn tell_lost<R: Eprint + AllocGlobal, W: Write>(
     ensures { Fails (W.contents out.old) (W.contents out.new) result }
 {
     let status = tell_unlinked(alloc, fault, out);
-    notes.explain(rt, &Some(RefusalNote::unlinked(alloc, fault)));
+    notes.tell(rt, &RefusalNote::unlinked(alloc, fault));
     status
 }
 

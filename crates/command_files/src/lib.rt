@@ -3,6 +3,7 @@
 //! links alone stands in the crate `commands`.
 #![tactic(auto)]
 
+mod explain_table;
 mod failing;
 mod files;
 mod links;
@@ -13,6 +14,7 @@ mod runtimes;
 mod trial_input;
 mod warnings;
 
+pub use explain_table::ExplainTable;
 pub use failing::{no_start, tell_file, tell_lost, tell_unserved};
 pub use files::{
     STANDARD_INPUT, SourceFault, WriteFault, definitions_in, read_again, read_file, read_kept,

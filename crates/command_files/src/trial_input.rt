@@ -4,7 +4,7 @@ ghost use Rattle.commands.specs.Outcome.{IsTrial};
 ghost use Rattle.command_files.specs.Tried.{TellsHindered, Tries};
 
 use crate::files::{STANDARD_INPUT, SourceFault, read_text};
-use commands::{TextCommand, tell_no_memory, write_lines};
+use commands::{tell_no_memory, try_input, write_lines};
 use refusal_notes::{explain_program, explain_unusable};
 use std::io::{Read, Write};
 
@@ -28,11 +28,11 @@ pub fn trial_of<S: Read + Drop, W: Write>(
 fn trial_on<W: Write>(rt: &(impl Eprint + AllocGlobal), input: &str, quiet: bool, out: &mut W) -> u8
     ensures { IsTrial input.now (W.contents out.old) (W.contents out.new) result }
 {
-    let obeyed = commands::obey(rt.alloc(), TextCommand::Trial { input }, out);
+    let (status, cause) = try_input(rt.alloc(), input, out);
     if !quiet {
-        explain_program(rt, STANDARD_INPUT, input, &obeyed.cause);
+        explain_program(rt, STANDARD_INPUT, input, &cause);
     }
-    obeyed.status
+    status
 }
 
 /// Tells why the text of standard input isn't had, and gives the status.

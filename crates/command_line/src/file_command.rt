@@ -5,7 +5,7 @@ ghost use Rattle.command_line.specs.Asked.{ObeysFiles};
 
 use crate::plant_server::{PlantPort, simulate};
 use command_files::{
-    PlantRun, ProbeRun, RunRuntime, probe_over, run_plant, warn_beside, warn_of_site,
+    ExplainTable, PlantRun, ProbeRun, RunRuntime, probe_over, run_plant, warn_beside, warn_of_site,
 };
 use commands::{RunPace, TextCommand, judge};
 use refusal_notes::Notes;
@@ -53,9 +53,8 @@ pub fn obey_on<W: Write>(
                 site,
                 program,
                 defs,
-                listing,
             };
-            told(rt, explain, notes, out)
+            told(rt, explain, ExplainTable { listing }, notes, out)
         }
         FileCommand::Simulate { at } => {
             notes.warn(rt);
@@ -84,12 +83,13 @@ pub fn obey_on<W: Write>(
 fn told<W: Write>(
     rt: &(impl Eprint + AllocGlobal),
     command: TextCommand<'_>,
+    table: ExplainTable,
     notes: &Notes<'_>,
     out: &mut W,
 ) -> u8
     ensures { Obeys command.entry (W.contents out.old) (W.contents out.new) result }
 {
-    let obeyed = commands::obey(rt.alloc(), command, out);
+    let obeyed = commands::obey(rt.alloc(), command, &table, out);
     notes.warn(rt);
     notes.explain(rt, &obeyed.cause);
     obeyed.status

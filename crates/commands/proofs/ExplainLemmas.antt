@@ -1,12 +1,14 @@
 -- What `explain` tells, from the image of a program up to the texts.
 use Rattle.std.proofs.Common.{◌≡◌, ◌≢◌, ◌⊎◌, ◌++◌, [], ℕ, List, inl, inr, refl, sym, subst, ◌∙◌, ap, Result, Ok, Err, IfOk, OnOk}
 use Rattle.model_defs.specs.declared.fault.DefFault.{DefFault}
+use Rattle.model_defs.specs.declared.fault.DefFault.TheVariants as def_fault
 use Rattle.model_defs.specs.declared.model.ModelDef.{ModelDef}
 use Rattle.model_defs.specs.Fault as definition
 use Rattle.site_model.specs.File.{Layout, site_in}
 use Rattle.site_model.specs.Fault as site_fault
 use Rattle.site_model.specs.Views.{site_view}
 use Rattle.site_model.specs.declared.fault.SiteFault.{SiteFault}
+use Rattle.site_model.specs.declared.fault.SiteFault.TheVariants as site_fault_kind
 use Rattle.site_model.specs.declared.site.Site.{Site}
 use Rattle.scan_code.specs.Image.{Image}
 use Rattle.il_assemble.specs.declared.fault.AsmFault.{AsmFault}
@@ -83,16 +85,20 @@ site_explained models text program site (Ok told) located (Err refused, h, e) =
     (Err refused, subst (λ (l : Result Layout SiteFault). RefusesSite l program refused) (sym located) (site.tags, refl, h), e)
 site_explained models text program site (Err e) located h = tt
 
-pub no_site_explained : (models : List ModelDef) (text program : List ℕ) (fault : SiteFault) (told : Told) → site_in models text ≡ Err fault
-    → told ≡ refused_with (bad_site_line (site_fault.fault_word fault)) → ExplainsSite models text program told
-no_site_explained models text program fault told why is =
-    (Err told, subst (λ (l : Result Layout SiteFault). RefusesSite l program told) (sym why) is, ends_alone told told refl)
+pub no_site_explained : {E : Type 0} (models : List ModelDef) (text program : List ℕ) (fault : SiteFault) (r : Result Told E)
+    → (fault ≢ site_fault_kind.OutOfMemory → site_in models text ≡ Err fault) → OnOk r (fault ≢ site_fault_kind.OutOfMemory)
+    → IfOk r (λ o. o ≡ refused_with (bad_site_line (site_fault.fault_word fault))) → IfOk r (ExplainsSite models text program)
+no_site_explained models text program fault (Ok told) why real is =
+    (Err told, subst (λ (l : Result Layout SiteFault). RefusesSite l program told) (sym (why real)) is, ends_alone told told refl)
+no_site_explained models text program fault (Err e) why real is = tt
 
 pub models_explained : {E : Type 0} (models : List ModelDef) (texts : List (List ℕ)) (site program : List ℕ) (r : Result Told E) → AreDefined texts models
     → IfOk r (ExplainsSite models site program) → IfOk r (ExplainsTexts site program texts)
 models_explained models texts site program (Ok told) defined (given, h, e) = (given, by_models {E = Told} models texts site program (Ok given) defined h, e)
 models_explained models texts site program (Err e) defined h = tt
 
-pub undefined_explained : (site program : List ℕ) (texts : List (List ℕ)) (fault : DefFault) (told : Told) → IsUndefined texts fault
-    → told ≡ refused_with (bad_definition_line (definition.fault_word fault)) → ExplainsTexts site program texts told
-undefined_explained site program texts fault told broken is = (Err told, inr (fault, broken, is), ends_alone told told refl)
+pub undefined_explained : {E : Type 0} (site program : List ℕ) (texts : List (List ℕ)) (fault : DefFault) (r : Result Told E)
+    → (fault ≢ def_fault.OutOfMemory → IsUndefined texts fault) → OnOk r (fault ≢ def_fault.OutOfMemory)
+    → IfOk r (λ o. o ≡ refused_with (bad_definition_line (definition.fault_word fault))) → IfOk r (ExplainsTexts site program texts)
+undefined_explained site program texts fault (Ok told) broken real is = (Err told, inr (fault, broken real, is), ends_alone told told refl)
+undefined_explained site program texts fault (Err e) broken real is = tt

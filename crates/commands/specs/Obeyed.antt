@@ -46,7 +46,7 @@ pub record Checks (site program : List ℕ) (texts : List (List ℕ)) (old new :
 abbrev pub Obeys : TextCommand → Option (List ℕ) → Option (List ℕ) → ℕ → Type 0
 Obeys (Trial input) old new status = IsTrial input.now old new status
 Obeys (Check site program defs) old new status = Checks site.now program.now (map string_bytes defs.now) old new status
-Obeys (Explain site program defs listing) old new status = IsExplained site.now program.now (map string_bytes defs.now) old new status
+Obeys (Explain site program defs) old new status = IsExplained site.now program.now (map string_bytes defs.now) old new status
 
 -- ---- over a link
 

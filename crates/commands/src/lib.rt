@@ -10,7 +10,7 @@ pub mod definitions;
 mod explained;
 mod given;
 mod input;
-mod input_cause;
+mod input_fault;
 pub mod laws;
 mod model_texts;
 mod number;
@@ -19,11 +19,12 @@ mod obeyed_over;
 mod outcome;
 mod pace;
 mod plant;
+mod program_table;
+mod refusal;
 mod report;
 mod scan;
 mod scan_watch;
 mod site_scans;
-mod trap_cause;
 mod trial_scan;
 mod unit_points;
 mod verdict;
@@ -34,7 +35,7 @@ pub use trial_scan::{trial, try_input};
 // a program and a site
 pub use accepted::{Accepted, accept, accept_program};
 pub use explained::explain;
-pub use program_notes::Beside;
+pub use program_table::ProgramTable;
 pub use verdict::{Judged, check, judge};
 // a plant of simulated inverters
 pub use plant::{plant_of, plant_told};
@@ -51,6 +52,9 @@ pub use unit_points::probe;
 // each of these as a command, with a clause for all of them
 pub use obeyed::{Obeyed, TextCommand, obey};
 pub use obeyed_over::{LinkCommand, ObeyedOver, obey_over};
+// why one refuses
+pub use input_fault::{InputFault, RefusedInput};
+pub use refusal::CommandRefusal;
 // what is printed, and its status
 pub use outcome::{
     CommandOutcome, FAILED_LINK, tell_no_memory, tell_unlinked, tell_unusable, write_lines,

@@ -7,9 +7,7 @@ ghost use Rattle.commands.specs.Obeyed.{TellsNoModels};
 use crate::definitions::definitions;
 use crate::obeyed::Obeyed;
 use crate::outcome::{CommandOutcome, tell_no_memory};
-use crate::report::undefined;
-use model_defs::{DefFault, ModelDef};
-use refusal_notes::cause_of_definition;
+use model_defs::ModelDef;
 use std::alloc::{AllocError, Global};
 use std::io::Write;
 
@@ -41,11 +39,6 @@ fn models_of(
 {
     match definitions(alloc, defs) {
         Ok(models) => Ok(Ok(models)),
-        Err(DefFault::OutOfMemory) => Err(AllocError),
-        Err(fault) => {
-            let line = undefined(alloc, fault.word())?;
-            let cause = cause_of_definition(alloc, defs, fault);
-            Ok(Err(CommandOutcome::caused(line, cause)))
-        }
+        Err(fault) => Ok(Err(CommandOutcome::undefined(alloc, fault)?)),
     }
 }

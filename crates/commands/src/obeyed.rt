@@ -3,11 +3,11 @@ ghost use Rattle.std.specs.Prelude.{◌≡◌, map, string_bytes};
 ghost use Rattle.commands.specs.Obeyed.{Checks, Obeys};
 
 use crate::explained::explain;
+use crate::program_table::ProgramTable;
+use crate::refusal::CommandRefusal;
 use crate::trial_scan::try_input;
 use crate::verdict::judge;
 use file_keys::TomlFile;
-use program_notes::Beside;
-use refusal_notes::RefusalNote;
 use std::alloc::Global;
 use std::io::Write;
 
@@ -24,12 +24,11 @@ pub enum TextCommand<'a> {
         program: &'a str,
         defs: &'a [String],
     },
-    /// The program with its instructions, and but for a listing what the verdict knows before each of them.
+    /// The program with what is told beside its lines.
     Explain {
         site: &'a TomlFile<'a>,
         program: &'a str,
         defs: &'a [String],
-        listing: bool,
     },
 }
 
@@ -37,11 +36,11 @@ pub enum TextCommand<'a> {
 #[derive(Drop)]
 pub struct Obeyed {
     pub status: u8,
-    pub cause: Option<RefusalNote>,
+    pub cause: Option<CommandRefusal>,
 }
 
 impl Obeyed {
-    pub(crate) fn of(told: (u8, Option<RefusalNote>)) -> Obeyed
+    pub(crate) fn of(told: (u8, Option<CommandRefusal>)) -> Obeyed
         ensures { result.status ≡ told.0 }
     {
         let (status, cause) = told;
@@ -50,8 +49,13 @@ impl Obeyed {
 }
 
 /// Does what a command asks for, on just its texts, and prints what comes of it: as [`trial`](crate::trial),
-/// [`check`](crate::check) and [`explain`](crate::explain) do.
-pub fn obey<W: Write>(alloc: Global, command: TextCommand<'_>, out: &mut W) -> Obeyed
+/// [`check`](crate::check) and [`explain`](crate::explain) do, the last one by `table`.
+pub fn obey<T: ProgramTable, W: Write>(
+    alloc: Global,
+    command: TextCommand<'_>,
+    table: &T,
+    out: &mut W,
+) -> Obeyed
     ensures { Obeys command.entry (W.contents out.old) (W.contents out.new) result.status }
 {
     match command {
@@ -65,17 +69,7 @@ pub fn obey<W: Write>(alloc: Global, command: TextCommand<'_>, out: &mut W) -> O
             site,
             program,
             defs,
-            listing,
-        } => Obeyed::of(explain(alloc, site, program, defs, beside(listing), out)),
-    }
-}
-
-/// What stands beside the lines of the program.
-fn beside(listing: bool) -> Beside {
-    if listing {
-        Beside::Instructions
-    } else {
-        Beside::Known
+        } => Obeyed::of(explain(alloc, site, program, defs, table, out)),
     }
 }
 

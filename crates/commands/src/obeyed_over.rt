@@ -6,13 +6,13 @@ use crate::accepted::DEPTH;
 use crate::clients::ScanClients;
 use crate::model_texts::models_told;
 use crate::pace::RunPace;
+use crate::refusal::CommandRefusal;
 use crate::scan_watch::ScanWatch;
 use crate::site_scans::scans_noting;
 use crate::unit_points::probe;
 use file_keys::TomlFile;
 use gateway::{Core, Poller};
 use modbus_frame::Link;
-use refusal_notes::RefusalNote;
 use std::alloc::Global;
 use std::io::Write;
 
@@ -38,7 +38,7 @@ pub enum LinkCommand<'a> {
 pub struct ObeyedOver {
     pub core: Option<Core<DEPTH>>,
     pub status: u8,
-    pub cause: Option<RefusalNote>,
+    pub cause: Option<CommandRefusal>,
 }
 
 /// Does what a command asks for, on just its texts and over the poller's link, and prints what comes of it: as
@@ -102,7 +102,7 @@ fn probe_by<L: Link, W: Write>(
     unit: u8,
     defs: &[String],
     out: &mut W,
-) -> (u8, Option<RefusalNote>)
+) -> (u8, Option<CommandRefusal>)
     ensures { ProbesBy unit (map string_bytes defs.now) poller.old poller.new (W.contents out.old) (W.contents out.new) result.0 }
 {
     match models_told(alloc, defs, out) {

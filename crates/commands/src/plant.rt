@@ -5,11 +5,9 @@ ghost use Rattle.commands.specs.Simulate.{GivesDefined, GivesPlant, TellsNoPlant
 use crate::definitions::definitions;
 use crate::obeyed::Obeyed;
 use crate::outcome::{CommandOutcome, tell_no_memory};
-use crate::report::{no_plant, undefined};
-use file_keys::{Placed, TomlFile};
-use inverter_sim::{Plant, PlantFault};
-use model_defs::{DefFault, ModelDef};
-use refusal_notes::{cause_of_definition, cause_of_plant};
+use file_keys::TomlFile;
+use inverter_sim::Plant;
+use model_defs::ModelDef;
 use std::alloc::{AllocError, Global};
 use std::io::Write;
 
@@ -22,13 +20,8 @@ pub fn plant_of(
     ensures { IfOk result (TellsPlant plant.now (map string_bytes defs.now)) }
 {
     match definitions(alloc, defs) {
-        Ok(models) => plant_over(alloc, plant, models.as_slice()),
-        Err(DefFault::OutOfMemory) => Err(AllocError),
-        Err(fault) => {
-            let line = undefined(alloc, fault.word())?;
-            let cause = cause_of_definition(alloc, defs, fault);
-            Ok(Err(CommandOutcome::caused(line, cause)))
-        }
+        Ok(models) => plant_over(alloc, plant, models),
+        Err(fault) => Ok(Err(CommandOutcome::undefined(alloc, fault)?)),
     }
 }
 
@@ -54,22 +47,12 @@ pub fn plant_told<W: Write>(
 fn plant_over(
     alloc: Global,
     plant: &TomlFile<'_>,
-    models: &[ModelDef],
+    models: Vec<ModelDef>,
 ) -> Result<Result<Plant, CommandOutcome>, AllocError>
-    ensures { IfOk result (GivesPlant models.now plant.now) }
+    ensures { IfOk result (GivesPlant models.items plant.now) }
 {
-    match Plant::read_file(alloc, plant, models) {
+    match Plant::read_file(alloc, plant, models.as_slice()) {
         Ok(plant) => Ok(Ok(plant)),
-        Err(
-            Placed {
-                fault: PlantFault::OutOfMemory,
-                ..
-            },
-        ) => Err(AllocError),
-        Err(placed) => {
-            let line = no_plant(alloc, placed.fault.word())?;
-            let cause = cause_of_plant(alloc, plant, models, placed);
-            Ok(Err(CommandOutcome::caused(line, cause)))
-        }
+        Err(placed) => Ok(Err(CommandOutcome::no_plant(alloc, models, placed)?)),
     }
 }

@@ -6,11 +6,10 @@ ghost use Rattle.commands.specs.Outcome.{TellsImage, ending_line, ending_status,
 ghost use Rattle.commands.specs.Report as report;
 
 use crate::outcome::CommandOutcome;
+use crate::refusal::CommandRefusal;
 use crate::report::{push_named, push_steps, push_trap, shown};
-use crate::trap_cause::cause_of_trap;
 use il_reader::Program;
 use point_types::Reading;
-use refusal_notes::RefusalNote;
 use scan_code::Tag;
 use scan_vm::{Scan, Trap, Trial};
 use std::alloc::{AllocError, Global};
@@ -18,33 +17,52 @@ use std::alloc::{AllocError, Global};
 /// The outcome of the first scan of a trial of a program, on a reading for each tag.
 pub(crate) fn scan_outcome(
     alloc: Global,
-    program: &Program,
-    trial: &mut Trial,
+    program: Program,
+    trial: Trial,
     readings: &[Reading],
 ) -> Result<CommandOutcome, AllocError>
-    ensures { (image : Image) → trial.old ≡ started image → IfOk result (TellsImage image readings.now) }
+    ensures { (image : Image) → trial ≡ started image → IfOk result (TellsImage image readings.now) }
+{
+    let mut trial = trial;
+    match told_scan(alloc, &mut trial, readings) {
+        Ok((outcome, trap)) => Ok(with_trap(outcome, program, trial, trap)),
+        Err(AllocError) => Err(AllocError),
+    }
+}
+
+/// What is told of the first scan of a trial, without a cause; and the trap that ended it, if any.
+fn told_scan(
+    alloc: Global,
+    trial: &mut Trial,
+    readings: &[Reading],
+) -> Result<(CommandOutcome, Option<Trap>), AllocError>
+    ensures { (image : Image) → trial.old ≡ started image → IfOk result (λ told. TellsImage image readings.now told.0) }
 {
     let ending = trial.scan(readings);
     let mut lines = Vec::new(alloc);
     let status = push_scan(&mut lines, alloc, trial, ending)?;
-    Ok(CommandOutcome {
+    let outcome = CommandOutcome {
         lines,
         status,
-        cause: cause_of_ending(alloc, program, trial, ending),
-    })
+        cause: None,
+    };
+    Ok((outcome, ending.err()))
 }
 
-/// The cause of a trap, where a scan ended with one.
-fn cause_of_ending(
-    alloc: Global,
-    program: &Program,
-    trial: &Trial,
-    ending: Result<Scan, Trap>,
-) -> Option<RefusalNote> {
-    match ending {
-        Ok(_) => None,
-        Err(trap) => Some(cause_of_trap(alloc, program, trial, trap)),
+/// The same with the trap as its cause.
+fn with_trap(
+    outcome: CommandOutcome,
+    program: Program,
+    trial: Trial,
+    trap: Option<Trap>,
+) -> CommandOutcome
+    ensures { result ≡ outcome }
+{
+    let mut outcome = outcome;
+    if let Some(trap) = trap {
+        outcome.cause = Some(CommandRefusal::Trapped(program, trial, trap));
     }
+    outcome
 }
 
 /// Appends the lines of a scan that ended so, and gives its status.

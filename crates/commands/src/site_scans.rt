@@ -21,12 +21,12 @@ use crate::accepted::{Accepted, accept};
 use crate::clients::{ScanClients, ask};
 use crate::outcome::{CommandOutcome, tell_no_memory, tell_unlinked, write_lines};
 use crate::pace::RunPace;
+use crate::refusal::CommandRefusal;
 use crate::report::no_core;
 use crate::scan_watch::{ScanWatch, Unwatched};
 use file_keys::TomlFile;
 use gateway::{Core, CoreFault, Event, Poller, run_scan};
 use modbus_frame::{Link, LinkFault};
-use refusal_notes::RefusalNote;
 use register_map::Map;
 use scan_vm::Machine;
 use site_model::Site;
@@ -71,7 +71,7 @@ pub fn scans_noting<L: Link, V: ScanWatch + ScanClients, W: Write>(
     pace: RunPace,
     poller: &mut Poller<L>,
     watch: &mut V,
-    cause: &mut Option<RefusalNote>,
+    cause: &mut Option<CommandRefusal>,
     out: &mut W,
 ) -> (Option<Core<DEPTH>>, u8)
     ensures accepted { IfSome result.0 (λ core. IsAccepted site.now program.now (map string_bytes defs.now) core.site core.machine.accepted) }

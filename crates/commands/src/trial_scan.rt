@@ -11,14 +11,14 @@ ghost use Rattle.commands.specs.Told.{refused_with};
 
 use crate::given::readings_given;
 use crate::input::program_length;
-use crate::input_cause::cause_of_input;
+use crate::input_fault::RefusedInput;
 use crate::outcome::{CommandOutcome, tell_no_memory};
+use crate::refusal::CommandRefusal;
 use crate::report::bad_input;
 use crate::scan::scan_outcome;
 use il_assemble::assemble;
 use il_assemble::laws::texts_keep_the_limits;
 use il_reader::{Program, read};
-use refusal_notes::RefusalNote;
 use scan_code::Image;
 use scan_vm::Trial;
 use std::alloc::{AllocError, Global};
@@ -34,7 +34,7 @@ pub fn trial<W: Write>(alloc: Global, input: &str, out: &mut W) -> u8
 }
 
 /// The same, and the cause where the text of the program is refused or the scan traps.
-pub fn try_input<W: Write>(alloc: Global, input: &str, out: &mut W) -> (u8, Option<RefusalNote>)
+pub fn try_input<W: Write>(alloc: Global, input: &str, out: &mut W) -> (u8, Option<CommandRefusal>)
     ensures { IsTrial input.now (W.contents out.old) (W.contents out.new) result.0 }
 {
     match outcome_of(alloc, input) {
@@ -50,7 +50,7 @@ fn outcome_of(alloc: Global, input: &str) -> Result<CommandOutcome, AllocError>
     texts_keep_the_limits();
     let (text, inputs) = input.split_at(program_length(input.as_bytes()));
     match read(alloc, text) {
-        Ok(program) => outcome_of_program(alloc, &program, inputs.as_bytes()),
+        Ok(program) => outcome_of_program(alloc, program, inputs.as_bytes()),
         Err(fault) => CommandOutcome::unread(alloc, text, fault),
     }
 }
@@ -58,13 +58,13 @@ fn outcome_of(alloc: Global, input: &str) -> Result<CommandOutcome, AllocError>
 /// What is told of a program, with the input lines after its text.
 fn outcome_of_program(
     alloc: Global,
-    program: &Program,
+    program: Program,
     inputs: &[u8],
 ) -> Result<CommandOutcome, AllocError>
-    requires { elaborated program.now ≡ elaborated_text program.now }
-    ensures { IfOk result (TellsTree program.now (input.lines_of inputs.now)) }
+    requires { elaborated program ≡ elaborated_text program }
+    ensures { IfOk result (TellsTree program (input.lines_of inputs.now)) }
 {
-    match assemble(alloc, program) {
+    match assemble(alloc, &program) {
         Ok(image) => outcome_of_image(alloc, program, image, inputs),
         Err(fault) => CommandOutcome::unassembled(alloc, program, fault),
     }
@@ -73,28 +73,30 @@ fn outcome_of_program(
 /// What is told of an image, with the input lines.
 fn outcome_of_image(
     alloc: Global,
-    program: &Program,
+    program: Program,
     image: Image,
     inputs: &[u8],
 ) -> Result<CommandOutcome, AllocError>
     ensures { IfOk result (TellsGivenImage image (input.lines_of inputs.now)) }
 {
-    let mut trial = Trial::new(alloc, image)?;
-    outcome_of_trial(alloc, program, &mut trial, inputs)
+    match Trial::new(alloc, image) {
+        Ok(trial) => outcome_of_trial(alloc, program, trial, inputs),
+        Err(AllocError) => Err(AllocError),
+    }
 }
 
 /// What is told of the first scan of a trial, with the input lines.
 fn outcome_of_trial(
     alloc: Global,
-    program: &Program,
-    trial: &mut Trial,
+    program: Program,
+    trial: Trial,
     inputs: &[u8],
 ) -> Result<CommandOutcome, AllocError>
-    ensures { (image : Image) → trial.old ≡ started image → IfOk result (TellsGivenImage image (input.lines_of inputs.now)) }
+    ensures { (image : Image) → trial ≡ started image → IfOk result (TellsGivenImage image (input.lines_of inputs.now)) }
 {
     match readings_given(alloc, trial.image().tags.as_slice(), inputs) {
         Ok(Ok(readings)) => scan_outcome(alloc, program, trial, readings.as_slice()),
-        Ok(Err(number)) => refused_input(alloc, program, trial.image(), inputs, number),
+        Ok(Err(number)) => refused_input(alloc, &program, trial, inputs, number),
         Err(AllocError) => Err(AllocError),
     }
 }
@@ -103,13 +105,17 @@ fn outcome_of_trial(
 fn refused_input(
     alloc: Global,
     program: &Program,
-    image: &Image,
+    trial: Trial,
     inputs: &[u8],
     number: usize,
 ) -> Result<CommandOutcome, AllocError>
     ensures { IfOk result (λ o. o ≡ refused_with (bad_input_line number)) }
 {
-    let line = bad_input(alloc, number)?;
-    let cause = cause_of_input(alloc, program, image, inputs, number);
-    Ok(CommandOutcome::caused(line, cause))
+    match bad_input(alloc, number) {
+        Ok(line) => {
+            let refused = RefusedInput::new(program, trial, inputs, number);
+            Ok(CommandOutcome::caused(line, CommandRefusal::Input(refused)))
+        }
+        Err(AllocError) => Err(AllocError),
+    }
 }

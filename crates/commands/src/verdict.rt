@@ -9,8 +9,8 @@ ghost use Rattle.commands.specs.Obeyed.{Checks};
 
 use crate::accepted::{Accepted, accept};
 use crate::outcome::{CommandOutcome, tell_no_memory};
+use crate::refusal::CommandRefusal;
 use file_keys::TomlFile;
-use refusal_notes::RefusalNote;
 use std::alloc::{AllocError, Global};
 use std::io::Write;
 
@@ -41,7 +41,7 @@ pub fn check<W: Write>(
 pub struct Judged {
     pub status: u8,
     /// Why the definitions, the site or the program are refused.
-    pub cause: Option<RefusalNote>,
+    pub cause: Option<CommandRefusal>,
     /// The site and the program, where it is accepted.
     pub accepted: Option<Accepted>,
 }

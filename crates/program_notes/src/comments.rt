@@ -1,5 +1,5 @@
 //! What is told of a comment's end that closes nothing.
-use crate::told::{Hint, Told};
+use crate::fault_words::{FaultWords, Hint};
 use note_text::Code;
 use std::alloc::{AllocError, Global};
 
@@ -20,7 +20,7 @@ pub(crate) fn stray_end(
     text: &str,
     code: &str,
     at: usize,
-) -> Result<Option<Told>, AllocError> {
+) -> Result<Option<FaultWords>, AllocError> {
     let Some((before, _)) = code.get(at..).unwrap_or("").split_once("*)") else {
         return Ok(None);
     };
@@ -32,7 +32,7 @@ pub(crate) fn stray_end(
     } else {
         return Ok(None);
     };
-    let mut told = Told::new(alloc, hint);
+    let mut told = FaultWords::new(alloc, hint);
     told.span = Some((end, end.saturating_add(2)));
     Ok(Some(told))
 }

@@ -1,10 +1,10 @@
 //! What is told of a declaration that isn't one, by what may stand at its place.
+use crate::fault_words::{FaultWords, Hint};
 use crate::kinds::{kind_of, no_end, no_start, no_type};
 use crate::met::{Met, line_of_byte};
 use crate::mistakes::mistake_met;
 use crate::pieces::{TextPiece, has};
 use crate::reserved::{is_one_of, is_operator, reserved};
-use crate::told::{Hint, Told};
 use note_text::rank;
 use point_types::IlType;
 use std::alloc::{AllocError, Global};
@@ -80,9 +80,9 @@ const UNEXPECTED: Hint = Hint {
 };
 
 /// What is told of a declaration that isn't one.
-pub(crate) fn no_declaration(alloc: Global, met: &Met<'_, '_>) -> Result<Told, AllocError> {
+pub(crate) fn no_declaration(alloc: Global, met: &Met<'_, '_>) -> Result<FaultWords, AllocError> {
     if let Some(hint) = mistake_met(met) {
-        return Ok(Told::new(alloc, hint));
+        return Ok(FaultWords::new(alloc, hint));
     }
     let declaration = met.declaration(alloc)?;
     let declaration = declaration.as_slice();
@@ -100,13 +100,15 @@ pub(crate) fn no_declaration(alloc: Global, met: &Met<'_, '_>) -> Result<Told, A
 }
 
 /// What is told where a name must stand.
-fn no_name(alloc: Global, met: &Met<'_, '_>, hint: Hint) -> Result<Told, AllocError> {
+fn no_name(alloc: Global, met: &Met<'_, '_>, hint: Hint) -> Result<FaultWords, AllocError> {
     let word = met.text();
     let declares = met.next() == ":" || met.next() == ",";
     match reserved(word) {
-        Some(reserved) if declares => Told::named(alloc, word, reserved),
-        Some(_) if is_operator(word) || met.is("END_PROGRAM") => Ok(Told::new(alloc, NO_END_VAR)),
-        _ => Ok(Told::new(alloc, hint)),
+        Some(reserved) if declares => FaultWords::named(alloc, word, reserved),
+        Some(_) if is_operator(word) || met.is("END_PROGRAM") => Ok(FaultWords::new(
+            alloc, NO_END_VAR,
+        )),
+        _ => Ok(FaultWords::new(alloc, hint)),
     }
 }
 
@@ -115,19 +117,19 @@ fn no_colon(
     alloc: Global,
     met: &Met<'_, '_>,
     declaration: &[TextPiece<'_>],
-) -> Result<Told, AllocError> {
+) -> Result<FaultWords, AllocError> {
     let Some(first) = declaration.first() else {
-        return Ok(Told::new(alloc, NO_COLON));
+        return Ok(FaultWords::new(alloc, NO_COLON));
     };
     if let Some(hint) = hint_on_qualifier(met, *first) {
         return on_qualifier(alloc, met, *first, hint);
     }
     if declaration.len() == 1 && is_like_end(met, *first) {
-        let mut told = Told::new(alloc, NO_END_VAR).knowing("did you mean END_VAR?")?;
+        let mut told = FaultWords::new(alloc, NO_END_VAR).knowing("did you mean END_VAR?")?;
         told.span = Some((first.at, end_behind(met, *first)));
         return Ok(told);
     }
-    Ok(Told::new(alloc, NO_COLON))
+    Ok(FaultWords::new(alloc, NO_COLON))
 }
 
 /// What is told of a word after VAR: on it, where it stands on the line at fault, and else there.
@@ -136,14 +138,14 @@ fn on_qualifier(
     met: &Met<'_, '_>,
     word: TextPiece<'_>,
     hint: Hint,
-) -> Result<Told, AllocError> {
+) -> Result<FaultWords, AllocError> {
     let line = line_of_byte(met.code, word.at);
     if line == line_of_byte(met.code, met.at) {
-        return Ok(Told::on(alloc, word, hint));
+        return Ok(FaultWords::on(alloc, word, hint));
     }
     let qualifier = word.text;
     let text = format!(in alloc; "after {qualifier} of line {line}")?;
-    Told::new(alloc, hint).knowing(text.as_str())
+    FaultWords::new(alloc, hint).knowing(text.as_str())
 }
 
 /// The hint on a word after VAR or VAR_EXTERNAL.
@@ -190,7 +192,7 @@ fn behind_type(
     met: &Met<'_, '_>,
     declaration: &[TextPiece<'_>],
     last: TextPiece<'_>,
-) -> Result<Told, AllocError> {
+) -> Result<FaultWords, AllocError> {
     let in_range = has(declaration, "(") && !has(declaration, ")");
     let hint = if in_range && has(declaration, "..") {
         NO_CLOSE
@@ -205,7 +207,7 @@ fn behind_type(
     } else {
         UNEXPECTED
     };
-    Ok(Told::new(alloc, hint))
+    Ok(FaultWords::new(alloc, hint))
 }
 
 /// Whether what is met begins a line or a declaration of its own.
@@ -215,8 +217,8 @@ fn is_unended(met: &Met<'_, '_>, last: TextPiece<'_>) -> bool {
 }
 
 /// A semicolon is missing after a piece.
-fn unended(alloc: Global, last: TextPiece<'_>) -> Result<Told, AllocError> {
-    let mut told = Told::new(alloc, UNENDED).knowing("a semicolon is missing")?;
+fn unended(alloc: Global, last: TextPiece<'_>) -> Result<FaultWords, AllocError> {
+    let mut told = FaultWords::new(alloc, UNENDED).knowing("a semicolon is missing")?;
     told.span = Some((last.behind(), last.behind().saturating_add(1)));
     Ok(told)
 }

@@ -1,11 +1,11 @@
 //! What is told of an instruction that isn't one, by its operator and by what is met.
+use crate::fault_words::{FaultWords, Hint};
 use crate::met::{Met, line_of_byte};
 use crate::mistakes::{STRUCTURED, mistake_met};
 use crate::pieces::TextPiece;
 use crate::reserved::{
     is_conversion, is_like_conversion, is_one_of, is_operator, operator_meant, reserved,
 };
-use crate::told::{Hint, Told};
 use std::alloc::{AllocError, Global};
 
 /// The jumps.
@@ -117,10 +117,10 @@ const NONE_OPEN: Hint = Hint {
 };
 
 /// What is told where an operator must stand.
-pub(crate) fn no_operator(alloc: Global, met: &Met<'_, '_>) -> Result<Told, AllocError> {
+pub(crate) fn no_operator(alloc: Global, met: &Met<'_, '_>) -> Result<FaultWords, AllocError> {
     let word = met.text();
     if let Some(hint) = hint_before(met) {
-        return Ok(Told::new(alloc, hint));
+        return Ok(FaultWords::new(alloc, hint));
     }
     if let Some(told) = name_before(alloc, met)? {
         return Ok(told);
@@ -129,13 +129,13 @@ pub(crate) fn no_operator(alloc: Global, met: &Met<'_, '_>) -> Result<Told, Allo
         return Ok(told);
     }
     if let Some(hint) = mistake_met(met) {
-        return Told::named(alloc, word, hint);
+        return FaultWords::named(alloc, word, hint);
     }
     if met.next() == ":=" {
-        return Ok(Told::new(alloc, STRUCTURED.hint()));
+        return Ok(FaultWords::new(alloc, STRUCTURED.hint()));
     }
     if is_operator(met.next()) {
-        return Told::named(alloc, word, NO_LABEL_COLON);
+        return FaultWords::named(alloc, word, NO_LABEL_COLON);
     }
     let hint = if is_like_conversion(word) {
         NO_CONVERSION
@@ -143,11 +143,11 @@ pub(crate) fn no_operator(alloc: Global, met: &Met<'_, '_>) -> Result<Told, Allo
         NO_OPERATOR
     };
     let question = operator_meant(alloc, word)?;
-    Told::named(alloc, word, hint)?.knowing(question.as_str())
+    FaultWords::named(alloc, word, hint)?.knowing(question.as_str())
 }
 
 /// What is told of a name before an operator, from which a comment over several lines parts it; none of other words.
-fn name_before(alloc: Global, met: &Met<'_, '_>) -> Result<Option<Told>, AllocError> {
+fn name_before(alloc: Global, met: &Met<'_, '_>) -> Result<Option<FaultWords>, AllocError> {
     let Some(name) = met.last() else {
         return Ok(None);
     };
@@ -162,12 +162,12 @@ fn name_before(alloc: Global, met: &Met<'_, '_>) -> Result<Option<Told>, AllocEr
     let text = format!(in alloc;
         "{word} stands in line {line}, and a comment joins the two lines"
     )?;
-    let told = Told::named(alloc, word, hint)?;
+    let told = FaultWords::named(alloc, word, hint)?;
     Ok(Some(told.knowing(text.as_str())?))
 }
 
 /// What is told of a label without its colon, which a jump names; none of another word.
-fn label_without_colon(alloc: Global, met: &Met<'_, '_>) -> Result<Option<Told>, AllocError> {
+fn label_without_colon(alloc: Global, met: &Met<'_, '_>) -> Result<Option<FaultWords>, AllocError> {
     if !is_like_label(met) {
         return Ok(None);
     }
@@ -176,7 +176,7 @@ fn label_without_colon(alloc: Global, met: &Met<'_, '_>) -> Result<Option<Told>,
     };
     let line = line_of_byte(met.code, jump.at);
     let text = format!(in alloc; "the jump of line {line} names it")?;
-    let told = Told::named(alloc, met.text(), LABEL_ENDS)?;
+    let told = FaultWords::named(alloc, met.text(), LABEL_ENDS)?;
     Ok(Some(told.knowing(text.as_str())?))
 }
 
@@ -224,13 +224,13 @@ fn hint_before(met: &Met<'_, '_>) -> Option<Hint> {
 }
 
 /// What is told where an operand is missing, or one is too many.
-pub(crate) fn no_operand(alloc: Global, met: &Met<'_, '_>) -> Result<Told, AllocError> {
+pub(crate) fn no_operand(alloc: Global, met: &Met<'_, '_>) -> Result<FaultWords, AllocError> {
     if let Some(hint) = mistake_met(met) {
-        return Ok(Told::new(alloc, hint));
+        return Ok(FaultWords::new(alloc, hint));
     }
     let instruction = instruction_of(met.line());
     let Some((operator, operands)) = instruction.split_first() else {
-        return Ok(Told::new(alloc, NOTHING_INSIDE));
+        return Ok(FaultWords::new(alloc, NOTHING_INSIDE));
     };
     if met.is(":") && operands.is_empty() {
         if let Some(hint) = reserved(operator.text) {
@@ -238,17 +238,17 @@ pub(crate) fn no_operand(alloc: Global, met: &Met<'_, '_>) -> Result<Told, Alloc
         }
     }
     if let (Some(hint), true) = (reserved(met.text()), wants_operand(operator.text, operands)) {
-        return Told::named(alloc, met.text(), hint);
+        return FaultWords::named(alloc, met.text(), hint);
     }
-    Told::named(
+    FaultWords::named(
         alloc,
         operator.text,
         hint_on_operands(met, operator.text, operands),
     )
 }
 
-fn on_named(alloc: Global, piece: TextPiece<'_>, hint: Hint) -> Result<Told, AllocError> {
-    let mut told = Told::named(alloc, piece.text, hint)?;
+fn on_named(alloc: Global, piece: TextPiece<'_>, hint: Hint) -> Result<FaultWords, AllocError> {
+    let mut told = FaultWords::named(alloc, piece.text, hint)?;
     told.span = Some((piece.at, piece.behind()));
     Ok(told)
 }
@@ -304,23 +304,23 @@ fn hint_on_operands(met: &Met<'_, '_>, operator: &str, operands: &[TextPiece<'_>
 }
 
 /// What is told where the name of a label must stand.
-pub(crate) fn no_label(alloc: Global, met: &Met<'_, '_>) -> Result<Told, AllocError> {
+pub(crate) fn no_label(alloc: Global, met: &Met<'_, '_>) -> Result<FaultWords, AllocError> {
     if let Some(hint) = mistake_met(met) {
-        return Ok(Told::new(alloc, hint));
+        return Ok(FaultWords::new(alloc, hint));
     }
     if let Some(hint) = reserved(met.text()) {
-        return Told::named(alloc, met.text(), hint);
+        return FaultWords::named(alloc, met.text(), hint);
     }
     match met.line().last() {
-        Some(jump) => Told::named(alloc, jump.text, NO_LABEL),
-        None => Ok(Told::new(alloc, NO_LABEL)),
+        Some(jump) => FaultWords::named(alloc, jump.text, NO_LABEL),
+        None => Ok(FaultWords::new(alloc, NO_LABEL)),
     }
 }
 
 /// What is told of a parenthesis, or of what may not stand inside one.
-pub(crate) fn no_parenthesis(alloc: Global, met: &Met<'_, '_>) -> Result<Told, AllocError> {
+pub(crate) fn no_parenthesis(alloc: Global, met: &Met<'_, '_>) -> Result<FaultWords, AllocError> {
     let Some(opening) = met.opening(alloc)? else {
-        return Ok(Told::new(alloc, NONE_OPEN));
+        return Ok(FaultWords::new(alloc, NONE_OPEN));
     };
     let hint = if met.ends() || met.is("END_PROGRAM") {
         STAYS_OPEN
@@ -329,5 +329,5 @@ pub(crate) fn no_parenthesis(alloc: Global, met: &Met<'_, '_>) -> Result<Told, A
     };
     let (word, line) = (opening.text, line_of_byte(met.code, opening.at));
     let text = format!(in alloc; "{word}( of line {line} is open")?;
-    Told::named(alloc, met.text(), hint)?.knowing(text.as_str())
+    FaultWords::named(alloc, met.text(), hint)?.knowing(text.as_str())
 }

@@ -1,9 +1,9 @@
 //! Words in place of a type, and literals that a type can't hold.
+use crate::fault_words::{FaultWords, Hint};
 use crate::met::Met;
 use crate::mistakes::Mistake;
 use crate::pieces::{TextPiece, behind_first};
 use crate::reserved::{is_one_of, type_meant, type_named};
-use crate::told::{Hint, Told};
 use crate::words::type_word;
 use il_assemble::first_misfit;
 use il_reader::Program;
@@ -84,18 +84,18 @@ const NO_TYPE: Hint = Hint {
 };
 
 /// What is told of a word that stands where a type must.
-pub(crate) fn no_type(alloc: Global, met: &Met<'_, '_>) -> Result<Told, AllocError> {
+pub(crate) fn no_type(alloc: Global, met: &Met<'_, '_>) -> Result<FaultWords, AllocError> {
     let word = met.text();
     for other in OTHER_TYPES.iter() {
         if is_one_of(other.signs, word) {
-            return Told::named(alloc, word, other.hint());
+            return FaultWords::named(alloc, word, other.hint());
         }
     }
     if let Some(question) = by_bits(word) {
-        return Told::new(alloc, NO_TYPE).knowing(question);
+        return FaultWords::new(alloc, NO_TYPE).knowing(question);
     }
     let question = type_meant(alloc, word)?;
-    Told::new(alloc, NO_TYPE).knowing(question.as_str())
+    FaultWords::new(alloc, NO_TYPE).knowing(question.as_str())
 }
 
 /// The question whether a type is meant by the number of its bits.
@@ -123,9 +123,9 @@ pub(crate) fn no_start(
     alloc: Global,
     met: &Met<'_, '_>,
     declaration: &[TextPiece<'_>],
-) -> Result<Told, AllocError> {
+) -> Result<FaultWords, AllocError> {
     let range = within(met.code, declaration, ")");
-    let told = Told::new(alloc, WRONG_START);
+    let told = FaultWords::new(alloc, WRONG_START);
     if range.is_empty() {
         let holds = kind_holds(alloc, declaration)?;
         return told.knowing(holds.as_str());
@@ -139,14 +139,14 @@ pub(crate) fn no_end(
     alloc: Global,
     met: &Met<'_, '_>,
     declaration: &[TextPiece<'_>],
-) -> Result<Told, AllocError> {
+) -> Result<FaultWords, AllocError> {
     let holds = kind_holds(alloc, declaration)?;
     let low = within(met.code, declaration, "..");
     if low.is_empty() {
-        return Told::new(alloc, WRONG_END).knowing(holds.as_str());
+        return FaultWords::new(alloc, WRONG_END).knowing(holds.as_str());
     }
     let text = format!(in alloc; "{holds}, and the low end is {low}")?;
-    Told::new(alloc, WRONG_END).knowing(text.as_str())
+    FaultWords::new(alloc, WRONG_END).knowing(text.as_str())
 }
 
 const NO_TRUTH: Hint = Hint {
@@ -160,7 +160,7 @@ const PAST_TYPE: Hint = Hint {
 };
 
 /// What is told of a number that isn't of the type that it takes; none where the program has no such number.
-pub(crate) fn misfit(alloc: Global, program: &Program) -> Result<Option<Told>, AllocError> {
+pub(crate) fn misfit(alloc: Global, program: &Program) -> Result<Option<FaultWords>, AllocError> {
     let Some(literal) = first_misfit(alloc, program)? else {
         return Ok(None);
     };
@@ -171,7 +171,7 @@ pub(crate) fn misfit(alloc: Global, program: &Program) -> Result<Option<Told>, A
     let holds = holds(alloc, literal.kind)?;
     let (number, holds) = (literal.number, holds.as_str());
     let text = format!(in alloc; "{number} doesn't fit, {holds}")?;
-    Ok(Some(Told::new(alloc, hint).knowing(text.as_str())?))
+    Ok(Some(FaultWords::new(alloc, hint).knowing(text.as_str())?))
 }
 
 /// What stands between the parenthesis of a declaration and the first such mark, as it is written; empty where there is none.

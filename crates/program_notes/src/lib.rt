@@ -9,6 +9,7 @@ mod code_lines;
 mod comments;
 mod declaring;
 mod detail;
+mod fault_words;
 mod instructing;
 mod items;
 mod kinds;
@@ -29,7 +30,6 @@ mod reserved;
 mod rows;
 mod stacking;
 mod table;
-mod told;
 mod typing;
 mod unassembled;
 mod unknown;
@@ -42,6 +42,7 @@ pub use code_lines::{
     address_of, declared_line, instruction_line, line_inside, name_in, number_at, tag_name,
 };
 pub use detail::{Detail, detail_of};
+pub use fault_words::{FaultWords, Hint};
 pub use marks::{
     ends_line, mark_of_bytes, mark_of_unassembled, mark_of_unread, mark_of_unverified,
 };
@@ -50,7 +51,6 @@ pub use met::line_of_byte;
 pub use refusing::{is_divided_by_zero, mend_of};
 pub use rows::{Row, rows_of};
 pub use table::{Beside, table_of};
-pub use told::{Hint, Told};
 pub use unassembled::{known_of_unassembled, told_of_unassembled};
 pub use unread::told_of_unread;
 pub use words::type_word;

@@ -1,6 +1,6 @@
 //! What is told of a program that has more than one may have.
+use crate::fault_words::{FaultWords, Hint};
 use crate::met::Met;
-use crate::told::{Hint, Told};
 use il_reader::{Action, Program};
 use std::alloc::Global;
 
@@ -38,28 +38,28 @@ const TOO_MUCH_CODE: Hint = Hint {
 };
 
 /// What is told of a text that is too long to be read.
-pub(crate) fn too_long_text(alloc: Global) -> Told {
-    Told::new(alloc, TOO_MANY_BYTES)
+pub(crate) fn too_long_text(alloc: Global) -> FaultWords {
+    FaultWords::new(alloc, TOO_MANY_BYTES)
 }
 
 /// What is told of a declaration or a parenthesis that is one too many.
-pub(crate) fn too_many(alloc: Global, met: &Met<'_, '_>) -> Told {
+pub(crate) fn too_many(alloc: Global, met: &Met<'_, '_>) -> FaultWords {
     let hint = match met.block() {
         Some(block) if block.is("VAR_EXTERNAL") => TOO_MANY_EXTERNALS,
         Some(_) => TOO_MANY_VARIABLES,
         None => TOO_DEEP,
     };
-    Told::new(alloc, hint)
+    FaultWords::new(alloc, hint)
 }
 
 /// What is told of a line whose code is too much.
-pub(crate) fn too_much(alloc: Global, program: &Program, line: u32) -> Told {
+pub(crate) fn too_much(alloc: Global, program: &Program, line: u32) -> FaultWords {
     let hint = if loops_to(program, line) > MOST_LOOPS {
         TOO_MANY_LOOPS
     } else {
         TOO_MUCH_CODE
     };
-    Told::new(alloc, hint)
+    FaultWords::new(alloc, hint)
 }
 
 /// How many counted jumps there are up to a line.

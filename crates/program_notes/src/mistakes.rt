@@ -1,6 +1,6 @@
 //! Mistakes that people make in a program's text, by the word or the mark that is met.
+use crate::fault_words::Hint;
 use crate::met::Met;
-use crate::told::Hint;
 use il_reader::ReadFaultKind;
 
 /// A mistake: the words or the marks that show it, and what is told.

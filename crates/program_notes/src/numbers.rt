@@ -1,9 +1,9 @@
 //! What is told of numbers that are none, or that are outside their type.
+use crate::fault_words::{FaultWords, Hint};
 use crate::kinds::holds;
 use crate::met::Met;
 use crate::pieces::{TextPiece, has};
 use crate::reserved::type_named;
-use crate::told::{Hint, Told};
 use point_types::IlType;
 use std::alloc::{AllocError, Global};
 
@@ -58,7 +58,10 @@ struct Number<'a> {
 }
 
 /// What is told of a number that is none, or outside its type.
-pub(crate) fn no_number(alloc: Global, met: &Met<'_, '_>) -> Result<Option<Told>, AllocError> {
+pub(crate) fn no_number(
+    alloc: Global,
+    met: &Met<'_, '_>,
+) -> Result<Option<FaultWords>, AllocError> {
     let Some(piece) = met.piece() else {
         return Ok(None);
     };
@@ -68,7 +71,7 @@ pub(crate) fn no_number(alloc: Global, met: &Met<'_, '_>) -> Result<Option<Told>
         } else {
             TURNS
         };
-        return Ok(Some(Told::on(alloc, piece, hint)));
+        return Ok(Some(FaultWords::on(alloc, piece, hint)));
     }
     let number = number_met(piece, met.rest);
     let mut told = told_of_number(alloc, &number)?;
@@ -77,12 +80,12 @@ pub(crate) fn no_number(alloc: Global, met: &Met<'_, '_>) -> Result<Option<Told>
 }
 
 /// What is told of a number, by its sign and its digits.
-fn told_of_number(alloc: Global, number: &Number<'_>) -> Result<Told, AllocError> {
+fn told_of_number(alloc: Global, number: &Number<'_>) -> Result<FaultWords, AllocError> {
     if !is_number(number.digits) {
-        return Ok(Told::new(alloc, hint_on_digits(number)));
+        return Ok(FaultWords::new(alloc, hint_on_digits(number)));
     }
     if number.has_sign && number.digits.contains("#") {
-        return Ok(Told::new(alloc, SIGNED_BASE));
+        return Ok(FaultWords::new(alloc, SIGNED_BASE));
     }
     let hint = if number.is_negative {
         TOO_LOW
@@ -90,7 +93,7 @@ fn told_of_number(alloc: Global, number: &Number<'_>) -> Result<Told, AllocError
         TOO_LARGE
     };
     let holds = holds(alloc, number.kind)?;
-    Told::new(alloc, hint).knowing(holds.as_str())
+    FaultWords::new(alloc, hint).knowing(holds.as_str())
 }
 
 fn hint_on_digits(number: &Number<'_>) -> Hint {

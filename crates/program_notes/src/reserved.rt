@@ -1,6 +1,6 @@
 //! The words of the language that are no names.
+use crate::fault_words::Hint;
 use crate::nearest::Nearest;
-use crate::told::Hint;
 use crate::words::type_word;
 use point_types::IlType;
 use std::alloc::{AllocError, Global};

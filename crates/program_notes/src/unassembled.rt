@@ -1,7 +1,7 @@
 //! What is told of a program that has no code.
+use crate::fault_words::FaultWords;
 use crate::kinds::misfit;
 use crate::limits::too_much;
-use crate::told::Told;
 use crate::unknown::{label_place, unknown_label, unknown_name};
 use crate::uses::other_use_text;
 use il_assemble::{AsmFault, AsmFaultKind};
@@ -14,7 +14,7 @@ pub fn told_of_unassembled(
     alloc: Global,
     program: &Program,
     fault: AsmFault,
-) -> Result<Option<Told>, AllocError> {
+) -> Result<Option<FaultWords>, AllocError> {
     match fault.kind {
         AsmFaultKind::UnknownName => unknown_name(alloc, program, fault.line),
         AsmFaultKind::UnknownLabel => unknown_label(alloc, program, fault.line),

@@ -1,6 +1,6 @@
 //! What is told of names and labels that aren't there, by the tree of the program.
+use crate::fault_words::{FaultWords, Hint};
 use crate::nearest::Nearest;
-use crate::told::{Hint, Told};
 use crate::uses::{Use, uses_in};
 use il_reader::{Action, Program};
 use point_types::Name;
@@ -34,7 +34,7 @@ pub(crate) fn unknown_name(
     alloc: Global,
     program: &Program,
     line: u32,
-) -> Result<Option<Told>, AllocError> {
+) -> Result<Option<FaultWords>, AllocError> {
     let uses = uses_in(alloc, program)?;
     for one in uses.as_slice() {
         if one.line == line {
@@ -47,22 +47,26 @@ pub(crate) fn unknown_name(
 }
 
 /// What is told of a use whose name stands for nothing.
-fn told_of_use(alloc: Global, program: &Program, one: &Use) -> Result<Option<Told>, AllocError> {
+fn told_of_use(
+    alloc: Global,
+    program: &Program,
+    one: &Use,
+) -> Result<Option<FaultWords>, AllocError> {
     let name = one.name.as_str();
     if is_variable(program, name) || is_external(program, name) {
         return Ok(None);
     }
     let told = match name.strip_suffix(PRESENCE) {
-        Some(front) if is_variable(program, front) => Told::named(alloc, name, NO_PRESENCE)?,
+        Some(front) if is_variable(program, front) => FaultWords::named(alloc, name, NO_PRESENCE)?,
         Some(front) if is_external(program, front) => {
             if !one.stored {
                 return Ok(None);
             }
-            Told::named(alloc, name, NOT_STORED)?
+            FaultWords::named(alloc, name, NOT_STORED)?
         }
         _ => {
             let question = name_meant(alloc, program, one)?;
-            Told::named(alloc, name, UNDECLARED)?.knowing(question.as_str())?
+            FaultWords::named(alloc, name, UNDECLARED)?.knowing(question.as_str())?
         }
     };
     Ok(Some(told))
@@ -109,7 +113,7 @@ pub(crate) fn unknown_label(
     alloc: Global,
     program: &Program,
     line: u32,
-) -> Result<Option<Told>, AllocError> {
+) -> Result<Option<FaultWords>, AllocError> {
     let Some(label) = label_jumped_to(program, line) else {
         return Ok(None);
     };
@@ -120,7 +124,7 @@ pub(crate) fn unknown_label(
         }
     }
     let question = nearest.question(alloc)?;
-    let told = Told::named(alloc, label.as_str(), NO_LABEL)?;
+    let told = FaultWords::named(alloc, label.as_str(), NO_LABEL)?;
     Ok(Some(told.knowing(question.as_str())?))
 }
 

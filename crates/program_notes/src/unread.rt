@@ -1,12 +1,12 @@
 //! What is told of a text that can't be read.
 use crate::comments::stray_end;
 use crate::declaring::no_declaration;
+use crate::fault_words::{FaultWords, Hint};
 use crate::instructing::{no_label, no_operand, no_operator, no_parenthesis};
 use crate::limits::{too_long_text, too_many};
 use crate::met::Met;
 use crate::numbers::no_number;
 use crate::pieces::pieces_of;
-use crate::told::{Hint, Told};
 use crate::wording::{no_frame, no_second, no_word, unclosed};
 use il_reader::{FaultPlace, ReadFaultKind};
 use note_text::Code;
@@ -22,9 +22,9 @@ pub fn told_of_unread(
     alloc: Global,
     text: &str,
     place: FaultPlace,
-) -> Result<Option<Told>, AllocError> {
+) -> Result<Option<FaultWords>, AllocError> {
     if text.trim().is_empty() {
-        return Ok(Some(Told::new(alloc, EMPTY)));
+        return Ok(Some(FaultWords::new(alloc, EMPTY)));
     }
     if place.fault.kind == ReadFaultKind::TooLong && place.behind == 0 {
         return Ok(Some(too_long_text(alloc)));
@@ -43,7 +43,7 @@ pub fn told_of_unread(
     told_by_kind(alloc, &met)
 }
 
-fn told_by_kind(alloc: Global, met: &Met<'_, '_>) -> Result<Option<Told>, AllocError> {
+fn told_by_kind(alloc: Global, met: &Met<'_, '_>) -> Result<Option<FaultWords>, AllocError> {
     let told = match met.kind {
         ReadFaultKind::Word => return Ok(no_word(alloc, met)),
         ReadFaultKind::Literal => return no_number(alloc, met),

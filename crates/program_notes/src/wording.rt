@@ -1,10 +1,10 @@
 //! What is told of characters that are no word, of names that stand already, and of a program's frame.
+use crate::fault_words::{FaultWords, Hint};
 use crate::kinds::NO_TIME;
 use crate::met::{Met, line_of_byte};
 use crate::mistakes::mistake_met;
 use crate::pieces::{TextPiece, has};
 use crate::reserved::{is_one_of, is_operator, reserved};
-use crate::told::{Hint, Told};
 use note_text::rank;
 use std::alloc::{AllocError, Global};
 
@@ -102,24 +102,24 @@ const NOT_OVER: Hint = Hint {
 };
 
 /// What is told of a comment that isn't closed.
-pub(crate) fn unclosed(alloc: Global, open: usize) -> Told {
-    let mut told = Told::new(alloc, UNCLOSED);
+pub(crate) fn unclosed(alloc: Global, open: usize) -> FaultWords {
+    let mut told = FaultWords::new(alloc, UNCLOSED);
     told.span = Some((open, open.saturating_add(2)));
     told
 }
 
 /// What is told of characters that are no word; none where no more is known than that.
-pub(crate) fn no_word(alloc: Global, met: &Met<'_, '_>) -> Option<Told> {
+pub(crate) fn no_word(alloc: Global, met: &Met<'_, '_>) -> Option<FaultWords> {
     if let Some(hint) = hint_on_mark(met) {
-        return Some(Told::new(alloc, hint));
+        return Some(FaultWords::new(alloc, hint));
     }
     let piece = met.piece()?;
     let hint = mistake_met(met).or(hint_on_word(piece.text))?;
     // (what is no part of a piece, as a blank of another width, is marked where it stands)
     if piece.at > met.at {
-        return Some(Told::new(alloc, hint));
+        return Some(FaultWords::new(alloc, hint));
     }
-    Some(Told::on(alloc, piece, hint))
+    Some(FaultWords::on(alloc, piece, hint))
 }
 
 /// The hint on a mark that can't stand there.
@@ -163,13 +163,13 @@ fn hint_on_word(word: &str) -> Option<Hint> {
 }
 
 /// What is told of a name that stands already.
-pub(crate) fn no_second(alloc: Global, met: &Met<'_, '_>) -> Result<Told, AllocError> {
+pub(crate) fn no_second(alloc: Global, met: &Met<'_, '_>) -> Result<FaultWords, AllocError> {
     let Some(first) = first_of(met) else {
-        return Told::named(alloc, met.text(), PRESENCE);
+        return FaultWords::named(alloc, met.text(), PRESENCE);
     };
     let line = line_of_byte(met.code, first.at);
     let text = format!(in alloc; "the first one is in line {line}")?;
-    Told::named(alloc, met.text(), NAMED_TWICE)?.knowing(text.as_str())
+    FaultWords::named(alloc, met.text(), NAMED_TWICE)?.knowing(text.as_str())
 }
 
 /// Where the name that is met stands before: as a label in the body, else in a declaration.
@@ -192,28 +192,28 @@ fn first_of<'a>(met: &Met<'_, 'a>) -> Option<TextPiece<'a>> {
 }
 
 /// What is told of a program's frame.
-pub(crate) fn no_frame(alloc: Global, met: &Met<'_, '_>) -> Result<Told, AllocError> {
+pub(crate) fn no_frame(alloc: Global, met: &Met<'_, '_>) -> Result<FaultWords, AllocError> {
     if let Some(hint) = mistake_met(met) {
-        return Ok(Told::new(alloc, hint));
+        return Ok(FaultWords::new(alloc, hint));
     }
     if has(met.before, "END_PROGRAM") {
-        return Ok(Told::new(alloc, NOT_OVER));
+        return Ok(FaultWords::new(alloc, NOT_OVER));
     }
     match met.last() {
         None => not_begun(alloc, met),
         Some(last) if last.is("PROGRAM") => unnamed(alloc, met),
-        Some(_) => Ok(Told::new(alloc, NOT_ENDED)),
+        Some(_) => Ok(FaultWords::new(alloc, NOT_ENDED)),
     }
 }
 
 /// The text ends with this word, its first one, without a name after it.
-fn ends_unnamed(alloc: Global, word: TextPiece<'_>) -> Result<Told, AllocError> {
-    let mut told = Told::new(alloc, UNNAMED).knowing("the text ends here")?;
+fn ends_unnamed(alloc: Global, word: TextPiece<'_>) -> Result<FaultWords, AllocError> {
+    let mut told = FaultWords::new(alloc, UNNAMED).knowing("the text ends here")?;
     told.span = Some((word.behind(), word.behind().saturating_add(1)));
     Ok(told)
 }
 
-fn not_begun(alloc: Global, met: &Met<'_, '_>) -> Result<Told, AllocError> {
+fn not_begun(alloc: Global, met: &Met<'_, '_>) -> Result<FaultWords, AllocError> {
     if let Some(word) = met.piece() {
         if word.is("PROGRAM") {
             return ends_unnamed(alloc, word);
@@ -223,14 +223,14 @@ fn not_begun(alloc: Global, met: &Met<'_, '_>) -> Result<Told, AllocError> {
         Some(_) => "did you mean PROGRAM?",
         None => "",
     };
-    Told::new(alloc, NOT_BEGUN).knowing(question)
+    FaultWords::new(alloc, NOT_BEGUN).knowing(question)
 }
 
-fn unnamed(alloc: Global, met: &Met<'_, '_>) -> Result<Told, AllocError> {
+fn unnamed(alloc: Global, met: &Met<'_, '_>) -> Result<FaultWords, AllocError> {
     match reserved(met.text()) {
         Some(hint) if is_operator(met.text()) && met.next() == "\n" => {
-            Told::named(alloc, met.text(), hint)
+            FaultWords::named(alloc, met.text(), hint)
         }
-        _ => Ok(Told::new(alloc, UNNAMED)),
+        _ => Ok(FaultWords::new(alloc, UNNAMED)),
     }
 }

@@ -12,7 +12,7 @@ use std::alloc::Global;
 
 /// The cause of the fault of a site file, which was read over these definitions. Where memory for its place is refused,
 /// it goes without.
-pub fn cause_of_site(
+pub(crate) fn cause_of_site(
     alloc: Global,
     file: &TomlFile<'_>,
     models: &[ModelDef],
@@ -26,7 +26,7 @@ pub fn cause_of_site(
 
 /// The cause of the fault of a plant file, which was read over these definitions. Where memory for its place is refused,
 /// it goes without.
-pub fn cause_of_plant(
+pub(crate) fn cause_of_plant(
     alloc: Global,
     file: &TomlFile<'_>,
     models: &[ModelDef],
@@ -40,7 +40,7 @@ pub fn cause_of_plant(
 
 /// The cause of a fault among definitions: that of the first text that is none. Where memory for its place is refused,
 /// it goes without.
-pub fn cause_of_definition(alloc: Global, defs: &[String], fault: DefFault) -> RefusalNote {
+pub(crate) fn cause_of_definition(alloc: Global, defs: &[String], fault: DefFault) -> RefusalNote {
     for (number, text) in defs.iter().enumerate() {
         if let Err(placed) = read_placed(alloc, text.as_bytes()) {
             let mut cause = RefusalNote::undefined(alloc, number, fault);

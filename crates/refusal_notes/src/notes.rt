@@ -1,10 +1,14 @@
 //! What is printed on standard error of a refusal.
+use crate::file_causes::{cause_of_definition, cause_of_plant, cause_of_site};
 use crate::file_fault::FileFault;
 use crate::listen_fault::ListenFault;
+use crate::program_causes::cause_of_program;
 use crate::refusal_note::{NotedFile, RefusalNote};
+use commands::CommandRefusal;
 use file_keys::TomlFile;
 use file_notes::{warnings_of_definition, warnings_of_plant, warnings_of_site};
 use note_text::{Mark, Note};
+use site_model::Site;
 use std::alloc::{AllocError, Global};
 
 /// The files that the notes of a command are on, each by its path and its text, and whether there are notes.
@@ -23,14 +27,54 @@ pub struct Notes<'a> {
 }
 
 impl<'a> Notes<'a> {
-    /// Prints why a command refuses. Where that fails, or memory for it is refused, nothing more comes of it.
-    pub fn explain(&self, rt: &(impl Eprint + AllocGlobal), cause: &Option<RefusalNote>) {
+    /// Prints why a command on these files refuses. Where that fails, or memory for it is refused, nothing more comes of it.
+    pub fn explain(&self, rt: &(impl Eprint + AllocGlobal), cause: &Option<CommandRefusal>) {
+        self.explain_for(rt, cause, None);
+    }
+
+    /// The same, where it was handed the site for which it refuses a program.
+    pub fn explain_for(
+        &self,
+        rt: &(impl Eprint + AllocGlobal),
+        cause: &Option<CommandRefusal>,
+        site: Option<&Site>,
+    ) {
         if self.quiet {
             return;
         }
         if let Some(cause) = cause {
-            let (path, text) = (self.path(cause.file), self.text(cause.file));
-            print(rt, &cause.note(path, text));
+            if let Some(note) = self.note_of(rt.alloc(), cause, site) {
+                self.tell(rt, &note);
+            }
+        }
+    }
+
+    /// Prints a note on one of these files, or on the link. Where that fails, or memory for it is refused, nothing more comes
+    /// of it.
+    pub fn tell(&self, rt: &(impl Eprint + AllocGlobal), note: &RefusalNote) {
+        if !self.quiet {
+            let (path, text) = (self.path(note.file), self.text(note.file));
+            print(rt, &note.note(path, text));
+        }
+    }
+
+    fn note_of(
+        &self,
+        alloc: Global,
+        cause: &CommandRefusal,
+        site: Option<&Site>,
+    ) -> Option<RefusalNote> {
+        match cause {
+            CommandRefusal::Definition(fault) => {
+                Some(cause_of_definition(alloc, self.defs, *fault))
+            }
+            CommandRefusal::Site(models, placed) => {
+                Some(cause_of_site(alloc, self.site, models.as_slice(), *placed))
+            }
+            CommandRefusal::Plant(models, placed) => {
+                Some(cause_of_plant(alloc, self.plant, models.as_slice(), *placed))
+            }
+            _ => cause_of_program(alloc, self.program, site, cause),
         }
     }
 
@@ -80,16 +124,18 @@ impl<'a> Notes<'a> {
     }
 }
 
-/// Prints why a program is refused that no other file stands beside. Where that fails, or memory for it is refused, nothing
-/// more comes of it.
+/// Prints why the program is refused that a text begins with, or its trial stopped, where no other file stands beside it.
+/// Where that fails, or memory for it is refused, nothing more comes of it.
 pub fn explain_program(
     rt: &(impl Eprint + AllocGlobal),
     path: &str,
     text: &str,
-    cause: &Option<RefusalNote>,
+    cause: &Option<CommandRefusal>,
 ) {
     if let Some(cause) = cause {
-        print(rt, &cause.note(path, text));
+        if let Some(note) = cause_of_program(rt.alloc(), text, None, cause) {
+            print(rt, &note.note(path, text));
+        }
     }
 }
 

@@ -7,7 +7,7 @@ use modbus_frame::LinkFault;
 use model_defs::DefFault;
 use note_text::{Mark, Note};
 use program_notes::{
-    Told, ends_line, known_of_unassembled, line_inside, line_of_byte, mark_of_bytes,
+    FaultWords, ends_line, known_of_unassembled, line_inside, line_of_byte, mark_of_bytes,
     mark_of_unassembled, mark_of_unread, mark_of_unverified, told_of_unassembled, told_of_unread,
 };
 use scan_vm::TrapKind;
@@ -69,7 +69,7 @@ impl RefusalNote {
     }
 
     /// The text of the program can't be read.
-    pub fn unread(alloc: Global, text: &str, fault: ReadFault) -> RefusalNote {
+    pub(crate) fn unread(alloc: Global, text: &str, fault: ReadFault) -> RefusalNote {
         let kind = fault.kind;
         let texts = RefusalTexts(kind.word(), kind.meaning(), kind.help());
         let mut cause = RefusalNote::of_line(alloc, fault.line, Mark::Line, texts);
@@ -93,8 +93,8 @@ impl RefusalNote {
     }
 
     /// Takes what is told in place of the words of the kind.
-    fn take(&mut self, told: Told) {
-        let Told {
+    fn take(&mut self, told: FaultWords) {
+        let FaultWords {
             hint,
             span: _,
             name,
@@ -126,7 +126,7 @@ impl RefusalNote {
     }
 
     /// The program has no code.
-    pub fn unassembled(alloc: Global, program: &Program, fault: AsmFault) -> RefusalNote {
+    pub(crate) fn unassembled(alloc: Global, program: &Program, fault: AsmFault) -> RefusalNote {
         let kind = fault.kind;
         let texts = RefusalTexts(kind.word(), kind.meaning(), kind.help());
         let mut cause = RefusalNote::of_line(alloc, fault.line, mark_of_unassembled(kind), texts);
@@ -139,20 +139,20 @@ impl RefusalNote {
     }
 
     /// The verdict refuses this line.
-    pub fn unverified(alloc: Global, kind: RefusalKind, line: u32) -> RefusalNote {
+    pub(crate) fn unverified(alloc: Global, kind: RefusalKind, line: u32) -> RefusalNote {
         let texts = RefusalTexts(kind.word(), kind.meaning(), kind.help());
         RefusalNote::of_line(alloc, line, mark_of_unverified(kind), texts)
     }
 
     /// A trial stopped in this line.
-    pub fn trapped(alloc: Global, kind: TrapKind, line: u32) -> RefusalNote {
+    pub(crate) fn trapped(alloc: Global, kind: TrapKind, line: u32) -> RefusalNote {
         let texts = RefusalTexts(kind.word(), kind.meaning(), kind.help());
         RefusalNote::of_line(alloc, line, mark_of_trapped(kind), texts)
     }
 
     /// Tells of an instruction that acts at the end of its parentheses: the caret stands under its operator, on the line
     /// that opens them. Nothing of others.
-    pub fn tell_closing(
+    pub(crate) fn tell_closing(
         &mut self,
         alloc: Global,
         program: &Program,
@@ -170,7 +170,7 @@ impl RefusalNote {
     }
 
     /// An input line gives nothing to an input.
-    pub fn no_input(alloc: Global, line: u32) -> RefusalNote {
+    pub(crate) fn no_input(alloc: Global, line: u32) -> RefusalNote {
         let texts = RefusalTexts(
             "input",
             "the line gives no value to an input",
@@ -180,19 +180,19 @@ impl RefusalNote {
     }
 
     /// The site file is none.
-    pub fn no_site(alloc: Global, fault: SiteFault) -> RefusalNote {
+    pub(crate) fn no_site(alloc: Global, fault: SiteFault) -> RefusalNote {
         let texts = RefusalTexts(fault.word(), fault.meaning(), fault.help());
         RefusalNote::of_file(alloc, NotedFile::Site, texts)
     }
 
     /// The plant file is none.
-    pub fn no_plant(alloc: Global, fault: PlantFault) -> RefusalNote {
+    pub(crate) fn no_plant(alloc: Global, fault: PlantFault) -> RefusalNote {
         let texts = RefusalTexts(fault.word(), fault.meaning(), fault.help());
         RefusalNote::of_file(alloc, NotedFile::Plant, texts)
     }
 
     /// The definition of this number is none.
-    pub fn undefined(alloc: Global, number: usize, fault: DefFault) -> RefusalNote {
+    pub(crate) fn undefined(alloc: Global, number: usize, fault: DefFault) -> RefusalNote {
         let texts = RefusalTexts(fault.word(), fault.meaning(), fault.help());
         RefusalNote::of_file(alloc, NotedFile::Definition(number), texts)
     }

@@ -11,7 +11,7 @@ use verifier::{Refusal, RefusalKind, Refused, RefusedAt};
 
 /// The cause of a refusal, with the line that it speaks of and what is known there. Where memory for a part of it is
 /// refused, it goes without.
-pub fn cause_of_refusal(
+pub(crate) fn cause_of_refusal(
     alloc: Global,
     program: &Program,
     site: &Site,

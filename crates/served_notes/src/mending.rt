@@ -1,7 +1,7 @@
 //! What to do about a point that doesn't always show what it is to.
 use crate::limits::{SettingLimits, limits_of, steps_to};
 use crate::reason::Reason;
-use crate::subject::{Shown, Subject};
+use crate::subject::{ShownNumber, Subject};
 use served_ranges::Demand;
 use std::alloc::{AllocError, Global};
 
@@ -27,17 +27,17 @@ pub(crate) fn mend_of(
     }
 }
 
-fn narrowed(shown: Shown) -> &'static str {
+fn narrowed(shown: ShownNumber) -> &'static str {
     match shown {
-        Shown::Total => "narrow the ranges low..high of its parts, or take a wider point",
-        Shown::Stored => "narrow its range low..high, or take a wider point",
+        ShownNumber::Total => "narrow the ranges low..high of its parts, or take a wider point",
+        ShownNumber::Stored => "narrow its range low..high, or take a wider point",
     }
 }
 
-fn raised(shown: Shown) -> &'static str {
+fn raised(shown: ShownNumber) -> &'static str {
     match shown {
-        Shown::Total => "raise the low of its parts, or take a point of another kind",
-        Shown::Stored => "raise its low, or take a point of another kind",
+        ShownNumber::Total => "raise the low of its parts, or take a point of another kind",
+        ShownNumber::Stored => "raise its low, or take a point of another kind",
     }
 }
 
@@ -61,12 +61,12 @@ fn served_factor(
 /// Numbers that are as coarse as the factor, or a finer factor.
 fn coarser_numbers(alloc: Global, subject: Subject<'_>, factor: i16) -> Result<String, AllocError> {
     match subject.shown {
-        Shown::Total => {
+        ShownNumber::Total => {
             format!(in alloc;
                 "give its parts exponent = {factor} and round = \"down\", or serve a finer factor"
             )
         }
-        Shown::Stored => {
+        ShownNumber::Stored => {
             format!(in alloc; "give the tag exponent = {factor}, or serve a finer factor")
         }
     }
@@ -111,14 +111,19 @@ fn fits_as_counted(demand: &Demand) -> bool {
 }
 
 /// How the numbers are counted more coarsely.
-fn counted_by(alloc: Global, shown: Shown, exponent: i8, steps: i8) -> Result<String, AllocError> {
+fn counted_by(
+    alloc: Global,
+    shown: ShownNumber,
+    exponent: i8,
+    steps: i8,
+) -> Result<String, AllocError> {
     match shown {
-        Shown::Total => {
+        ShownNumber::Total => {
             format!(in alloc;
                 "give its parts exponent = {exponent}, round = \"down\", and low and high divided by 10^{steps}"
             )
         }
-        Shown::Stored => {
+        ShownNumber::Stored => {
             format!(in alloc;
                 "give the tag exponent = {exponent}, and low and high divided by 10^{steps}"
             )

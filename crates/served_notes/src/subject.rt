@@ -5,7 +5,7 @@ use site_model::{Served, SiteTag};
 
 /// What a point is to show.
 #[derive(Clone, Copy, PartialEq, Eq, Debug)]
-pub(crate) enum Shown {
+pub(crate) enum ShownNumber {
     /// The total of some tags.
     Total,
     /// What the program stores in a tag.
@@ -16,7 +16,7 @@ pub(crate) enum Shown {
 /// one.
 #[derive(Clone, Copy)]
 pub(crate) struct Subject<'a> {
-    pub shown: Shown,
+    pub shown: ShownNumber,
     pub point: &'a str,
     pub factor: Option<&'a str>,
 }
@@ -26,17 +26,17 @@ impl<'a> Subject<'a> {
     pub(crate) fn of_entry(models: &'a [ModelDef], entry: &Served) -> Option<Subject<'a>> {
         let model = model_of(models, entry.model)?;
         let point = point_of_entry(models, entry)?;
-        Some(Subject::of(Shown::Total, model, point))
+        Some(Subject::of(ShownNumber::Total, model, point))
     }
 
     /// The point of a `site` tag.
     pub(crate) fn of_tag(models: &'a [ModelDef], tag: &SiteTag) -> Option<Subject<'a>> {
         let model = model_of(models, tag.model)?;
         let point = point_of_tag(models, tag)?;
-        Some(Subject::of(Shown::Stored, model, point))
+        Some(Subject::of(ShownNumber::Stored, model, point))
     }
 
-    fn of(shown: Shown, model: &'a ModelDef, point: &'a Point) -> Subject<'a> {
+    fn of(shown: ShownNumber, model: &'a ModelDef, point: &'a Point) -> Subject<'a> {
         Subject {
             shown,
             point: point.name.as_str(),

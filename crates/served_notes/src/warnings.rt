@@ -2,7 +2,7 @@
 use crate::mending::mend_of;
 use crate::reason::reason_of;
 use crate::set_points::told_of_output;
-use crate::subject::{Shown, Subject};
+use crate::subject::{ShownNumber, Subject};
 use crate::words::wrong_with;
 use file_notes::{EntryName, entry_shown};
 use note_text::escaped;

@@ -1,6 +1,6 @@
 //! Why a point doesn't always show what it is to, in words.
 use crate::reason::Reason;
-use crate::subject::{Shown, Subject};
+use crate::subject::{ShownNumber, Subject};
 use point_types::Kind;
 use served_ranges::Demand;
 use std::alloc::{AllocError, Global};
@@ -19,10 +19,10 @@ pub(crate) fn wrong_with(
     Ok(text)
 }
 
-fn what_is_shown(shown: Shown) -> &'static str {
+fn what_is_shown(shown: ShownNumber) -> &'static str {
     match shown {
-        Shown::Total => "the sum",
-        Shown::Stored => "what the program stores",
+        ShownNumber::Total => "the sum",
+        ShownNumber::Stored => "what the program stores",
     }
 }
 

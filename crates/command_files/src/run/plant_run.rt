@@ -15,7 +15,7 @@ use commands::{
 };
 use gateway::{Core, Poller, serve_client};
 use modbus_frame::{Link, LinkFault};
-use refusal_notes::Notes;
+use refusal_notes::{Notes, RefusalNote};
 use std::alloc::Global;
 use std::io;
 use std::io::{Read, Write};
@@ -123,10 +123,20 @@ fn run_over<R: RunRuntime, V: RunLook, L: Link + Drop, W: Write>(
         (record { coming = L.coming link; sent = L.sent link; failures = L.failures link; calls = L.calls link })
         b (W.contents out.old) (W.contents out.new) result }
 {
-    let (mut ran, link) = scans_over(rt, alloc, run, beside, link, out);
+    let (mut ended, link) = scans_over(rt, alloc, run, beside, link, out);
     drop(link);
-    run.notes.explain(rt, &ran.cause);
-    probed_behind(rt, alloc, run, &mut ran, out)
+    run.notes.explain(rt, &ended.ran.cause);
+    if let Some(note) = &ended.unlinked {
+        run.notes.tell(rt, note);
+    }
+    probed_behind(rt, alloc, run, &mut ended.ran, out)
+}
+
+/// What came of scans over a link, and why that failed.
+#[derive(Drop)]
+struct EndedScans {
+    ran: ObeyedOver,
+    unlinked: Option<RefusalNote>,
 }
 
 /// Does the scans over a link, over which nothing else goes, and gives it back.
@@ -137,27 +147,27 @@ fn scans_over<R: Eprint, V: RunLook, L: Link, W: Write>(
     beside: &mut V,
     link: L,
     out: &mut W,
-) -> (ObeyedOver, L)
+) -> (EndedScans, L)
     ensures { ScansLink run.now.notes run.now.pace
         (record { coming = L.coming link; sent = L.sent link; failures = L.failures link; calls = L.calls link })
         (record { coming = L.coming result.1; sent = L.sent result.1; failures = L.failures result.1; calls = L.calls result.1 })
-        (W.contents out.old) (W.contents out.new) result.0.core result.0.status }
+        (W.contents out.old) (W.contents out.new) result.0.ran.core result.0.ran.status }
 {
     let mut poller = Poller::new(WatchedLink::new(alloc, link));
     let mut watch = RunWatch::new(rt, alloc, run.notes.quiet, run.settings, beside);
-    let ran = scans_by(alloc, run, &mut poller, &mut watch, out);
-    (ran, poller.into_link().into_link())
+    let ended = scans_by(alloc, run, &mut poller, &mut watch, out);
+    (ended, poller.into_link().into_link())
 }
 
-/// Does the scans over a poller's link. The cause is that of a refusal, or why the link failed.
+/// Does the scans over a poller's link.
 fn scans_by<L: Link, V: RunLook + ScanClients, W: Write>(
     alloc: Global,
     run: &PlantRun<'_, '_>,
     poller: &mut Poller<WatchedLink<L>>,
     watch: &mut V,
     out: &mut W,
-) -> ObeyedOver
-    ensures { ScansBy run.now.notes run.now.pace poller.old poller.new (W.contents out.old) (W.contents out.new) result.core result.status }
+) -> EndedScans
+    ensures { ScansBy run.now.notes run.now.pace poller.old poller.new (W.contents out.old) (W.contents out.new) result.ran.core result.ran.status }
 {
     let (site, program, defs) = (run.notes.site, run.notes.program, run.notes.defs);
     let command = LinkCommand::Run {
@@ -166,12 +176,16 @@ fn scans_by<L: Link, V: RunLook + ScanClients, W: Write>(
         defs,
         pace: run.pace,
     };
-    let mut ran = obey_over(alloc, command, poller, watch, out);
+    let ran = obey_over(alloc, command, poller, watch, out);
     tell_refused(poller.link(), watch);
-    if ran.status == FAILED_LINK {
-        ran.cause = cause_of_link(alloc, site, defs, poller);
+    let mut ended = EndedScans {
+        ran,
+        unlinked: None,
+    };
+    if ended.ran.status == FAILED_LINK {
+        ended.unlinked = cause_of_link(alloc, site, defs, poller);
     }
-    ran
+    ended
 }
 
 /// Tells which writes over a link were refused.

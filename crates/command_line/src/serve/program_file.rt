@@ -1,14 +1,15 @@
 //! The program's file, looked at while a service runs its program.
 use crate::words::version;
 use command_files::{SourceFault, read_again, warn_of_names};
-use commands::{CommandOutcome, DEPTH, accept_program};
+use commands::{CommandOutcome, CommandRefusal, DEPTH, accept_program};
 use gateway::CoreFault;
 use point_types::Name;
-use refusal_notes::{FileFault, Notes, RefusalNote, escaped, explain_unusable};
+use refusal_notes::{FileFault, Notes, escaped, explain_unusable};
 use served_site::replace_program;
 use service::Service;
 use service_loop::{Looked, ProgramRefusal, ProgramWatch, seconds_of_day};
 use service_texts::Start;
+use site_model::Site;
 use std::alloc::{AllocError, Global};
 use std::rt::Files;
 use std::str;
@@ -59,7 +60,7 @@ enum Sight {
 enum KnownFile {
     Nothing,
     /// Why the text that was refused last isn't accepted.
-    Cause(Option<RefusalNote>),
+    Cause(Option<CommandRefusal>),
     /// Why there is no text.
     NoText(FileFault),
     /// The program that runs was taken.
@@ -94,7 +95,7 @@ impl ProgramWatch for ProgramFile<'_> {
     fn explain<R: Eprint + AllocGlobal>(&self, rt: &R, service: &Service) {
         match &self.known {
             KnownFile::Nothing => {}
-            KnownFile::Cause(cause) => self.explain_cause(rt, cause),
+            KnownFile::Cause(cause) => self.explain_cause(rt, cause, service.core().site()),
             KnownFile::NoText(fault) => self.explain_file(rt, *fault),
             KnownFile::Taken => self.warn(rt, service),
         }
@@ -243,13 +244,18 @@ impl<'n> ProgramFile<'n> {
         }
     }
 
-    fn explain_cause<R: Eprint + AllocGlobal>(&self, rt: &R, cause: &Option<RefusalNote>) {
+    fn explain_cause<R: Eprint + AllocGlobal>(
+        &self,
+        rt: &R,
+        cause: &Option<CommandRefusal>,
+        site: &Site,
+    ) {
         if let Some(Sight::Text(text)) = &self.refused {
             let notes = Notes {
                 program: text.as_str(),
                 ..self.notes
             };
-            notes.explain(rt, cause);
+            notes.explain_for(rt, cause, Some(site));
         }
     }
 

@@ -1,7 +1,6 @@
-use Rattle.commands.proofs.OutcomeLemmas.{outcome_told}
+use Rattle.std.proofs.Common.{subst, sym}
+use Rattle.commands.specs.Outcome.{TellsImage}
 use Rattle.commands.proofs.scan.scan_outcome.Goals as goal
 
-pub returns : goal.returns
-returns c = λ image start.
-    outcome_told c.args.readings.now image c.args.trial.now c.scan-ending.new.self c.scan-ending.result c.new-lines.result.items c.push_scan.new.lines.items c.in_ok-status.status start
-    c.scan-ending.ensures.ended c.scan-ending.ensures.trapped c.new-lines.ensures.items c.in_ok-status.ensures.ok c.in_ok-status.ensures.status
+pub returns-in-Ok : goal.returns-in-Ok
+returns-in-Ok c = λ image start. subst (TellsImage image c.args.readings.now) (sym c.with_trap.ensures) (c.in-Ok.ensures image start)

@@ -1,4 +1,4 @@
 use Rattle.commands.proofs.trial_scan.outcome_of_image.Goals as goal
 
-pub returns : goal.returns
-returns c = c.outcome_of_trial.ensures c.args.image c.in_ok-trial.ensures
+pub returns-in-Ok : goal.returns-in-Ok
+returns-in-Ok c = c.outcome_of_trial.ensures c.args.image c.in-Ok.ensures

@@ -9,9 +9,9 @@ pub struct Hint {
     pub help: &'static str,
 }
 
-/// A hint, with what it speaks of.
+/// What is told of a fault: a hint, with what it speaks of.
 #[derive(Drop)]
-pub struct Told {
+pub struct FaultWords {
     pub hint: Hint,
     /// The bytes that are marked in place of those at fault.
     pub span: Option<(usize, usize)>,
@@ -21,10 +21,10 @@ pub struct Told {
     pub detail: String,
 }
 
-impl Told {
+impl FaultWords {
     /// A hint on what is at fault.
-    pub(crate) fn new(alloc: Global, hint: Hint) -> Told {
-        Told {
+    pub(crate) fn new(alloc: Global, hint: Hint) -> FaultWords {
+        FaultWords {
             hint,
             span: None,
             name: String::new(alloc),
@@ -33,21 +33,21 @@ impl Told {
     }
 
     /// A hint on a piece.
-    pub(crate) fn on(alloc: Global, piece: TextPiece<'_>, hint: Hint) -> Told {
-        let mut told = Told::new(alloc, hint);
+    pub(crate) fn on(alloc: Global, piece: TextPiece<'_>, hint: Hint) -> FaultWords {
+        let mut told = FaultWords::new(alloc, hint);
         told.span = Some((piece.at, piece.behind()));
         told
     }
 
     /// A hint that speaks of a name.
-    pub(crate) fn named(alloc: Global, name: &str, hint: Hint) -> Result<Told, AllocError> {
-        let mut told = Told::new(alloc, hint);
+    pub(crate) fn named(alloc: Global, name: &str, hint: Hint) -> Result<FaultWords, AllocError> {
+        let mut told = FaultWords::new(alloc, hint);
         told.name.push_str(name)?;
         Ok(told)
     }
 
     /// The same with what is known there.
-    pub(crate) fn knowing(mut self, detail: &str) -> Result<Told, AllocError> {
+    pub(crate) fn knowing(mut self, detail: &str) -> Result<FaultWords, AllocError> {
         self.detail.push_str(detail)?;
         Ok(self)
     }

@@ -1,9 +1,8 @@
 //! What is noted of a trial that stopped: the line, and the values that met there.
-use crate::report::shown;
+use crate::refusal_note::RefusalNote;
 use il_reader::Program;
 use point_types::{IlType, Operator};
 use program_notes::{instruction_line, name_in, number_at, type_word};
-use refusal_notes::RefusalNote;
 use scan_code::{Image, Op, decode};
 use scan_vm::{Trap, TrapKind, Trial};
 use std::alloc::{AllocError, Global};
@@ -104,8 +103,16 @@ fn push_value(alloc: Global, text: &mut String, value: Option<Typed>) -> Result<
     };
     text.push_str(type_word(kind))?;
     text.push_str(" ")?;
-    text.push_str(shown(alloc, kind, number)?.as_str())?;
-    Ok(())
+    match kind {
+        IlType::Bool if number == 1 => text.push_str("TRUE"),
+        IlType::Bool => text.push_str("FALSE"),
+        _ => push_number(alloc, text, number),
+    }
+}
+
+fn push_number(alloc: Global, text: &mut String, number: i64) -> Result<(), AllocError> {
+    let number = number.to_string(alloc)?;
+    text.push_str(number.as_str())
 }
 
 /// Appends what an instruction wants.
