@@ -1,15 +1,16 @@
 //! The command line.
 use crate::explain_run::{TraceText, explain_with};
 use crate::file_command::obey_on;
+use crate::map_run::{MapRun, run_map};
 use crate::run_command::run_on;
 use crate::runtimes::{CommandRuntime, LoopRuntime};
 use crate::serve::{ServiceRun, run_service};
 use crate::sources::{SourceRefusal, Sources, read_sources, read_state};
 use crate::survey::{SurveyRun, run_survey};
 use crate::words::{
-    Misuse, command, file_command, keeping_of, misuse, misuse_of_definitions, misuse_of_files,
-    probe_address, service_limits, service_words, serving_of, survey_devices, tell_misuse,
-    tell_unparsed, version,
+    Misuse, command, file_command, keeping_of, map_form, misuse, misuse_of_definitions,
+    misuse_of_files, probe_address, service_limits, service_words, serving_of, survey_devices,
+    tell_misuse, tell_unparsed, version,
 };
 use clap::ArgMatches;
 use command_files::{trial_of, warn_of_none, warn_of_site};
@@ -206,6 +207,7 @@ fn obey_on_notes<W: Write>(
         (Some(command), None) => obey_on(rt, alloc, itself, command, notes, out),
         (None, _) if name == "serve" => served(rt, alloc, itself, matches, notes, out),
         (None, _) if name == "survey" => surveyed(rt, alloc, matches, notes, out),
+        (None, _) if name == "map" => mapped(rt, alloc, matches, notes, out),
         (None, _) => BAD_COMMAND_LINE,
     }
 }
@@ -232,6 +234,28 @@ fn unread<W: Write>(
         }
     }
     status
+}
+
+/// Runs `map` on the texts of the files.
+fn mapped<W: Write>(
+    rt: &(impl Print + Eprint + AllocGlobal),
+    alloc: Global,
+    matches: &ArgMatches<'_>,
+    notes: &Notes<'_>,
+    out: &mut W,
+) -> u8 {
+    match map_form(matches) {
+        Ok(form) => {
+            let port = matches.get_one("port").unwrap_or(1502);
+            let run = MapRun {
+                notes: *notes,
+                form,
+                port,
+            };
+            run_map(rt, alloc, &run, out)
+        }
+        Err(why) => tell_misuse(rt, alloc, why, out),
+    }
 }
 
 /// Runs `survey` on the texts of the files.

@@ -8,6 +8,7 @@
 mod dispatch;
 mod explain_run;
 mod file_command;
+mod map_run;
 mod plant_server;
 mod run_command;
 mod runtimes;

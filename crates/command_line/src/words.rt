@@ -2,6 +2,7 @@
 mod arguments;
 mod command_words;
 mod help;
+mod map_words;
 mod overwritten;
 mod serve_words;
 mod standard_input;
@@ -11,6 +12,7 @@ mod telling;
 pub use arguments::command;
 pub(crate) use command_words::{file_command, probe_address};
 pub(crate) use help::version;
+pub(crate) use map_words::map_form;
 pub(crate) use overwritten::{misuse_of_definitions, misuse_of_files};
 pub(crate) use serve_words::{Misuse, keeping_of, service_limits, service_words, serving_of};
 pub(crate) use standard_input::misuse;

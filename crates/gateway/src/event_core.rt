@@ -28,6 +28,7 @@ use request::read;
 use restoring::request_to_set;
 use scan::scan;
 use scan_vm::Machine;
+pub use setting::setting_of;
 use setting::write;
 use site_model::wants::place_of_want;
 use site_model::{Site, Want, Words};

@@ -10,9 +10,8 @@ mod words;
 
 use crate::event_core::Memory;
 pub use amount::{own_value, total_of};
-pub(crate) use point::{OwnPoint, PointSource};
-pub(crate) use points::own_points;
-pub use points::served_factor;
+pub use point::{OwnPoint, PointSource};
+pub use points::{own_point, own_points, served_factor};
 use site_model::Site;
 use words::put_point;
 pub(crate) use words::words_to_read;

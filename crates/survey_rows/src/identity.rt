@@ -72,7 +72,7 @@ fn push_text(alloc: Global, text: &mut String, words: &[u16]) -> Result<(), Allo
     }
     text.push_str("\"")?;
     match str::from_utf8(shown) {
-        Ok(shown) => push_letters(text, shown)?,
+        Ok(shown) => push_inside_quotes(text, shown)?,
         Err(_) => push_bytes(text, shown)?,
     }
     text.push_str("\"")
@@ -106,8 +106,8 @@ fn trimmed(bytes: &[u8]) -> &[u8] {
     bytes.get(..length).unwrap_or(bytes)
 }
 
-/// Appends a text; what can't be shown, and a quote, is escaped, so that it can't pass for something else.
-fn push_letters(text: &mut String, shown: &str) -> Result<(), AllocError> {
+/// Appends a text that stands in quotes; what can't be shown, and a quote, is escaped, so that it can't pass for something else.
+pub fn push_inside_quotes(text: &mut String, shown: &str) -> Result<(), AllocError> {
     for letter in shown.chars() {
         if letter == '"' || letter == '\\' {
             text.push_str("\\")?;

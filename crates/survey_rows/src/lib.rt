@@ -23,8 +23,11 @@ mod units;
 
 // the site file as a survey asks it
 pub use asked_text::{AskedFault, asked_site};
-// definitions that are handed in
+// definitions that are handed in, and the units of points
 pub use handed_defs::HandedDefs;
+pub use units::unit_of;
+// a text in quotes
+pub use identity::push_inside_quotes;
 // the table
 pub use survey::Survey;
 pub use table::{SurveyTable, table_of};

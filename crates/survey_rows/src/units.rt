@@ -1,4 +1,5 @@
 //! The units of the points of published models (SunSpec Device Information Model Specification, units of a point).
+use crate::handed_defs::HandedDefs;
 use crate::point_name::point_name;
 use crate::survey::Survey;
 use note_text::push_escaped;
@@ -174,8 +175,7 @@ pub(crate) fn push_unit_of(
     model: u16,
     point: &str,
 ) -> Result<(), AllocError> {
-    let handed = survey.handed.unit_of(model, point);
-    match handed.or(published_unit(model, point)) {
+    match unit_of(survey.handed, model, point) {
         Some(unit) => {
             text.push_str(" ")?;
             push_escaped(text, unit)
@@ -184,7 +184,14 @@ pub(crate) fn push_unit_of(
     }
 }
 
-/// The unit of a point; None where its number has none, and for a model that isn't among these.
+/// The unit of a model's point: by the definitions that are handed in, or else by the published ones. None where its number has
+/// none, and for a model that isn't among these.
+pub fn unit_of<'a>(handed: &'a HandedDefs, model: u16, point: &str) -> Option<&'a str> {
+    handed
+        .unit_of(model, point)
+        .or(published_unit(model, point))
+}
+
 fn published_unit(model: u16, point: &str) -> Option<&'static str> {
     for (name, unit) in units_of(model) {
         if *name == point {

@@ -53,7 +53,8 @@ pub fn run_survey<R: LoopRuntime + Print, W: Write>(
     }
 }
 
-fn tell_refused<R: Eprint + AllocGlobal, W: Write>(
+/// Prints why a text is refused, and explains it on standard error. Gives the status.
+pub(crate) fn tell_refused<R: Eprint + AllocGlobal, W: Write>(
     rt: &R,
     notes: &Notes<'_>,
     outcome: &CommandOutcome,

@@ -1,5 +1,6 @@
 //! The words that a command line may have.
 use crate::words::help;
+use crate::words::map_words::map_command;
 use crate::words::serve_words::serve_command;
 use crate::words::survey_words::survey_command;
 use clap::builder::ValueParser;
@@ -21,6 +22,7 @@ pub fn command<'a>(alloc: Global) -> Result<Command<'a>, AllocError> {
     let command = with_subcommand(command, run_command(alloc))?;
     let command = with_subcommand(command, survey_command(alloc))?;
     let command = with_subcommand(command, serve_command(alloc))?;
+    let command = with_subcommand(command, map_command(alloc))?;
     with_subcommand(command, probe_command(alloc))
 }
 

@@ -64,6 +64,14 @@ standard input:
 
 Status: 0 nothing is wrong; 1 something is, or refused; 2 no such command line; 3 the clock or a socket can't be had";
 
+pub(crate) const MAP: &str =
+    "Prints a row for each point of the gateway's own map, as it is handed to those who read and write it: its registers, model,
+kind and factor, who may write it, what it shows, its range, default and lapse. SITE can be '-', standard input:
+  sunsite map site.toml
+  sunsite map site.toml --html > registers.html
+
+Status: 0 printed; 1 refused; 2 no such command line";
+
 pub(crate) const SERVE: &str =
     "Prints 'started TIME ..', 'accepted', 'budget N' and 'listening ADDR', and then a line for each change, which begins with
 the seconds since the start, or with --times utc with the time of day. It ends after --scans N, or by a signal. SITE or

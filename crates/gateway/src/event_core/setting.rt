@@ -138,7 +138,7 @@ fn are_settings(tags: &[SiteTag], points: &[OwnPoint], registers: usize) -> bool
 }
 
 /// The number of the `set` tag that a point is.
-pub(crate) fn setting_of(tags: &[SiteTag], point: OwnPoint) -> Option<usize>
+pub fn setting_of(tags: &[SiteTag], point: OwnPoint) -> Option<usize>
     ensures value { result ≡ setting_of tags.now point }
     ensures inside { IfSome result (λ i. i < length tags.now) }
 {

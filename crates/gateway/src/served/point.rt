@@ -3,7 +3,7 @@ use point_types::Kind;
 
 /// Where the number of a point of the gateway's own models comes from.
 #[derive(Clone, Copy)]
-pub(crate) enum PointSource {
+pub enum PointSource {
     /// From nowhere: it is unimplemented.
     Nothing,
     /// The served entry of this number.

@@ -15,7 +15,7 @@ use std::alloc::{AllocError, Global};
 
 /// The points of a gateway's map in the order of their registers: the mark, those of its models, the end model (SunSpec
 /// Device Information Model Specification, device modbus maps).
-pub(crate) fn own_points(alloc: Global, site: &Site) -> Result<Items<OwnPoint>, AllocError>
+pub fn own_points(alloc: Global, site: &Site) -> Result<Items<OwnPoint>, AllocError>
     ensures { IfOk result (λ points. points ≡ own_points site.now) }
 {
     let mut points = Items::new(alloc);
@@ -51,7 +51,7 @@ fn push_model(
 }
 
 /// The point of this number of a model; the first two hold its ID and its length.
-fn own_point(
+pub fn own_point(
     served: &[Served],
     tags: &[SiteTag],
     model: &ModelDef,

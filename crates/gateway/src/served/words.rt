@@ -18,7 +18,7 @@ use site_model::{Served, Site, SiteTag, Source as Given, Words};
 
 impl OwnPoint {
     /// How many registers it has.
-    pub(crate) fn registers(self) -> usize
+    pub fn registers(self) -> usize
         ensures { result ≡ registers_of self }
     {
         match self {

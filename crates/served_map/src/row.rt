@@ -1,0 +1,43 @@
+//! A point with its address.
+ghost use Rattle.std.specs.Prelude.{◌≡◌, ◌↔◌, IsTrue};
+ghost use Rattle.gateway.specs.served.Points.{registers_of};
+ghost use Rattle.served_map.specs.Rows.{IsSet};
+
+use gateway::{OwnPoint, setting_of};
+use site_model::SiteTag;
+
+/// A point of the gateway's own map.
+#[derive(Clone, Copy)]
+pub struct MapRow {
+    /// The address of its first register; the first register of all has the address 0.
+    pub address: usize,
+    pub subject: PointSubject,
+    pub point: OwnPoint,
+}
+
+/// What a point is of (SunSpec Device Information Model Specification, device modbus maps).
+#[derive(Clone, Copy, PartialEq, Eq, Debug)]
+pub enum PointSubject {
+    /// The mark `SunS`, which stands before the models.
+    Mark,
+    /// The point of this number of the model of this number; a model's first two are its ID and its length.
+    Point { model: usize, point: usize },
+    /// The end model, which has an ID and the length 0.
+    End,
+}
+
+impl MapRow {
+    /// How many registers it has.
+    pub fn registers(&self) -> usize
+        ensures { result ≡ registers_of self.now.point }
+    {
+        self.point.registers()
+    }
+
+    /// Whether clients may write it: it is a `set` tag's.
+    pub fn is_set(&self, tags: &[SiteTag]) -> bool
+        ensures { IsTrue result ↔ IsSet tags.now self.now.point }
+    {
+        setting_of(tags, self.point).is_some()
+    }
+}
