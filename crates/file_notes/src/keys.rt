@@ -144,6 +144,7 @@ pub(crate) const TAG: Section = Section {
         Key("bit", ValueKind::Number, Need::Last),
         Key("round", ValueKind::Text, Need::Last),
         LAPSE,
+        Key("fit", ValueKind::Text, Need::Last),
     ],
     needs: None,
 };

@@ -42,7 +42,7 @@ ratio-down : (from to : ℤ) → IsExponent from → IsExponent to → (from -�
 ratio-down from to p q h = ap (λ n. 10 ^ n) (rise-down from to p q h) ∙ pow-add 10 (unsigned_abs (from -ℤ to)) (unsigned_abs (from +ℤ pos 10))
 
 -- the power of the number is the other one's or above
-scaled_up : (x from to : ℤ) → IsExponent from → IsExponent to → pos 0 ≤ℤ (from -ℤ to) → IsScaled x from to (x *ℤ pos (10 ^ unsigned_abs (from -ℤ to)))
+pub scaled_up : (x from to : ℤ) → IsExponent from → IsExponent to → pos 0 ≤ℤ (from -ℤ to) → IsScaled x from to (x *ℤ pos (10 ^ unsigned_abs (from -ℤ to)))
 scaled_up x from to p q h = rw (ratio-up from to p q h) (times-times x (10 ^ unsigned_abs (from -ℤ to)) (10 ^ unsigned_abs (to +ℤ pos 10)))
 
 pub rescaled_up : (x from to : ℤ) → IsExponent from → IsExponent to → pos 0 ≤ℤ (from -ℤ to) → (r : Rescaled) → IsProduct x (pos (10 ^ unsigned_abs (from -ℤ to))) r → IsRescaled x from to r

@@ -47,7 +47,7 @@ scaled_one raw s e m n h k =
     let q = le_from_times n m (10 ^ unsigned_abs (e +ℤ pos 10)) (ten_pos _) (omega (arith, ints)) in
     omega (arith, ints)
 
-down_one : (raw s e : ℤ) → AtMostOne (IsScaledDown raw s e)
+pub down_one : (raw s e : ℤ) → AtMostOne (IsScaledDown raw s e)
 down_one raw s e m n h k =
     let p = h.greatest n k.below in
     let q = k.greatest m h.below in

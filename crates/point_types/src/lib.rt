@@ -20,7 +20,7 @@ pub use encoding::{Unencodable, encode};
 pub use form::numbers_held;
 pub use kind::Kind;
 pub use reading::{Cause, Reading};
-pub use scaling::{scaled, scaled_down};
+pub use scaling::{Rescaled, rescale, scale_factor, scaled, scaled_down};
 pub use words::{number, value};
 // a variable of Instruction List, its type and its name
 pub use il_type::IlType;

@@ -6,7 +6,7 @@ ghost use Rattle.point_types.specs.Rescaling.{IsInRange, IsProduct, IsQuotient, 
 use crate::reading::{Cause, Reading};
 
 /// A number at another power of ten.
-pub(crate) enum Rescaled {
+pub enum Rescaled {
     /// This whole number.
     Whole(i128),
     /// No whole number; this is the next one below.
@@ -15,8 +15,8 @@ pub(crate) enum Rescaled {
     Beyond,
 }
 
-/// The number `number * 10^from` in units of `10^to`.
-pub(crate) fn rescale(number: i128, from: i8, to: i8) -> Rescaled
+/// The number `number * 10^from` in units of `10^to` (SunSpec Device Information Model Specification, scale factors).
+pub fn rescale(number: i128, from: i8, to: i8) -> Rescaled
     requires from_exponent { IsExponent from }
     requires to_exponent { IsExponent to }
     ensures { IsRescaled number from to result }
@@ -59,8 +59,8 @@ fn power_of_ten(power: u32) -> i128
     10i128.pow(power)
 }
 
-/// The scale factor, where there is one in -10..10.
-pub(crate) fn scale_factor(sf: Option<i16>) -> Option<i8>
+/// The scale factor, where there is one in -10..10 (SunSpec Device Information Model Specification, scale factors).
+pub fn scale_factor(sf: Option<i16>) -> Option<i8>
     ensures { result ≡ factor_of sf }
 {
     match sf {

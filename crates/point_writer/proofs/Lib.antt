@@ -1,2 +1,5 @@
+mod Bounds
+mod Fitted
 mod Outputs
 pub mod Plans
+mod Ranges

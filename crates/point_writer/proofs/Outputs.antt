@@ -1,5 +1,5 @@
 -- The tag and the number of an output, by its place among the outputs of a site.
-use Rattle.std.proofs.Common.{◌≡◌, ℕ, ◌<◌, zero, suc, List, [], ◌∷◌, length, get_or, slice_get, ℤ, ◌≤ℤ◌, Option, Some, None, Result, Ok, refl, sym, ap, subst, ◌∙◌, arith}
+use Rattle.std.proofs.Common.{◌≡◌, ℕ, ◌<◌, List, length, get_or, slice_get, ℤ, ◌≤ℤ◌, Option, Some, None, Result, sym, ap, subst, ◌∙◌, arith}
 use Rattle.std.proofs.lemmas.Option.{get_or_from_slice_get, slice_get-get_or, slice_get_within}
 use Rattle.register_map.specs.Layout.{Layout}
 use Rattle.site_model.specs.declared.access.Access.TheVariants as access

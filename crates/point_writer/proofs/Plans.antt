@@ -7,7 +7,7 @@ use Rattle.point_types.specs.declared.reading.Reading.TheVariants as reading
 use Rattle.point_types.specs.declared.encoding.Unencodable.{Unencodable}
 use Rattle.point_types.specs.declared.encoding.Unencodable.TheVariants as unencodable
 use Rattle.point_types.specs.Point.{StandsFor}
-use Rattle.point_types.specs.Reading.{IsScaled, ReadsBy, IsReading, factor_of}
+use Rattle.point_types.specs.Reading.{IsScaled, ReadsBy, factor_of}
 use Rattle.point_types.specs.Encoding.{EncodesBy, IsEncoding}
 use Rattle.point_types.proofs.RoundTrips.{at_most_one_encoding}
 use Rattle.register_map.specs.Layout.{Layout}
@@ -19,7 +19,11 @@ use Rattle.point_writer.specs.declared.write.NoWrite.{NoWrite}
 use Rattle.point_writer.specs.declared.write.NoWrite.TheVariants as refusal
 use Rattle.point_writer.specs.Fault.{no_write_of}
 use Rattle.point_writer.specs.SetPoint.{PointPlace, place_of, SetsAt, IsSetPoint, IsPlanAt, IsPlan}
+use Rattle.point_writer.specs.Fitting.{NoneGoesOut}
+use Rattle.point_writer.specs.Outgoing.{IsSaidFor}
+use Rattle.point_writer.specs.declared.fitting.SaidNumber.{SaidNumber}
 use Rattle.point_writer.specs.Laws.{AtMostOneSetPoint, RefusedHasNoSetPoint}
+use Rattle.point_writer.proofs.Fitted.{goes_said, one_goes_out}
 
 -- words that encode a number are those that read as it
 read_back : (k : Kind) (v e low high : ℤ) (o : Option ℤ) (ws : List ℕ) → low ≤ℤ v → v ≤ℤ high → EncodesBy k v e o (Ok ws) → (raw : ℤ) × StandsFor k ws raw × ReadsBy IsScaled raw o e low high (reading.Value v)
@@ -36,22 +40,23 @@ plan-at maps wants blocks t v o place r e p h =
     let a = subst (λ (q : Option PointPlace). IsPlanAt q t v r) p h in
     subst (λ (x : Option ℤ). IsPlan maps wants blocks t x r) (sym e) a
 
-pub sets-at : (place : PointPlace) (t : SiteTag) (v : ℤ) (w : Write) → w.device ≡ place.device → w.addr ≡ place.addr → t.low ≤ℤ v → v ≤ℤ t.high → IsEncoding t.point v t.exponent place.factor (Ok w.words) → SetsAt place t v w
-sets-at place t v w d a l m h =
-    let x = read_back t.point v t.exponent t.low t.high (factor_of place.factor) w.words l m h in
-    record { device = d; addr = a; raw = x.0; stands = x.1; reads = x.2 }
+pub sets-at : (place : PointPlace) (t : SiteTag) (v : ℤ) (w : Write) (out : SaidNumber) → w.device ≡ place.device → w.addr ≡ place.addr → w.words ≡ out.words → IsSaidFor t place.factor v out → SetsAt place t v w
+sets-at place t v w out d a u h =
+    let c = goes_said t place.factor v out.number h.goes in
+    let x = read_back t.point out.number t.exponent t.low t.high (factor_of place.factor) out.words c.low c.high h.words in
+    record { device = d; addr = a; number = out.number; out = h.goes; raw = x.0; stands = subst (λ ws. StandsFor t.point ws x.0) (sym u) x.1; reads = x.2 }
 
-pub refused-at : (place : PointPlace) (t : SiteTag) (v : ℤ) (fault : Unencodable) (r : NoWrite) → r ≡ no_write_of fault → IsEncoding t.point v t.exponent place.factor (Err fault) → IsPlanAt (Some place) t v (Err r)
+pub refused-at : (place : PointPlace) (t : SiteTag) (v : ℤ) (fault : Unencodable) (r : NoWrite) → r ≡ no_write_of fault → NoneGoesOut t place.factor v fault → IsPlanAt (Some place) t v (Err r)
 refused-at place t v fault r e h = subst (λ (x : NoWrite). IsPlanAt (Some place) t v (Err x)) (sym e) (go fault h)
   where
-    go : (f : Unencodable) → IsEncoding t.point v t.exponent place.factor (Err f) → IsPlanAt (Some place) t v (Err (no_write_of f))
+    go : (f : Unencodable) → NoneGoesOut t place.factor v f → IsPlanAt (Some place) t v (Err (no_write_of f))
     go unencodable.BadScale k = k
     go unencodable.Inexact k = k
     go unencodable.OutOfType k = k
 
 -- the words of a set point are an encoding
-words-encode : (place : PointPlace) (t : SiteTag) (v : ℤ) (w : Write) → SetsAt place t v w → IsEncoding t.point v t.exponent place.factor (Ok w.words)
-words-encode place t v w s = encoded t.point v t.exponent t.low t.high s.raw (factor_of place.factor) w.words s.stands s.reads
+words-encode : (place : PointPlace) (t : SiteTag) (v : ℤ) (w : Write) (s : SetsAt place t v w) → IsEncoding t.point s.number t.exponent place.factor (Ok w.words)
+words-encode place t v w s = encoded t.point s.number t.exponent t.low t.high s.raw (factor_of place.factor) w.words s.stands s.reads
 
 pub same_ok : {ws us : List ℕ} → ◌≡◌ {A = Result (List ℕ) Unencodable} (Ok ws) (Ok us) → ws ≡ us
 same_ok e = cc
@@ -72,11 +77,10 @@ pub at_most_one : AtMostOneSetPoint
 at_most_one maps wants blocks t v w x h k =
     let e = same_place {a = h.place} {b = k.place} h.placed k.placed in
     let s = subst (λ (p : PointPlace). SetsAt p t v x) e k.sets in
-    let u = at_most_one_encoding t.point v t.exponent h.place.factor (Ok w.words) (Ok x.words) (words-encode h.place t v w h.sets) (words-encode h.place t v x s) in
+    let n = one_goes_out t h.place.factor v s.number h.sets.number s.out h.sets.out in
+    let y = subst (λ m. IsEncoding t.point m t.exponent h.place.factor (Ok x.words)) n (words-encode h.place t v x s) in
+    let u = at_most_one_encoding t.point h.sets.number t.exponent h.place.factor (Ok w.words) (Ok x.words) (words-encode h.place t v w h.sets) y in
     same_write w x (h.sets.device ∙ sym s.device) (h.sets.addr ∙ sym s.addr) (same_ok u)
-
-not_both : (k : Kind) (v e : ℤ) (f : Option ℤ) (ws : List ℕ) (fault : Unencodable) → IsEncoding k v e f (Ok ws) → IsEncoding k v e f (Err fault) → ⊥
-not_both k v e f ws fault h l = let q = at_most_one_encoding k v e f (Ok ws) (Err fault) h l in cc
 
 pub refused_has_none : RefusedHasNoSetPoint
 refused_has_none maps wants blocks t v e w h s = go e (subst (λ (p : Option PointPlace). IsPlanAt p t v (Err e)) s.placed h)
@@ -84,9 +88,9 @@ refused_has_none maps wants blocks t v e w h s = go e (subst (λ (p : Option Poi
     go : (x : NoWrite) → IsPlanAt (Some s.place) t v (Err x) → ⊥
     go refusal.NotSet k = k
     go refusal.NoBlock k = k
-    go refusal.BadScale k = not_both t.point v t.exponent s.place.factor w.words unencodable.BadScale (words-encode s.place t v w s.sets) k
-    go refusal.Inexact k = not_both t.point v t.exponent s.place.factor w.words unencodable.Inexact (words-encode s.place t v w s.sets) k
-    go refusal.OutOfType k = not_both t.point v t.exponent s.place.factor w.words unencodable.OutOfType (words-encode s.place t v w s.sets) k
+    go refusal.BadScale k = k.none s.sets.number s.sets.out
+    go refusal.Inexact k = k.none s.sets.number s.sets.out
+    go refusal.OutOfType k = k.none s.sets.number s.sets.out
 
 -- the point of a tag that is written to a device can be written
 writes_writable : (a : Access) (w : Bool) → IsTrue (may_write a w) → a ≡ access.Output → w ≡ true

@@ -1,4 +1,7 @@
 pub mod Fault
+pub mod Fitting
+pub mod Nearest
+pub mod Outgoing
 pub mod SetPoint
 pub mod Places
 pub mod Laws

@@ -1,11 +1,10 @@
 -- Set points: which words, at which address of which device, set a tag to a number, and why there are none.
 -- SunSpec Device Information Model Specification, points and scale factors.
-use Rattle.std.specs.Prelude.{◌≡◌, ℕ, ◌+◌, true, List, length, take, slice_get, ℤ, Option, Some, None, option_map, option_and_then, Result, Ok, Err}
+use Rattle.std.specs.Prelude.{◌≡◌, ℕ, ◌+◌, true, List, take, slice_get, ℤ, Option, Some, None, option_map, option_and_then, Result, Ok, Err}
 use Rattle.point_types.specs.declared.reading.Reading.TheVariants as reading
 use Rattle.point_types.specs.declared.encoding.Unencodable.TheVariants as unencodable
 use Rattle.point_types.specs.Point.{size_of, StandsFor}
 use Rattle.point_types.specs.Reading.{IsReading}
-use Rattle.point_types.specs.Encoding.{IsEncoding}
 use Rattle.register_map.specs.declared.layout.Block.{Block}
 use Rattle.register_map.specs.Layout.{Layout}
 use Rattle.register_map.specs.Layout as map
@@ -13,6 +12,7 @@ use Rattle.site_model.specs.declared.access.Access.TheVariants as access
 use Rattle.site_model.specs.declared.tag.SiteTag.{SiteTag}
 use Rattle.site_model.specs.declared.want.Want.{Want}
 use Rattle.site_model.specs.Readings.{registers_at, scale_at, known_at, block_of}
+use Rattle.point_writer.specs.Fitting.{GoesOut, NoneGoesOut}
 use Rattle.point_writer.specs.declared.write.Write.{Write}
 use Rattle.point_writer.specs.declared.write.NoWrite.{NoWrite}
 use Rattle.point_writer.specs.declared.write.NoWrite.TheVariants as refusal
@@ -41,15 +41,17 @@ place_of maps wants blocks t =
 
 -- ---- set points
 
--- at a place, the words read back as the number, by the factor that the device gave
+-- at a place, the words read back as the number that goes out for v, by the factor that the device gave
 pub record SetsAt (place : PointPlace) (t : SiteTag) (v : ℤ) (w : Write) : Type 0 where
   pub device : w.device ≡ place.device
   pub addr : w.addr ≡ place.addr
+  pub number : ℤ
+  pub out : GoesOut t place.factor v number
   pub raw : ℤ
   pub stands : StandsFor t.point w.words raw
-  pub reads : IsReading raw place.factor t.exponent t.low t.high (reading.Value v)
+  pub reads : IsReading raw place.factor t.exponent t.low t.high (reading.Value number)
 
--- the words set a tag that is written to a device to the number; its point is one that can be written
+-- the words set a tag that is written to a device to the number that goes out for v; its point is one that can be written
 pub record IsSetPoint (maps : List (Option Layout)) (wants : List Want) (blocks : List (Option (List ℕ))) (t : SiteTag) (v : ℤ) (w : Write) : Type 0 where
   pub output : t.access ≡ access.Output
   pub writable : t.writable ≡ true
@@ -64,9 +66,9 @@ IsPlanAt None t v r = r ≡ Err refusal.NoBlock
 IsPlanAt (Some place) t v (Ok w) = SetsAt place t v w
 IsPlanAt (Some place) t v (Err refusal.NotSet) = ⊥
 IsPlanAt (Some place) t v (Err refusal.NoBlock) = ⊥
-IsPlanAt (Some place) t v (Err refusal.BadScale) = IsEncoding t.point v t.exponent place.factor (Err unencodable.BadScale)
-IsPlanAt (Some place) t v (Err refusal.Inexact) = IsEncoding t.point v t.exponent place.factor (Err unencodable.Inexact)
-IsPlanAt (Some place) t v (Err refusal.OutOfType) = IsEncoding t.point v t.exponent place.factor (Err unencodable.OutOfType)
+IsPlanAt (Some place) t v (Err refusal.BadScale) = NoneGoesOut t place.factor v unencodable.BadScale
+IsPlanAt (Some place) t v (Err refusal.Inexact) = NoneGoesOut t place.factor v unencodable.Inexact
+IsPlanAt (Some place) t v (Err refusal.OutOfType) = NoneGoesOut t place.factor v unencodable.OutOfType
 
 -- by the number that the program stored
 abbrev pub IsPlan : List (Option Layout) → List Want → List (Option (List ℕ)) → SiteTag → Option ℤ → Result Write NoWrite → Type 0

@@ -6,6 +6,7 @@ ghost use Rattle.point_types.specs.Reading.{IsExponent};
 ghost use Rattle.point_writer.specs.SetPoint.{IsPlan, IsPlanFor, WritesASetPoint};
 ghost use Rattle.site_model.specs.Readings.{AreSettings};
 
+use crate::fitting::outgoing;
 use crate::place::place_of;
 use crate::write::{NoWrite, Write};
 use point_types::{Kind, Unencodable, encode};
@@ -66,11 +67,11 @@ pub fn plan_of(
     let Some(place) = place_of(tag, wants, blocks, maps) else {
         return Err(NoWrite::NoBlock);
     };
-    match words_for(tag.point, v, tag.exponent, place.factor) {
-        Ok(words) => Ok(Write {
+    match outgoing(tag, v, place.factor) {
+        Ok(out) => Ok(Write {
             device: place.device,
             addr: place.addr,
-            words,
+            words: out.words,
         }),
         Err(fault) => Err(NoWrite::of(fault)),
     }

@@ -13,7 +13,7 @@ use il_reader::Program;
 use note_text::plain_letter;
 use point_types::Items;
 use scan_code::Image;
-use site_model::Site;
+use site_model::{Fit, Site};
 use std::alloc::{AllocError, Global};
 use verifier::known::framed;
 
@@ -36,7 +36,7 @@ pub enum Beside {
 
 /// The lines of a program's text, each with its instructions, and where that is asked for with what is known before them:
 /// the result (r), the deferred values (d), the last one first, the variables and tags that lie in less than their range,
-/// and the inputs that are present. After them stands the longest path, which makes the budget. Where an instruction is
+/// and the inputs that are present. After them stand the longest path, which makes the budget, and the `out` tags that are fitted to their points. Where an instruction is
 /// refused, of which `refused` is the number, the lines end with it.
 pub fn table_of(
     alloc: Global,
@@ -48,7 +48,13 @@ pub fn table_of(
     beside: Beside,
 ) -> Result<String, AllocError> {
     match framed(alloc, image, site, MOST_DEFERRED) {
-        Ok(context) => table_in(alloc, text, program, image, &context, refused, beside),
+        Ok(context) => {
+            let mut lines = table_in(alloc, text, program, image, &context, refused, beside)?;
+            if refused.is_none() && beside == Beside::Known {
+                push_fits(&mut lines, site)?;
+            }
+            Ok(lines)
+        }
         Err(refusal) => match refusal.kind {
             RefusalKind::OutOfMemory => Err(AllocError),
             _ => String::from_str(alloc, ""),
@@ -86,6 +92,26 @@ fn table_in(
         }
     }
     Ok(line.text)
+}
+
+/// Appends which `out` tags have the key `fit`, by its word.
+fn push_fits(lines: &mut String, site: &Site) -> Result<(), AllocError> {
+    push_fitted(lines, site, Fit::Down, "fitted down:")?;
+    push_fitted(lines, site, Fit::Up, "fitted up:")
+}
+
+fn push_fitted(lines: &mut String, site: &Site, fit: Fit, head: &str) -> Result<(), AllocError> {
+    let mut before = head;
+    for tag in site.tags().iter().filter(|tag| tag.fit == fit) {
+        lines.push_str(before)?;
+        lines.push_str(" ")?;
+        lines.push_str(tag.name.as_str())?;
+        before = ",";
+    }
+    if before != head {
+        lines.push_str("\n")?;
+    }
+    Ok(())
 }
 
 /// What the lines of a table are made of.

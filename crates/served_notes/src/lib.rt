@@ -12,7 +12,7 @@ mod warnings;
 mod words;
 
 // warnings of a site
-pub use warnings::shown_warnings;
+pub use warnings::{shown_warnings, unfitted_warnings};
 // why a point doesn't say each number of a range, and the word of its kind
 pub use limits::SettingLimits;
 pub use reason::{Reason, reason_of};

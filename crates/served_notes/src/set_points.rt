@@ -59,7 +59,7 @@ fn wrong_with(
 
 fn mend_of(alloc: Global, demand: &Demand, reason: Reason) -> Result<String, AllocError> {
     match reason {
-        Reason::TooCoarse(factor) => format!(in alloc; "give the tag exponent = {factor}"),
+        Reason::TooCoarse(factor) => format!(in alloc; "give the tag exponent = {factor}, or fit = \"down\""),
         Reason::Beyond(_, limits) => narrowed(alloc, demand, limits),
         Reason::Below(_, limits) if limits.least < 0 => narrowed(alloc, demand, limits),
         Reason::Below(_, _) => String::from_str(alloc, "raise its low"),

@@ -10,11 +10,14 @@ use served_ranges::{
     Demand, always_shows_stored, always_shows_total, demand_of_stored, demand_of_total,
     factor_for_range,
 };
-use site_model::{Access, Served, Site, SiteTag, Source};
+use site_model::{Access, Fit, Served, Sf, Site, SiteTag, Source};
 use std::alloc::{AllocError, Global};
 
 /// The most points that are told.
 const MOST_TOLD: usize = 10;
+
+/// What is told of an `out` tag without the key `fit`, and below it what to do.
+const UNFITTED: &str = "what the program stores isn't written where its point can't say it by the factor that the device has\n  help: add fit = \"down\" (of a limit), or fit = \"up\": then the next number that it can say is written";
 
 /// Warnings, as lines on the site file at a path.
 #[derive(Drop)]
@@ -35,7 +38,34 @@ pub fn shown_warnings(alloc: Global, path: &str, site: &Site) -> Result<String, 
     warnings.push_sums(alloc, site)?;
     warnings.push_stored(alloc, site)?;
     warnings.push_outputs(alloc, site)?;
-    warnings.told(alloc)
+    warnings.told(alloc, "points don't always say what they are to")
+}
+
+/// Warnings of the `out` tags without the key `fit` whose point is scaled by a factor of the device's own: what the program stores
+/// isn't written where the point can't say it. Empty where there are none.
+pub fn unfitted_warnings(alloc: Global, path: &str, site: &Site) -> Result<String, AllocError> {
+    let mut warnings = Warnings {
+        path: escaped(alloc, path)?,
+        lines: String::new(alloc),
+        count: 0,
+    };
+    warnings.push_unfitted(alloc, site)?;
+    warnings.told(alloc, "out tags have no fit")
+}
+
+/// Whether some of what the program may store is said by no factor, and nothing is written in its place.
+fn cant_say_all(tag: &SiteTag) -> bool {
+    tag.access == Access::Output
+        && tag.fit == Fit::Exact
+        && factor_for_range(tag).is_none()
+}
+
+/// Whether what the program stores goes unwritten where the tag's point can't say it by the factor that its device has.
+fn is_unfitted(tag: &SiteTag) -> bool {
+    tag.access == Access::Output
+        && tag.fit == Fit::Exact
+        && matches!(tag.sf, Sf::At(_))
+        && factor_for_range(tag).is_some()
 }
 
 /// What is wrong with a demand, and below it what to do.
@@ -97,9 +127,20 @@ impl Warnings {
         self.push(alloc, name, subject, demand)
     }
 
+    fn push_unfitted(&mut self, alloc: Global, site: &Site) -> Result<(), AllocError> {
+        for (number, tag) in site.tags().iter().enumerate() {
+            if is_unfitted(tag) && self.count_one() {
+                let number = number.saturating_add(1);
+                let name = EntryName::Named("[[tag]]", tag.name.as_str(), number);
+                self.push_text(alloc, name, UNFITTED)?;
+            }
+        }
+        Ok(())
+    }
+
     fn push_outputs(&mut self, alloc: Global, site: &Site) -> Result<(), AllocError> {
         for (number, tag) in site.tags().iter().enumerate() {
-            if tag.access == Access::Output && factor_for_range(tag).is_none() {
+            if cant_say_all(tag) {
                 let number = number.saturating_add(1);
                 let name = EntryName::Named("[[tag]]", tag.name.as_str(), number);
                 if self.count_one() {
@@ -147,8 +188,8 @@ impl Warnings {
         self.lines.push_str(lines.as_str())
     }
 
-    /// The lines, and how many more there are.
-    fn told(self, alloc: Global) -> Result<String, AllocError> {
+    /// The lines, and how many more there are that are so.
+    fn told(self, alloc: Global, are: &str) -> Result<String, AllocError> {
         let Warnings {
             path,
             mut lines,
@@ -158,7 +199,7 @@ impl Warnings {
         if more > 0 {
             let path = path.as_str();
             let line = format!(in alloc;
-                "{path}: warning: {more} more points don't always say what they are to\n"
+                "{path}: warning: {more} more {are}\n"
             )?;
             lines.push_str(line.as_str())?;
         }

@@ -5,6 +5,7 @@
 mod alarm;
 mod changes;
 mod devices;
+mod fitted;
 mod inputs;
 mod lapses;
 mod lines;
@@ -24,6 +25,7 @@ mod wrong;
 // what is wrong
 pub use alarm::{Alarm, AlarmSubject, Hidden};
 pub use devices::{is_amiss, is_lacking};
+pub use fitted::fitted_number;
 pub use met::{MetNumber, met_at, met_of};
 pub use wrong::{Seen, missing_now, wrong_now};
 // what follows from the sleep of devices

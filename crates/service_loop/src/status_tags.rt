@@ -4,7 +4,7 @@ use gateway::{Core, DEPTH};
 use point_types::{Cause, Reading};
 use serde_json::{Map, Value, put};
 use service::{OutputState, Service};
-use service_alarms::{missing_word, unwritten_word};
+use service_alarms::{fitted_number, missing_word, unwritten_word};
 use site_model::{Access, SiteTag};
 use std::alloc::{AllocError, Global};
 
@@ -57,14 +57,15 @@ fn access_word(access: Access) -> &'static str {
     }
 }
 
-/// What the program stored in each `out` tag, and whether its device took it.
+/// What the program stored in each `out` tag, the number that goes out where it isn't that one, and whether its device took it.
 pub(crate) fn outputs_value(alloc: Global, service: &Service) -> Result<Value, AllocError> {
     let core = service.core();
     let mut values = Map::new(alloc);
     for (output, place) in core.site().outs().iter().enumerate() {
         if let Some(tag) = core.site().tags().get(*place) {
             let number = number_at(core.outputs(), *place);
-            let value = output_value(alloc, number, service.output_state(output))?;
+            let fitted = fitted_number(core, output);
+            let value = output_value(alloc, number, fitted, service.output_state(output))?;
             put(&mut values, alloc, tag.name.as_str(), value)?;
         }
     }
@@ -81,10 +82,14 @@ fn number_at(numbers: &[Option<i64>], place: usize) -> Option<i64> {
 fn output_value(
     alloc: Global,
     number: Option<i64>,
+    fitted: Option<i64>,
     state: Option<OutputState>,
 ) -> Result<Value, AllocError> {
     let mut value = Map::new(alloc);
     put_signed(&mut value, alloc, "value", number)?;
+    if fitted.is_some() {
+        put_signed(&mut value, alloc, "fitted", fitted)?;
+    }
     match state {
         Some(OutputState::Written) => put_text(&mut value, alloc, "state", "written")?,
         Some(OutputState::Unwritten(cause)) => {

@@ -7,7 +7,7 @@ use Rattle.point_types.specs.declared.reading.Reading.{Reading}
 use Rattle.point_types.specs.declared.reading.Reading.TheVariants as reading
 use Rattle.point_types.specs.Point.{size_of, value_of}
 use Rattle.point_types.specs.Reading.{Reads, ReadsBy, IsScaled, IsScaledDown, factor_of}
-use Rattle.point_types.specs.Value.{is_within, is_ranged, low_of, high_of}
+use Rattle.point_types.specs.Value.{is_within, low_of, high_of}
 use Rattle.site_model.specs.declared.access.Access.{Access}
 use Rattle.site_model.specs.declared.access.Access.TheVariants as access
 use Rattle.site_model.specs.declared.tag.SiteTag.{SiteTag}

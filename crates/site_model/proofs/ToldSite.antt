@@ -17,8 +17,8 @@ use Rattle.site_model.specs.File.{Layout, has_too_many, layout_of, layout_over, 
 use Rattle.site_model.specs.Gateway.{Gateway, definition_of, gateway_of}
 use Rattle.site_model.specs.Lengths.{lengths_of}
 use Rattle.site_model.specs.Serving.{served_behind}
-use Rattle.site_model.specs.Tagging.{Tag, TagKeys, access_of, clashes, device_for, goes_together, is_bit_place, is_on_heading, is_place, is_lapsing, is_rounding, may_be_written, measures_of, Measures, model_for, numbers_of, place_of, point_for, point_tag_of, tag_keys, tag_name, tag_of, tag_over, tag_placed, tag_typed, tags_behind, type_of, TimeKeys, has_point_words, has_range, has_time_range, is_time, time_keys, time_over, time_placed, time_tag_of, time_typed}
-use Rattle.site_model.specs.Told.{AreIn, AreTold, IsDefined, IsDevice, IsPlaced, IsPoint, IsPointTag, IsTag, IsTimeTag, IsTold, SitesAreTold}
+use Rattle.site_model.specs.Tagging.{Tag, TagKeys, access_of, clashes, device_for, goes_together, is_bit_place, is_fitting, is_on_heading, is_place, is_lapsing, is_rounding, may_be_written, measures_of, Measures, model_for, numbers_of, place_of, point_for, point_tag_of, tag_keys, tag_name, tag_of, tag_over, tag_placed, tag_typed, tags_behind, type_of, TimeKeys, has_point_words, has_range, has_time_range, is_time, time_keys, time_over, time_placed, time_tag_of, time_typed}
+use Rattle.site_model.specs.Told.{AreIn, AreTold, IsDefined, IsDevice, IsPlaced, IsPoint, IsPointTag, IsTag, IsTimeTag, IsTold, SitesAreTold, word_of_fit}
 use Rattle.site_model.specs.Views.{site_view, tag_view}
 use Rattle.site_model.specs.Wants.{length_of}
 use Rattle.site_model.specs.declared.access.Access.{Access}
@@ -30,7 +30,7 @@ use Rattle.site_model.specs.declared.tag.SiteTag.{SiteTag}
 use Rattle.site_model.proofs.ToldKeys.{by_both, chosen, given, ok_is, some_is, spared, text_there, unsaid}
 use Rattle.site_model.proofs.ToldModels.{IsSaid, defined_by_its_id, gateway_said, model_length, own_defined}
 use Rattle.site_model.proofs.Owns.{at_most}
-use Rattle.site_model.proofs.ToldTags.{bit_told, devices_told, keys_told, lapse_told, measures_told, model_told, name_told, numbers_told, place_told, placed, point_told, round_told}
+use Rattle.site_model.proofs.ToldTags.{bit_told, devices_told, fit_told, keys_told, lapse_told, measures_told, model_told, name_told, numbers_told, place_told, placed, point_told, round_told}
 use Rattle.point_types.proofs.Truths.{both}
 
 -- ---- what a tag was made of
@@ -235,14 +235,17 @@ module _ (defs : List ModelDef) (site : Site) (ids : Items) (own : List ModelDef
   tag_said tree i t at made =
       let keys = made.keys in
       let words = words_told keys made.measures made.device made.model made.point (tag_view t) made.typed in
-      let k = keys_told (text_at (codes "name") tree) (text_at (codes "access") tree) (text_at (codes "type") tree) (place_of tree) (numbers_of tree) (optional_number_at (codes "bit") tree) (optional_text_at (codes "round") tree) (optional_number_at (codes "lapse") tree) keys made.read in
+      let k = keys_told (text_at (codes "name") tree) (text_at (codes "access") tree) (text_at (codes "type") tree) (place_of tree) (numbers_of tree) (optional_number_at (codes "bit") tree) (optional_text_at (codes "round") tree) (optional_number_at (codes "lapse") tree) (optional_text_at (codes "fit") tree) keys made.read in
       let n = numbers_told (number_at (codes "exponent") tree) (number_at (codes "low") tree) (number_at (codes "high") tree) (optional_number_at (codes "default") tree) keys.numbers k.numbers_is in
       let p = place_told (optional_text_at (codes "device") tree) (number_at (codes "model") tree) (text_at (codes "point") tree) keys.place k.place_is in
       let u = measures_told (type_of keys.kind) (made.point).kind keys.numbers keys.bit keys.lapse made.measures made.measured in
-      let last = is_rounding words.access keys.bit keys.round && is_lapsing words.access (keys.numbers).default keys.lapse in
+      let ends = is_lapsing words.access (keys.numbers).default keys.lapse && is_fitting words.access keys.fit in
+      let last = is_rounding words.access keys.bit keys.round && ends in
       let rules = both (is_bit_place words.access words.kind (made.point).kind keys.bit) last (both (is_place words.access keys.place.device (made.point).kind) (is_bit_place words.access words.kind (made.point).kind keys.bit && last) words.together).1 in
-      let rounds = (both (is_rounding words.access keys.bit keys.round) (is_lapsing words.access (keys.numbers).default keys.lapse) rules.1).0 in
-      let down = round_told words.access keys.bit keys.round (get (codes "round") tree) k.round_is rounds in
+      let rounds = both (is_rounding words.access keys.bit keys.round) ends rules.1 in
+      let down = round_told words.access keys.bit keys.round (get (codes "round") tree) k.round_is rounds.0 in
+      let fitting = (both (is_lapsing words.access (keys.numbers).default keys.lapse) (is_fitting words.access keys.fit) rounds.1).1 in
+      let fit = fit_told words.access keys.fit (get (codes "fit") tree) k.fit_is fitting in
       let device = placed site.devices words.access (text_at (codes "device") tree) keys.place.device made.device
       (λ s e. text_there (get (codes "device") tree) s (p.0 ∙ ap Some e)) (ap (λ o. device_for site.devices o keys.place.device) (sym words.accessed) ∙ made.at) in
       record {
@@ -256,6 +259,7 @@ module _ (defs : List ModelDef) (site : Site) (ids : Items) (own : List ModelDef
         bit = k.bit_is ∙ ap Some (bit_told words.access words.kind (made.point).kind keys.bit (made.measures).bit u.1 rules.0) ∙ ap (λ (x : Tag). Some (option_map pos x.bit)) words.is;
         round = down ∙ ap (λ (x : Tag). if x.down then Some (codes "down") else None) words.is;
         lapse = k.lapse_is ∙ ap Some (lapse_told keys.lapse (made.measures).lapse u.2) ∙ ap (λ (x : Tag). Some (option_map pos x.lapse)) words.is;
+        fit = fit ∙ ap (λ (x : Tag). word_of_fit x.fit) words.is;
         device = subst (λ (x : Tag). IsPlaced site.devices (text_at (codes "device") tree) x.access x.device) words.is device;
         point = point_said tree i t at made words p.1 p.2;
       }

@@ -1,5 +1,5 @@
 -- The devices and tags of a site file, entry by entry.
-use Rattle.std.proofs.Common.{◌≡◌, ℕ, ℤ, pos, Bool, true, false, neg_ℤ, ◌&&◌, not, List, [], ◌∷◌, ◌++◌, find, if◌then◌else◌, Option, Some, None, is_some, option_map, option_and_then, Result, Ok, Err, slice_get, codes, refl, sym, ap, subst, ◌∙◌, append_assoc, append-nil, true≢false}
+use Rattle.std.proofs.Common.{◌≡◌, ℕ, ℤ, pos, Bool, true, false, neg_ℤ, ◌&&◌, ◌||◌, not, List, [], ◌∷◌, ◌++◌, find, if◌then◌else◌, Option, Some, None, is_some, option_map, option_and_then, Result, Ok, Err, slice_get, codes, refl, sym, ap, subst, ◌∙◌, append_assoc, append-nil, true≢false}
 use Rattle.std.proofs.lemmas.Option.{cond_some}
 use Rattle.std.proofs.lemmas.Slice.Eq.{bytes_eq-Decides}
 use Rattle.std.specs.List.{list_any}
@@ -15,14 +15,15 @@ use Rattle.model_defs.specs.declared.model.ModelDef.{ModelDef}
 use Rattle.file_keys.specs.Keys.{natural_within, number_at, number_or, optional_number_at, text_at}
 use Rattle.site_model.specs.Devices.{DeviceKeys, device_keys, device_of, device_within, devices_behind, has_name_or_unit, optional_base, write_of}
 use Rattle.site_model.specs.Gateway.{definition_of, has_id}
-use Rattle.site_model.specs.Tagging.{Measures, Numbers, TagPlace, TagKeys, bit_of, device_for, device_named, device_number, ends_in_ok, exponent_of, has_range, is_bit_place, is_device_named, is_input, is_rounding, lapse_of, last_bit, measures_of, measures_within, model_for, point_for, point_number, tag_name}
+use Rattle.site_model.specs.Tagging.{Measures, Numbers, TagPlace, TagKeys, bit_of, device_for, device_named, device_number, ends_in_ok, exponent_of, has_range, fit_by, is_bit_place, is_device_named, is_fitting, is_input, is_output, is_rounding, lapse_of, last_bit, measures_of, measures_within, model_for, point_for, point_number, tag_name}
 use Rattle.site_model.specs.Tag.{start_of}
-use Rattle.site_model.specs.Told.{AreTold, IsDevice, IsPlaced}
+use Rattle.site_model.specs.Told.{AreTold, IsDevice, IsPlaced, word_of_fit}
 use Rattle.site_model.specs.Wants.{is_of_device}
 use Rattle.site_model.specs.declared.access.Access.{Access}
 use Rattle.site_model.specs.declared.access.Access.TheVariants as access
 use Rattle.site_model.specs.declared.device.SiteDevice.{SiteDevice}
 use Rattle.site_model.specs.declared.device.WriteFunction.{WriteFunction}
+use Rattle.site_model.specs.declared.fit.Fit.TheVariants as fits
 use Rattle.site_model.specs.declared.fault.SiteFault.{SiteFault}
 use Rattle.site_model.specs.declared.fault.SiteFault.TheVariants as fault
 use Rattle.site_model.proofs.ToldKeys.{by_both, given, natural_is, ok_is, optional_is, some_is, spared, stands_at, text_missing, text_there}
@@ -105,8 +106,8 @@ place_told (Some d) (Some m) (Some q) p e =
     let same : own ≡ p = some_is own p e in
     (ap (λ (k : TagPlace). Some k.device) same, ap (λ (k : TagPlace). Some k.model) same, ap (λ (k : TagPlace). Some k.point) same)
 
--- what the eight parts of a tag's keys are
-pub record AreKeys (name access kind : Option (List ℕ)) (place : Option TagPlace) (numbers : Option Numbers) (bit : Option (Option ℤ)) (round : Option (Option (List ℕ))) (lapse : Option (Option ℤ)) (keys : TagKeys) : Type 0 where
+-- what the nine parts of a tag's keys are
+pub record AreKeys (name access kind : Option (List ℕ)) (place : Option TagPlace) (numbers : Option Numbers) (bit : Option (Option ℤ)) (round : Option (Option (List ℕ))) (lapse : Option (Option ℤ)) (fit : Option (Option (List ℕ))) (keys : TagKeys) : Type 0 where
   pub name_is : name ≡ Some keys.name
   pub access_is : access ≡ Some keys.access
   pub kind_is : kind ≡ Some keys.kind
@@ -115,21 +116,23 @@ pub record AreKeys (name access kind : Option (List ℕ)) (place : Option TagPla
   pub bit_is : bit ≡ Some keys.bit
   pub round_is : round ≡ Some keys.round
   pub lapse_is : lapse ≡ Some keys.lapse
+  pub fit_is : fit ≡ Some keys.fit
 
-pub keys_told : (name access kind : Option (List ℕ)) (place : Option TagPlace) (numbers : Option Numbers) (bit : Option (Option ℤ)) (round : Option (Option (List ℕ))) (lapse : Option (Option ℤ)) (keys : TagKeys)
+pub keys_told : (name access kind : Option (List ℕ)) (place : Option TagPlace) (numbers : Option Numbers) (bit : Option (Option ℤ)) (round : Option (Option (List ℕ))) (lapse : Option (Option ℤ)) (fit : Option (Option (List ℕ))) (keys : TagKeys)
     → option_and_then (λ n. option_and_then (λ a. option_and_then (λ k. option_and_then (λ p. option_and_then (λ m. option_and_then (λ b.
-    option_and_then (λ r. option_map (λ l. record { name = n; access = a; kind = k; place = p; numbers = m; bit = b; round = r; lapse = l }) lapse) round) bit) numbers) place) kind) access) name ≡ Some keys
-    → AreKeys name access kind place numbers bit round lapse keys
-keys_told None access kind place numbers bit round lapse keys e = absurd (cc)
-keys_told (Some n) None kind place numbers bit round lapse keys e = absurd (cc)
-keys_told (Some n) (Some a) None place numbers bit round lapse keys e = absurd (cc)
-keys_told (Some n) (Some a) (Some k) None numbers bit round lapse keys e = absurd (cc)
-keys_told (Some n) (Some a) (Some k) (Some p) None bit round lapse keys e = absurd (cc)
-keys_told (Some n) (Some a) (Some k) (Some p) (Some m) None round lapse keys e = absurd (cc)
-keys_told (Some n) (Some a) (Some k) (Some p) (Some m) (Some b) None lapse keys e = absurd (cc)
-keys_told (Some n) (Some a) (Some k) (Some p) (Some m) (Some b) (Some r) None keys e = absurd (cc)
-keys_told (Some n) (Some a) (Some k) (Some p) (Some m) (Some b) (Some r) (Some l) keys e =
-    let own : TagKeys = record { name = n; access = a; kind = k; place = p; numbers = m; bit = b; round = r; lapse = l } in
+    option_and_then (λ r. option_and_then (λ l. option_map (λ f. record { name = n; access = a; kind = k; place = p; numbers = m; bit = b; round = r; lapse = l; fit = f }) fit) lapse) round) bit) numbers) place) kind) access) name ≡ Some keys
+    → AreKeys name access kind place numbers bit round lapse fit keys
+keys_told None access kind place numbers bit round lapse fit keys e = absurd (cc)
+keys_told (Some n) None kind place numbers bit round lapse fit keys e = absurd (cc)
+keys_told (Some n) (Some a) None place numbers bit round lapse fit keys e = absurd (cc)
+keys_told (Some n) (Some a) (Some k) None numbers bit round lapse fit keys e = absurd (cc)
+keys_told (Some n) (Some a) (Some k) (Some p) None bit round lapse fit keys e = absurd (cc)
+keys_told (Some n) (Some a) (Some k) (Some p) (Some m) None round lapse fit keys e = absurd (cc)
+keys_told (Some n) (Some a) (Some k) (Some p) (Some m) (Some b) None lapse fit keys e = absurd (cc)
+keys_told (Some n) (Some a) (Some k) (Some p) (Some m) (Some b) (Some r) None fit keys e = absurd (cc)
+keys_told (Some n) (Some a) (Some k) (Some p) (Some m) (Some b) (Some r) (Some l) None keys e = absurd (cc)
+keys_told (Some n) (Some a) (Some k) (Some p) (Some m) (Some b) (Some r) (Some l) (Some f) keys e =
+    let own : TagKeys = record { name = n; access = a; kind = k; place = p; numbers = m; bit = b; round = r; lapse = l; fit = f } in
     let same : own ≡ keys = some_is own keys e in
     record {
       name_is = ap (λ (k : TagKeys). Some k.name) same;
@@ -140,6 +143,7 @@ keys_told (Some n) (Some a) (Some k) (Some p) (Some m) (Some b) (Some r) (Some l
       bit_is = ap (λ (k : TagKeys). Some k.bit) same;
       round_is = ap (λ (k : TagKeys). Some k.round) same;
       lapse_is = ap (λ (k : TagKeys). Some k.lapse) same;
+      fit_is = ap (λ (k : TagKeys). Some k.fit) same;
     }
 
 -- ---- the parts of a tag
@@ -240,3 +244,19 @@ round_told a bit None o e h = text_missing o e
 round_told a bit (Some word) o e h =
     let down = (both (not (is_some bit)) (bytes_eq word (codes "down")) (both (is_input a) (not (is_some bit) && bytes_eq word (codes "down")) h).1).1 in
     text_there o word e ∙ ap Some (same_bytes word (codes "down") down)
+
+pub fit_told : (a : Access) (fit : Option (List ℕ)) (o : Option Data) → option_map_or (λ d. option_map Some (as_str d)) o (Some None) ≡ Some fit → is_fitting a fit ≡ true
+    → option_and_then as_str o ≡ word_of_fit (fit_by fit)
+fit_told a None o e h = text_missing o e
+fit_told a (Some word) o e h = text_there o word e ∙ by_word (bytes_eq word (codes "up")) refl
+  where
+    one : (bytes_eq word (codes "down") || bytes_eq word (codes "up")) ≡ true
+    one = (both (is_output a) (bytes_eq word (codes "down") || bytes_eq word (codes "up")) h).1
+
+    below : (d u : Bool) → (d || u) ≡ true → u ≡ false → d ≡ true
+    below true u p q = refl
+    below false u p q = cc
+
+    by_word : (up : Bool) → bytes_eq word (codes "up") ≡ up → Some word ≡ word_of_fit (if up then fits.Up else fits.Down)
+    by_word true p = ap Some (same_bytes word (codes "up") p)
+    by_word false p = ap Some (same_bytes word (codes "down") (below (bytes_eq word (codes "down")) (bytes_eq word (codes "up")) one p))

@@ -8,7 +8,7 @@ use Rattle.site_model.specs.Devices.{device_of}
 use Rattle.file_keys.specs.Keys.{is_over}
 use Rattle.site_model.specs.File.{site_of}
 use Rattle.site_model.specs.Serving.{can_be_encoded}
-use Rattle.site_model.specs.Tagging.{bit_of, has_range, is_lapsing, lapse_of}
+use Rattle.site_model.specs.Tagging.{bit_of, has_range, is_fitting, is_lapsing, lapse_of}
 use Rattle.site_model.specs.declared.access.Access.TheVariants as access
 use Rattle.site_model.specs.declared.device.WriteFunction.TheVariants as write
 use Rattle.site_model.specs.declared.fault.SiteFault.TheVariants as fault
@@ -69,3 +69,12 @@ top_bit = refl
 
 pub unimplemented : can_be_encoded kinds.Uint16 (pos 65535) ≡ false
 unimplemented = refl
+
+pub fits_what_is_written : is_fitting access.Output (Some (codes "down")) ≡ true
+fits_what_is_written = refl
+
+pub fits_nothing_read : is_fitting access.Input (Some (codes "down")) ≡ false
+fits_nothing_read = refl
+
+pub fits_one_way : is_fitting access.Output (Some (codes "near")) ≡ false
+fits_one_way = refl

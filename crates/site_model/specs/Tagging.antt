@@ -22,6 +22,8 @@ use Rattle.site_model.specs.declared.access.Access.{Access}
 use Rattle.site_model.specs.declared.access.Access.TheVariants as access
 use Rattle.site_model.specs.declared.tag.Sf.{Sf}
 use Rattle.site_model.specs.declared.tag.Sf.TheVariants as factors
+use Rattle.site_model.specs.declared.fit.Fit.{Fit}
+use Rattle.site_model.specs.declared.fit.Fit.TheVariants as fits
 use Rattle.site_model.specs.declared.device.SiteDevice.{SiteDevice}
 use Rattle.site_model.specs.declared.fault.SiteFault.{SiteFault}
 use Rattle.site_model.specs.declared.fault.SiteFault.TheVariants as fault
@@ -49,6 +51,7 @@ pub record TagKeys : Type 0 where
   pub bit : Option ℤ
   pub round : Option (List ℕ)
   pub lapse : Option ℤ
+  pub fit : Option (List ℕ)
 
 abbrev pub numbers_of : Data → Option Numbers
 numbers_of tree =
@@ -80,7 +83,9 @@ tag_keys tree =
     option_and_then (λ numbers.
     option_and_then (λ bit.
     option_and_then (λ round.
-    option_map (λ lapse. record { name = name; access = access; kind = kind; place = place; numbers = numbers; bit = bit; round = round; lapse = lapse })
+    option_and_then (λ lapse.
+    option_map (λ fit. record { name = name; access = access; kind = kind; place = place; numbers = numbers; bit = bit; round = round; lapse = lapse; fit = fit })
+    (optional_text_at (codes "fit") tree))
     (optional_number_at (codes "lapse") tree))
     (optional_text_at (codes "round") tree))
     (optional_number_at (codes "bit") tree))
@@ -243,9 +248,23 @@ abbrev pub is_lapsing : Access → (default lapse : Option ℤ) → Bool
 is_lapsing a default None = true
 is_lapsing a default (Some n) = is_setting a && is_some default
 
+abbrev pub is_output : Access → Bool
+is_output access.Output = true
+is_output other = false
+
+-- where the point can't say a number, the next one below or above may be written in its place
+abbrev pub is_fitting : Access → Option (List ℕ) → Bool
+is_fitting a None = true
+is_fitting a (Some word) = is_output a && (bytes_eq word (codes "down") || bytes_eq word (codes "up"))
+
+-- by a word that is allowed
+abbrev pub fit_by : Option (List ℕ) → Fit
+fit_by None = fits.Exact
+fit_by (Some word) = if bytes_eq word (codes "up") then fits.Up else fits.Down
+
 abbrev pub goes_together : Access → IlType → Kind → TagKeys → Bool
 goes_together a kind point keys =
-    is_place a keys.place.device point && (is_bit_place a kind point keys.bit && (is_rounding a keys.bit keys.round && is_lapsing a keys.numbers.default keys.lapse))
+    is_place a keys.place.device point && (is_bit_place a kind point keys.bit && (is_rounding a keys.bit keys.round && (is_lapsing a keys.numbers.default keys.lapse && is_fitting a keys.fit)))
 
 -- ---- the tag
 
@@ -261,6 +280,7 @@ pub record Tag : Type 0 where
   pub bit : Option ℕ
   pub down : Bool
   pub lapse : Option ℕ
+  pub fit : Fit
   pub device : Option ℕ
   pub model : ℕ
   pub point : Kind
@@ -291,6 +311,7 @@ tag_over keys measures device model p name a kind = record {
   bit = measures.bit;
   down = is_some keys.round;
   lapse = measures.lapse;
+  fit = fit_by keys.fit;
   device = device;
   model = model.id;
   point = p.kind;
@@ -380,7 +401,7 @@ has_key tree key = is_some (get key tree)
 
 -- the keys that speak of a point, and of what it is worth while it has no value
 abbrev pub point_words : List (List ℕ)
-point_words = codes "device" ∷ codes "model" ∷ codes "point" ∷ codes "exponent" ∷ codes "default" ∷ codes "bit" ∷ codes "round" ∷ codes "lapse" ∷ []
+point_words = codes "device" ∷ codes "model" ∷ codes "point" ∷ codes "exponent" ∷ codes "default" ∷ codes "bit" ∷ codes "round" ∷ codes "lapse" ∷ codes "fit" ∷ []
 
 abbrev pub has_point_words : Data → Bool
 has_point_words tree = list_any (has_key tree) point_words
@@ -402,6 +423,7 @@ time_over keys name kind = record {
   bit = None;
   down = false;
   lapse = None;
+  fit = fits.Exact;
   device = None;
   model = 0;
   point = kinds.Uint32;

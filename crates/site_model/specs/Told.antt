@@ -17,6 +17,8 @@ use Rattle.site_model.specs.Wants.{is_of_device, length_of}
 use Rattle.site_model.specs.declared.access.Access.{Access}
 use Rattle.site_model.specs.declared.access.Access.TheVariants as access
 use Rattle.site_model.specs.declared.device.SiteDevice.{SiteDevice}
+use Rattle.site_model.specs.declared.fit.Fit.{Fit}
+use Rattle.site_model.specs.declared.fit.Fit.TheVariants as fits
 use Rattle.site_model.specs.declared.site.Site.{Site}
 use Rattle.site_model.specs.declared.tag.SiteTag.{SiteTag}
 
@@ -75,6 +77,11 @@ pub record IsPoint (defs : List ModelDef) (lengths : List (ℕ × ℕ)) (entry :
   pub scaled : t.sf ≡ factor_in model point.sf
   pub writable : t.writable ≡ point.writable
 
+abbrev pub word_of_fit : Fit → Option (List ℕ)
+word_of_fit fits.Exact = None
+word_of_fit fits.Down = Some (codes "down")
+word_of_fit fits.Up = Some (codes "up")
+
 -- a tag over a point
 pub record IsPointTag (defs : List ModelDef) (site : Site) (entry : Data) (t : SiteTag) : Type 0 where
   pub name : text_at (codes "name") entry ≡ Some t.name
@@ -87,6 +94,7 @@ pub record IsPointTag (defs : List ModelDef) (site : Site) (entry : Data) (t : S
   pub bit : optional_number_at (codes "bit") entry ≡ Some (option_map pos t.bit)
   pub round : text_at (codes "round") entry ≡ (if t.down then Some (codes "down") else None)
   pub lapse : optional_number_at (codes "lapse") entry ≡ Some (option_map pos t.lapse)
+  pub fit : text_at (codes "fit") entry ≡ word_of_fit t.fit
   pub device : IsPlaced site.devices (text_at (codes "device") entry) t.access t.device
   pub point : IsPoint defs site.lengths entry t
 

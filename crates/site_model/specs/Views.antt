@@ -45,6 +45,7 @@ tag_keys_view keys = record {
   bit = keys.bit;
   round = option_map (λ s. s.now) keys.round;
   lapse = keys.lapse;
+  fit = option_map (λ s. s.now) keys.fit;
 }
 
 abbrev pub time_keys_view : TimeKeys → tagging.TimeKeys
@@ -66,6 +67,7 @@ tag_view t = record {
   bit = t.bit;
   down = t.down;
   lapse = t.lapse;
+  fit = t.fit;
   device = t.device;
   model = t.model;
   point = t.point;

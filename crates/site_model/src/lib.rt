@@ -7,6 +7,7 @@ mod device_numbers;
 mod devices;
 mod fault;
 mod file;
+mod fit;
 mod gateway;
 pub mod laws;
 mod lengths;
@@ -37,6 +38,7 @@ pub use site::Site;
 pub use device::{SiteDevice, WriteFunction};
 // its tags
 pub use access::Access;
+pub use fit::Fit;
 pub use tag::{Sf, SiteTag};
 // what it asks of its devices
 pub use want::Want;

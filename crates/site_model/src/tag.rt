@@ -6,6 +6,7 @@ ghost use Rattle.point_types.specs.declared.kind.Kind.TheVariants as kinds;
 ghost use Rattle.site_model.specs.Tag.{may_write, start_of};
 
 use crate::access::Access;
+use crate::fit::Fit;
 use point_types::{IlType, Kind, Name};
 
 /// What scales the raw number of a tag's point (SunSpec Device Information Model Specification, scale factors).
@@ -40,6 +41,8 @@ pub struct SiteTag {
     pub down: bool,
     /// Seconds, in 1..86,400, after which what a client set lapses where it isn't written again; None: never.
     pub lapse: Option<u32>,
+    /// What is written where its point can't say what the program stored.
+    pub fit: Fit,
     /// The number of its device; None for the gateway's own points.
     pub device: Option<usize>,
     /// The ID of its model.
@@ -54,5 +57,6 @@ pub struct SiteTag {
     ghost ranged: { IsTrue (is_ranged kind low high (start_of low default)) },
     ghost scaled: { IsExponent exponent },
     ghost numeric: { point ≢ kinds.String },
+    ghost meant: { point ≢ kinds.Pad },
     ghost writes: { IsTrue (may_write access writable) },
 }

@@ -21,6 +21,7 @@ pub(crate) struct TagKeys<'a> {
     pub(crate) bit: Option<i64>,
     pub(crate) round: Option<&'a str>,
     pub(crate) lapse: Option<i64>,
+    pub(crate) fit: Option<&'a str>,
 }
 
 /// The keys that say where the tag's point is.
@@ -52,6 +53,7 @@ pub(crate) fn keys_of(entry: &Value) -> Option<TagKeys<'_>>
         bit: optional_number_at(entry, "bit")?,
         round: optional_text_at(entry, "round")?,
         lapse: optional_number_at(entry, "lapse")?,
+        fit: optional_text_at(entry, "fit")?,
     })
 }
 

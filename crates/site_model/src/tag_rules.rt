@@ -4,10 +4,11 @@ ghost use Rattle.point_types.specs.Reading.{IsExponent};
 ghost use Rattle.point_types.specs.Value.{is_ranged, is_within};
 ghost use Rattle.site_model.specs.Tag.{is_written, start_of};
 ghost use Rattle.file_keys.specs.Keys.{natural_within};
-ghost use Rattle.site_model.specs.Tagging.{access_of, bit_of, exponent_of, factor_in, goes_together, has_range, is_bit_place, is_input, is_lapsing, is_numeric, is_own, is_place, is_polled, is_rounding, is_setting, is_sunssf, lapse_of, last_bit, may_be_written, measures_of, measures_within, offset_at, tag_over, tag_typed, type_of};
+ghost use Rattle.site_model.specs.Tagging.{access_of, bit_of, exponent_of, factor_in, fit_by, goes_together, has_range, is_bit_place, is_fitting, is_input, is_lapsing, is_numeric, is_own, is_place, is_polled, is_rounding, is_setting, is_sunssf, lapse_of, last_bit, may_be_written, measures_of, measures_within, offset_at, tag_over, tag_typed, type_of};
 ghost use Rattle.site_model.specs.Views.{measures_view, numbers_view, tag_keys_view, tag_view};
 
 use crate::access::Access;
+use crate::fit::Fit;
 use crate::measures::Measures;
 use crate::tag::{Sf, SiteTag};
 use crate::tag_keys::{Numbers, TagKeys, access_of, tag_name, type_of};
@@ -221,6 +222,26 @@ fn is_lapsing(access: Access, default: Option<i64>, lapse: Option<i64>) -> bool
     }
 }
 
+fn is_fitting(access: Access, fit: Option<&str>) -> bool
+    ensures { result ≡ is_fitting access (option_map (λ s. s.now) fit.entry) }
+{
+    match fit {
+        None => true,
+        Some(word) => matches!(access, Access::Output) && (word == "down" || word == "up"),
+    }
+}
+
+/// What a word that is allowed says of numbers that the point can't say.
+fn fit_by(word: Option<&str>) -> Fit
+    ensures { result ≡ fit_by (option_map (λ s. s.now) word.entry) }
+{
+    match word {
+        None => Fit::Exact,
+        Some(word) if word == "up" => Fit::Up,
+        Some(_) => Fit::Down,
+    }
+}
+
 fn is_setting(access: Access) -> bool
     ensures { result ≡ is_setting access }
 {
@@ -234,6 +255,7 @@ fn goes_together(access: Access, kind: IlType, point: Kind, keys: TagKeys<'_>) -
         && is_bit_place(access, kind, point, keys.bit)
         && is_rounding(access, keys.bit, keys.round)
         && is_lapsing(access, keys.numbers.default, keys.lapse)
+        && is_fitting(access, keys.fit)
 }
 
 /// The tag, where its words are allowed.
@@ -265,6 +287,7 @@ pub(crate) fn tag_typed(
         bit: measures.bit,
         down: keys.round.is_some(),
         lapse: measures.lapse,
+        fit: fit_by(keys.fit),
         device,
         model: model.id,
         point: point.kind,

@@ -7,6 +7,7 @@ ghost use Rattle.site_model.specs.Views.{tag_view, time_keys_view};
 
 use crate::access::Access;
 use crate::fault::SiteFault;
+use crate::fit::Fit;
 use crate::tag::{Sf, SiteTag};
 use crate::tag_keys::{tag_name, type_of};
 use crate::tag_rules::has_range;
@@ -71,6 +72,7 @@ fn has_point_words(entry: &Value) -> bool
         || has_key(entry, "bit")
         || has_key(entry, "round")
         || has_key(entry, "lapse")
+        || has_key(entry, "fit")
 }
 
 fn has_key(entry: &Value, key: &str) -> bool
@@ -131,6 +133,7 @@ fn time_over(keys: TimeKeys<'_>, name: Name, kind: IlType) -> SiteTag
         bit: None,
         down: false,
         lapse: None,
+        fit: Fit::Exact,
         device: None,
         model: 0,
         point: Kind::Uint32,

@@ -6,6 +6,7 @@
 
 mod asked_text;
 mod device_rows;
+mod fitted_text;
 mod handed_defs;
 mod helps;
 mod identity;

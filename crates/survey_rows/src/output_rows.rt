@@ -1,4 +1,5 @@
 //! The rows of outputs: what they are now, and what of their ranges can't be written.
+use crate::fitted_text::{fitted_example, fitted_text};
 use crate::input_rows::{met_text, missing, tag_subject};
 use crate::range_text::{no_factor, range_text};
 use crate::row::Rows;
@@ -76,12 +77,15 @@ fn push_reached(
     subject: String,
 ) -> Result<(), AllocError> {
     let mut said = output_text(alloc, survey, place.tag)?;
-    let unsaid = unsaid_text(alloc, survey, place)?;
-    if let Some(unsaid) = &unsaid {
-        said.push_str(": ")?;
-        said.push_str(unsaid.as_str())?;
-    }
-    rows.push(subject, said, unsaid.is_some())
+    let is_wrong = match range_note(alloc, survey, place)? {
+        Some(note) => {
+            said.push_str(": ")?;
+            said.push_str(note.text.as_str())?;
+            note.is_wrong
+        }
+        None => false,
+    };
+    rows.push(subject, said, is_wrong)
 }
 
 /// `LOW..HIGH UNIT now VALUE raw R factor F`, or `LOW..HIGH UNIT now NotImplemented`.
@@ -116,16 +120,28 @@ fn exponent_of(factor: Option<i16>) -> Option<i8> {
     }
 }
 
-/// What of an output's range can't be said by the factor that its device gave; None where each number can.
-fn unsaid_text(
+/// What is said of an output's range beside it, and whether something is wrong with it.
+#[derive(Drop)]
+struct RangeNote {
+    text: String,
+    is_wrong: bool,
+}
+
+/// What of an output's range can't be said by the factor that its device gave, or what goes out in its place; None where each
+/// number can be said.
+fn range_note(
     alloc: Global,
     survey: &Survey<'_>,
     place: PlacedOutput<'_>,
-) -> Result<Option<String>, AllocError> {
+) -> Result<Option<RangeNote>, AllocError> {
     let tag = place.tag;
     let factor = factor_of(survey, place.output);
     if exponent_of(factor).is_none() {
-        return Ok(Some(no_factor(alloc)?));
+        let text = no_factor(alloc)?;
+        return Ok(Some(RangeNote {
+            text,
+            is_wrong: true,
+        }));
     }
     let demand = Demand {
         kind: tag.point,
@@ -137,7 +153,23 @@ fn unsaid_text(
     if is_always_met(&demand) {
         return Ok(None);
     }
-    Ok(Some(range_text(alloc, &demand, reason_of(&demand))?))
+    let reason = reason_of(&demand);
+    match fitted_example(tag, factor) {
+        Some(example) => {
+            let text = fitted_text(alloc, reason, tag.exponent, example)?;
+            Ok(Some(RangeNote {
+                text,
+                is_wrong: false,
+            }))
+        }
+        None => {
+            let text = range_text(alloc, &demand, reason)?;
+            Ok(Some(RangeNote {
+                text,
+                is_wrong: true,
+            }))
+        }
+    }
 }
 
 /// The factor by which an output would be written.

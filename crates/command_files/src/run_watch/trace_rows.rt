@@ -7,12 +7,13 @@ use csv::Writer;
 use gateway::Core;
 use note_text::decimal;
 use point_types::{Reading, Var};
-use service_alarms::{missing_word, output_name};
-use site_model::{Access, Site, SiteTag};
+use service_alarms::{fitted_number, missing_word, output_name};
+use site_model::{Access, Fit, Site, SiteTag};
 use std::alloc::{AllocError, Global};
 use std::io::Write;
 
-/// Writes the heads: `scan`, the name of each tag, `NAME written` for each output, and `VAR NAME` for each variable.
+/// Writes the heads: `scan`, the name of each tag, `NAME written` for each output, `NAME fitted` for each one with the key `fit`,
+/// and `VAR NAME` for each variable.
 pub(crate) fn write_heads<W: Write + Drop>(
     alloc: Global,
     rows: &mut Writer<W>,
@@ -23,6 +24,7 @@ pub(crate) fn write_heads<W: Write + Drop>(
         rows.write_field(tag.name.as_bytes())?;
     }
     write_output_heads(alloc, rows, core.site())?;
+    write_fitted_heads(alloc, rows, core.site())?;
     write_variable_heads(alloc, rows, variables(core))?;
     rows.end_record()?;
     Ok(())
@@ -58,14 +60,37 @@ fn write_output_heads<W: Write + Drop>(
     site: &Site,
 ) -> Result<(), WriteFault> {
     for i in 0..site.outs().len() {
-        let head = output_head(alloc, output_name(site, i))?;
+        let head = output_head(alloc, output_name(site, i), "written")?;
         rows.write_field(head.as_bytes())?;
     }
     Ok(())
 }
 
-fn output_head(alloc: Global, name: &str) -> Result<String, AllocError> {
-    let head = format!(in alloc; "{name} written")?;
+fn write_fitted_heads<W: Write + Drop>(
+    alloc: Global,
+    rows: &mut Writer<W>,
+    site: &Site,
+) -> Result<(), WriteFault> {
+    for i in 0..site.outs().len() {
+        if fitted_tag(site, i).is_some() {
+            let head = output_head(alloc, output_name(site, i), "fitted")?;
+            rows.write_field(head.as_bytes())?;
+        }
+    }
+    Ok(())
+}
+
+/// The tag of the i-th output, where it has the key `fit`.
+fn fitted_tag(site: &Site, i: usize) -> Option<&SiteTag> {
+    let tag = site.tags().get(*site.outs().get(i)?)?;
+    match tag.fit {
+        Fit::Exact => None,
+        Fit::Down | Fit::Up => Some(tag),
+    }
+}
+
+fn output_head(alloc: Global, name: &str, what: &str) -> Result<String, AllocError> {
+    let head = format!(in alloc; "{name} {what}")?;
     Ok(head)
 }
 
@@ -83,6 +108,7 @@ pub(crate) fn write_row<W: Write + Drop>(
         rows.write_field(number.as_bytes())?;
     }
     write_writes(rows, core)?;
+    write_fitted(alloc, rows, core)?;
     write_variables(alloc, rows, core)?;
     rows.end_record()?;
     Ok(())
@@ -110,6 +136,33 @@ fn write_writes<W: Write + Drop>(
         rows.write_field(write_word(core, i).as_bytes())?;
     }
     Ok(())
+}
+
+/// Writes of each output with the key `fit` the number that goes out, where it isn't the one that the program stored.
+fn write_fitted<W: Write + Drop>(
+    alloc: Global,
+    rows: &mut Writer<W>,
+    core: &Core<DEPTH>,
+) -> Result<(), WriteFault> {
+    for i in 0..core.site().outs().len() {
+        if let Some(tag) = fitted_tag(core.site(), i) {
+            let number = fitted_text(alloc, core, i, tag.exponent)?;
+            rows.write_field(number.as_bytes())?;
+        }
+    }
+    Ok(())
+}
+
+fn fitted_text(
+    alloc: Global,
+    core: &Core<DEPTH>,
+    i: usize,
+    exponent: i8,
+) -> Result<String, AllocError> {
+    match fitted_number(core, i) {
+        Some(number) => decimal(alloc, i128::from(number), exponent),
+        None => Ok(String::new(alloc)),
+    }
 }
 
 /// `yes` where the last scan writes the i-th output, and else the cause why not.

@@ -5,7 +5,7 @@ use crate::warnings::sleeping_hours::warn_of_hours;
 use crate::warnings::unreached::warn_of_places;
 use commands::Accepted;
 use refusal_notes::Notes;
-use served_notes::shown_warnings;
+use served_notes::{shown_warnings, unfitted_warnings};
 use site_model::Site;
 
 /// Warns on standard error of a device's place in an accepted site that `serve` would refuse, of `retain` and `sleeps`, and of
@@ -18,6 +18,16 @@ pub fn warn_beside(rt: &(impl Eprint + AllocGlobal), notes: &Notes<'_>, given: &
     warn_of_retained(rt, notes, given);
     warn_of_hours(rt, notes, &given.site);
     warn_on_site(rt, notes, &given.site);
+    warn_of_unfitted(rt, notes, &given.site);
+}
+
+/// Warns of `out` tags that may go unwritten since nothing is written in place of a number that their point can't say.
+fn warn_of_unfitted(rt: &(impl Eprint + AllocGlobal), notes: &Notes<'_>, site: &Site) {
+    if let Ok(lines) = unfitted_warnings(rt.alloc(), notes.site_path, site) {
+        if !lines.is_empty() {
+            let _ = rt.eprint(lines.as_str());
+        }
+    }
 }
 
 /// Warns of what clients may not be shown of a site.

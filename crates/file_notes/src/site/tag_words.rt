@@ -73,6 +73,8 @@ enum TagMisfit {
     RoundWord,
     LapseOfOther,
     LapseAlone,
+    FitOfOther,
+    FitWord,
     Point,
 }
 
@@ -95,6 +97,10 @@ fn misfit_in(entry: &Value) -> TagMisfit {
         TagMisfit::LapseOfOther
     } else if has(entry, "lapse") && !has(entry, "default") {
         TagMisfit::LapseAlone
+    } else if has(entry, "fit") && !is_output(entry) {
+        TagMisfit::FitOfOther
+    } else if has(entry, "fit") && !matches!(text_at(entry, "fit"), Some("down" | "up")) {
+        TagMisfit::FitWord
     } else {
         TagMisfit::Point
     }
@@ -133,6 +139,16 @@ fn told_of(misfit: TagMisfit) -> (&'static str, &'static str, &'static str) {
             "needs a default",
             "add default: what the program works with once what a client set has lapsed",
         ),
+        TagMisfit::FitOfOther => (
+            "fit",
+            "is for tags out",
+            "take the key away: only what is written to a device is fitted to its point",
+        ),
+        TagMisfit::FitWord => (
+            "fit",
+            "is neither down nor up",
+            "write \"down\" or \"up\", or take the key away",
+        ),
         TagMisfit::Point => (
             "point",
             "is of a kind that such a tag can't have",
@@ -151,6 +167,10 @@ fn may_have_bit(entry: &Value) -> bool {
 
 fn is_input(entry: &Value) -> bool {
     matches!(access(entry), Some(Access::Input))
+}
+
+fn is_output(entry: &Value) -> bool {
+    matches!(access(entry), Some(Access::Output))
 }
 
 fn is_setting(entry: &Value) -> bool {

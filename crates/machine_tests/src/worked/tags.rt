@@ -3,7 +3,7 @@
 ghost use Rattle.std.specs.Prelude.{◌≡◌, pos, neg_ℤ};
 
 use point_types::{IlType, Kind, Name};
-use site_model::{Access, Sf, SiteTag};
+use site_model::{Access, Fit, Sf, SiteTag};
 
 /// The power of an inverter in watts: an int16 at offset 14, scaled by the factor at offset 15. That it
 /// can be written is said here alone, so that tests may take it as an output.
@@ -22,6 +22,7 @@ pub fn power(name: Name, access: Access) -> SiteTag
         bit: None,
         down: false,
         lapse: None,
+        fit: Fit::Exact,
         device: Some(0),
         model: 103,
         point: Kind::Int16,
@@ -47,6 +48,7 @@ pub fn limit(name: Name, access: Access) -> SiteTag
         bit: None,
         down: false,
         lapse: None,
+        fit: Fit::Exact,
         device: Some(0),
         model: 123,
         point: Kind::Uint16,

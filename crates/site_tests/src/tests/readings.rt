@@ -8,7 +8,7 @@ use crate::tests::{assert_same, definitions, edited, site_of};
 use model_defs::ModelDef;
 use point_types::{Cause, IlType, Kind, Name, Reading};
 use site_model::readings::readings;
-use site_model::{Access, Sf, Site, SiteTag, Want, Words};
+use site_model::{Access, Fit, Sf, Site, SiteTag, Want, Words};
 use std::alloc::Global;
 use std::process::Abort;
 
@@ -27,6 +27,7 @@ fn power(rt: &impl Abort) -> SiteTag
         bit: None,
         down: false,
         lapse: None,
+        fit: Fit::Exact,
         device: Some(0),
         model: 103,
         point: Kind::Int16,
@@ -51,6 +52,7 @@ fn flag(rt: &impl Abort, bit: u8) -> SiteTag
         bit: Some(bit),
         down: false,
         lapse: None,
+        fit: Fit::Exact,
         device: Some(0),
         model: 103,
         point: Kind::Bitfield32,
@@ -75,6 +77,7 @@ fn target(rt: &impl Abort) -> SiteTag
         bit: None,
         down: false,
         lapse: None,
+        fit: Fit::Exact,
         device: None,
         model: 123,
         point: Kind::Uint16,

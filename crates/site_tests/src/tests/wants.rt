@@ -3,7 +3,7 @@
 use crate::tests::assert_same;
 use point_types::{IlType, Kind, Name};
 use site_model::wants::{length_of, outs_of, place_of, wants_of};
-use site_model::{Access, Sf, SiteTag, Want};
+use site_model::{Access, Fit, Sf, SiteTag, Want};
 use std::alloc::Global;
 use std::process::Abort;
 
@@ -20,6 +20,7 @@ fn tag(rt: &impl Abort, name: &str, access: Access, device: Option<usize>, model
         bit: None,
         down: false,
         lapse: None,
+        fit: Fit::Exact,
         device,
         model,
         point: Kind::Uint16,

@@ -1,4 +1,4 @@
-use Rattle.std.specs.Prelude.{List, Option, ℤ}
+use Rattle.std.specs.Prelude.{List}
 use Rattle.std.proofs.Common.{[], ap, ◌∙◌}
 use Rattle.site_model.specs.declared.tag.SiteTag.{SiteTag}
 use Rattle.site_model.specs.declared.want.Want.{Want}

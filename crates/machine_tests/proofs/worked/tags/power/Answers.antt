@@ -3,4 +3,4 @@ use Rattle.std.proofs.lemmas.Int.{ints}
 use Rattle.machine_tests.proofs.worked.tags.power.Goals as goal
 
 pub invariant_of-result : goal.invariant_of-result
-invariant_of-result c = record { ranged = refl; scaled = (omega (arith, ints), omega (arith, ints)); numeric = λ e. cc; writes = refl }
+invariant_of-result c = record { ranged = refl; scaled = (omega (arith, ints), omega (arith, ints)); numeric = λ e. cc; meant = λ e. cc; writes = refl }
