@@ -3,7 +3,7 @@ use crate::limits::SettingLimits;
 use crate::reason::{Reason, reason_of};
 use crate::words::kind_word;
 use served_ranges::{Demand, demand_of_set};
-use site_model::{Sf, SiteTag};
+use site_model::{Fit, Sf, SiteTag};
 use std::alloc::{AllocError, Global};
 
 /// What is wrong with the range of an `out` tag, and below it what to do.
@@ -12,7 +12,7 @@ pub(crate) fn told_of_output(alloc: Global, tag: &SiteTag) -> Result<String, All
     let by = by_factor(alloc, tag.sf, &demand)?;
     let reason = reason_of(&demand);
     let mut text = wrong_with(alloc, &demand, reason, by.as_str())?;
-    let mend = mend_of(alloc, &demand, reason)?;
+    let mend = mend_of(alloc, tag.fit, &demand, reason)?;
     text.push_str("\n  help: ")?;
     text.push_str(mend.as_str())?;
     Ok(text)
@@ -57,15 +57,27 @@ fn wrong_with(
     }
 }
 
-fn mend_of(alloc: Global, demand: &Demand, reason: Reason) -> Result<String, AllocError> {
+fn mend_of(alloc: Global, fit: Fit, demand: &Demand, reason: Reason) -> Result<String, AllocError> {
     match reason {
-        Reason::TooCoarse(factor) => format!(in alloc; "give the tag exponent = {factor}, or fit = \"down\""),
+        Reason::TooCoarse(factor) => {
+            let other = beside_exponent(fit);
+            format!(in alloc; "give the tag exponent = {factor}, or {other}")
+        }
         Reason::Beyond(_, limits) => narrowed(alloc, demand, limits),
         Reason::Below(_, limits) if limits.least < 0 => narrowed(alloc, demand, limits),
         Reason::Below(_, _) => String::from_str(alloc, "raise its low"),
         Reason::NoFactor | Reason::NoNumber => {
             String::from_str(alloc, "take a point of another kind")
         }
+    }
+}
+
+/// What may be done in place of another exponent.
+fn beside_exponent(fit: Fit) -> &'static str {
+    match fit {
+        Fit::Exact => "fit = \"down\"",
+        Fit::Down => "a low that its point says",
+        Fit::Up => "a high that its point says",
     }
 }
 

@@ -6,6 +6,7 @@ use crate::subject::{ShownNumber, Subject};
 use crate::words::wrong_with;
 use file_notes::{EntryName, entry_shown};
 use note_text::escaped;
+use point_writer::number_out;
 use served_ranges::{
     Demand, always_shows_stored, always_shows_total, demand_of_stored, demand_of_total,
     factor_for_range,
@@ -17,7 +18,8 @@ use std::alloc::{AllocError, Global};
 const MOST_TOLD: usize = 10;
 
 /// What is told of an `out` tag without the key `fit`, and below it what to do.
-const UNFITTED: &str = "what the program stores isn't written where its point can't say it by the factor that the device has\n  help: add fit = \"down\" (of a limit), or fit = \"up\": then the next number that it can say is written";
+const UNFITTED: &str =
+    "what the program stores isn't written where its point can't say it by the factor that the device has\n  help: add fit = \"down\" (of a limit), or fit = \"up\": then the next number that it can say is written";
 
 /// Warnings, as lines on the site file at a path.
 #[derive(Drop)]
@@ -53,11 +55,34 @@ pub fn unfitted_warnings(alloc: Global, path: &str, site: &Site) -> Result<Strin
     warnings.told(alloc, "out tags have no fit")
 }
 
-/// Whether some of what the program may store is said by no factor, and nothing is written in its place.
+/// Whether for some of what the program may store nothing is written, whatever the factor.
 fn cant_say_all(tag: &SiteTag) -> bool {
-    tag.access == Access::Output
-        && tag.fit == Fit::Exact
-        && factor_for_range(tag).is_none()
+    if tag.access != Access::Output {
+        return false;
+    }
+    match tag.fit {
+        Fit::Exact => factor_for_range(tag).is_none(),
+        Fit::Down => !has_number_for(tag, tag.low),
+        Fit::Up => !has_number_for(tag, tag.high),
+    }
+}
+
+/// Whether by some factor that the device may have a number goes out for this one.
+fn has_number_for(tag: &SiteTag, number: i64) -> bool {
+    match tag.sf {
+        Sf::None => number_out(tag, number, Some(0)).is_some(),
+        Sf::Fixed(power) => number_out(tag, number, Some(i16::from(power))).is_some(),
+        Sf::At(_) => has_number_by_any(tag, number),
+    }
+}
+
+fn has_number_by_any(tag: &SiteTag, number: i64) -> bool {
+    for factor in -10..=10i16 {
+        if number_out(tag, number, Some(factor)).is_some() {
+            return true;
+        }
+    }
+    false
 }
 
 /// Whether what the program stores goes unwritten where the tag's point can't say it by the factor that its device has.
@@ -198,9 +223,7 @@ impl Warnings {
         let more = count.saturating_sub(MOST_TOLD);
         if more > 0 {
             let path = path.as_str();
-            let line = format!(in alloc;
-                "{path}: warning: {more} more {are}\n"
-            )?;
+            let line = format!(in alloc; "{path}: warning: {more} more {are}\n")?;
             lines.push_str(line.as_str())?;
         }
         Ok(lines)

@@ -83,10 +83,19 @@ fn text_of(alloc: Global, file: &Value) -> Result<String, AskedFault> {
 fn read_outputs(alloc: Global, tags: &mut [Value]) -> Result<(), AllocError> {
     for tag in tags.iter_mut() {
         if is_output(tag) {
-            if let Some(access) = tag.get_mut("access") {
-                *access = Value::string(alloc, "in")?;
-            }
+            read_output(alloc, tag)?;
         }
+    }
+    Ok(())
+}
+
+/// Makes an `out` tag an `in` tag, which isn't fitted to its point.
+fn read_output(alloc: Global, tag: &mut Value) -> Result<(), AllocError> {
+    if let Some(access) = tag.get_mut("access") {
+        *access = Value::string(alloc, "in")?;
+    }
+    if let Some(keys) = tag.as_table_mut() {
+        keys.remove("fit");
     }
     Ok(())
 }

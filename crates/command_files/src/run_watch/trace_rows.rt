@@ -12,8 +12,8 @@ use site_model::{Access, Fit, Site, SiteTag};
 use std::alloc::{AllocError, Global};
 use std::io::Write;
 
-/// Writes the heads: `scan`, the name of each tag, `NAME written` for each output, `NAME fitted` for each one with the key `fit`,
-/// and `VAR NAME` for each variable.
+/// Writes the heads: `scan`, the name of each tag, `NAME written` for each output, `VAR NAME` for each variable, and `NAME fitted`
+/// for each output with the key `fit`.
 pub(crate) fn write_heads<W: Write + Drop>(
     alloc: Global,
     rows: &mut Writer<W>,
@@ -24,8 +24,8 @@ pub(crate) fn write_heads<W: Write + Drop>(
         rows.write_field(tag.name.as_bytes())?;
     }
     write_output_heads(alloc, rows, core.site())?;
-    write_fitted_heads(alloc, rows, core.site())?;
     write_variable_heads(alloc, rows, variables(core))?;
+    write_fitted_heads(alloc, rows, core.site())?;
     rows.end_record()?;
     Ok(())
 }
@@ -108,8 +108,8 @@ pub(crate) fn write_row<W: Write + Drop>(
         rows.write_field(number.as_bytes())?;
     }
     write_writes(rows, core)?;
-    write_fitted(alloc, rows, core)?;
     write_variables(alloc, rows, core)?;
+    write_fitted(alloc, rows, core)?;
     rows.end_record()?;
     Ok(())
 }

@@ -18,6 +18,7 @@ access = "in"
 name = "limit"
 access = "out"
 default = 5
+fit = "down"
 "#;
 
 /// The same, in which nothing is written.
