@@ -1,6 +1,7 @@
 -- What becomes of a link by a call, of what its parts say.
 use Rattle.std.proofs.Common.{◌≡◌, inl, ℕ, Bool, true, false, List, Option, None, Some, slice_get, refl, ap, subst, ◌∙◌, arith}
 use Rattle.service_requests.specs.declared.request_end.RequestEnd.{RequestEnd}
+use Rattle.service_parts.specs.declared.limits.Limits.{Limits}
 use Rattle.service_parts.specs.declared.limits.Station.{Station}
 use Rattle.service_parts.specs.declared.device_connection.DeviceConnection.{DeviceConnection}
 use Rattle.service_parts.specs.declared.asked.Asked.{Asked}
@@ -21,28 +22,28 @@ use Rattle.service.specs.Told.{Goes, TellsBy}
 pub not_both : {A : Type 0} {b : Bool} → b ≡ true → b ≡ false → A
 not_both yes_ no_ = absurd (cc)
 
-stands_led : (tasks : List Task) (lines : List DeviceConnection) (link : ℕ) (line : DeviceConnection) → slice_get lines link ≡ Some line → IsLed (λ output. due_at output tasks) line tasks lines link
-stands_led tasks lines link line at = record { line = line; there = at; course = stays line; within = λ output. omega arith }
+stands_led : (now : ℕ) (limits : Limits) (tasks : List Task) (lines : List DeviceConnection) (link : ℕ) (line : DeviceConnection) → slice_get lines link ≡ Some line → IsLed now limits (λ output. due_at output tasks) line tasks lines link
+stands_led now limits tasks lines link line at = record { line = line; there = at; course = stays line; within = λ output. omega arith }
 
-carried : (tasks left : List Task) (before lines : List DeviceConnection) (link : ℕ) (line : DeviceConnection) → slice_get before link ≡ Some line → LinkGoes link tasks before left lines → ∥ IsLed (λ output. due_at output tasks) line left lines link ∥₁
-carried tasks left before lines link line at goes = goes (λ output. due_at output tasks) line ∣ stands_led tasks before link line at ∣₁
+carried : (now : ℕ) (limits : Limits) (tasks left : List Task) (before lines : List DeviceConnection) (link : ℕ) (line : DeviceConnection) → slice_get before link ≡ Some line → LinkGoes now limits link tasks before left lines → ∥ IsLed now limits (λ output. due_at output tasks) line left lines link ∥₁
+carried now limits tasks left before lines link line at goes = goes (λ output. due_at output tasks) line ∣ stands_led now limits tasks before link line at ∣₁
 
 pub goes_from : (Is : DeviceConnection → Type 0) (link : ℕ) (old new : Service) (before : List DeviceConnection) → ((became : DeviceConnection) × (slice_get before link ≡ Some became) × Is became)
-    → LinkGoes link (tasks_of old) before (tasks_of new) new.lines.lines.items → GoesFrom Is link old new
-goes_from Is link old new before (became, at, is) goes = record { became = became; is = is; goes = carried (tasks_of old) (tasks_of new) before new.lines.lines.items link became at goes }
+    → LinkGoes new.side.now new.side.limits link (tasks_of old) before (tasks_of new) new.lines.lines.items → GoesFrom Is link old new
+goes_from Is link old new before (became, at, is) goes = record { became = became; is = is; goes = carried new.side.now new.side.limits (tasks_of old) (tasks_of new) before new.lines.lines.items link became at goes }
 
 -- what became of a request is of the one that was under way
 pub asked_own : (result : Option RequestEnd) (fate : RequestEnd) (asked own : Option Asked) → result ≡ Some fate → asked ≡ frames.ended_by result own → asked ≡ own
 asked_own result fate asked own told ended = ended ∙ ap (λ f. frames.ended_by f own) told
 
 pub heard_so : (stations : List Station) (link : ℕ) (line : DeviceConnection) (bytes unused : List ℕ) (now : ℕ) (result : Option RequestEnd) (fate : RequestEnd) (asked : Option Asked) (old new : Cycle) (side next : DeviceSide) (held left : HeldWrites) (before lines : List DeviceConnection) → result ≡ Some fate → asked ≡ line.asked
-    → ((heard : DeviceConnection) × (slice_get before link ≡ Some heard) × frames.Hears bytes unused result line heard) → LinkGoes link old.round.writes before new.round.writes lines → SettlesIf asked fate old new → HasMoreBy (taken_if asked (Some fate) now) held left → TellsBy (LostByHearing stations link asked (Some fate)) (IsHeardBy (taken_if asked (Some fate) now) (IsRefusedIf asked (Some fate)) held) side next
+    → ((heard : DeviceConnection) × (slice_get before link ≡ Some heard) × frames.Hears bytes unused result line heard) → LinkGoes now next.limits link old.round.writes before new.round.writes lines → SettlesIf asked fate old new → HasMoreBy (taken_if asked (Some fate) now) held left → TellsBy (LostByHearing stations link asked (Some fate)) (IsHeardBy (taken_if asked (Some fate) now) (IsRefusedIf asked (Some fate)) held) side next
     → HearsOver stations link line bytes unused now old new side next held left lines
 heard_so stations link line bytes unused now result fate asked old new side next held left before lines told own (heard, at, hears) goes settles has tells = record {
   fate = Some fate;
   heard = heard;
   hears = subst (λ f. frames.Hears bytes unused f line heard) told hears;
-  goes = carried old.round.writes new.round.writes before lines link heard at goes;
+  goes = carried now next.limits old.round.writes new.round.writes before lines link heard at goes;
   settles = subst (λ a. SettlesIf a fate old new) own settles;
   has = subst (λ a. HasMoreBy (taken_if a (Some fate) now) held left) own has;
   tells = subst (λ a. TellsBy (LostByHearing stations link a (Some fate)) (IsHeardBy (taken_if a (Some fate) now) (IsRefusedIf a (Some fate)) held) side next) own tells;
@@ -54,7 +55,7 @@ heard_nothing stations link line bytes unused now result cycle side held lines t
   fate = None;
   heard = heard;
   hears = subst (λ f. frames.Hears bytes unused f line heard) told hears;
-  goes = ∣ stands_led cycle.round.writes lines link heard at ∣₁;
+  goes = ∣ stands_led now side.limits cycle.round.writes lines link heard at ∣₁;
   settles = refl;
   has = λ output write has. inl has;
   tells = λ may lost written from before. before;

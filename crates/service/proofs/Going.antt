@@ -12,15 +12,18 @@ use Rattle.service_requests.specs.declared.task.Task.{Task}
 use Rattle.service_requests.specs.Tasks.{given_up, is_asked, is_due, next_place, with_mark}
 use Rattle.service_parts.specs.declared.asked.Aim.{Aim}
 use Rattle.service_parts.specs.declared.device_connection.DeviceConnection.{DeviceConnection}
+use Rattle.service_parts.specs.declared.limits.Limits.{Limits}
 use Rattle.service_parts.specs.Calls.{write_to}
-use Rattle.service_parts.specs.Frames.{IsLed, TakesDue, due_at, due_by, outputs_of, times_asked}
+use Rattle.service_parts.specs.Frames.{IsLed, LinkGoes, TakesDue, due_at, due_by, outputs_of, times_asked}
 use Rattle.service_parts.proofs.Frames.{set_other, set_there, still_goes}
+use Rattle.service.specs.declared.device_side.DeviceSide.{DeviceSide}
 use Rattle.service.specs.declared.round.Turn.TheVariants as turn
 use Rattle.service.specs.declared.service_state.Service.{Service}
 use Rattle.service.specs.declared.wish.Wish.{Wish}
 use Rattle.service.specs.Going.{BeginsOf, IsOpened, LinksGo, NoMoreDue, WishGoes, tasks_of}
 use Rattle.service.specs.Rounds.{AsksWrite, ClosesWrite, OpensWrite, Progress}
 use Rattle.service.specs.Stages.{Ends, OpensNext, Skips, Stage}
+use Rattle.service.specs.Staying.{Stays}
 use Rattle.service.proofs.Marks.{at_place, next_is_due, some_task, with_mark-at}
 use Rattle.service.proofs.Sent.{times_here, times_there}
 
@@ -30,7 +33,7 @@ abbrev NoneMore : List Task → List Task → Type 0
 NoneMore before after = (output : ℕ) → due_at output after ≤ due_at output before
 
 none_more : (before after : List Task) → NoneMore before after → NoMoreDue before after
-none_more before after fewer lines link = still_goes before after lines lines link refl fewer
+none_more before after fewer now limits lines link = still_goes now limits before after lines lines link refl fewer
 
 same_due : (before after : List Task) → after ≡ before → NoneMore before after
 same_due before after same = subst (NoneMore before) (sym same) (λ output. omega arith)
@@ -147,17 +150,25 @@ reads_go (Some wish) old new reads goes = record {
   takes = record { each = λ output. omega (arith, ap (times_asked output) reads) };
 }
 
-pub begun_go : (made_for : Aim) (old middle new : Service) → IsOpened made_for old middle → BeginsOf made_for middle new → LinksGo old new
-begun_go made_for old middle new opened begins link most from led = begins opened.before opened.takes link most from (opened.goes link most from led)
+-- the same at a time that is the same
+pub goes_then : (old new : DeviceSide) → new.now ≡ old.now → new.limits ≡ old.limits → (link : ℕ) (tasks : List Task) (lines : List DeviceConnection) (left : List Task) (after : List DeviceConnection)
+    → LinkGoes old.now old.limits link tasks lines left after → LinkGoes new.now new.limits link tasks lines left after
+goes_then old new now limits link tasks lines left after goes =
+    let at_time : LinkGoes new.now old.limits link tasks lines left after = subst (λ (t : ℕ). LinkGoes t old.limits link tasks lines left after) (sym now) goes in
+    subst (λ (l : Limits). LinkGoes new.now l link tasks lines left after) (sym limits) at_time
+
+pub begun_go : (made_for : Aim) (old middle new : Service) → IsOpened made_for old middle → BeginsOf made_for middle new → Stays middle new → LinksGo old new
+begun_go made_for old middle new opened begins stays link most from led =
+    begins opened.before opened.takes link most from (goes_then middle.side new.side stays.time.side.now stays.time.side.limits link _ _ _ _ (opened.goes link) most from led)
 
 -- after a run of the program each output that is still to be written may be once more
-once_more : (most : ℕ → ℕ) (from : DeviceConnection) (before after : List Task) (lines : List DeviceConnection) (link : ℕ) → IsLed most from before lines link → IsLed (λ output. most output + due_at output after) from after lines link
-once_more most from before after lines link led = record {
+once_more : (now : ℕ) (limits : Limits) (most : ℕ → ℕ) (from : DeviceConnection) (before after : List Task) (lines : List DeviceConnection) (link : ℕ) → IsLed now limits most from before lines link → IsLed now limits (λ output. most output + due_at output after) from after lines link
+once_more now limits most from before after lines link led = record {
   line = led.line;
   there = led.there;
   course = led.course;
   within = λ output. omega (arith, led.within output);
 }
 
-pub scanned_goes : (before after : List Task) (lines : List DeviceConnection) (link : ℕ) (most : ℕ → ℕ) (from : DeviceConnection) → ∥ IsLed most from before lines link ∥₁ → ∥ IsLed (λ output. most output + due_at output after) from after lines link ∥₁
-scanned_goes before after lines link most from led = ∥∥₁_elim led ∥∥₁_prop (λ l. ∣ once_more most from before after lines link l ∣₁)
+pub scanned_goes : (now : ℕ) (limits : Limits) (before after : List Task) (lines : List DeviceConnection) (link : ℕ) (most : ℕ → ℕ) (from : DeviceConnection) → ∥ IsLed now limits most from before lines link ∥₁ → ∥ IsLed now limits (λ output. most output + due_at output after) from after lines link ∥₁
+scanned_goes now limits before after lines link most from led = ∥∥₁_elim led ∥∥₁_prop (λ l. ∣ once_more now limits most from before after lines link l ∣₁)

@@ -16,8 +16,10 @@ use Rattle.site_model.specs.declared.want.Want.{Want}
 use Rattle.service.specs.declared.service_state.Service.{Service}
 use Rattle.service.specs.Counting.{one_more}
 use Rattle.service_parts.specs.declared.asked.Asked.{Asked}
+use Rattle.service_parts.specs.declared.limits.Limits.{Limits}
 use Rattle.service_parts.specs.Backing.{after}
-use Rattle.service.specs.Timing.{IsTimed, Ticks, scan_after}
+use Rattle.service_parts.specs.Overdue.{IsTimed, least_wait}
+use Rattle.service.specs.Timing.{Ticks, scan_after}
 use Rattle.service.specs.Rounds.{AreRecentTo, AsksWrite, Closes, ClosesWrite, IsRecent, Opens, OpensWrite, Progress, device_told, device_wanted, told_at, told_now}
 
 -- ---- the writes
@@ -127,15 +129,12 @@ ticks_rested now old new due time limits next scans at = record {
 
 -- ---- how long an answer is waited for
 
-not_before : (now wait top : ℕ) → now ≤ top → now ≤ min (now + wait) top
-not_before now wait top fits = omega (arith, fits)
-
 no_later : (now wait timeout top : ℕ) → wait ≤ timeout → min (now + wait) top ≤ min (now + timeout) top
 no_later now wait timeout top less = omega (arith, less)
 
-pub timed : (now wait timeout : ℕ) (asked : Asked) → now ≤ 2 ^ 64 - 1 → wait ≤ timeout → asked.since ≡ now → asked.until ≡ after now wait → IsTimed now timeout asked
-timed now wait timeout asked fits less since until = record {
+pub timed : (now wait : ℕ) (limits : Limits) (asked : Asked) → least_wait limits ≤ wait → wait ≤ limits.timeout → asked.since ≡ now → asked.until ≡ after now wait → IsTimed now limits asked
+timed now wait limits asked least most since until = record {
   since = since;
-  later = subst (λ n. now ≤ n) (sym until) (not_before now wait (2 ^ 64 - 1) fits);
-  most = subst (λ n. n ≤ after now timeout) (sym until) (no_later now wait timeout (2 ^ 64 - 1) less);
+  least = subst (λ n. after now (least_wait limits) ≤ n) (sym until) (no_later now (least_wait limits) wait (2 ^ 64 - 1) least);
+  most = subst (λ n. n ≤ after now limits.timeout) (sym until) (no_later now wait limits.timeout (2 ^ 64 - 1) most);
 }

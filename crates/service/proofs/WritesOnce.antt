@@ -35,7 +35,7 @@ due_joined output (x ∷ xs) ys = omega (arith, due_joined output xs ys)
 
 planned_once : (link : ℕ) (first : List Task) (scans : List (List Task)) (asked : List ℕ) (last : List Task) → OverLink link first scans asked last → (output : ℕ) → times_asked output asked + due_at output last ≤ due_at output first + times_due output scans
 planned_once link first scans asked last after.none output = omega arith
-planned_once link first scans asked last (after.calls {scans = earlier} {asked = so_far} {before} run runs from then_on lines led) output =
+planned_once link first scans asked last (after.calls {scans = earlier} {asked = so_far} {before} run runs now limits from then_on lines led) output =
     omega (arith, planned_once link first earlier so_far before run output, led.within output, times_joined output (begun led.course) so_far, due_joined output runs earlier)
 
 ran_once : (output : ℕ) (scans : List (List Task)) → times_due output scans ≤ length scans

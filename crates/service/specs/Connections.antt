@@ -24,7 +24,7 @@ pub record HearsOver (stations : List Station) (link : ℕ) (line : DeviceConnec
   pub fate : Option RequestEnd
   pub heard : DeviceConnection
   pub hears : frames.Hears bytes unused fate line heard
-  pub goes : ∥ IsLed (λ output. due_at output old.round.writes) heard new.round.writes lines link ∥₁
+  pub goes : ∥ IsLed now next.limits (λ output. due_at output old.round.writes) heard new.round.writes lines link ∥₁
   pub settles : HearsBy fate line.asked old new
   pub has : HasMoreBy (taken_if line.asked fate now) held left
   pub tells : TellsBy (LostByHearing stations link line.asked fate) (IsHeardBy (taken_if line.asked fate now) (IsRefusedIf line.asked fate) held) side next

@@ -1,8 +1,6 @@
 -- When the program runs, by the service's time (IEC 61131-3 edition 2, 2.7.2: a task's INTERVAL). What is late is this project's.
-use Rattle.std.specs.Prelude.{◌≡◌, ◌≤◌, ℕ, [], length, ◌+◌, ◌-◌, ◌*◌, ◌^◌, max, min, nat_le, nat_lt, if◌then◌else◌}
+use Rattle.std.specs.Prelude.{◌≡◌, ℕ, [], length, ◌+◌, ◌-◌, ◌*◌, ◌^◌, max, min, nat_le, nat_lt, if◌then◌else◌}
 use Rattle.service_parts.specs.declared.limits.Limits.{Limits}
-use Rattle.service_parts.specs.declared.asked.Asked.{Asked}
-use Rattle.service_parts.specs.Backing.{after}
 use Rattle.service.specs.declared.device_side.DeviceSide.{DeviceSide}
 use Rattle.service.specs.declared.service_state.Service.{Service}
 use Rattle.service.specs.declared.last_scan.LastScan.{LastScan}
@@ -68,14 +66,6 @@ pub record CountsScan (came : LastScan) (old new : DeviceSide) : Type 0 where
   pub scans : new.scans ≡ one_more old.scans
   pub limits : new.limits ≡ old.limits
   pub last : new.last_scan ≡ came
-
--- ---- how long an answer is waited for
-
--- A request that begins at this time: its answer is waited for from then on, and no longer than this.
-pub record IsTimed (now timeout : ℕ) (asked : Asked) : Type 0 where
-  pub since : asked.since ≡ now
-  pub later : now ≤ asked.until
-  pub most : asked.until ≤ after now timeout
 
 -- ---- a service
 

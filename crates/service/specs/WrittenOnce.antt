@@ -8,6 +8,7 @@ use Rattle.service_requests.specs.Tasks.{next_place}
 use Rattle.service.specs.declared.round.Turn.{Turn}
 use Rattle.service_requests.specs.declared.task.Task.{Task}
 use Rattle.service_parts.specs.declared.device_connection.DeviceConnection.{DeviceConnection}
+use Rattle.service_parts.specs.declared.limits.Limits.{Limits}
 use Rattle.service_parts.specs.Frames.{IsLed, begun, due_at, times_asked}
 use Rattle.service.specs.Rounds.{asked_of}
 use Rattle.service.specs.Stages.{Adopts, Asks, Ends, Learns, OpensNext, Scans, Skips, Stage, Tells, Waits}
@@ -41,8 +42,8 @@ times_due output (tasks ∷ scans) = due_at output tasks + times_due output scan
 -- what was still to be written right after it, and the writes of these outputs began over the link, the last one first.
 pub data OverLink (link : ℕ) (first : List Task) : List (List Task) → List ℕ → List Task → Type 0 where
   none : OverLink link first [] [] first
-  calls : {scans : List (List Task)} {asked : List ℕ} {before : List Task} → OverLink link first scans asked before → (runs : List (List Task)) (from : DeviceConnection) (after : List Task) (lines : List DeviceConnection)
-      → (led : IsLed (λ output. due_at output before + times_due output runs) from after lines link) → OverLink link first (runs ++ scans) (begun led.course ++ asked) after
+  calls : {scans : List (List Task)} {asked : List ℕ} {before : List Task} → OverLink link first scans asked before → (runs : List (List Task)) (now : ℕ) (limits : Limits) (from : DeviceConnection) (after : List Task) (lines : List DeviceConnection)
+      → (led : IsLed now limits (λ output. due_at output before + times_due output runs) from after lines link) → OverLink link first (runs ++ scans) (begun led.course ++ asked) after
 
 -- No more writes of an output begin than runs of the program after which one was still to be made, and one more where one was at
 -- first. So there are no more than the program ran, and that one.

@@ -5,9 +5,9 @@ ghost use Rattle.service.specs.declared.link_pace.LinkPace.{LinkPace as PaceValu
 ghost use Rattle.service.specs.Told.{Goes};
 ghost use Rattle.service.specs.Turns.{turn_of};
 ghost use Rattle.service.specs.Rewriting.{had_beside};
+ghost use Rattle.service_parts.specs.Overdue.{IsTimed};
 ghost use Rattle.service_parts.specs.Requests.{MayGoOver, words_of};
 ghost use Rattle.service.specs.Staying.{Stays};
-ghost use Rattle.service.specs.Timing.{IsTimed};
 ghost use Rattle.service.specs.Going.{BeginsOf, LinksGo};
 ghost use Rattle.service.specs.Having.{HasNoMore, WritesHad};
 ghost use Rattle.service.specs.Cycle.{LeadsOn};
@@ -249,7 +249,7 @@ impl Service {
     fn start(&mut self, link: usize, asked: Asked, request: Request)
         requires quantity { HasQuantity request }
         requires number { slice_get self.old.lines.links.numbers.items link ≡ Some asked.number }
-        requires timed { IsTimed self.old.side.now self.old.side.limits.timeout asked }
+        requires timed { IsTimed self.old.side.now self.old.side.limits asked }
         requires address { asked.address ≡ address_of request }
         requires words { asked.words ≡ words_of request }
         requires asked { MayGoOver self.old.cycle.core.value self.old.lines.links.numbers.items self.old.lines.found_on.items link asked.aim asked.device request }

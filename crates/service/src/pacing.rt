@@ -1,6 +1,7 @@
 //! How the devices of a link are asked: whose turn it is, how long an answer is waited for, and what there is time for.
 ghost use Rattle.std.specs.Prelude.{◌≡◌, ◌≤◌, Some, set, slice_get};
 ghost use Rattle.service.specs.declared.link_pace.LinkPace.{LinkPace as PaceValue};
+ghost use Rattle.service_parts.specs.Overdue.{least_wait};
 ghost use Rattle.service.specs.Turns.{is_slow, place_after, reply_at, turn_of, turned_to};
 ghost use Rattle.service.specs.Told.{Goes};
 ghost use Rattle.service.specs.Timing.{KeepsTime};
@@ -221,7 +222,8 @@ impl DeviceSide {
     /// after a request without an answer as long as one may take, since that may hold the link up; and now and then longer, at last
     /// as long as one may take, since the device may have become slower.
     pub(crate) fn short_wait(&self, link: usize, device: usize) -> u64
-        ensures { result ≤ self.entry.now.limits.timeout }
+        ensures least { least_wait self.entry.now.limits ≤ result }
+        ensures most { result ≤ self.entry.now.limits.timeout }
     {
         let Some(found) = self.devices.get(device) else {
             return self.limits.timeout;
@@ -240,13 +242,12 @@ impl DeviceSide {
             asked if asked % 4 == 0 => self.long_wait(link, asked, found.reply() == 0).max(wait),
             _ => wait,
         };
-        wait.min(self.limits.timeout)
+        wait.max(self.limits.least_wait()).min(self.limits.timeout)
     }
 
     /// Twice and a half as long as replies take.
     fn wait_by(&self, reply: u64) -> u64 {
-        let least = self.limits.first_wait.saturating_mul(3) / 5;
-        least.max(reply.saturating_mul(5) / 2)
+        self.limits.least_wait().max(reply.saturating_mul(5) / 2)
     }
 
     /// How long an answer of a device is waited for that never answered: as for the one of its link that answered last,

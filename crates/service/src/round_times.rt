@@ -113,11 +113,9 @@ impl Service {
     }
 
     /// Runs the program.
-    #[tactic(auto, using(crate::proofs::Going::scanned_goes))]
     fn run(&mut self)
         requires recent { All IsRecent self.old.cycle.round.told }
-        ensures links { self.new.lines.links ≡ self.old.lines.links }
-        ensures lines { LinksGoByScan self.new.cycle.round.writes self.old self.new }
+        ensures lines { self.new.lines ≡ self.old.lines }
         ensures scans { Scans self.old.side.now (stage_of self.old.cycle) (stage_of self.new.cycle) }
         ensures held { HasNoMore self.old.held self.new.held }
         ensures places { self.new.places.items ≡ self.old.places.items }

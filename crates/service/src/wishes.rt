@@ -4,6 +4,7 @@ ghost use Rattle.modbus_frame.specs.Message.{HasQuantity};
 ghost use Rattle.service_requests.specs.declared.search.SearchStep.TheVariants.{Found};
 ghost use Rattle.service.specs.Told.{Goes};
 ghost use Rattle.service_parts.specs.Frames.{outputs_of};
+ghost use Rattle.service_parts.specs.Overdue.{least_wait};
 ghost use Rattle.service_parts.specs.Requests.{MayGoOver};
 ghost use Rattle.service_parts.specs.Seeking.{IsSought};
 ghost use Rattle.service.specs.Staying.{Stays};
@@ -276,7 +277,8 @@ impl Service {
 
     /// How long an answer of a device is waited for: as long as one may take, or less on a link where others answer.
     fn wait_for(&self, link: usize, device: usize) -> u64
-        ensures { result ≤ self.now.side.limits.timeout }
+        ensures least { least_wait self.now.side.limits ≤ result }
+        ensures most { result ≤ self.now.side.limits.timeout }
     {
         if self.has_others(link, device) {
             self.side.short_wait(link, device)
@@ -288,7 +290,8 @@ impl Service {
     /// The same for one of these requests: a write to a device whose last write had no answer has all of the time, since its writes
     /// may take longer than its reads.
     pub(crate) fn wait_of(&self, link: usize, device: usize, aim: Aim) -> u64
-        ensures { result ≤ self.now.side.limits.timeout }
+        ensures least { least_wait self.now.side.limits ≤ result }
+        ensures most { result ≤ self.now.side.limits.timeout }
     {
         match aim {
             Aim::Output(_) if self.side.is_write_missed(device) => self.side.limits.timeout,

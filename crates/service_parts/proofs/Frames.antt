@@ -13,9 +13,10 @@ use Rattle.service_parts.specs.declared.device_connection.DeviceConnection.{Devi
 use Rattle.service_requests.specs.declared.task.Task.{Task}
 use Rattle.service_parts.specs.declared.asked.Aim.{Aim}
 use Rattle.service_parts.specs.declared.asked.Asked.{Asked}
-use Rattle.service_parts.specs.Frames.{AnsweredLinesHaveNoBackOff, AreNumbered, Begins, CourseBy, FramesGoOutWhole, GivesUp, GoesDown, HearingStep, IsLed, IsSending, IsUnwaited, Keeps, LinesGo, LinkGoes, OthersGo, OwnStep, Sends, StaysLinked, TakesDue, begins, begun, begun_by, dialled, dials, due_at, gives_up, goes, is_idle, keeps, stays, times_asked}
+use Rattle.service_parts.specs.Frames.{AnsweredLinesHaveNoBackOff, AreNumbered, Begins, CourseBy, FramesGoOutWhole, GivesUp, GoesDown, HearingStep, IsLed, IsSending, IsUnwaited, Keeps, LinesGo, LinesGoAt, LinkGoes, OthersGo, OwnStep, RequestsHaveTheirTime, Sends, StaysLinked, TakesDue, begins, begun, begun_by, dialled, dials, due_at, gives_up, goes, is_idle, keeps, stays, times_asked}
 use Rattle.service_parts.specs.Answering.{answers}
 use Rattle.service_parts.specs.Backing.{longer}
+use Rattle.service_parts.specs.Overdue.{IsTimed, is_over}
 use Rattle.service_parts.specs.declared.limits.Limits.{Limits}
 
 pub keeps_by : (old new : DeviceConnection) → new.asked ≡ old.asked → new.pending ≡ old.pending → new.id ≡ old.id → new.out.items ≡ old.out.items → (old.is_bad ≡ true → new.is_bad ≡ true) → new.is_up ≡ old.is_up → new.is_heard ≡ old.is_heard → new.dial_until ≡ old.dial_until → new.dial_at ≡ old.dial_at → new.wait ≡ old.wait → Keeps old new
@@ -61,11 +62,11 @@ times_joined i (x ∷ xs) ys = omega (arith, times_joined i xs ys)
 
 -- ---- a step on one line
 
-module _ (lines : List DeviceConnection) (at : ℕ) (old new : DeviceConnection) (is : slice_get lines at ≡ Some old) (step : OwnStep old new) where
+module _ (now : ℕ) (limits : Limits) (lines : List DeviceConnection) (at : ℕ) (old new : DeviceConnection) (is : slice_get lines at ≡ Some old) (step : OwnStep now limits old new) where
   led_on : (most : ℕ → ℕ) (from : DeviceConnection) (before after : List Task) → ((output : ℕ) → times_asked output (begun_by step) + due_at output after ≤ due_at output before)
-      → IsLed most from before lines at → IsLed most from after (set lines at new) at
+      → IsLed now limits most from before lines at → IsLed now limits most from after (set lines at new) at
   led_on most from before after takes led =
-      let P : DeviceConnection → Type 0 = λ x. (course : CourseBy OwnStep from x) × ((output : ℕ) → times_asked output (begun course) + due_at output before ≤ most output) in
+      let P : DeviceConnection → Type 0 = λ x. (course : CourseBy (OwnStep now limits) from x) × ((output : ℕ) → times_asked output (begun course) + due_at output before ≤ most output) in
       let (course, within) = subst P (some_same led.there is) (led.course, led.within) in
       record {
         line = new;
@@ -74,37 +75,37 @@ module _ (lines : List DeviceConnection) (at : ℕ) (old new : DeviceConnection)
         within = λ output. omega (arith, times_joined output (begun_by step) (begun course), takes output, within output);
       }
 
-  pub line_goes : (before after : List Task) → ((output : ℕ) → times_asked output (begun_by step) + due_at output after ≤ due_at output before) → LinkGoes at before lines after (set lines at new)
+  pub line_goes : (before after : List Task) → ((output : ℕ) → times_asked output (begun_by step) + due_at output after ≤ due_at output before) → LinkGoes now limits at before lines after (set lines at new)
   line_goes before after takes most from led = ∥∥₁_elim led ∥∥₁_prop (λ l. ∣ led_on most from before after takes l ∣₁)
 
-same_line : (most : ℕ → ℕ) (from : DeviceConnection) (before after : List Task) (lines now : List DeviceConnection) (link : ℕ) → slice_get now link ≡ slice_get lines link → ((output : ℕ) → due_at output after ≤ due_at output before)
-    → IsLed most from before lines link → IsLed most from after now link
-same_line most from before after lines now link same fewer led = record {
+same_line : (now : ℕ) (limits : Limits) (most : ℕ → ℕ) (from : DeviceConnection) (before after : List Task) (lines new : List DeviceConnection) (link : ℕ) → slice_get new link ≡ slice_get lines link → ((output : ℕ) → due_at output after ≤ due_at output before)
+    → IsLed now limits most from before lines link → IsLed now limits most from after new link
+same_line now limits most from before after lines new link same fewer led = record {
   line = led.line;
   there = same ∙ led.there;
   course = led.course;
   within = λ output. omega (arith, fewer output, led.within output);
 }
 
-pub still_goes : (before after : List Task) (lines now : List DeviceConnection) (link : ℕ) → slice_get now link ≡ slice_get lines link → ((output : ℕ) → due_at output after ≤ due_at output before) → LinkGoes link before lines after now
-still_goes before after lines now link same fewer most from led = ∥∥₁_elim led ∥∥₁_prop (λ l. ∣ same_line most from before after lines now link same fewer l ∣₁)
+pub still_goes : (now : ℕ) (limits : Limits) (before after : List Task) (lines new : List DeviceConnection) (link : ℕ) → slice_get new link ≡ slice_get lines link → ((output : ℕ) → due_at output after ≤ due_at output before) → LinkGoes now limits link before lines after new
+still_goes now limits before after lines new link same fewer most from led = ∥∥₁_elim led ∥∥₁_prop (λ l. ∣ same_line now limits most from before after lines new link same fewer l ∣₁)
 
 no_fewer : (tasks : List Task) (output : ℕ) → due_at output tasks ≤ due_at output tasks
 no_fewer tasks output = omega arith
 
 pub others_go : (lines : List DeviceConnection) (at : ℕ) (new : DeviceConnection) → OthersGo at lines (set lines at new)
-others_go lines at new link tasks other = still_goes tasks tasks lines (set lines at new) link (set_other lines at link new other) (no_fewer tasks)
+others_go lines at new now limits link tasks other = still_goes now limits tasks tasks lines (set lines at new) link (set_other lines at link new other) (no_fewer tasks)
 
-own_goes : (lines : List DeviceConnection) (at : ℕ) (old new : DeviceConnection) → slice_get lines at ≡ Some old → (step : OwnStep old new) → (before after : List Task)
-    → ((output : ℕ) → times_asked output (begun_by step) + due_at output after ≤ due_at output before) → (link : ℕ) → LinkGoes link before lines after (set lines at new)
-own_goes lines at old new is step before after takes link = go (eqb_tells link at)
+own_goes : (now : ℕ) (limits : Limits) (lines : List DeviceConnection) (at : ℕ) (old new : DeviceConnection) → slice_get lines at ≡ Some old → (step : OwnStep now limits old new) → (before after : List Task)
+    → ((output : ℕ) → times_asked output (begun_by step) + due_at output after ≤ due_at output before) → (link : ℕ) → LinkGoes now limits link before lines after (set lines at new)
+own_goes now limits lines at old new is step before after takes link = go (eqb_tells link at)
   where
-    go : ((eqb link at ≡ true) × (link ≡ at)) ⊎ ((eqb link at ≡ false) × (link ≢ at)) → LinkGoes link before lines after (set lines at new)
-    go (inl here) = subst (λ k. LinkGoes k before lines after (set lines at new)) (sym here.1) (line_goes lines at old new is step before after takes)
-    go (inr away) = still_goes before after lines (set lines at new) link (set_other lines at link new away.1) (λ output. omega (arith, takes output))
+    go : ((eqb link at ≡ true) × (link ≡ at)) ⊎ ((eqb link at ≡ false) × (link ≢ at)) → LinkGoes now limits link before lines after (set lines at new)
+    go (inl here) = subst (λ k. LinkGoes now limits k before lines after (set lines at new)) (sym here.1) (line_goes now limits lines at old new is step before after takes)
+    go (inr away) = still_goes now limits before after lines (set lines at new) link (set_other lines at link new away.1) (λ output. omega (arith, takes output))
 
 pub keeps_goes : (lines : List DeviceConnection) (at : ℕ) (old new : DeviceConnection) → slice_get lines at ≡ Some old → Keeps old new → LinesGo lines (set lines at new)
-keeps_goes lines at old new is step link tasks = own_goes lines at old new is (keeps step) tasks tasks (λ output. omega arith) link
+keeps_goes lines at old new is step now limits link tasks = own_goes now limits lines at old new is (keeps step) tasks tasks (λ output. omega arith) link
 
 -- a dial changes nothing else
 module _ {X : Type 0} (f : DeviceConnection → X) where
@@ -132,22 +133,23 @@ pub dialled_goes : (lines : List DeviceConnection) (at : ℕ) (old new : DeviceC
 dialled_goes lines at old new until is dialled_so = go old.is_up refl
   where
     go : (b : Bool) → old.is_up ≡ b → LinesGo lines (set lines at new)
-    go true up link tasks =
+    go true up now limits link tasks =
         let same : new ≡ old = dialled_so ∙ sym (still_dialled until old true up) in
-        still_goes tasks tasks lines (set lines at new) link (ap (λ (l : List DeviceConnection). slice_get l link) (unchanged lines at old new is same)) (λ output. omega arith)
-    go false down link tasks =
-        own_goes lines at old new is (dials (record { down = down; until = until; same = dialled_so ∙ sym (still_dialled until old false down) })) tasks tasks (λ output. omega arith) link
+        still_goes now limits tasks tasks lines (set lines at new) link (ap (λ (l : List DeviceConnection). slice_get l link) (unchanged lines at old new is same)) (λ output. omega arith)
+    go false down now limits link tasks =
+        own_goes now limits lines at old new is (dials (record { down = down; until = until; same = dialled_so ∙ sym (still_dialled until old false down) })) tasks tasks (λ output. omega arith) link
 
 -- what stands there then
 pub dialled_there : (lines : List DeviceConnection) (at : ℕ) (old new : DeviceConnection) (until : ℕ) → slice_get lines at ≡ Some old → new ≡ dialled until old → (line : DeviceConnection) → slice_get lines at ≡ Some line → slice_get (set lines at new) at ≡ Some (dialled until line)
 dialled_there lines at old new until is dialled_so line there = set_there lines at old new is ∙ ap Some (dialled_so ∙ ap (dialled until) (some_same is there))
 
-pub given_up_goes : (lines : List DeviceConnection) (at : ℕ) (old new : DeviceConnection) → slice_get lines at ≡ Some old → GivesUp old new → LinesGo lines (set lines at new)
-given_up_goes lines at old new is step link tasks = own_goes lines at old new is (gives_up step) tasks tasks (λ output. omega arith) link
+-- one whose time is over
+pub given_up_goes : (now : ℕ) (lines : List DeviceConnection) (at : ℕ) (old new : DeviceConnection) → slice_get lines at ≡ Some old → GivesUp old new → is_over now old.asked ≡ true → LinesGoAt now lines (set lines at new)
+given_up_goes now lines at old new is step waited limits link tasks = own_goes now limits lines at old new is (gives_up step waited) tasks tasks (λ output. omega arith) link
 
-pub begun_goes : (lines : List DeviceConnection) (at : ℕ) (old new : DeviceConnection) → slice_get lines at ≡ Some old → (step : Begins old new) → (before after : List Task) → TakesDue step.asked.aim before after
-    → (link : ℕ) → LinkGoes link before lines after (set lines at new)
-begun_goes lines at old new is step before after takes = own_goes lines at old new is (begins step) before after takes.each
+pub begun_goes : (now : ℕ) (limits : Limits) (lines : List DeviceConnection) (at : ℕ) (old new : DeviceConnection) → slice_get lines at ≡ Some old → (step : Begins old new) → IsTimed now limits step.asked → (before after : List Task) → TakesDue step.asked.aim before after
+    → (link : ℕ) → LinkGoes now limits link before lines after (set lines at new)
+begun_goes now limits lines at old new is step timed before after takes = own_goes now limits lines at old new is (begins step timed) before after takes.each
 
 -- ---- what went out
 
@@ -162,12 +164,12 @@ same_out : (requests : List Request) (gone : List ℕ) (old new : DeviceConnecti
 same_out requests gone old new same next sending = ([], ap (λ l. gone ++ l) same ∙ (sending ∙ ap (λ (l : List Request). flat_map (λ (x : Request). frame_bytes (frame_of x)) l) (sym (append-nil requests))), next)
 
 one_step : (requests : List Request) (gone : List ℕ) (old new : DeviceConnection) → HearingStep old new → IsSending requests gone old → SendsMore requests gone old new
-one_step requests gone old new (inl (begins step)) sending =
+one_step requests gone old new (inl (now, limits, begins step timed)) sending =
     let all : gone ≡ flat_map (λ (x : Request). frame_bytes (frame_of x)) requests = sym (append-nil gone) ∙ (ap (λ l. gone ++ l) (sym step.quiet) ∙ sending) in
     (step.request ∷ [], ap (λ l. gone ++ l) step.frame ∙ (ap (λ l. l ++ frame_bytes (frame_of step.request)) all ∙ sym (joined requests step.request)), (step.numbered, step.next))
-one_step requests gone old new (inl (gives_up step)) sending = same_out requests gone old new step.same step.next sending
-one_step requests gone old new (inl (keeps step)) sending = same_out requests gone old new step.same step.next sending
-one_step requests gone old new (inl (dials step)) sending = same_out requests gone old new (ap (λ (l : DeviceConnection). l.out.items) step.same) (ap (λ (l : DeviceConnection). l.id) step.same) sending
+one_step requests gone old new (inl (now, limits, gives_up step waited)) sending = same_out requests gone old new step.same step.next sending
+one_step requests gone old new (inl (now, limits, keeps step)) sending = same_out requests gone old new step.same step.next sending
+one_step requests gone old new (inl (now, limits, dials step)) sending = same_out requests gone old new (ap (λ (l : DeviceConnection). l.out.items) step.same) (ap (λ (l : DeviceConnection). l.id) step.same) sending
 one_step requests gone old new (inr (bytes, left, fate, step)) sending = same_out requests gone old new step.same step.next sending
 
 and_more : (requests more others : List Request) (gone : List ℕ) (new : DeviceConnection) → IsSending ((requests ++ more) ++ others) gone new → IsSending (requests ++ (more ++ others)) gone new
@@ -208,18 +210,54 @@ pub step_at : (Step : DeviceConnection → DeviceConnection → Type 0) (lines :
 step_at Step lines at old new is step line there = (new, set_there lines at old new is, subst (λ (x : DeviceConnection). Step x new) (some_same is there) step)
 
 -- a request that may not begin takes nothing of what is due
-pub not_begun : (made_for : Aim) (before after : List Task) (lines : List DeviceConnection) → TakesDue made_for before after → (link : ℕ) → LinkGoes link before lines after lines
-not_begun made_for before after lines takes link = still_goes before after lines lines link refl (λ output. omega (arith, takes.each output))
+pub not_begun : (now : ℕ) (limits : Limits) (made_for : Aim) (before after : List Task) (lines : List DeviceConnection) → TakesDue made_for before after → (link : ℕ) → LinkGoes now limits link before lines after lines
+not_begun now limits made_for before after lines takes link = still_goes now limits before after lines lines link refl (λ output. omega (arith, takes.each output))
 
 -- where one may begin it does, else nothing changes
 pub begun_goes_if : (lines : List DeviceConnection) (at : ℕ) (old new : DeviceConnection) (did : Bool) (asked : Asked) → slice_get lines at ≡ Some old → (IsTrue did → (step : Begins old new) × (step.asked ≡ asked)) → (did ≡ false → new ≡ old)
-    → (before after : List Task) → TakesDue asked.aim before after → (link : ℕ) → LinkGoes link before lines after (set lines at new)
-begun_goes_if lines at old new true asked is did_begin none before after takes link =
+    → (now : ℕ) (limits : Limits) → IsTimed now limits asked → (before after : List Task) → TakesDue asked.aim before after → (link : ℕ) → LinkGoes now limits link before lines after (set lines at new)
+begun_goes_if lines at old new true asked is did_begin none now limits timed before after takes link =
     let (step, own) = did_begin refl in
     let P : Asked → Type 0 = λ a. TakesDue a.aim before after in
-    begun_goes lines at old new is step before after (subst P (sym own) takes) link
-begun_goes_if lines at old new false asked is did_begin none before after takes link =
-    still_goes before after lines (set lines at new) link (ap (λ (l : List DeviceConnection). slice_get l link) (unchanged lines at old new is (none refl))) (λ output. omega (arith, takes.each output))
+    begun_goes now limits lines at old new is step (subst (IsTimed now limits) (sym own) timed) before after (subst P (sym own) takes) link
+begun_goes_if lines at old new false asked is did_begin none now limits timed before after takes link =
+    still_goes now limits before after lines (set lines at new) link (ap (λ (l : List DeviceConnection). slice_get l link) (unchanged lines at old new is (none refl))) (λ output. omega (arith, takes.each output))
+
+-- ---- how long a request has
+
+same_asked : {a b : Asked} {o : Option Asked} → o ≡ Some a → o ≡ Some b → a ≡ b
+same_asked p q = cc
+
+module _ (now : ℕ) (limits : Limits) where
+  asked_step : (old new : DeviceConnection) → OwnStep now limits old new → (asked : Asked) → new.asked ≡ Some asked → (old.asked ≡ Some asked) ⊎ IsTimed now limits asked
+  asked_step old new (begins step timed) asked is = inr (subst (IsTimed now limits) (same_asked step.noted is) timed)
+  asked_step old new (gives_up step waited) asked is = absurd (let over = step.over in cc)
+  asked_step old new (keeps step) asked is = inl (sym step.still ∙ is)
+  asked_step old new (dials step) asked is = inl (sym (ap (λ (l : DeviceConnection). l.asked) step.same) ∙ is)
+
+  asked_further : (old middle : DeviceConnection) (asked : Asked) → (middle.asked ≡ Some asked → (old.asked ≡ Some asked) ⊎ IsTimed now limits asked) → (middle.asked ≡ Some asked) ⊎ IsTimed now limits asked
+      → (old.asked ≡ Some asked) ⊎ IsTimed now limits asked
+  asked_further old middle asked before (inl still) = before still
+  asked_further old middle asked before (inr timed) = inr timed
+
+  asked_course : (old new : DeviceConnection) → CourseBy (OwnStep now limits) old new → (asked : Asked) → new.asked ≡ Some asked → (old.asked ≡ Some asked) ⊎ IsTimed now limits asked
+  asked_course old new (stays line) asked is = inl is
+  asked_course old new (goes {middle = middle} course line step) asked is = asked_further old middle asked (asked_course old middle course asked) (asked_step middle new step asked is)
+
+  waits_step : (old new : DeviceConnection) → OwnStep now limits old new → (asked : Asked) → old.asked ≡ Some asked → is_over now old.asked ≡ false → new.asked ≡ Some asked
+  waits_step old new (begins step timed) asked is waits = absurd (let free = step.free in cc)
+  waits_step old new (gives_up step waited) asked is waits = absurd (cc)
+  waits_step old new (keeps step) asked is waits = step.still ∙ is
+  waits_step old new (dials step) asked is waits = ap (λ (l : DeviceConnection). l.asked) step.same ∙ is
+
+  waits_course : (old new : DeviceConnection) → CourseBy (OwnStep now limits) old new → (asked : Asked) → old.asked ≡ Some asked → is_over now old.asked ≡ false → new.asked ≡ Some asked
+  waits_course old new (stays line) asked is waits = is
+  waits_course old new (goes {middle = middle} course line step) asked is waits =
+      let there = waits_course old middle course asked is waits in
+      waits_step middle new step asked there (ap (is_over now) (there ∙ sym is) ∙ waits)
+
+pub requests_have_their_time : RequestsHaveTheirTime
+requests_have_their_time = record { under_way = asked_course; waits = waits_course }
 
 -- ---- what is free
 
@@ -253,10 +291,10 @@ unwaited_heard old new fate up answered wait before = go (answers fate) answered
     go false heard over = record { over = λ is_up is_heard. over ∙ before.over (sym up ∙ is_up) (sym heard ∙ is_heard) }
 
 unwaited_step : (old new : DeviceConnection) → HearingStep old new → IsUnwaited old → IsUnwaited new
-unwaited_step old new (inl (begins step)) before = unwaited_linked old new step.linked before
-unwaited_step old new (inl (gives_up step)) before = unwaited_linked old new step.linked before
-unwaited_step old new (inl (keeps step)) before = unwaited_linked old new step.linked before
-unwaited_step old new (inl (dials step)) before = subst IsUnwaited (sym step.same) (record { over = before.over })
+unwaited_step old new (inl (now, limits, begins step timed)) before = unwaited_linked old new step.linked before
+unwaited_step old new (inl (now, limits, gives_up step waited)) before = unwaited_linked old new step.linked before
+unwaited_step old new (inl (now, limits, keeps step)) before = unwaited_linked old new step.linked before
+unwaited_step old new (inl (now, limits, dials step)) before = subst IsUnwaited (sym step.same) (record { over = before.over })
 unwaited_step old new (inr (bytes, left, fate, step)) before = unwaited_heard old new fate step.up step.answered step.wait before
 
 unwaited_course : (old new : DeviceConnection) → CourseBy HearingStep old new → IsUnwaited old → IsUnwaited new

@@ -17,6 +17,7 @@ use Rattle.service_parts.specs.declared.asked.Aim.TheVariants as aim
 use Rattle.service_parts.specs.declared.asked.Asked.{Asked}
 use Rattle.service_parts.specs.Answering.{answers}
 use Rattle.service_parts.specs.Backing.{after, longer}
+use Rattle.service_parts.specs.Overdue.{IsTimed, is_over}
 
 -- ---- the connection itself
 
@@ -139,20 +140,18 @@ pub record GoesDown (now : ℕ) (limits : Limits) (old new : DeviceConnection) :
 
 -- ---- kinds of steps
 
--- What a service does by itself.
-pub data OwnStep (old new : DeviceConnection) : Type 0 where
-  begins : Begins old new → OwnStep old new
-  gives_up : GivesUp old new → OwnStep old new
-  keeps : Keeps old new → OwnStep old new
-  dials : Dials old new → OwnStep old new
+-- What a service does by itself at this time. A request that begins has its time from now on, by the service's limits; only one
+-- whose time is over is given up.
+pub data OwnStep (now : ℕ) (limits : Limits) (old new : DeviceConnection) : Type 0 where
+  begins : (step : Begins old new) → IsTimed now limits step.asked → OwnStep now limits old new
+  gives_up : GivesUp old new → is_over now old.asked ≡ true → OwnStep now limits old new
+  keeps : Keeps old new → OwnStep now limits old new
+  dials : Dials old new → OwnStep now limits old new
 
--- That, and what is heard over this connection.
+-- That at some time, and what is heard over this connection.
 abbrev pub HearingStep : DeviceConnection → DeviceConnection → Type 0
-HearingStep old new = OwnStep old new ⊎ ((bytes : List ℕ) × (left : List ℕ) × (fate : Option RequestEnd) × Hears bytes left fate old new)
-
--- That, and its stream ends or begins anew.
-abbrev pub CuttingStep : DeviceConnection → DeviceConnection → Type 0
-CuttingStep old new = OwnStep old new ⊎ IsCut new
+HearingStep old new =
+    ((now : ℕ) × (limits : Limits) × OwnStep now limits old new) ⊎ ((bytes : List ℕ) × (left : List ℕ) × (fate : Option RequestEnd) × Hears bytes left fate old new)
 
 -- ---- one step after another
 
@@ -169,14 +168,14 @@ outputs_of (aim.Output output) = output ∷ []
 outputs_of (aim.Block want) = []
 outputs_of aim.Map = []
 
-abbrev pub begun_by : {old new : DeviceConnection} → OwnStep old new → List ℕ
-begun_by (begins step) = outputs_of step.asked.aim
-begun_by (gives_up step) = []
+abbrev pub begun_by : {now : ℕ} {limits : Limits} {old new : DeviceConnection} → OwnStep now limits old new → List ℕ
+begun_by (begins step timed) = outputs_of step.asked.aim
+begun_by (gives_up step waited) = []
 begun_by (keeps step) = []
 begun_by (dials step) = []
 
 -- the outputs whose writes begin, the last one first
-abbrev pub begun : {old new : DeviceConnection} → CourseBy OwnStep old new → List ℕ
+abbrev pub begun : {now : ℕ} {limits : Limits} {old new : DeviceConnection} → CourseBy (OwnStep now limits) old new → List ℕ
 begun (stays line) = []
 begun (goes course new step) = begun_by step ++ begun course
 
@@ -193,30 +192,44 @@ due_by mark.Done = 0
 abbrev pub due_at : ℕ → List Task → ℕ
 due_at output tasks = option_map_or (λ (t : Task). due_by t.mark) (slice_get tasks output) 0
 
--- What a service does by itself led from the one line to that of a link. Of each output no more writes began on the way than so
--- many, and one less where its write is still to be made.
-pub record IsLed (most : ℕ → ℕ) (from : DeviceConnection) (tasks : List Task) (lines : List DeviceConnection) (link : ℕ) : Type 0 where
+-- What a service does by itself at this time led from the one line to that of a link. Of each output no more writes began on the
+-- way than so many, and one less where its write is still to be made.
+pub record IsLed (now : ℕ) (limits : Limits) (most : ℕ → ℕ) (from : DeviceConnection) (tasks : List Task) (lines : List DeviceConnection) (link : ℕ) : Type 0 where
   pub line : DeviceConnection
   pub there : slice_get lines link ≡ Some line
-  pub course : CourseBy OwnStep from line
+  pub course : CourseBy (OwnStep now limits) from line
   pub within : (output : ℕ) → times_asked output (begun course) + due_at output tasks ≤ most output
 
 -- Whatever led to a link's line leads to what it is now. Each write that begins was still to be made, and isn't any more.
-abbrev pub LinkGoes : (link : ℕ) → (tasks : List Task) → (lines : List DeviceConnection) → (left : List Task) → (now : List DeviceConnection) → Type 0
-LinkGoes link tasks lines left now = (most : ℕ → ℕ) (from : DeviceConnection) → ∥ IsLed most from tasks lines link ∥₁ → ∥ IsLed most from left now link ∥₁
+abbrev pub LinkGoes : (now : ℕ) → (limits : Limits) → (link : ℕ) → (tasks : List Task) → (lines : List DeviceConnection) → (left : List Task) → (new : List DeviceConnection) → Type 0
+LinkGoes now limits link tasks lines left new = (most : ℕ → ℕ) (from : DeviceConnection) → ∥ IsLed now limits most from tasks lines link ∥₁ → ∥ IsLed now limits most from left new link ∥₁
 
--- Each link's line goes on so, whatever is still to be written: no write begins.
+-- Each link's line goes on so at this time, whatever is still to be written: no write begins.
+abbrev pub LinesGoAt : ℕ → List DeviceConnection → List DeviceConnection → Type 0
+LinesGoAt now old new = (limits : Limits) (link : ℕ) (tasks : List Task) → LinkGoes now limits link tasks old tasks new
+
+-- at any time
 abbrev pub LinesGo : List DeviceConnection → List DeviceConnection → Type 0
-LinesGo old new = (link : ℕ) (tasks : List Task) → LinkGoes link tasks old tasks new
+LinesGo old new = (now : ℕ) → LinesGoAt now old new
 
 -- all but that of one link
 abbrev pub OthersGo : ℕ → List DeviceConnection → List DeviceConnection → Type 0
-OthersGo at old new = (link : ℕ) (tasks : List Task) → (link ≡ at → ⊥) → LinkGoes link tasks old tasks new
+OthersGo at old new = (now : ℕ) (limits : Limits) (link : ℕ) (tasks : List Task) → (link ≡ at → ⊥) → LinkGoes now limits link tasks old tasks new
 
 -- The write of an output that a request was made for was still to be made, and isn't any more; nor is that of another one which
 -- wasn't.
 pub record TakesDue (made_for : Aim) (before after : List Task) : Type 0 where
   pub each : (output : ℕ) → times_asked output (outputs_of made_for) + due_at output after ≤ due_at output before
+
+-- ---- how long a request has
+
+-- From a line on, by what a service does by itself at this time: a request that is under way then was so before, or it begins now
+-- and has its time from now on; and one whose time isn't over stays under way.
+pub record RequestsHaveTheirTime : Type 0 where
+  pub under_way : (now : ℕ) (limits : Limits) (old new : DeviceConnection) → CourseBy (OwnStep now limits) old new
+      → (asked : Asked) → new.asked ≡ Some asked → (old.asked ≡ Some asked) ⊎ IsTimed now limits asked
+  pub waits : (now : ℕ) (limits : Limits) (old new : DeviceConnection) → CourseBy (OwnStep now limits) old new
+      → (asked : Asked) → old.asked ≡ Some asked → is_over now old.asked ≡ false → new.asked ≡ Some asked
 
 -- ---- what went out
 

@@ -1,8 +1,23 @@
--- Which request took its time, and which devices are reached over a link. No standard says it; it is this project's.
-use Rattle.std.specs.Prelude.{◌≡◌, ℕ, nat_le, Bool, false, List, Option, None, Some, option_and_then, slice_get, if◌then◌else◌}
+-- How long a request may take, which one took its time, and which devices are reached over a link. No standard says it; it is
+-- this project's.
+use Rattle.std.specs.Prelude.{◌≡◌, ◌≤◌, ℕ, ◌*◌, ◌/◌, min, max, nat_le, Bool, false, List, Option, None, Some, option_and_then, slice_get, if◌then◌else◌}
+use Rattle.service_parts.specs.declared.limits.Limits.{Limits}
 use Rattle.service_parts.specs.declared.limits.Station.{Station}
 use Rattle.service_parts.specs.declared.device_connection.DeviceConnection.{DeviceConnection}
 use Rattle.service_parts.specs.declared.asked.Asked.{Asked}
+use Rattle.service_parts.specs.Backing.{after}
+
+-- the least time that an answer has: three fifths of that of a device that never answered, and more than nothing; or as long as
+-- any may take, where that is less
+abbrev pub least_wait : Limits → ℕ
+least_wait limits = min (max (limits.first_wait / 5 * 3) 1) limits.timeout
+
+-- A request that begins at this time: its answer is waited for from then on, for the least time at least, and no longer than any
+-- answer may take.
+pub record IsTimed (now : ℕ) (limits : Limits) (asked : Asked) : Type 0 where
+  pub since : asked.since ≡ now
+  pub least : after now (least_wait limits) ≤ asked.until
+  pub most : asked.until ≤ after now limits.timeout
 
 -- A device is reached over a link.
 pub record IsAt (stations : List Station) (link device : ℕ) : Type 0 where

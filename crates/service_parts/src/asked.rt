@@ -16,7 +16,9 @@ pub struct Asked {
     pub words: Words,
     /// The number of the connection over which it is asked.
     pub number: u64,
+    /// When it began, in milliseconds.
     pub since: u64,
+    /// Until when its answer is waited for.
     pub until: u64,
 }
 

@@ -1,4 +1,6 @@
 //! What is asked of a service.
+ghost use Rattle.std.specs.Prelude.{◌≡◌};
+ghost use Rattle.service_parts.specs.Overdue.{least_wait};
 
 /// Its times, in milliseconds, and its room.
 #[derive(Clone, Copy)]
@@ -17,6 +19,16 @@ pub struct Limits {
     pub back_off_most: u64,
     /// How long after a search that found no map the next one begins.
     pub search_again: u64,
+}
+
+impl Limits {
+    /// The least time in milliseconds that an answer has: three fifths of that of a device that never answered, and more than
+    /// nothing; or as long as any may take, where that is less.
+    pub fn least_wait(&self) -> u64
+        ensures { result ≡ least_wait self.now }
+    {
+        (self.first_wait / 5 * 3).max(1).min(self.timeout)
+    }
 }
 
 /// Where a device is reached.

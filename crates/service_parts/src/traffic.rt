@@ -1,12 +1,13 @@
 //! Requests to devices, and what comes of them.
-ghost use Rattle.std.specs.Prelude.{◌≡◌, ◌⊎◌, ◌≤◌, ℕ, List, None, Some, drop, length, slice_get};
+ghost use Rattle.std.specs.Prelude.{◌≡◌, ◌⊎◌, ◌≤◌, ℕ, List, None, Some, drop, length, slice_get, true};
 ghost use Rattle.modbus_frame.specs.Message.{HasQuantity, address_of};
 ghost use Rattle.gateway.specs.event_core.Core.{Gateway};
 ghost use Rattle.service_parts.specs.declared.device_connection.DeviceConnection.{DeviceConnection as LineValue};
+ghost use Rattle.service_parts.specs.declared.limits.Limits.{Limits};
 ghost use Rattle.service_parts.specs.Course.{Reached};
 ghost use Rattle.service_requests.specs.declared.task.Task.{Task};
-ghost use Rattle.service_parts.specs.Frames.{Hears, LinesGo, LinkGoes, OthersGo, Sends, TakesDue, ended_by};
-ghost use Rattle.service_parts.specs.Overdue.{asked_at, is_over, overdue_at};
+ghost use Rattle.service_parts.specs.Frames.{Hears, LinesGoAt, LinkGoes, OthersGo, Sends, TakesDue, ended_by};
+ghost use Rattle.service_parts.specs.Overdue.{IsTimed, asked_at, is_over, overdue_at};
 ghost use Rattle.service_parts.specs.Requests.{AreRightfulBy, IsRightfulOn, MayGoOver, StayRightful, words_of};
 ghost use Rattle.service_parts.specs.Waking.{IsDueOf, due_at};
 
@@ -45,7 +46,8 @@ impl Connections {
         ensures rightful { (now : Gateway) → ∥ Reached now ∥₁ → MayGoOver now self.old.links.numbers.items self.old.found_on.items link asked.aim asked.device request
             → AreRightfulBy now self.old → AreRightfulBy now self.new }
         ensures links { self.new.links ≡ self.old.links }
-        ensures lines { (before after : List Task) → TakesDue asked.aim before after → (at : ℕ) → LinkGoes at before self.old.lines.items after self.new.lines.items }
+        ensures lines { (now : ℕ) (limits : Limits) → IsTimed now limits asked → (before after : List Task) → TakesDue asked.aim before after
+            → (at : ℕ) → LinkGoes now limits at before self.old.lines.items after self.new.lines.items }
     {
         let Some(unit) = self.unit_at(asked.device, link) else {
             return;
@@ -93,11 +95,11 @@ impl Connections {
         ensures rightful { StayRightful self.old self.new }
         ensures links { self.new.links ≡ self.old.links }
         ensures overdue { result ≡ overdue_at self.old.lines.items now link }
-        ensures lines { LinesGo self.old.lines.items self.new.lines.items }
+        ensures lines { LinesGoAt now self.old.lines.items self.new.lines.items }
         ensures others { (other : ℕ) → (other ≡ link → ⊥) → slice_get self.new.lines.items other ≡ slice_get self.old.lines.items other }
     {
         if self.is_overdue(link, now) {
-            self.give_up(link)
+            self.give_up(link, now)
         } else {
             None
         }
@@ -113,12 +115,13 @@ impl Connections {
         }
     }
 
-    /// The request that is under way on a link is given up, and given away.
-    fn give_up(&mut self, link: usize) -> Option<Asked>
+    /// The request that is under way on a link, whose time is over, is given up, and given away.
+    fn give_up(&mut self, link: usize, now: u64) -> Option<Asked>
+        requires waited { is_over now (asked_at self.old.lines.items link) ≡ true }
         ensures asked { result ≡ asked_at self.old.lines.items link }
         ensures rightful { StayRightful self.old self.new }
         ensures links { self.new.links ≡ self.old.links }
-        ensures lines { LinesGo self.old.lines.items self.new.lines.items }
+        ensures lines { LinesGoAt now self.old.lines.items self.new.lines.items }
         ensures others { (other : ℕ) → (other ≡ link → ⊥) → slice_get self.new.lines.items other ≡ slice_get self.old.lines.items other }
     {
         match self.lines.get_mut(link) {

@@ -4,6 +4,7 @@ use Rattle.service.specs.Cycle.{stage_of}
 use Rattle.service.specs.Having.{IsHad}
 use Rattle.service.specs.LeftOut.{held_by}
 use Rattle.service.proofs.Courses.{right_rounds}
+use Rattle.service.proofs.Going.{goes_then}
 use Rattle.service.proofs.Having.{held_had, told_had, told_within}
 use Rattle.service.proofs.LeftOut.{left_one, none_due, none_left, one_due}
 use Rattle.service.proofs.service_state.Service.next_due.Goals as goal
@@ -20,7 +21,7 @@ loop-preserved c = (
       let had = held_had c.loop.self.held c.args.device c.args.number _ c.loop.self.side.now _ _ c.in-Some-held_output.output (sym c.held_output.ensures ∙ c.in-Some-held_output.is) in
       c.hold_back.ensures.stands may (λ which became this. has which became (told_within first c.args.self.now.held within which became (told_had c.args.self.now.held c.in-Some-held_output.output which became (subst (λ s. IsHad s c.in-Some-held_output.output) c.loop.invariant.1 had) this))) from (c.loop.invariant.3 first within may has from before)),
   left_one c.args.device c.args.number c.args.self.now.held c.loop.self.held c.args.self.now.side.now c.loop.self.side.now (stage_of c.args.self.now.cycle) (stage_of c.loop.self.cycle) (stage_of c.next_write.new.self) (stage_of c.hold_back.new.self.cycle) c.in-Some.wish c.in-Some-held_output.output c.loop.invariant.4 (c.in-Some.ensures).next c.loop.invariant.1 c.loop.invariant.2.time.side.now (sym c.held_output.ensures ∙ c.in-Some-held_output.is) c.hold_back.ensures.ends,
-  (λ link most from led. c.hold_back.ensures.lines link most from (not_begun _ _ _ _ (c.in-Some.ensures).due link most from (c.loop.invariant.5 link most from led))),
+  (λ link most from led. c.hold_back.ensures.lines link most from (not_begun _ _ _ _ _ _ (c.in-Some.ensures).due link most from (goes_then c.loop.self.side c.hold_back.new.self.side c.hold_back.ensures.rest.time.side.now c.hold_back.ensures.rest.time.side.limits link _ _ _ _ (c.loop.invariant.5 link) most from led))),
   search rules,
   search rules,
 )

@@ -8,6 +8,7 @@ use Rattle.service.specs.Losing.{LostByWait}
 use Rattle.service.specs.Stages.{RunsOnce, Stage}
 use Rattle.service.specs.Told.{LosesBy}
 use Rattle.service.proofs.Courses.{runs_where}
+use Rattle.service.proofs.Going.{goes_then}
 use Rattle.service.proofs.Having.{tells_at}
 use Rattle.service.proofs.service_state.Service.tick.Goals as goal
 
@@ -19,6 +20,6 @@ returns-then-is_due-clause-goes c =
     runs_where _ _ _ _ _ _ _ due c.end_waits.ensures.goes (subst (λ n. RunsOnce (λ (scanned : Stage). WritesAt scanned.core c.end_waits.new.self.held c.end_waits.new.self.side c.scan.new.self.side × LinksGoByScan scanned.round.writes c.end_waits.new.self c.scan.new.self × (c.scan.new.self.side.last_scan ≡ came_to scanned.core.standing.last)) n (stage_of c.end_waits.new.self.cycle) (stage_of c.scan.new.self.cycle)) now c.scan.ensures.runs)
     (λ (b : Stage) after. (
       tells_at _ b.core c.args.self.now.held c.end_waits.new.self.held c.args.self.now.side c.end_waits.new.self.side c.scan.new.self.side (λ may has from led. lost may has from (c.turn_to.ensures.stands may from led)) c.end_waits.ensures.held after.0,
-      λ link most from led. after.1 link most from (c.end_waits.ensures.lines link most from led),
+      λ link most from led. after.1 link most from (goes_then c.end_waits.new.self.side c.scan.new.self.side c.scan.ensures.time.now c.scan.ensures.time.limits link _ _ _ _ (c.end_waits.ensures.lines link) most from led),
       after.2,
     ))
