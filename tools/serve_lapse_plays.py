@@ -9,7 +9,7 @@ import sys
 import time
 
 sys.dont_write_bytecode = True
-from serve_parts import TOP, Client, Service, close, files_of, text_of, try_alone, until
+from serve_parts import TOP, Client, Service, close, files_of, text_of, try_alone, until, within
 from serve_plays import OwnDevice, inverter, put
 
 # registers of model 123 of the gateway, and the limit of a device at the same place
@@ -111,6 +111,45 @@ def play_alarm(counts, site, service, client):
     counts.note("it is written again", client.write(LIMIT, 30)[0] == 6 and service.has(r"\S+ set target 30 was unset by 127.0.0.1:\d+", behind=told), service.lines)
     counts.note("its alarm is over", until(site.alarms, []) == [], site.alarms())
     counts.note("the output has it again", until(site.limit, 30) == 30, site.limit())
+
+
+def play_never(counts, program, folder):
+    """An operator who never comes, comes and falls silent; and the same after restarts."""
+    site, state = Site(program, folder, tag="lapse = 2"), f"{folder}/state"
+    never, lapsed = [("never_set", "target", "NeverSet")], [("lapsed", "target", "Lapsed")]
+    service = site.serve()
+    counts.note("nobody is missed at first", until(site.alarms, []) == [], site.alarms())
+    play_missed(counts, site, service)
+    client = Client(service.port())
+    counts.note("somebody comes", client.write(LIMIT, 30)[0] == 6 and service.has(r"\S+ set target 30 was unset by 127.0.0.1:\d+"), service.lines)
+    counts.note("the alarm is over", until(site.alarms, []) == [], site.alarms())
+    counts.note("what was set lapses as always", until(site.alarms, lapsed) == lapsed and service.has(r"\S+ set target lapsed"), service.lines)
+    counts.note("and is never set no more", sum("never" in it for it in service.lines) == 1, service.lines)
+    service.end()
+    service = site.serve()
+    play_missed(counts, site, service)
+    service.end()
+    put(folder, "state", "target=40\nLATER 500\n")
+    service = site.serve("--state", state)
+    counts.note("what is kept from before lapses", until(site.alarms, lapsed) == lapsed and service.has(r"\S+ set target lapsed"), service.lines)
+    counts.note("and counts as set", not any("never" in it for it in service.lines), service.lines)
+    counts.note("nothing is kept then", until(lambda: text_of(state), "") == "", text_of(state))
+    service.end()
+    service = site.serve("--state", state)
+    play_missed(counts, site, service)
+    service.end()
+    site.end()
+
+
+def play_missed(counts, site, service):
+    """Nobody sets the tag for its two seconds: that is told once, and is an alarm from then on."""
+    never = [("never_set", "target", "NeverSet")]
+    counts.note("nobody came", service.has(r"\S+ set target never set"), service.lines)
+    told = [float(it.split()[0]) for it in service.lines if it.endswith(" set target never set")]
+    counts.note("that is told once, after its time", len(told) == 1 and 2 <= told[0] < 2 + within(0.5), told)
+    counts.note("its alarm", until(site.alarms, never) == never, site.alarms())
+    sentences = [it["text"] for it in json.loads(text_of(site.status))["alarms"] if it["kind"] == "never_set"]
+    counts.note("in words", sentences == ["no client has written target since the start: the program works with its default"], sentences)
 
 
 def play_restart(counts, program, folder):
@@ -242,13 +281,13 @@ def play_cut(counts, site, service, said=b""):
 def play_refusal(counts, site, service, client):
     """A write that was refused, and then the number that the device had before."""
     told, device = len(service.lines), site.devices[0]
-    device.refuses = True
+    device.refuses = 4
     client.write(LIMIT, 60)
-    counts.note("it is refused", service.has(r"\S+ output lim1 unwritten Refused", behind=told), service.lines)
+    counts.note("it is refused", service.has(r"\S+ output lim1 unwritten Refused 4", behind=told), service.lines)
     counts.note("a number that is refused isn't held back", until(lambda: sum("refused 2" in it or "refused 1" in it for it in service.lines[told:]) > 3, True), service.lines)
     device.units[1][LIMIT] = 77
     client.write(LIMIT, 20)
-    device.refuses = False
+    device.refuses = None
     again(counts, "after a refusal", site)
 
 
@@ -263,7 +302,7 @@ def play_silence(counts, site, service):
     again(counts, "after a loss", site)
 
 
-PLAYS = (play_lapse, play_restart, play_lines, play_short, play_rewrite)
+PLAYS = (play_lapse, play_never, play_restart, play_lines, play_short, play_rewrite)
 
 
 if __name__ == "__main__":

@@ -135,10 +135,11 @@ def inverter(watts):
 
 
 class OwnDevice:
-    """A Modbus TCP server of units with registers, that is silent, refuses writes or is gone as it is told."""
+    """A Modbus TCP server of units with registers, that is silent, answers writes in some other way or is gone as it is told."""
 
     def __init__(self, units):
-        self.units, self.silent, self.refuses = units, False, False
+        # (`refuses` is the exception code by which it refuses writes; `confused` it answers as if another register had been written)
+        self.units, self.silent, self.refuses, self.confused = units, False, None, False
         self.written, self.came, self.sockets, self.port = [], 0, [], 0
         self.asked_at = 0.0
         self.open()
@@ -184,8 +185,10 @@ class OwnDevice:
         registers, function = self.units.get(unit), pdu[0]
         if registers is None:
             return bytes([function | 0x80, 0x0B])
-        if function != 3 and self.refuses:
-            return bytes([function | 0x80, 4])
+        if function != 3 and self.refuses is not None:
+            return bytes([function | 0x80, self.refuses])
+        if function != 3 and self.confused:
+            return bytes([function, 0, 0, 0, 1])
         addr, count = struct.unpack(">HH", pdu[1:5])
         if function == 3 and all(addr + n in registers for n in range(count)):
             return bytes([3, 2 * count]) + b"".join(struct.pack(">H", registers[addr + n]) for n in range(count))
@@ -264,15 +267,48 @@ def play_silence(counts, service, client, device):
 
 
 def play_refusal(counts, service, device, status):
-    behind = len(service.lines)
-    device.refuses = True
-    counts.note("a write that is refused", service.has(r"\S+ output lim1 unwritten Refused", behind=behind), service.lines[behind:])
-    time.sleep(0.25)
-    output = json.loads(text_of(status))["outputs"]["lim1"]
-    counts.note("so says the status", (output["state"], output["cause"]) == ("unwritten", "Refused"), output)
-    counts.note("so says the scan", any(it.endswith("writes 1 refused 1 lost 0") for it in service.lines[behind:]), service.lines[behind:])
-    behind, device.refuses = len(service.lines), False
+    """Writes that a device refuses by one exception and by another, and answers by what is none; last it takes them."""
+    begun = len(service.lines)
+    for code, meaning in ((4, "its device failed to do it"), (2, "its device has no such registers to write"), (77, "its device doesn't take it, for a reason of its own")):
+        device.refuses = code
+        play_refused(counts, service, status, f"Refused {code}", {"cause": "Refused", "code": code}, meaning)
+    device.refuses, device.confused = None, True
+    play_refused(counts, service, status, "Refused", {"cause": "Refused"}, "what its device answers is no answer to the write")
+    counts.note("so says the scan", any(it.endswith("writes 1 refused 1 lost 0") for it in service.lines[begun:]), service.lines[begun:])
+    counts.note("each cause is told once", sum(" output lim1 " in it for it in service.lines[begun:]) == 4, service.lines[begun:])
+    behind, device.confused = len(service.lines), False
     counts.note("a write that is taken again", service.has(r"\S+ output lim1 written", behind=behind), service.lines[behind:])
+
+
+def play_refused(counts, service, status, told, keys, meaning):
+    """A write that isn't done, for this cause: in a line, and in the status file as these keys, and with an alarm of this meaning."""
+    counts.note(f"it is told: {told}", service.has(rf"\S+ output lim1 unwritten {told}"), service.lines[-8:])
+    wanted = ({"value": 50, "state": "unwritten", **keys}, [{"kind": "output_unwritten", "name": "lim1", **keys, "text": f"lim1 isn't written ({told}): {meaning}"}])
+    seen = lambda: refused_in(json.loads(text_of(status)))
+    counts.note(f"so says the status: {told}", until(seen, wanted) == wanted, seen())
+
+
+def refused_in(told):
+    """What a status file says of the output, and of its alarm except since when it stands."""
+    alarms = [it for it in told["alarms"] if it["kind"] == "output_unwritten"]
+    return told["outputs"]["lim1"], [{key: it[key] for key in it if key != "since"} for it in alarms]
+
+
+def play_unreached(counts, program, folder):
+    """A gateway that says of each write that its unit doesn't answer, or can't be reached: the device is lost, and nothing refused."""
+    device = OwnDevice({1: inverter(1001)})
+    site, code, status = put(folder, "unreached.toml", site_text([f'remote_unit = 1\naddress = "{device.address()}"\n'] * 3)), put(folder, "shows.il", PROGRAM), f"{folder}/unreached.status"
+    service = Service(program, [site, code, "--listen", "127.0.0.1:0", "--every", "100", "--status-file", status])
+    counts.note("its output is written", service.has(r"\S+ output lim1 written") or until(lambda: device.written != [], True), service.lines)
+    for exception in (11, 10):
+        behind, device.refuses = len(service.lines), exception
+        counts.note(f"it is lost by {exception}", service.has(r"\S+ device inv1 lost Gateway", behind=behind), service.lines[behind:])
+        counts.note("its write has no answer", service.has(r"\S+ output lim1 unwritten Unanswered", behind=behind), service.lines[behind:])
+        behind, device.refuses = len(service.lines), None
+        counts.note("it is written again", service.has(r"\S+ output lim1 written", 15, behind=behind), service.lines[behind:])
+    counts.note("no write is told as refused", not any("Refused" in it for it in service.lines), service.lines)
+    service.end()
+    device.gone()
 
 
 def play_late(counts, service, client, device, status):
@@ -389,4 +425,4 @@ def play_slow_reader(counts, program, folder):
     service.end()
 
 
-PLAYS = (play_three_links, play_one_address, play_writers, play_networks, play_definitions, play_slow_reader)
+PLAYS = (play_three_links, play_one_address, play_writers, play_networks, play_definitions, play_slow_reader, play_unreached)

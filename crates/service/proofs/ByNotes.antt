@@ -310,7 +310,7 @@ settled_goes old new output own at next s outputs is over waited devices {n = n}
     is_so : (x : OutputState) → (x ≡ state.Unwritten unwritten.Unanswered → awaits_at old output ≡ true) → IsSo (note_of output x) old
     is_so state.Written so = tt
     is_so (state.Unwritten unwritten.Unanswered) so = so refl
-    is_so (state.Unwritten unwritten.Refused) so = tt
+    is_so (state.Unwritten (unwritten.Refused code)) so = tt
     is_so (state.Unwritten (unwritten.NoSetPoint cause)) so = tt
 
     free : (x : OutputState) (may : Allowed) → ((k : ℕ) (became : OutputState) → IsThis output x k became → may.became k became ≡ true) → allows may (note_of output x) ≡ true
@@ -404,7 +404,7 @@ not_told (note.Unwritten which unwritten.Unanswered) side output so none = go (e
     go : ((eqb output which ≡ true) × (output ≡ which)) ⊎ ((eqb output which ≡ false) × (output ≢ which)) → not (eqb output which) ≡ true
     go (inl here) = absurd (none (ap (awaits_at side) here.1 ∙ so))
     go (inr away) = ap not away.0
-not_told (note.Unwritten which unwritten.Refused) side output so none = refl
+not_told (note.Unwritten which (unwritten.Refused code)) side output so none = refl
 not_told (note.Unwritten which (unwritten.NoSetPoint cause)) side output so none = refl
 not_told (note.Written which) side output so none = refl
 not_told (note.Found which) side output so none = refl

@@ -5,6 +5,7 @@ use Rattle.std.specs.Option.{option_map_or}
 use Rattle.std.proofs.lemmas.Bool.{cases_lt}
 use Rattle.std.proofs.lemmas.Bool.Decides.{eqb_tells}
 use Rattle.std.proofs.lemmas.Option.{slice_get_past}
+use Rattle.modbus_frame.specs.declared.message.Exception.{Exception}
 use Rattle.modbus_frame.specs.declared.message.Request.{Request}
 use Rattle.site_model.specs.Readings.{known_at}
 use Rattle.point_writer.specs.declared.write.Write.{Write}
@@ -185,13 +186,13 @@ unasked asked f now old new none more = no_more old new (λ output write has. go
     go output write (inl before) = before
     go output write (inr is) = absurd (unasked_none asked f now output write none is)
 
-unrefused_none : (asked : Option Asked) (f : Option RequestEnd) (output : ℕ) → asked ≡ None → IsRefusedIf asked f output → ⊥
-unrefused_none None f output none is = is
-unrefused_none (Some a) f output none is = absurd (cc)
+unrefused_none : (asked : Option Asked) (f : Option RequestEnd) (code : Option Exception) (output : ℕ) → asked ≡ None → IsRefusedIf asked f code output → ⊥
+unrefused_none None f code output none is = is
+unrefused_none (Some a) f code output none is = absurd (cc)
 
 unanswered_none : (asked : Option Asked) (f : Option RequestEnd) (now output : ℕ) (became : OutputState) → asked ≡ None → IsAnsweredBy (taken_if asked f now) (IsRefusedIf asked f) output became → ⊥
 unanswered_none asked f now output state.Written none taken = unasked_none asked f now output taken.0 none taken.1
-unanswered_none asked f now output (state.Unwritten unwritten.Refused) none is = unrefused_none asked f output none is
+unanswered_none asked f now output (state.Unwritten (unwritten.Refused code)) none is = unrefused_none asked f code output none is
 unanswered_none asked f now output (state.Unwritten unwritten.Unanswered) none is = is
 unanswered_none asked f now output (state.Unwritten (unwritten.NoSetPoint cause)) none is = is
 
@@ -208,17 +209,17 @@ had_before old new more output is = record { write = is.write; has = had old new
 pub told_before : (old new : HeldWrites) → HasNoMore old new → (output : ℕ) (became : OutputState) → IsToldBy new output became → IsToldBy old output became
 told_before old new more output state.Written is = had_before old new more output is
 told_before old new more output (state.Unwritten unwritten.Unanswered) is = is
-told_before old new more output (state.Unwritten unwritten.Refused) is = is
+told_before old new more output (state.Unwritten (unwritten.Refused code)) is = is
 told_before old new more output (state.Unwritten (unwritten.NoSetPoint cause)) is = is
 
-told_by_before : (took : ℕ → Option HeldWrite) (IsRefused : ℕ → Type 0) (old new : HeldWrites) → HasMoreBy took old new → (output : ℕ) (became : OutputState) → IsToldBy new output became → IsHeardBy took IsRefused old output became
+told_by_before : (took : ℕ → Option HeldWrite) (IsRefused : Option Exception → ℕ → Type 0) (old new : HeldWrites) → HasMoreBy took old new → (output : ℕ) (became : OutputState) → IsToldBy new output became → IsHeardBy took IsRefused old output became
 told_by_before took IsRefused old new more output state.Written is = go (more output is.write is.has)
   where
     go : Has old output is.write ⊎ (took output ≡ Some is.write) → IsHeardBy took IsRefused old output state.Written
     go (inl before) = inl (record { write = is.write; has = before })
     go (inr now) = inr (is.write, now)
 told_by_before took IsRefused old new more output (state.Unwritten unwritten.Unanswered) is = inl is
-told_by_before took IsRefused old new more output (state.Unwritten unwritten.Refused) is = inl is
+told_by_before took IsRefused old new more output (state.Unwritten (unwritten.Refused code)) is = inl is
 told_by_before took IsRefused old new more output (state.Unwritten (unwritten.NoSetPoint cause)) is = inl is
 
 within_own : (held : HeldWrites) → IsWithin held held
@@ -230,10 +231,10 @@ had_within first held within output is = record { write = is.write; has = within
 pub told_within : (first held : HeldWrites) → IsWithin first held → (output : ℕ) (became : OutputState) → IsToldBy held output became → IsToldBy first output became
 told_within first held within output state.Written is = had_within first held within output is
 told_within first held within output (state.Unwritten unwritten.Unanswered) is = is
-told_within first held within output (state.Unwritten unwritten.Refused) is = is
+told_within first held within output (state.Unwritten (unwritten.Refused code)) is = is
 told_within first held within output (state.Unwritten (unwritten.NoSetPoint cause)) is = is
 
-module _ (took : ℕ → Option HeldWrite) (IsRefused : ℕ → Type 0) where
+module _ (took : ℕ → Option HeldWrite) (IsRefused : Option Exception → ℕ → Type 0) where
   -- in place of what is told while a service goes on, that or what is answered now
   pub writes_by : (held : HeldWrites) (old new : DeviceSide) → WritesHad held old new → BecomesBy (IsHeardBy took IsRefused held) old new
   writes_by held old new writes may has = writes held (within_own held) may (λ output became is. has output became (inl is))
@@ -250,10 +251,10 @@ module _ (took : ℕ → Option HeldWrite) (IsRefused : ℕ → Type 0) where
 answered_this : (o : Outcome) (asked : Asked) (which now output : ℕ) → asked.aim ≡ aim.Output which → output ≡ which → IsAnsweredBy (taken_by o asked now) (IsRefusedBy o asked) output (state_by o)
 answered_this outcome.Wrote asked which now output aimed is =
     (write_of asked now, ap (λ a. taken_for a (write_of asked now) output) aimed ∙ if_same which output (write_of asked now) (sym is))
-answered_this (outcome.Words words) asked which now output aimed is = (aimed ∙ ap (λ k. aim.Output k) (sym is), λ wrote. absurd (cc))
-answered_this (outcome.Exception e) asked which now output aimed is = (aimed ∙ ap (λ k. aim.Output k) (sym is), λ wrote. absurd (cc))
-answered_this outcome.Mismatch asked which now output aimed is = (aimed ∙ ap (λ k. aim.Output k) (sym is), λ wrote. absurd (cc))
-answered_this outcome.Stale asked which now output aimed is = (aimed ∙ ap (λ k. aim.Output k) (sym is), λ wrote. absurd (cc))
+answered_this (outcome.Words words) asked which now output aimed is = (aimed ∙ ap (λ k. aim.Output k) (sym is), λ wrote. absurd (cc), refl)
+answered_this (outcome.Exception e) asked which now output aimed is = (aimed ∙ ap (λ k. aim.Output k) (sym is), λ wrote. absurd (cc), refl)
+answered_this outcome.Mismatch asked which now output aimed is = (aimed ∙ ap (λ k. aim.Output k) (sym is), λ wrote. absurd (cc), refl)
+answered_this outcome.Stale asked which now output aimed is = (aimed ∙ ap (λ k. aim.Output k) (sym is), λ wrote. absurd (cc), refl)
 
 pub takes_written : (o : Outcome) (asked : Asked) (which now : ℕ) (old new : DeviceSide) → asked.aim ≡ aim.Output which → BecomesBy (IsThis which (state_by o)) old new → BecomesBy (IsAnsweredBy (taken_by o asked now) (IsRefusedBy o asked)) old new
 takes_written o asked which now old new aimed becomes may has =
@@ -263,7 +264,7 @@ takes_written o asked which now old new aimed becomes may has =
 pub is_by_answer : (took : ℕ → Option HeldWrite) (o : Outcome) (asked : Asked) (held : HeldWrites) → is_answer o ≡ true → (output : ℕ) (became : OutputState) → IsHeardBy took (IsRefusedBy o asked) held output became → IsHeardBy took (IsRefusedAt (fate.Told o) asked) held output became
 is_by_answer took o asked held answers output became (inl told) = inl told
 is_by_answer took o asked held answers output state.Written (inr taken) = inr taken
-is_by_answer took o asked held answers output (state.Unwritten unwritten.Refused) (inr is) = inr (answers, is)
+is_by_answer took o asked held answers output (state.Unwritten (unwritten.Refused code)) (inr is) = inr (answers, is)
 is_by_answer took o asked held answers output (state.Unwritten unwritten.Unanswered) (inr is) = absurd is
 is_by_answer took o asked held answers output (state.Unwritten (unwritten.NoSetPoint cause)) (inr is) = absurd is
 

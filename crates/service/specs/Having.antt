@@ -1,6 +1,7 @@
 -- What devices have of what was written to them, by their acknowledgements, over all calls (Modbus Application Protocol V1.1b3,
 -- sections 6.6 and 6.12).
 use Rattle.std.specs.Prelude.{◌≡◌, ◌⊎◌, ◌==◌, ⊤, ℕ, true, Option, None, Some, Result, Ok, Err, if◌then◌else◌}
+use Rattle.modbus_frame.specs.declared.message.Exception.{Exception}
 use Rattle.site_model.specs.Readings.{known_at}
 use Rattle.point_writer.specs.declared.write.Write.{Write}
 use Rattle.point_writer.specs.declared.write.NoWrite.{NoWrite}
@@ -23,6 +24,7 @@ use Rattle.service.specs.declared.held_writes.HeldWrite.{HeldWrite}
 use Rattle.service.specs.declared.held_writes.HeldWrites.{HeldWrites}
 use Rattle.service.specs.Counting.{came_to}
 use Rattle.service.specs.Rewriting.{had_without, write_of}
+use Rattle.service.specs.Telling.{exception_of}
 use Rattle.service.specs.Told.{BecomesBy, IsThis, RunsBy, ScansBy, TellsBy}
 
 -- This is had of an output: by that device, in those registers, since then, and over that connection.
@@ -88,20 +90,20 @@ Forgets device old new = (output : ℕ) → known_at new.writes.items output ≡
 
 -- ---- what a device answers otherwise
 
--- This came of the request that writes an output, and not that its device took it.
-abbrev pub IsRefusedBy : Outcome → Asked → ℕ → Type 0
-IsRefusedBy o asked output = (asked.aim ≡ aim.Output output) × (o ≡ outcome.Wrote → ⊥)
+-- This came of the request that writes an output, and not that its device took it: just this exception, or none.
+abbrev pub IsRefusedBy : Outcome → Asked → Option Exception → ℕ → Type 0
+IsRefusedBy o asked code output = (asked.aim ≡ aim.Output output) × (o ≡ outcome.Wrote → ⊥) × (exception_of o ≡ code)
 
 -- An answer of its device refuses it.
-abbrev pub IsRefusedAt : RequestEnd → Asked → ℕ → Type 0
-IsRefusedAt (fate.Told o) asked output = (is_answer o ≡ true) × IsRefusedBy o asked output
-IsRefusedAt fate.Lost asked output = ⊥
+abbrev pub IsRefusedAt : RequestEnd → Asked → Option Exception → ℕ → Type 0
+IsRefusedAt (fate.Told o) asked code output = (is_answer o ≡ true) × IsRefusedBy o asked code output
+IsRefusedAt fate.Lost asked code output = ⊥
 
 -- by what became of the request that was under way, if one was; or by nothing yet
-abbrev pub IsRefusedIf : Option Asked → Option RequestEnd → ℕ → Type 0
-IsRefusedIf None f output = ⊥
-IsRefusedIf (Some asked) None output = ⊥
-IsRefusedIf (Some asked) (Some f) output = IsRefusedAt f asked output
+abbrev pub IsRefusedIf : Option Asked → Option RequestEnd → Option Exception → ℕ → Type 0
+IsRefusedIf None f code output = ⊥
+IsRefusedIf (Some asked) None code output = ⊥
+IsRefusedIf (Some asked) (Some f) code output = IsRefusedAt f asked code output
 
 -- ---- what is told of it
 
@@ -110,18 +112,18 @@ IsRefusedIf (Some asked) (Some f) output = IsRefusedAt f asked output
 abbrev pub IsToldBy : HeldWrites → ℕ → OutputState → Type 0
 IsToldBy held output state.Written = IsHad held output
 IsToldBy held output (state.Unwritten unwritten.Unanswered) = ⊤
-IsToldBy held output (state.Unwritten unwritten.Refused) = ⊥
+IsToldBy held output (state.Unwritten (unwritten.Refused code)) = ⊥
 IsToldBy held output (state.Unwritten (unwritten.NoSetPoint cause)) = ⊥
 
--- An output is told as written where it is taken now, and as refused where it is.
-abbrev pub IsAnsweredBy : (ℕ → Option HeldWrite) → (ℕ → Type 0) → ℕ → OutputState → Type 0
+-- An output is told as written where it is taken now, and as refused, by an exception or not, where it is so.
+abbrev pub IsAnsweredBy : (ℕ → Option HeldWrite) → (Option Exception → ℕ → Type 0) → ℕ → OutputState → Type 0
 IsAnsweredBy took IsRefused output state.Written = IsTaken took output
-IsAnsweredBy took IsRefused output (state.Unwritten unwritten.Refused) = IsRefused output
+IsAnsweredBy took IsRefused output (state.Unwritten (unwritten.Refused code)) = IsRefused code output
 IsAnsweredBy took IsRefused output (state.Unwritten unwritten.Unanswered) = ⊥
 IsAnsweredBy took IsRefused output (state.Unwritten (unwritten.NoSetPoint cause)) = ⊥
 
 -- By what comes of a request: so, or as while a service goes on by itself.
-abbrev pub IsHeardBy : (ℕ → Option HeldWrite) → (ℕ → Type 0) → HeldWrites → ℕ → OutputState → Type 0
+abbrev pub IsHeardBy : (ℕ → Option HeldWrite) → (Option Exception → ℕ → Type 0) → HeldWrites → ℕ → OutputState → Type 0
 IsHeardBy took IsRefused held output became = IsToldBy held output became ⊎ IsAnsweredBy took IsRefused output became
 
 -- This is planned for an output: nothing, for a cause.
@@ -142,7 +144,7 @@ IsToWrite core output = (write : Write) × IsPlanned core output (Ok write)
 abbrev pub IsUnplanned : Gateway → ℕ → OutputState → Type 0
 IsUnplanned core output state.Written = ⊥
 IsUnplanned core output (state.Unwritten unwritten.Unanswered) = ⊥
-IsUnplanned core output (state.Unwritten unwritten.Refused) = ⊥
+IsUnplanned core output (state.Unwritten (unwritten.Refused code)) = ⊥
 IsUnplanned core output (state.Unwritten (unwritten.NoSetPoint cause)) = IsPlanned core output (Err cause)
 
 -- By a scan, after which the core is this: so, or as while a service goes on by itself.

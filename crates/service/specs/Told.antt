@@ -71,7 +71,7 @@ awaited_then (note.Late by) output was = was
 -- where it is told that nothing came of an output's write, that was waited for
 abbrev pub WasAwaited : ℕ → Unwritten → DeviceSide → Type 0
 WasAwaited which unwritten.Unanswered side = awaits_at side which ≡ true
-WasAwaited which unwritten.Refused side = ⊤
+WasAwaited which (unwritten.Refused code) side = ⊤
 WasAwaited which (unwritten.NoSetPoint cause) side = ⊤
 
 -- what the report of a scan says: what the last one came to, and what was counted of its writes
@@ -211,7 +211,7 @@ happened (scans course new allowed step awaited) = happened course
 -- a note that says that nothing came of this output's write
 abbrev pub is_unanswered : ℕ → Notice → Bool
 is_unanswered output (note.Unwritten which unwritten.Unanswered) = output == which
-is_unanswered output (note.Unwritten which unwritten.Refused) = false
+is_unanswered output (note.Unwritten which (unwritten.Refused code)) = false
 is_unanswered output (note.Unwritten which (unwritten.NoSetPoint cause)) = false
 is_unanswered output (note.Written which) = false
 is_unanswered output (note.Found which) = false

@@ -355,8 +355,11 @@ fn state_by(outcome: &Outcome) -> OutputState
 {
     match outcome {
         Outcome::Wrote => OutputState::Written,
-        Outcome::Words(_) | Outcome::Exception(_) | Outcome::Mismatch | Outcome::Stale => {
-            OutputState::Unwritten(Unwritten::Refused)
+        Outcome::Exception(exception) => {
+            OutputState::Unwritten(Unwritten::Refused(Some(*exception)))
+        }
+        Outcome::Words(_) | Outcome::Mismatch | Outcome::Stale => {
+            OutputState::Unwritten(Unwritten::Refused(None))
         }
     }
 }

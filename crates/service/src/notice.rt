@@ -1,6 +1,7 @@
 //! What a service tells of what happened.
 use crate::refusals::ReadRefusal;
 use gateway::Report;
+use modbus_frame::Exception;
 use point_writer::NoWrite;
 
 /// What happened. Devices and outputs are told by their numbers.
@@ -46,8 +47,9 @@ pub enum Loss {
 pub enum Unwritten {
     /// There is no set point for it.
     NoSetPoint(NoWrite),
-    /// Its device answered otherwise than by taking it.
-    Refused,
+    /// Its device answered otherwise than by taking it: with this exception (Modbus Application Protocol V1.1b3, section 7), or
+    /// with what is no answer to the write.
+    Refused(Option<Exception>),
     /// Its device didn't answer, or was lost before it was asked.
     Unanswered,
 }

@@ -91,24 +91,30 @@ of_output i None = []
 abbrev pub outputs_unwritten : List (Option OutputState) → List Alarm
 outputs_unwritten outputs = of_each of_output 0 outputs
 
--- ---- set values: one that has lapsed, since no client wrote it again in its time
+-- ---- set values: one that has lapsed, since no client wrote it again in its time; or one that lapses and was never set
 
-abbrev pub of_setting : List (Option ℕ) → ℕ → SiteTag → List Alarm
-of_setting ages i t = one_if (has_lapsed t.lapse (known_at ages i)) (alarm.SetLapsed i)
+-- Where it was set, its age says whether it has lapsed. Where it was not, neither since the start nor before, what had been set at the
+-- start, so many milliseconds ago, would have lapsed by now.
+abbrev pub of_age : (lapse : Option ℕ) → (running : ℕ) → ℕ → (age : Option ℕ) → List Alarm
+of_age lapse running i (Some age) = one_if (has_lapsed lapse (Some age)) (alarm.SetLapsed i)
+of_age lapse running i None = one_if (has_lapsed lapse (Some running)) (alarm.NeverSet i)
 
-abbrev pub sets_lapsed : (ages : List (Option ℕ)) → List SiteTag → List Alarm
-sets_lapsed ages tags = of_each (of_setting ages) 0 tags
+abbrev pub of_setting : (running : ℕ) → List (Option ℕ) → ℕ → SiteTag → List Alarm
+of_setting running ages i t = of_age t.lapse running i (known_at ages i)
+
+abbrev pub sets_missing : (running : ℕ) → (ages : List (Option ℕ)) → List SiteTag → List Alarm
+sets_missing running ages tags = of_each (of_setting running ages) 0 tags
 
 -- ---- all of them, each kind in the site's order
 
 -- of the devices, their models, the inputs, the outputs and what clients set
-abbrev pub wrong_beside : Gateway → List DeviceStatus → List (Option OutputState) → List Alarm
-wrong_beside core devices outputs =
+abbrev pub wrong_beside : Gateway → List DeviceStatus → List (Option OutputState) → (running : ℕ) → List Alarm
+wrong_beside core devices outputs running =
     devices_amiss devices
     ++ models_missing core.maps core.site.wants
     ++ inputs_missing core.standing.last.readings core.site.tags
     ++ outputs_unwritten outputs
-    ++ sets_lapsed core.standing.ages core.site.tags
+    ++ sets_missing running core.standing.ages core.site.tags
 
 -- of the service itself
 abbrev pub wrong_itself : (is_late is_unkept is_refused : Bool) → List Alarm
@@ -122,11 +128,11 @@ pub record AreServedMissing (core : Gateway) (alarms : List Alarm) : Type 0 wher
   pub are_stored : AreStoredHidden core.site core.standing.last.outputs (length core.site.tags) stored
   pub all : alarms ≡ sums ++ stored
 
--- all that is wrong, and nothing else
-pub record IsAllWrong (core : Gateway) (devices : List DeviceStatus) (outputs : List (Option OutputState)) (is_late is_unkept is_refused : Bool) (alarms : List Alarm) : Type 0 where
+-- all that is wrong so many milliseconds after the start, and nothing else
+pub record IsAllWrong (core : Gateway) (devices : List DeviceStatus) (outputs : List (Option OutputState)) (running : ℕ) (is_late is_unkept is_refused : Bool) (alarms : List Alarm) : Type 0 where
   pub served : List Alarm
   pub are_served : AreServedMissing core served
-  pub all : alarms ≡ wrong_beside core devices outputs ++ served ++ wrong_itself is_late is_unkept is_refused
+  pub all : alarms ≡ wrong_beside core devices outputs running ++ served ++ wrong_itself is_late is_unkept is_refused
 
 -- what of that the core alone says of numbers
 pub record IsAllMissing (core : Gateway) (alarms : List Alarm) : Type 0 where

@@ -15,6 +15,7 @@ subject_of (alarm.ModelMissing w) = subject.Model w
 subject_of (alarm.InputMissing i why) = subject.Input i
 subject_of (alarm.OutputUnwritten i why) = subject.Output i
 subject_of (alarm.SetLapsed i) = subject.Set i
+subject_of (alarm.NeverSet i) = subject.Set i
 subject_of (alarm.SumHidden i why) = subject.Sum i
 subject_of (alarm.StoredHidden i why) = subject.Stored i
 subject_of alarm.RoundLate = subject.Rounds

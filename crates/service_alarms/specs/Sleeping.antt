@@ -68,6 +68,7 @@ device_of site (alarm.ModelMissing w) = None
 device_of site (alarm.InputMissing i why) = device_of_tag site i
 device_of site (alarm.OutputUnwritten o why) = device_of_output site o
 device_of site (alarm.SetLapsed i) = None
+device_of site (alarm.NeverSet i) = None
 device_of site (alarm.SumHidden i why) = device_hidden site why
 device_of site (alarm.StoredHidden i why) = None
 device_of site alarm.RoundLate = None

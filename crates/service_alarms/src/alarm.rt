@@ -36,6 +36,8 @@ pub enum Alarm {
     OutputUnwritten(usize, Unwritten),
     /// What clients set a tag to has lapsed: none wrote it again in its time.
     SetLapsed(usize),
+    /// A tag that lapses has never been set, for as long as what was set at the start would have held.
+    NeverSet(usize),
     /// A point that shows a sum, by the number of its entry in the site file, doesn't show it, and why.
     SumHidden(usize, Hidden),
     /// The point of a `site` tag doesn't show what the program stores, and why.
@@ -85,7 +87,7 @@ impl Alarm {
             Alarm::ModelMissing(want) => AlarmSubject::Model(want),
             Alarm::InputMissing(tag, _) => AlarmSubject::Input(tag),
             Alarm::OutputUnwritten(output, _) => AlarmSubject::Output(output),
-            Alarm::SetLapsed(tag) => AlarmSubject::Set(tag),
+            Alarm::SetLapsed(tag) | Alarm::NeverSet(tag) => AlarmSubject::Set(tag),
             Alarm::SumHidden(entry, _) => AlarmSubject::Sum(entry),
             Alarm::StoredHidden(tag, _) => AlarmSubject::Stored(tag),
             Alarm::RoundLate => AlarmSubject::Rounds,

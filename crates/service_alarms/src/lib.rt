@@ -5,6 +5,7 @@
 mod alarm;
 mod changes;
 mod devices;
+mod exceptions;
 mod fitted;
 mod inputs;
 mod lapses;
@@ -35,7 +36,7 @@ pub use standing::{StandingAlarm, Watch};
 // what changed
 pub use changes::Changes;
 // in words
-pub use lines::{begun_line, lacks_text, missing_text, over_line, refuses_text};
+pub use lines::{begun_line, lacks_text, missing_text, over_line, refuses_text, unwritten_text};
 pub use mending::mend;
 pub use names::{device_name, output_name, tag_name};
 pub use sentences::{push_models, sentence, why_hidden, why_missing};

@@ -5,14 +5,15 @@ ghost use Rattle.service_alarms.specs.Lines as told;
 use crate::alarm::Alarm;
 use crate::met::{MetNumber, met_at};
 use crate::names::tag_name;
-use crate::words::{cause_text, missing_word, point_text};
+use crate::words::{cause_text, missing_word, point_text, unwritten_word};
 use gateway::{Core, DEPTH};
+use modbus_frame::Exception;
 use point_types::Cause;
-use service::ReadRefusal;
+use service::{ReadRefusal, Unwritten};
 use site_model::SiteTag;
 use std::alloc::{AllocError, Global};
 
-/// The line of an alarm that begins; None where it has none here: devices and outputs have lines of their own.
+/// The line of an alarm that begins; None where it has none here: devices, outputs and what lapses have lines of their own.
 pub fn begun_line(
     alloc: Global,
     core: &Core<DEPTH>,
@@ -24,6 +25,7 @@ pub fn begun_line(
             Some(input_line(alloc, core, tag, cause))
         }
         Alarm::SumHidden(..) | Alarm::StoredHidden(..) => Some(hidden_line(alloc, core, alarm)),
+        Alarm::NeverSet(tag) => Some(never_set_line(alloc, tag_name(core.site(), tag))),
         _ => None,
     }
 }
@@ -112,6 +114,14 @@ fn present_line(alloc: Global, name: &str) -> Result<String, AllocError>
     Ok(text)
 }
 
+/// `set NAME never set`.
+fn never_set_line(alloc: Global, name: &str) -> Result<String, AllocError>
+    ensures { IfOk result (λ text. string_bytes text ≡ told.never_set_line name.now) }
+{
+    let text = format!(in alloc; "set {name} never set")?;
+    Ok(text)
+}
+
 /// `served POINT missing CAUSE`.
 fn served_line(alloc: Global, point: &str, cause: &str) -> Result<String, AllocError>
     ensures { IfOk result (λ text. string_bytes text ≡ told.served_line point.now cause.now) }
@@ -125,6 +135,23 @@ fn shown_line(alloc: Global, point: &str) -> Result<String, AllocError>
     ensures { IfOk result (λ text. string_bytes text ≡ told.shown_line point.now) }
 {
     let text = format!(in alloc; "served {point} shown")?;
+    Ok(text)
+}
+
+/// Why an output isn't written: its word, and after `Refused` the exception code with which the device answered, where it did.
+pub fn unwritten_text(alloc: Global, cause: Unwritten) -> Result<String, AllocError> {
+    match cause {
+        Unwritten::Refused(Some(exception)) => refused_text(alloc, exception),
+        _ => String::from_str(alloc, unwritten_word(cause)),
+    }
+}
+
+/// `Refused CODE`, of an output: the exception code (Modbus Application Protocol V1.1b3, section 7).
+fn refused_text(alloc: Global, exception: Exception) -> Result<String, AllocError>
+    ensures { IfOk result (λ text. string_bytes text ≡ told.refused_text exception) }
+{
+    let code = exception.0;
+    let text = format!(in alloc; "Refused {code}")?;
     Ok(text)
 }
 

@@ -1,11 +1,12 @@
 //! What is wrong, as a sentence.
 use crate::alarm::{Alarm, Hidden};
 use crate::devices::is_lacking;
-use crate::lines::is_of_number;
+use crate::exceptions::refusal_words;
+use crate::lines::{is_of_number, unwritten_text};
 use crate::met::{MetNumber, met_at};
 use crate::names::{device_name, output_name, tag_name};
 use crate::points::demand_at;
-use crate::words::{subject_text, unwritten_word};
+use crate::words::subject_text;
 use gateway::{Core, DEPTH};
 use note_text::escaped;
 use point_types::Cause;
@@ -27,6 +28,7 @@ pub fn sentence(alloc: Global, core: &Core<DEPTH>, alarm: Alarm) -> Result<Strin
             output_text(alloc, output_name(site, output), cause)
         }
         Alarm::SetLapsed(tag) => lapsed_text(alloc, site, tag),
+        Alarm::NeverSet(tag) => never_set_text(alloc, site, tag),
         Alarm::SumHidden(_, why) | Alarm::StoredHidden(_, why) => {
             hidden_sentence(alloc, core.site(), alarm, why)
         }
@@ -90,13 +92,13 @@ pub fn push_models(alloc: Global, text: &mut String, map: &Map) -> Result<(), Al
 
 // `NAME isn't written: CAUSE`, with what that means.
 fn output_text(alloc: Global, name: &str, cause: Unwritten) -> Result<String, AllocError> {
-    let word = unwritten_word(cause);
+    let why = unwritten_text(alloc, cause)?;
     let what = match cause {
         Unwritten::NoSetPoint(_) => "there is no set point for it",
-        Unwritten::Refused => "its device doesn't take it",
+        Unwritten::Refused(exception) => refusal_words(exception),
         Unwritten::Unanswered => "its device didn't answer",
     };
-    let text = format!(in alloc; "{name} isn't written ({word}): {what}")?;
+    let text = format!(in alloc; "{name} isn't written ({why}): {what}")?;
     Ok(text)
 }
 
@@ -108,6 +110,15 @@ fn lapsed_text(alloc: Global, site: &Site, tag: usize) -> Result<String, AllocEr
     let (name, seconds) = (tag.name.as_str(), tag.lapse.unwrap_or(0));
     let text = format!(in alloc;
         "no client wrote {name} for {seconds} s: the program works with its default"
+    )?;
+    Ok(text)
+}
+
+// `no client has written NAME since the start: ..`.
+fn never_set_text(alloc: Global, site: &Site, tag: usize) -> Result<String, AllocError> {
+    let name = tag_name(site, tag);
+    let text = format!(in alloc;
+        "no client has written {name} since the start: the program works with its default"
     )?;
     Ok(text)
 }

@@ -159,6 +159,7 @@ fn device_of(alarm: Alarm, site: &Site) -> Option<usize>
         Alarm::SumHidden(_, why) => device_hidden(site, why),
         Alarm::ModelMissing(_)
         | Alarm::SetLapsed(_)
+        | Alarm::NeverSet(_)
         | Alarm::StoredHidden(_, _)
         | Alarm::RoundLate
         | Alarm::StateUnwritten

@@ -17,6 +17,7 @@ pub fn kind_word(alarm: Alarm) -> &'static str {
         Alarm::InputMissing(..) => "input_missing",
         Alarm::OutputUnwritten(..) => "output_unwritten",
         Alarm::SetLapsed(_) => "lapsed",
+        Alarm::NeverSet(_) => "never_set",
         Alarm::SumHidden(..) | Alarm::StoredHidden(..) => "served_missing",
         Alarm::RoundLate => "round_late",
         Alarm::StateUnwritten => "file_unwritten",
@@ -29,7 +30,9 @@ pub fn name_text(alloc: Global, site: &Site, alarm: Alarm) -> Result<String, All
     let name = match alarm {
         Alarm::DeviceLost(device, _) | Alarm::DeviceUnmapped(device) => device_name(site, device),
         Alarm::ModelMissing(want) => device_name(site, want.device),
-        Alarm::InputMissing(tag, _) | Alarm::SetLapsed(tag) => tag_name(site, tag),
+        Alarm::InputMissing(tag, _) | Alarm::SetLapsed(tag) | Alarm::NeverSet(tag) => {
+            tag_name(site, tag)
+        }
         Alarm::OutputUnwritten(output, _) => output_name(site, output),
         Alarm::SumHidden(..) | Alarm::StoredHidden(..) => return point_text(alloc, site, alarm),
         Alarm::RoundLate => "rounds",
@@ -59,6 +62,7 @@ pub fn cause_text(alloc: Global, site: &Site, alarm: Alarm) -> Result<String, Al
         Alarm::InputMissing(_, cause) => missing_word(cause),
         Alarm::OutputUnwritten(_, cause) => unwritten_word(cause),
         Alarm::SetLapsed(_) => "Lapsed",
+        Alarm::NeverSet(_) => "NeverSet",
         Alarm::SumHidden(_, why) | Alarm::StoredHidden(_, why) => {
             return hidden_text(alloc, site, why);
         }
@@ -116,7 +120,7 @@ pub fn loss_word(loss: Loss) -> &'static str {
 pub fn unwritten_word(cause: Unwritten) -> &'static str {
     match cause {
         Unwritten::NoSetPoint(cause) => cause.word(),
-        Unwritten::Refused => "Refused",
+        Unwritten::Refused(_) => "Refused",
         Unwritten::Unanswered => "Unanswered",
     }
 }

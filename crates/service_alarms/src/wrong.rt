@@ -21,6 +21,8 @@ pub struct Seen<'a> {
     pub devices: &'a [DeviceStatus],
     /// What became of each of its outputs last.
     pub outputs: &'a [Option<OutputState>],
+    /// How many milliseconds ago the service began.
+    pub running: u64,
     /// Whether a round began late within the last minute.
     pub is_late: bool,
     /// Whether the file of set values can't be written.
@@ -37,10 +39,10 @@ pub fn wrong_now(
     core: &Core<DEPTH>,
     seen: &Seen<'_>,
 ) -> Result<(), AllocError>
-    ensures { OnOk result (IsAllWrong core.now seen.now.devices.now seen.now.outputs.now seen.now.is_late seen.now.is_unkept seen.now.is_refused alarms.new) }
+    ensures { OnOk result (IsAllWrong core.now seen.now.devices.now seen.now.outputs.now seen.now.running seen.now.is_late seen.now.is_unkept seen.now.is_refused alarms.new) }
 {
     alarms.clear();
-    push_beside(alarms, core, seen.devices, seen.outputs)?;
+    push_beside(alarms, core, seen.devices, seen.outputs, seen.running)?;
     push_served(alarms, core)?;
     push_itself(alarms, seen.is_late, seen.is_unkept, seen.is_refused)
 }
@@ -60,14 +62,15 @@ fn push_beside(
     core: &Core<DEPTH>,
     devices: &[DeviceStatus],
     outputs: &[Option<OutputState>],
+    running: u64,
 ) -> Result<(), AllocError>
-    ensures { OnOk result (alarms.new ≡ alarms.old ++ wrong_beside core.now devices.now outputs.now) }
+    ensures { OnOk result (alarms.new ≡ alarms.old ++ wrong_beside core.now devices.now outputs.now running) }
 {
     push_devices(alarms, devices)?;
     push_models(alarms, core.maps(), core.site().wants())?;
     push_inputs(alarms, core.readings(), core.site().tags())?;
     push_outputs(alarms, outputs)?;
-    push_lapses(alarms, core.ages(), core.site().tags())
+    push_lapses(alarms, running, core.ages(), core.site().tags())
 }
 
 /// Appends what clients aren't shown of sums and `site` tags.

@@ -106,6 +106,7 @@ impl AlarmWatch {
         let seen = Seen {
             devices: self.devices.as_slice(),
             outputs: self.outputs.as_slice(),
+            running: now,
             is_late: is_late(self.late_at, now),
             is_unkept: files.is_unkept(),
             is_refused: self.refusal.is_some(),

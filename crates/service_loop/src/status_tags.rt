@@ -1,9 +1,9 @@
 //! The numbers of a service, as JSON.
-use crate::members::{put_signed, put_text};
+use crate::members::{put_number, put_signed, put_text};
 use gateway::{Core, DEPTH};
 use point_types::{Cause, Reading};
 use serde_json::{Map, Value, put};
-use service::{OutputState, Service};
+use service::{OutputState, Service, Unwritten};
 use service_alarms::{fitted_number, missing_word, unwritten_word};
 use site_model::{Access, SiteTag};
 use std::alloc::{AllocError, Global};
@@ -95,10 +95,25 @@ fn output_value(
         Some(OutputState::Unwritten(cause)) => {
             put_text(&mut value, alloc, "state", "unwritten")?;
             put_text(&mut value, alloc, "cause", unwritten_word(cause))?;
+            put_code(&mut value, alloc, cause)?;
         }
         None => put(&mut value, alloc, "state", Value::Null)?,
     }
     Ok(Value::Object(value))
+}
+
+/// Puts the exception code with which a device refused an output, where it did.
+pub(crate) fn put_code(
+    value: &mut Map<String, Value>,
+    alloc: Global,
+    cause: Unwritten,
+) -> Result<(), AllocError> {
+    match cause {
+        Unwritten::Refused(Some(exception)) => {
+            put_number(value, alloc, "code", u64::from(exception.0))
+        }
+        _ => Ok(()),
+    }
 }
 
 /// What clients set, for the tags that are set.

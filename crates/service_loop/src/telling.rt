@@ -3,10 +3,10 @@ use crate::line_writer::LineWriter;
 use gateway::{Core, DEPTH, Report};
 use note_text::escaped;
 use register_map::Map;
-use service::{Notice, ReadRefusal};
+use service::{Notice, ReadRefusal, Unwritten};
 use service_alarms::{
     Changes, Slept, begun_line, device_name, is_lacking, lacks_text, loss_word, output_name,
-    over_line, push_models, refuses_text, unwritten_word,
+    over_line, push_models, refuses_text, unwritten_text,
 };
 use service_texts::{
     Start, device_line, lost_line, program_taken_line, unwritten_line, written_line,
@@ -81,11 +81,7 @@ fn line_of(alloc: Global, note: &Notice, core: &Core<DEPTH>) -> Option<Result<St
         Notice::Lost(device, loss) => Some(lost(alloc, site, *device, loss_word(*loss))),
         Notice::Back(device) => Some(told(alloc, site, *device, "back")),
         Notice::Refused(device, refusal) => Some(refused_line(alloc, site, *device, *refusal)),
-        Notice::Unwritten(output, cause) => Some(unwritten_line(
-            alloc,
-            output_name(site, *output),
-            unwritten_word(*cause),
-        )),
+        Notice::Unwritten(output, cause) => Some(unwritten(alloc, site, *output, *cause)),
         Notice::Written(output) => Some(written_line(alloc, output_name(site, *output))),
         Notice::Late(_) | Notice::Scanned(_) => None,
     }
@@ -138,6 +134,17 @@ pub(crate) fn pace_line(
     }
     let what = format!(in alloc; "each {rounds} rounds")?;
     told(alloc, site, device, what.as_str())
+}
+
+// `output NAME unwritten CAUSE`.
+fn unwritten(
+    alloc: Global,
+    site: &Site,
+    output: usize,
+    cause: Unwritten,
+) -> Result<String, AllocError> {
+    let cause = unwritten_text(alloc, cause)?;
+    unwritten_line(alloc, output_name(site, output), cause.as_str())
 }
 
 // `device NAME refuses 3 ADDRESS CODE`.

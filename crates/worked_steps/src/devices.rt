@@ -3,7 +3,7 @@ use crate::bytes::{needed, registers_in};
 use crate::fault::Shown;
 use gateway::Event;
 use inverter_sim::Plant;
-use modbus_frame::{Frame, Framer, Pdu, Words, write_frame};
+use modbus_frame::{Exception, Frame, Framer, Pdu, Words, exception_pdu, write_frame};
 use service_parts::Station;
 use site_model::Want;
 use std::alloc::Global;
@@ -16,6 +16,8 @@ pub(crate) enum Manner {
     Silent,
     /// By bytes that are no frame.
     Garbage,
+    /// As it is, and each write by this exception.
+    Refusing(Exception),
 }
 
 /// The plants by their links, and the manners of the site's devices.
@@ -63,7 +65,11 @@ impl Devices {
     pub(crate) fn reply(&mut self, link: usize, request: &[u8]) -> Shown<Vec<u8>> {
         let frame = needed(frame_in(request))?;
         match self.manner_at(link, frame.unit) {
-            Manner::Well => {
+            Manner::Refusing(exception) if !is_read(&frame.pdu) => {
+                let pdu = exception_pdu(&frame.pdu, exception);
+                bytes_of_frame(self.alloc, &Frame { pdu, ..frame })
+            }
+            Manner::Well | Manner::Refusing(_) => {
                 let pdu = self.answer(link, frame.unit, &frame.pdu)?;
                 bytes_of_frame(self.alloc, &Frame { pdu, ..frame })
             }
@@ -106,6 +112,11 @@ impl Devices {
         let model = *model;
         Some(Event::Block(Want { device, model }, Words::from_slice(&registers)?))
     }
+}
+
+/// Whether a request reads registers.
+fn is_read(pdu: &Pdu) -> bool {
+    matches!(pdu.bytes(), [3, ..])
 }
 
 /// The frame that bytes are.

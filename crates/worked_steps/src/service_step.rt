@@ -1,6 +1,7 @@
 //! What happens to a service, or is looked at.
 use crate::bytes::number;
 use crate::devices::Manner;
+use modbus_frame::Exception;
 
 /// A step of a service; links, devices, outputs, tags and clients' places are told by their numbers.
 #[derive(Clone, Copy)]
@@ -83,6 +84,10 @@ impl<'a> ServiceStep<'a> {
             ("well", [device]) => Some(Self::Becomes(number(device)?, Manner::Well)),
             ("silent", [device]) => Some(Self::Becomes(number(device)?, Manner::Silent)),
             ("garbage", [device]) => Some(Self::Becomes(number(device)?, Manner::Garbage)),
+            ("refusing", [device, code]) => Some(Self::Becomes(
+                number(device)?,
+                Manner::Refusing(Exception(number(code)?)),
+            )),
             ("rebuilt", [link, text]) => Some(Self::Rebuilt(number(link)?, *text)),
             ("holds", [link, unit, pdu @ ..]) => Some(Self::Holds(
                 number(link)?,
