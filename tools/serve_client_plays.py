@@ -9,13 +9,33 @@ import subprocess
 import time
 
 from serve_parts import TOP, Client, Service, text_of, until
+from serve_plays import put
 
 TIME = r"\d{4}-\d\d-\d\dT\d\d:\d\d:\d\dZ"
 SITE, CODE, PLANT = (f"{TOP}/examples/{it}" for it in ("site.toml", "limiter.il", "plant.toml"))
 # the words of a service whose devices don't answer
 WORDS = [SITE, CODE, "--devices", "127.0.0.1:9", "--listen", "127.0.0.1:0", "--every", "100"]
-# the register that clients set, by a percentage
-LIMIT = 40127
+# the register that clients set, by a percentage; the first one of the gateway's map
+LIMIT, BASE = 40127, 40000
+# a model of a maker's own after the others, with a set point of two registers and another point; where they stand, and the end
+OWN_MODEL = """{"id": 64001, "group": {"points": [
+  {"name": "ID", "type": "uint16", "size": 1},
+  {"name": "L", "type": "uint16", "size": 1},
+  {"name": "Set", "type": "uint32", "size": 2, "access": "RW"},
+  {"name": "Got", "type": "uint16", "size": 1}]}}
+"""
+SET, GOT, END = 40150, 40152, 40153
+SET_TAG = """
+[[tag]]
+name = "amount"
+access = "set"
+model = 64001
+point = "Set"
+type = "UDINT"
+exponent = 0
+low = 0
+high = 1000
+"""
 
 
 def digits(path):
@@ -134,8 +154,8 @@ def play_refused(counts, program, folder):
     wanted = [
         f"client {strange} refused 6 {LIMIT} 1 target 90 0..100",
         f"client {name} refused 6 {LIMIT} 3 target 101 0..100",
-        f"client {name} refused 6 1 2",
-        f"client {name} refused 16 {LIMIT - 1} 2 target - 0..100",
+        f"client {name} refused 6 1 2 at 1",
+        f"client {name} refused 16 {LIMIT - 1} 2 at {LIMIT - 1} 123 Conn",
         f"client {name} refused 16 {LIMIT} 3",
         f"client {name} refused 6 {LIMIT} 11",
         f"client {name} refused 6 - 3",
@@ -143,6 +163,47 @@ def play_refused(counts, program, folder):
     refused = lambda: [it for it in told_of(service, "client ") if " refused " in it]
     counts.note("writes that are refused", until(refused, wanted) == wanted, service.lines)
     counts.note("nothing is set", not told_of(service, "set "), service.lines)
+    service.end()
+
+
+def block_words(folder):
+    """The words of a service of the site with the block that masters write at once, as the document has it, and with the own model."""
+    with open(f"{TOP}/docs/FILES.md", encoding="utf-8") as it:
+        block = re.search(r"(?s)\n```toml block\.toml\n(.*?)```\n", it.read())[1]
+    with open(SITE, encoding="utf-8") as it:
+        site = it.read().replace("models = [1, 103, 123]", "models = [1, 103, 123, 64001]")
+    return [put(folder, "block.toml", site + block + SET_TAG), *WORDS[1:], "--def", put(folder, "own.json", OWN_MODEL)]
+
+
+def play_registers(counts, program, folder):
+    """A write of registers that no client may write names the first of them, and the point there; a block of set points is done."""
+    service = Service(program, block_words(folder))
+    client = Client(service.port())
+    name = name_of(client)
+    numbers = [30, 0, 60, 5, 1, 0, 0]
+    many = lambda first, count: client.ask(struct.pack(f">BHHB{count}H", 16, first, count, 2 * count, *numbers[:count]))
+    counts.note("a block at once", many(LIMIT, 5) == struct.pack(">BHH", 16, LIMIT, 5), service.lines)
+    wanted = [f"set {tag} {number} was unset by {name}" for tag, number in zip(("target", "window", "reversion", "ramp", "enabled"), numbers)]
+    sets = lambda: told_of(service, "set ")
+    counts.note("all of it is set", until(sets, wanted) == wanted, service.lines)
+    for first, count in ((LIMIT, 6), (LIMIT - 2, 7), (LIMIT + 4, 4), (SET, 1), (SET + 1, 1), (SET, 3), (BASE, 2), (END - 1, 3), (END, 1), (END + 2, 1)):
+        many(first, count)
+    wanted = [
+        f"{LIMIT} 2 at {LIMIT + 5} 123 OutPFSet",
+        f"{LIMIT - 2} 2 at {LIMIT - 2} 123 Conn_RvrtTms",
+        f"{LIMIT + 4} 2 at {LIMIT + 5} 123 OutPFSet",
+        f"{SET} 2 at {SET} 64001 Set",
+        f"{SET + 1} 2 at {SET + 1} 64001 Set",
+        f"{SET} 2 at {GOT} 64001 Got",
+        f"{BASE} 2 at {BASE}",
+        f"{END - 1} 2 at {GOT} 64001 Got",
+        f"{END} 2 at {END}",
+        f"{END + 2} 2 at {END + 2}",
+    ]
+    wanted = [f"client {name} refused 16 {it}" for it in wanted]
+    refused = lambda: [it for it in told_of(service, "client ") if " refused " in it]
+    counts.note("the register at fault", until(refused, wanted) == wanted, service.lines)
+    counts.note("nothing of it is set", len(sets()) == 5, service.lines)
     service.end()
 
 
@@ -188,4 +249,4 @@ def play_moves(counts, program, folder):
         service.end()
 
 
-PLAYS = (play_start, play_times, play_shown, play_set, play_refused, play_moves)
+PLAYS = (play_start, play_times, play_shown, play_set, play_refused, play_registers, play_moves)

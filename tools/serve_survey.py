@@ -39,9 +39,18 @@ OWN_MODEL = """{{"id": 64001, "group": {{"points": [
   {{"name": "X", "type": "uint16", "size": 1, "units": "{unit}"}},
   {{"name": "Y", "type": "uint16", "size": 1}}]}}}}
 """
-# registers of `inverter`: the texts of its common model, its power with the factor, and the factor of its limit
+# a model 704 whose definition is handed in, with a set point and the time after which that ends, and without the time
+DER_MODEL = """{{"id": 704, "group": {{"points": [
+  {{"name": "ID", "type": "uint16", "size": 1}},
+  {{"name": "L", "type": "uint16", "size": 1}},
+  {{"name": "WSet", "type": "int32", "size": 2, "access": "RW"}},
+  {{"name": "{time}", "type": "uint32", "size": 2, "access": "RW"}}]}}}}
+"""
+# registers of `inverter`: the texts of its common model, its power with the factor, the times after which its limit and its power
+# factor end, and the factor of its limit
 MAKER, MODEL, SERIAL = BASE + 4, BASE + 20, BASE + 52
 POWER, FACTOR, LIMIT_FACTOR = BASE + 84, BASE + 85, BASE + 145
+LIMIT_TIME, COSINE_TIME = BASE + 129, BASE + 134
 NOTHING = "nothing is wrong\n"
 
 
@@ -65,9 +74,9 @@ def words_of(text, addr):
 
 
 def registers(watts, more=None):
-    """An inverter with a maker, a model and a serial number."""
+    """An inverter with a maker, a model and a serial number, whose limit ends after a minute."""
     texts = {MAKER + n: 0 for n in range(16)} | {MODEL + n: 0 for n in range(16)} | {SERIAL + n: 0 for n in range(16)}
-    return inverter(watts) | texts | words_of("Acme", MAKER) | words_of("X 10  ", MODEL) | words_of("12\n3", SERIAL) | (more or {})
+    return inverter(watts) | texts | words_of("Acme", MAKER) | words_of("X 10  ", MODEL) | words_of("12\n3", SERIAL) | {LIMIT_TIME: 60} | (more or {})
 
 
 def site_of(folder, devices, limit=None, tags=None):
@@ -97,7 +106,7 @@ def try_well(counts, program, folder):
     ran = survey(program, site)
     wanted = found(1, devices[0]) + found(2, devices[1])
     wanted += "input w1 inv1 103 W 4000 W raw 4000 factor 0\ninput w2 inv2 103 W 2500 W raw 2500 factor 0\n"
-    wanted += "output lim1 inv1 123 WMaxLimPct 0..100 % WMax now 100 raw 100 factor 0\nserved 103 W 6500 W\n" + NOTHING
+    wanted += "output lim1 inv1 123 WMaxLimPct 0..100 % WMax now 100 raw 100 factor 0\nreversion inv1 123 WMaxLimPct_RvrtTms 60 s\nserved 103 W 6500 W\n" + NOTHING
     counts.note("a well site", (ran.returncode, ran.stdout, ran.stderr) == (0, wanted, ""), ran)
     paces = [rf"pace inv{n} replies in \d+ to \d+ ms, {requests} a round: keeps up with --every \d+\n" for n, requests in ((1, "3 requests"), (2, "1 request"))]
     counts.note("how often they can be asked", all(re.fullmatch(*it) for it in zip(paces, ran.paces)) and len(ran.paces) == 2, ran.paces)
@@ -189,6 +198,65 @@ def try_units(counts, program, folder):
     device.gone()
 
 
+def times_of(program, folder, words, tags, *more, rewrite=0, tail=""):
+    """The rows of times that a survey has of one device with these registers and tags, and its last line."""
+    device = Recorder({1: words})
+    text = GATEWAY + DEVICE.format(n=1) + f'remote_unit = 1\naddress = "{device.address()}"\nrewrite = {rewrite}\n'
+    text += "".join(TAG.format(name=f"t{k}", **LIMIT | it) for k, it in enumerate(tags)) + tail
+    ran = survey(program, put(folder, "times.toml", text), *more)
+    device.gone()
+    rows = [re.sub(" +", " ", it) for it in ran.stdout.splitlines()]
+    return [it for it in rows if it.startswith(("reversion ", "lapse "))] + rows[-1:]
+
+
+def try_times(counts, program, folder):
+    """After how long a device ends what is written to it, and whether that is long enough."""
+    limit, one = "reversion inv1 123 WMaxLimPct_RvrtTms", "1 thing is wrong"
+    never = "nothing ends what is written once the gateway is gone; give it"
+    lost = "so one lost write ends it; give it"
+    short = "so one scan without a write ends it; give it"
+    well = NOTHING.strip()
+    for seconds, rewrite, more, said, last in (
+        (60, 0, (), "60 s", well),
+        (2, 0, (), "2 s", well),
+        (0, 0, (), f"0 s: {never} 2 s or more in the device", one),
+        (0xFFFF, 30, (), f"NotImplemented: {never} 60 s or more in the device", one),
+        (1, 0, (), f"1 s: less than two periods of 1000 ms, {short} 2 s or more in the device", one),
+        (1, 0, ("--every", "500"), "1 s", well),
+        (60, 0, ("--every", "30001"), f"60 s: less than two periods of 30001 ms, {short} 61 s or more in the device", one),
+        (60, 0, ("--every", "30000"), "60 s", well),
+        (60, 30, (), "60 s", well),
+        (60, 31, (), f"60 s: less than twice rewrite = 31, {lost} 62 s or more in the device", one),
+    ):
+        told = times_of(program, folder, registers(1, {LIMIT_FACTOR: 0, LIMIT_TIME: seconds}), [{}], *more, rewrite=rewrite)
+        counts.note(f"a time of {seconds} s, {more}, rewritten after {rewrite} s", told == [f"{limit} {said}", last], told)
+    enable, cosine, time = {"point": "WMaxLim_Ena", "high": 1}, {"point": "OutPFSet", "low": -1000, "high": 1000}, {"point": "WMaxLimPct_RvrtTms"}
+    own = registers(1, {LIMIT_FACTOR: 0, LIMIT_FACTOR + 1: 0, COSINE_TIME: 7})
+    told = times_of(program, folder, own, [{}, enable, cosine])
+    counts.note("each time once", told == [f"{limit} 60 s", "reversion inv1 123 OutPFSet_RvrtTms 7 s", well], told)
+    told = times_of(program, folder, own | {LIMIT_TIME: 0}, [{}, time])
+    counts.note("one that the site writes", told == [f"{limit} 0 s, which t1 writes", well], told)
+    told = times_of(program, folder, {at: 121 if word == 123 else word for at, word in own.items()}, [{}])
+    counts.note("one that wasn't read", told == ["2 things are wrong"], told)
+    clients = "".join(TAG.replace('device = "inv{n}"\n', "").format(name=name, **LIMIT | {"access": "set", "point": point}) + more
+                      for name, point, more in (("a", "WMaxLimPct", "default = 100\nlapse = 60\n"), ("b", "OutPFSet", ""), ("c", "WMaxLimPct_RvrtTms", "")))
+    told = times_of(program, folder, own, [{}], tail=clients)
+    counts.note("what ends what clients set", told == [
+        f"{limit} 60 s", "lapse a 123 WMaxLimPct 60 s: by the tag's lapse; WMaxLimPct_RvrtTms of clients ends nothing",
+        "lapse b 123 OutPFSet never: what clients set stays, and their OutPFSet_RvrtTms ends nothing; lapse of the tag would", well], told)
+
+
+def try_der_times(counts, program, folder):
+    """The time of a model whose definition is handed in."""
+    words = [*SUNS, 1, 66, *[0x8000] * 66, 704, 4, 0, 100, 1, 0, 0xFFFF, 0]
+    held = {BASE + n: word for n, word in enumerate(words)}
+    tag = {"model": 704, "point": "WSet", "kind": "DINT"}
+    for name, said, last in (("WSetRvrtTms", "65536 s", NOTHING.strip()),
+                             ("WSetRvrt", "isn't known: the definition of model 704 hasn't this point; hand in one that has it", "1 thing is wrong")):
+        told = times_of(program, folder, held, [tag], "--def", put(folder, "der.json", DER_MODEL.format(time=name)))
+        counts.note(f"model 704 with {name}", told == [f"reversion inv1 704 WSetRvrtTms {said}", last], told)
+
+
 def try_many(counts, program, folder):
     """A site that has room for no tag more, and one that has the names of those that are added."""
     device = Recorder({1: registers(1, {LIMIT_FACTOR: 0})})
@@ -202,4 +270,4 @@ def try_many(counts, program, folder):
     device.gone()
 
 
-PLAYS = (try_well, try_wrong, try_shared, try_words, try_units, try_many)
+PLAYS = (try_well, try_wrong, try_times, try_der_times, try_shared, try_words, try_units, try_many)

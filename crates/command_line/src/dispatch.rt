@@ -14,7 +14,7 @@ use crate::words::{
 };
 use clap::ArgMatches;
 use command_files::{trial_of, warn_of_none, warn_of_site};
-use commands::tell_no_memory;
+use commands::{USUAL_PERIOD, tell_no_memory};
 use file_keys::TomlFile;
 use refusal_notes::{Notes, explain_unusable};
 use service_loop::seconds_of_day;
@@ -274,6 +274,7 @@ fn surveyed<W: Write>(
                 has_program: matches.get_str("PROGRAM").is_some(),
                 devices,
                 timeout: matches.get_one("timeout").unwrap_or(1000),
+                every: matches.get_one("every").unwrap_or(USUAL_PERIOD),
             };
             run_survey(rt, alloc, &run, out)
         }

@@ -1,11 +1,11 @@
 //! What a row says in each column.
 use crate::columns::COUNT;
-use crate::row::{MapRow, PointSubject};
 use gateway::{OwnPoint, PointSource};
 use model_defs::{ModelDef, Point, Sf};
 use note_text::{decimal, escaped};
 use served_notes::kind_word;
 use served_ranges::demand_of_total;
+use served_rows::{MapRow, PointSubject};
 use site_model::{Access, Served, Site, SiteTag, Source};
 use std::alloc::{AllocError, Global};
 use survey_rows::{HandedDefs, push_inside_quotes, unit_of};

@@ -2,8 +2,8 @@
 use crate::cells::{MapOf, cells_of};
 use crate::columns::{COUNT, HEADS};
 use crate::page::page_of;
-use crate::rows::map_rows;
 use csv::Writer;
+use served_rows::map_rows;
 use std::alloc::{AllocError, Global};
 
 /// How a table is written.

@@ -1,11 +1,15 @@
 //! What is told of clients.
 use crate::line_writer::LineWriter;
 use gateway::{Core, DEPTH};
-use modbus_frame::Exception;
+use modbus_frame::{Exception, Request};
+use model_defs::ModelDef;
+use note_text::escaped;
+use served_rows::{PointSubject, refused_register};
 use service::{ClientWrite, Service, WriteOutcome};
 use service_texts::{
     Change, KnownSettings, Over, Ration, RefusedNumber, address_of, key_of, lapsed_line,
-    number_text, refused_more_line, refused_number, refused_text, set_line,
+    number_text, point_text, refused_more_line, refused_number, refused_text, register_text,
+    set_line,
 };
 use site_model::Site;
 use std::alloc::{AllocError, Global};
@@ -199,7 +203,7 @@ fn change_line(
     )
 }
 
-/// `refused FUNCTION ADDRESS EXCEPTION`, and where a point is known there `NAME NUMBER LOW..HIGH` after it.
+/// `refused FUNCTION ADDRESS EXCEPTION`, and after it what the exception is for, where that is known.
 fn refusal_text(
     alloc: Global,
     write: &ClientWrite,
@@ -207,28 +211,64 @@ fn refusal_text(
     core: &Core<DEPTH>,
 ) -> Result<String, AllocError> {
     let mut text = refused_text(alloc, write.function, write.address, exception.0)?;
-    if let Some(hit) = number_refused(write, exception, core) {
-        text.push_str(hit_text(alloc, core.site(), hit)?.as_str())?;
+    if let Some(request) = &write.request {
+        let more = reason_text(alloc, request, exception, core)?;
+        text.push_str(more.as_str())?;
     }
     Ok(text)
 }
 
-/// What the write would have set; none where it was for another unit.
-fn number_refused(
-    write: &ClientWrite,
+/// The register that nobody may write, or else what the write would have set; nothing where it was for another unit.
+fn reason_text(
+    alloc: Global,
+    request: &Request,
     exception: Exception,
     core: &Core<DEPTH>,
-) -> Option<RefusedNumber> {
+) -> Result<String, AllocError> {
     if exception == Exception::GATEWAY_TARGET_FAILED {
-        return None;
+        return Ok(String::new(alloc));
     }
-    match &write.request {
-        Some(request) => refused_number(core, request, exception.0),
-        None => None,
+    if exception == Exception::ILLEGAL_DATA_ADDRESS {
+        return place_text(alloc, request, core.site());
+    }
+    hit_text(
+        alloc,
+        core.site(),
+        refused_number(core, request, exception.0),
+    )
+}
+
+/// ` at REGISTER MODEL POINT`, or ` at REGISTER` where no point of a model lies there.
+fn place_text(alloc: Global, request: &Request, site: &Site) -> Result<String, AllocError> {
+    let Some(refused) = refused_register(alloc, site, request)? else {
+        return Ok(String::new(alloc));
+    };
+    let mut text = register_text(alloc, refused.address)?;
+    if let Some(PointSubject::Point { model, point }) = refused.subject {
+        if let Some(model) = site.models().get(model) {
+            let point = name_text(alloc, model, point)?;
+            text.push_str(point.as_str())?;
+        }
+    }
+    Ok(text)
+}
+
+/// ` MODEL POINT`, by the number of the point.
+fn name_text(alloc: Global, model: &ModelDef, point: usize) -> Result<String, AllocError> {
+    match model.points.as_slice().get(point) {
+        Some(point) => {
+            let name = escaped(alloc, point.name.as_str())?;
+            point_text(alloc, model.id, name.as_str())
+        }
+        None => Ok(String::new(alloc)),
     }
 }
 
-fn hit_text(alloc: Global, site: &Site, hit: RefusedNumber) -> Result<String, AllocError> {
+/// ` NAME NUMBER LOW..HIGH`, where the write is for a tag.
+fn hit_text(alloc: Global, site: &Site, hit: Option<RefusedNumber>) -> Result<String, AllocError> {
+    let Some(hit) = hit else {
+        return Ok(String::new(alloc));
+    };
     match site.tags().get(hit.tag) {
         Some(tag) => number_text(alloc, tag.name.as_str(), hit.number, tag.low, tag.high),
         None => Ok(String::new(alloc)),

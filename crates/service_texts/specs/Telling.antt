@@ -27,6 +27,14 @@ refused_text function address exception = codes "refused " ++ decimal function +
 abbrev pub number_text : (name : List ℕ) (number : Option ℤ) (low high : ℤ) → List ℕ
 number_text name number low high = codes " " ++ name ++ codes " " ++ number_or (codes "-") number ++ codes " " ++ signed_decimal low ++ codes ".." ++ signed_decimal high
 
+-- at REGISTER, after a blank
+abbrev pub register_text : (register : ℕ) → List ℕ
+register_text register = codes " at " ++ decimal register
+
+-- MODEL POINT, after a blank
+abbrev pub point_text : (model : ℕ) (point : List ℕ) → List ℕ
+point_text model point = codes " " ++ decimal model ++ codes " " ++ point
+
 -- refused N more from ADDR
 abbrev pub refused_more_line : ℕ → List ℕ → List ℕ
 refused_more_line more from = codes "refused " ++ decimal more ++ codes " more from " ++ from

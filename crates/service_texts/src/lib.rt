@@ -51,7 +51,9 @@ pub use lines::{
 // what clients set, and what a number that is refused would have been
 pub use hit::{RefusedNumber, refused_number};
 pub use settings::{Change, KnownSettings};
-pub use told::{lapsed_line, number_text, refused_more_line, refused_text, set_line};
+pub use told::{
+    lapsed_line, number_text, point_text, refused_more_line, refused_text, register_text, set_line,
+};
 // how often something is told of one address
 pub use ration::{Over, Ration};
 pub use share::{Share, address_of, key_of};

@@ -112,6 +112,22 @@ fn text_of_number(
     Ok(text)
 }
 
+/// ` at REGISTER`, the first register for which a write was refused.
+pub fn register_text(alloc: Global, register: usize) -> Result<String, AllocError>
+    ensures { IfOk result (λ text. string_bytes text ≡ told.register_text register) }
+{
+    let text = format!(in alloc; " at {register}")?;
+    Ok(text)
+}
+
+/// ` MODEL POINT`, the point of the gateway's own map that lies there.
+pub fn point_text(alloc: Global, model: u16, point: &str) -> Result<String, AllocError>
+    ensures { IfOk result (λ text. string_bytes text ≡ told.point_text model point.now) }
+{
+    let text = format!(in alloc; " {model} {point}")?;
+    Ok(text)
+}
+
 /// `refused N more from ADDR`.
 pub fn refused_more_line(alloc: Global, more: u64, from: &str) -> Result<String, AllocError>
     ensures { IfOk result (λ text. string_bytes text ≡ told.refused_more_line more from.now) }

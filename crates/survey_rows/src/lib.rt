@@ -1,7 +1,8 @@
 //! The table of a survey: the site file as it is asked, and after its scan one row for each device, model that a device
-//! lacks, input, output and served point, with what is wrong and what to do, and one for how often each device can be asked.
-//! What is wrong is computed as for alarms (service_alarms), and what of an output's range can't be said as writes are judged
-//! (point_writer, served_ranges); of the words nothing is proved except that they end and are safe.
+//! lacks, input, output and served point, with what is wrong and what to do, and others for how often each device can be asked and
+//! how long what is written lasts. What is wrong is computed as for alarms (service_alarms), what of an output's range can't be said
+//! as writes are judged (point_writer, served_ranges), and which times are too short by a definition; of the words nothing is proved
+//! except that they end and are safe.
 #![tactic(auto)]
 
 mod asked_text;
@@ -11,10 +12,13 @@ mod handed_defs;
 mod helps;
 mod identity;
 mod input_rows;
+mod lapse_rows;
 mod output_rows;
 mod pace_rows;
 mod point_name;
 mod range_text;
+mod reversion;
+mod reversion_rows;
 mod row;
 mod seen;
 mod served_rows;

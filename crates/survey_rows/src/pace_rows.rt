@@ -6,8 +6,6 @@ use service::Replies;
 use service_alarms::device_name;
 use std::alloc::{AllocError, Global};
 
-/// The period of `serve` where no other is given, in milliseconds.
-const USUAL_PERIOD: u64 = 1000;
 /// The shortest period of `serve`, and the step to which one that is proposed is rounded, in milliseconds.
 const STEP: u64 = 50;
 
@@ -34,7 +32,7 @@ fn replies_of(survey: &Survey<'_>, device: usize) -> Option<Replies> {
     }
 }
 
-/// `replies in A to B ms, N requests a round: keeps up with --every P`, and what comes of the usual period where that is shorter.
+/// `replies in A to B ms, N requests a round: keeps up with --every P`, and what comes of the period of the survey where that is shorter.
 fn pace_text(
     alloc: Global,
     survey: &Survey<'_>,
@@ -49,11 +47,12 @@ fn pace_text(
     let mut text = format!(in alloc;
         "replies in {least} to {most} ms, {requests} request{ending} a round: keeps up with --every {period}"
     )?;
-    if round > USUAL_PERIOD {
-        let rounds = round.saturating_add(USUAL_PERIOD - 1) / USUAL_PERIOD;
+    let every = u64::from(survey.every.max(1));
+    if round > every {
+        let rounds = round.saturating_add(every - 1) / every;
         let ending = ordinal_ending(rounds);
         let rest = format!(in alloc;
-            "; with {USUAL_PERIOD} it is read and written each {rounds}{ending} round"
+            "; with {every} it is read and written each {rounds}{ending} round"
         )?;
         text.push_str(rest.as_str())?;
     }

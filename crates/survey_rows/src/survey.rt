@@ -18,4 +18,6 @@ pub struct Survey<'a> {
     pub handed: &'a HandedDefs,
     /// Where the devices are.
     pub addresses: &'a Addresses,
+    /// The period of `serve` that the site is to have, in milliseconds.
+    pub every: u32,
 }

@@ -1,8 +1,10 @@
 //! The whole table.
 use crate::device_rows::device_rows;
 use crate::input_rows::input_rows;
+use crate::lapse_rows::lapse_rows;
 use crate::output_rows::output_rows;
 use crate::pace_rows::pace_rows;
+use crate::reversion_rows::reversion_rows;
 use crate::row::Rows;
 use crate::seen::Wrongs;
 use crate::served_rows::served_rows;
@@ -29,6 +31,8 @@ pub fn table_of(alloc: Global, survey: &Survey<'_>) -> Result<SurveyTable, Alloc
     table.push(&pace_rows(alloc, survey)?)?;
     table.push(&input_rows(alloc, survey, &wrongs)?)?;
     table.push(&output_rows(alloc, survey, &wrongs)?)?;
+    table.push(&reversion_rows(alloc, survey)?)?;
+    table.push(&lapse_rows(alloc, survey)?)?;
     table.push(&served_rows(alloc, survey, &wrongs)?)?;
     let last = last_line(alloc, table.wrong)?;
     table.text.push_str(last.as_str())?;

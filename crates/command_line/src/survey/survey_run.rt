@@ -29,6 +29,8 @@ pub struct SurveyRun<'n, 'a> {
     pub devices: DeviceSource<'a>,
     /// How long a device may take to answer, in milliseconds.
     pub timeout: u64,
+    /// The period of `serve` that the site is to have, in milliseconds.
+    pub every: u32,
 }
 
 /// Looks at the devices of a site, writes nothing to them, and prints what it finds. Gives the status: 0 where nothing is
@@ -144,6 +146,7 @@ fn tell_table<W: Write>(
         models: models.as_slice(),
         handed: &handed,
         addresses,
+        every: run.every,
     };
     match table_of(alloc, &survey) {
         Ok(table) => {

@@ -59,7 +59,7 @@ pub(crate) const SURVEY: &str =
     "Connects to each device, finds its map and reads what the site file names, once; nothing is written. Prints a row for each
 device, tag and sum, with what is wrong and what to do, and last how many things are wrong. SITE or PROGRAM can be '-',
 standard input:
-  sunsite survey site.toml
+  sunsite survey site.toml --every 2000
   sunsite survey site.toml program.il --devices 192.0.2.7:502
 
 Status: 0 nothing is wrong; 1 something is, or refused; 2 no such command line; 3 the clock or a socket can't be had";

@@ -14,6 +14,7 @@ pub(crate) fn survey_command<'a>(alloc: Global) -> Result<Command<'a>, AllocErro
         .arg(site_file(alloc))?
         .arg(program_word(alloc))?
         .arg(devices_option(alloc))?
+        .arg(every_option(alloc))?
         .arg(timeout_option(alloc))?
         .arg(quiet_flag(alloc))?
         .arg(definition_files(alloc))
@@ -27,6 +28,17 @@ fn timeout_option<'a>(alloc: Global) -> Arg<'a> {
         "the longest wait for a connection and for a device's reply",
     )
     .value_parser(ValueParser::unsigned(1, 60_000))
+    .default_value("1000")
+}
+
+fn every_option<'a>(alloc: Global) -> Arg<'a> {
+    option(
+        alloc,
+        "every",
+        "MS",
+        "the period of serve that the devices are judged for",
+    )
+    .value_parser(ValueParser::unsigned(50, 3_600_000))
     .default_value("1000")
 }
 

@@ -8,9 +8,9 @@ use Rattle.site_model.specs.declared.tag.SiteTag.{SiteTag}
 use Rattle.gateway.specs.declared.served.point.OwnPoint.{OwnPoint}
 use Rattle.gateway.specs.event_core.SiteRun.{setting_of}
 use Rattle.gateway.specs.served.Points.{registers_of}
-use Rattle.served_map.specs.declared.row.MapRow.{MapRow}
-use Rattle.served_map.specs.declared.row.PointSubject.{PointSubject}
-use Rattle.served_map.specs.declared.row.PointSubject.TheVariants as subject
+use Rattle.served_rows.specs.declared.row.MapRow.{MapRow}
+use Rattle.served_rows.specs.declared.row.PointSubject.{PointSubject}
+use Rattle.served_rows.specs.declared.row.PointSubject.TheVariants as subject
 
 -- ---- where they stand
 

@@ -1,7 +1,7 @@
 //! A point with its address.
 ghost use Rattle.std.specs.Prelude.{◌≡◌, ◌↔◌, IsTrue};
 ghost use Rattle.gateway.specs.served.Points.{registers_of};
-ghost use Rattle.served_map.specs.Rows.{IsSet};
+ghost use Rattle.served_rows.specs.Rows.{IsSet, after_point};
 
 use gateway::{OwnPoint, setting_of};
 use site_model::SiteTag;
@@ -32,6 +32,13 @@ impl MapRow {
         ensures { result ≡ registers_of self.now.point }
     {
         self.point.registers()
+    }
+
+    /// The address after its last register; the largest number stays.
+    pub(crate) fn end(&self) -> usize
+        ensures { result ≡ after_point self.now.address self.now.point }
+    {
+        self.address.saturating_add(self.registers())
     }
 
     /// Whether clients may write it: it is a `set` tag's.

@@ -1,8 +1,8 @@
 use Rattle.std.proofs.Common.{◌≡◌, ◌++◌, drop, map}
 use Rattle.std.specs.List.{flat_map}
 use Rattle.gateway.specs.served.Points.{model_points}
-use Rattle.served_map.specs.Rows.{point_of, subject_of, subjects_of_models}
-use Rattle.served_map.proofs.rows.push_models.Given as goal
+use Rattle.served_rows.specs.Rows.{point_of, subject_of, subjects_of_models}
+use Rattle.served_rows.proofs.rows.push_models.Given as goal
 
 abbrev pub invariant-loop-number : goal.invariant-loop-number
 invariant-loop-number l =

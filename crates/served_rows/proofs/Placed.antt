@@ -1,7 +1,7 @@
 -- Points side by side, and one more after them.
 use Rattle.std.proofs.Common.{◌≡◌, ℕ, List, [], ◌∷◌, ◌++◌, map, refl, ap, ◌∙◌}
-use Rattle.served_map.specs.declared.row.MapRow.{MapRow}
-use Rattle.served_map.specs.Rows.{address_of, addresses_from, after_point, after_points, point_of}
+use Rattle.served_rows.specs.declared.row.MapRow.{MapRow}
+use Rattle.served_rows.specs.Rows.{address_of, addresses_from, after_point, after_points, point_of}
 
 same_first : {a b : ℕ} {xs ys : List ℕ} → a ∷ xs ≡ b ∷ ys → a ≡ b
 same_first e = cc

@@ -2,7 +2,7 @@
 ghost use Rattle.std.specs.Prelude.{◌≡◌, ◌++◌, ◌∷◌, [], ℕ, IfOk, OnOk, map};
 ghost use Rattle.std.specs.List.{flat_map};
 ghost use Rattle.gateway.specs.served.Points.{model_points, own_points};
-ghost use Rattle.served_map.specs.Rows.{address_of, addresses_from, after_points, point_of, subject_of, subjects, subjects_from, subjects_of_models};
+ghost use Rattle.served_rows.specs.Rows.{address_of, addresses_from, after_points, point_of, subject_of, subjects, subjects_from, subjects_of_models};
 
 use crate::row::{MapRow, PointSubject};
 use gateway::{OwnPoint, own_point};

@@ -1,7 +1,7 @@
 use Rattle.std.proofs.Common.{◌≡◌, ◌++◌, drop, map}
 use Rattle.gateway.specs.served.Points.{points_from}
-use Rattle.served_map.specs.Rows.{point_of, subject_of, subjects_from}
-use Rattle.served_map.proofs.rows.push_model.Given as goal
+use Rattle.served_rows.specs.Rows.{point_of, subject_of, subjects_from}
+use Rattle.served_rows.proofs.rows.push_model.Given as goal
 
 abbrev pub invariant-loop-i : goal.invariant-loop-i
 invariant-loop-i l =
