@@ -148,6 +148,10 @@ def try_wrong(counts, program, folder):
                ["output lim1 inv1 123 WMaxLimPct 0..100 % WMax now 0.100 raw 100 factor -3: 100 can't be said: uint16 by factor -3 reaches 65; ", one])
     try_device(counts, "a range below the factor", program, folder, registers(1, {LIMIT_FACTOR: 0}), {"low": -5}, {}, [": -5 can't be said: uint16 by factor 0 begins at 0; ", one])
     try_device(counts, "a factor that is too coarse", program, folder, registers(1, {LIMIT_FACTOR: 1}), {}, {}, ["now 1000 raw 100 factor 1: only multiples of 10 can be said: uint16 by factor 1; ", one])
+    for fit, text in (("down", "says multiples of 10, 99 goes out as 90"), ("up", "says multiples of 10, 1 goes out as 10")):
+        try_device(counts, f"the same, fitted {fit}", program, folder, registers(1, {LIMIT_FACTOR: 1}), {"exponent": f'0\nfit = "{fit}"'}, {}, [f"now 1000 raw 100 factor 1: {text}\n", NOTHING])
+    try_device(counts, "a range beyond the factor, fitted", program, folder, registers(1, {LIMIT_FACTOR: 0xFFFD}), {"exponent": '0\nfit = "down"'}, {}, ["now 0.100 raw 100 factor -3: 100 goes out as 65\n", NOTHING])
+    try_device(counts, "a number for which none goes out", program, folder, registers(1, {LIMIT_FACTOR: 1}), {"low": 5, "exponent": '0\nfit = "down"'}, {}, [": only multiples of 10 can be said: uint16 by factor 1; ", one])
     try_device(counts, "no factor", program, folder, registers(1, {LIMIT_FACTOR: 0x8000}), {}, {}, ["now BadScale raw 100: nothing can be said (BadScale): ", one])
     try_device(counts, "a set point that isn't one now", program, folder, registers(1, {LIMIT_FACTOR: 0, BASE + 127: 0xFFFF}), {}, {}, ["0..100 % WMax now NotImplemented\n", NOTHING])
     try_device(counts, "no map", program, folder, {BASE: 1, BASE + 1: 2}, {}, {}, [" unit 1 lost NoMap: ", "3 things are wrong\n"])

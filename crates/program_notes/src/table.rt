@@ -101,14 +101,20 @@ fn push_fits(lines: &mut String, site: &Site) -> Result<(), AllocError> {
 }
 
 fn push_fitted(lines: &mut String, site: &Site, fit: Fit, head: &str) -> Result<(), AllocError> {
-    let mut before = head;
-    for tag in site.tags().iter().filter(|tag| tag.fit == fit) {
-        lines.push_str(before)?;
-        lines.push_str(" ")?;
-        lines.push_str(tag.name.as_str())?;
-        before = ",";
+    let mut is_first = true;
+    for tag in site.tags() {
+        if tag.fit == fit {
+            if is_first {
+                lines.push_str(head)?;
+            } else {
+                lines.push_str(",")?;
+            }
+            lines.push_str(" ")?;
+            lines.push_str(tag.name.as_str())?;
+            is_first = false;
+        }
     }
-    if before != head {
+    if !is_first {
         lines.push_str("\n")?;
     }
     Ok(())

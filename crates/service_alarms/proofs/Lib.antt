@@ -1,1 +1,2 @@
+mod Fittings
 mod Found

@@ -12,10 +12,10 @@ pub fn unwritten_help(cause: NoWrite) -> &'static str {
             "a factor is a number in -10..10: look at it with probe, and set it in the device"
         }
         NoWrite::Inexact => {
-            "no raw number is that value by the factor: give the tag fit = \"down\" or fit = \"up\", or store what the factor holds (the tag's exponent, low and high), or set another factor in the device"
+            "no raw number is that value by the factor: give the tag fit (down or up), or store what the factor holds (the tag's exponent, low and high), or set another factor in the device"
         }
         NoWrite::OutOfType => {
-            "the raw number doesn't fit the point's words by the factor: give the tag fit = \"down\" or fit = \"up\", or store what the factor holds (the tag's exponent, low and high), or set another factor in the device"
+            "the raw number doesn't fit the point's words by the factor: give the tag fit (down or up), or store what the factor holds (the tag's exponent, low and high), or set another factor in the device"
         }
     }
 }
