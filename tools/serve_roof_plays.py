@@ -15,7 +15,7 @@ import time
 from functools import partial
 
 sys.dont_write_bytecode = True
-from serve_parts import Service, text_of, try_alone, until, within
+from serve_parts import Client, Service, text_of, try_alone, until, within
 from serve_plays import DEVICE, GATEWAY, OwnDevice, inverter, put
 from serve_survey import TAG, WATTS, survey
 
@@ -25,6 +25,7 @@ SLACK = 0.5
 # each unit is read twice, since its outputs need the factors of their model, and has one of these, or all
 OUTPUTS = (("lim", "WMaxLimPct", "INT", 100, "50"), ("win", "WMaxLimPct_WinTms", "INT", 300, "7"), ("ena", "WMaxLim_Ena", "BOOL", 1, "TRUE"))
 FOUND = "found 1 103 123"
+# a sum, and at another point that of the devices that are there
 SUM = """
 [[served]]
 model = 103
@@ -35,7 +36,20 @@ sum = ["w1", "w2"]
 model = 103
 point = "W_SF"
 value = 0
+
+[[served]]
+model = 103
+point = "VA"
+sum = ["w1", "w2"]
+partial = true
+
+[[served]]
+model = 103
+point = "VA_SF"
+value = 0
 """
+# the registers of both
+SUMS = 40084, 40088
 
 
 class Roof(OwnDevice):
@@ -337,15 +351,20 @@ def play_night(counts, program, folder):
     site = Site(program, folder, [roof], keys={1: "sleeps = 8\n"}, served=SUM)
     roof.are_written()
     until(lambda: [it.get("asleep") for it in site.status()["devices"]], [False, None])
+    client = Client(site.service.port())
+    sums = lambda: [client.read(it)[0] for it in SUMS]
+    counts.note(f"{what}: both sums are shown", until(sums, [2003, 2003]) == [2003, 2003], sums())
     roof.dead = {1}
     counts.note(f"{what}: that is told", site.service.has(r"\S+ device inv1 asleep"), site.service.lines)
     until(lambda: site.status()["devices"][0]["asleep"], True)
     stand = site.status()
     counts.note(f"{what}: it stands as lost, and nothing is wrong", stand["devices"][0]["lost"] and stand["alarms"] == [], stand["alarms"])
+    counts.note(f"{what}: the partial sum goes on without it", until(sums, [0x8000, 1002]) == [0x8000, 1002], sums())
     counts.note(f"{what}: no line says that its input or the sum is missing", site.told("missing") + site.told("hidden") == [], site.service.lines)
     roof.dead = {1, 2}
     until(lambda: len(site.status()["alarms"]), 3)
     alarms = sorted(it["name"] for it in site.status()["alarms"])
+    counts.note(f"{what}: no sum is left", until(sums, [0x8000, 0x8000]) == [0x8000, 0x8000], sums())
     counts.note(f"{what}: the other one's loss is wrong", alarms == ["inv2", "lim2", "w2"], site.status()["alarms"])
     written, roof.dead = len(roof.times[1]), set()
     until(lambda: len(roof.times[1]) > written + 1, True, 35)

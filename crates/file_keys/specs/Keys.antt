@@ -2,7 +2,7 @@
 -- TOML 1.0: keys, integers, strings, arrays and arrays of tables.
 use Rattle.std.specs.Prelude.{ℕ, nat_le, nat_lt, ℤ, pos, negsuc, Bool, true, false, ◌&&◌, is_some, List, suc, Option, None, Some, option_map, option_and_then, if◌then◌else◌}
 use Rattle.std.specs.Option.{option_map_or}
-use Rattle.toml.specs.Data.{Data, Items, no_items, item, get, as_str, as_integer, as_array}
+use Rattle.toml.specs.Data.{Data, Items, no_items, item, get, as_str, as_integer, as_bool, as_array}
 
 abbrev pub text_at : List ℕ → Data → Option (List ℕ)
 text_at key entry = option_and_then as_str (get key entry)
@@ -13,6 +13,10 @@ number_at key entry = option_and_then as_integer (get key entry)
 -- a key that may be missing, with the number that is usual
 abbrev pub number_or : List ℕ → ℤ → Data → Option ℤ
 number_or key usual entry = option_map_or as_integer (get key entry) (Some usual)
+
+-- a flag that may be missing, with the one that is usual
+abbrev pub flag_or : List ℕ → Bool → Data → Option Bool
+flag_or key usual entry = option_map_or as_bool (get key entry) (Some usual)
 
 -- a key that may be missing: nothing where it is of another kind
 abbrev pub optional_text_at : List ℕ → Data → Option (Option (List ℕ))

@@ -1,7 +1,7 @@
 //! The keys of a table of a TOML file.
 ghost use Rattle.std.specs.Prelude.{◌≡◌, nat_lt, option_map};
 ghost use Rattle.toml.specs.View.{view, items_view};
-ghost use Rattle.file_keys.specs.Keys.{text_at, number_at, number_or, optional_text_at, optional_number_at, optional_texts_at, all_numbers, all_texts, numbers_in, texts_in, list_at, section_at, count, is_over, has_over, natural_within};
+ghost use Rattle.file_keys.specs.Keys.{text_at, number_at, number_or, flag_or, optional_text_at, optional_number_at, optional_texts_at, all_numbers, all_texts, numbers_in, texts_in, list_at, section_at, count, is_over, has_over, natural_within};
 
 use toml::Value;
 
@@ -37,6 +37,16 @@ pub fn number_or(entry: &Value, key: &str, usual: i64) -> Option<i64>
         Some(value) => value.as_integer(),
         None => Some(usual),
     }
+}
+
+/// The flag at a key that may be missing, with the one that is usual.
+pub fn flag_or(entry: &Value, key: &str, usual: bool) -> Option<bool>
+    ensures { result ≡ flag_or key.now usual (view entry.now) }
+{
+    let Some(value) = entry.get(key) else {
+        return Some(usual);
+    };
+    value.as_bool()
 }
 
 /// The whole number at a key that may be missing; None where another kind is there.

@@ -9,7 +9,7 @@ mod toml_file;
 pub use toml_file::TomlFile;
 // the keys of a table
 pub use keys::{
-    base_of, byte_of, has_over, is_more, list_at, number_at, number_or, numbers_in,
+    base_of, byte_of, flag_or, has_over, is_more, list_at, number_at, number_or, numbers_in,
     optional_number_at, optional_text_at, optional_texts_at, section_at, text_at, texts_in,
 };
 // a fault and its part

@@ -33,6 +33,7 @@ pub enum ValueKind {
     Number,
     /// A number within these limits.
     Within(i64, i64),
+    Truth,
     TextOrNumber,
     Texts,
     Numbers,
@@ -217,6 +218,7 @@ pub(crate) fn is_of(value: &Value, kind: ValueKind) -> bool {
     match kind {
         ValueKind::Text => value.is_str(),
         ValueKind::Number | ValueKind::Within(_, _) => value.is_integer(),
+        ValueKind::Truth => value.is_bool(),
         ValueKind::TextOrNumber => value.is_str() || value.is_integer(),
         ValueKind::Texts => texts_in(value).is_some(),
         ValueKind::Numbers => numbers_in(value).is_some(),

@@ -162,6 +162,7 @@ pub(crate) const SERVED: Section = Section {
         Key("value", ValueKind::Number, Need::Maybe),
         Key("text", ValueKind::Text, Need::Maybe),
         Key("sum", ValueKind::Texts, Need::Maybe),
+        Key("partial", ValueKind::Truth, Need::Maybe),
     ],
     needs: Some("add it: what is served needs model, point, and one of value, text and sum"),
 };

@@ -8,7 +8,7 @@ mod Serving
 pub mod Settled
 pub mod Sized
 mod Spelled
-mod Totals
+pub mod Totals
 mod Waiting
 pub mod Dropping
 pub mod Requesting

@@ -15,7 +15,7 @@ pub use poller::{
 };
 // the clients, and what is shown to them of readings
 pub use event_core::serve_client;
-pub use served::{own_value, served_factor, total_of};
+pub use served::{own_value, partial_total_of, served_factor, total_of};
 // the points of the gateway's own map
 pub use event_core::setting_of;
 pub use served::{OwnPoint, PointSource, own_point, own_points};

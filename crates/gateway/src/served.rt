@@ -9,7 +9,7 @@ mod points;
 mod words;
 
 use crate::event_core::Memory;
-pub use amount::{own_value, total_of};
+pub use amount::{own_value, partial_total_of, total_of};
 pub use point::{OwnPoint, PointSource};
 pub use points::{own_point, own_points, served_factor};
 use site_model::Site;

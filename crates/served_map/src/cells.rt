@@ -4,7 +4,7 @@ use gateway::{OwnPoint, PointSource};
 use model_defs::{ModelDef, Point, Sf};
 use note_text::{decimal, escaped};
 use served_notes::kind_word;
-use served_ranges::demand_of_total;
+use served_ranges::demand_of_sum;
 use served_rows::{MapRow, PointSubject};
 use site_model::{Access, Served, Site, SiteTag, Source};
 use std::alloc::{AllocError, Global};
@@ -133,7 +133,10 @@ fn entry_cell(alloc: Global, site: &Site, entry: Option<usize>) -> Result<String
         None => String::from_str(alloc, "nothing"),
         Some(Source::Raw(raw)) => format!(in alloc; "{raw}"),
         Some(Source::Text(text)) => quoted(alloc, text.as_str()),
-        Some(Source::Sum(parts)) => sum_cell(alloc, site, parts.as_slice()),
+        Some(Source::Sum(parts)) => sum_cell(alloc, site, "sum", parts.as_slice()),
+        Some(Source::PartialSum(parts)) => {
+            sum_cell(alloc, site, "partial sum", parts.as_slice())
+        }
     }
 }
 
@@ -144,8 +147,13 @@ fn quoted(alloc: Global, text: &str) -> Result<String, AllocError> {
     Ok(cell)
 }
 
-fn sum_cell(alloc: Global, site: &Site, parts: &[usize]) -> Result<String, AllocError> {
-    let mut cell = String::from_str(alloc, "sum")?;
+fn sum_cell(
+    alloc: Global,
+    site: &Site,
+    word: &'static str,
+    parts: &[usize],
+) -> Result<String, AllocError> {
+    let mut cell = String::from_str(alloc, word)?;
     for part in parts {
         cell.push_str(" ")?;
         cell.push_str(name_of(site, *part))?;
@@ -174,14 +182,11 @@ fn range_cell(alloc: Global, site: &Site, row: &MapRow) -> Result<String, AllocE
 }
 
 fn sum_range(alloc: Global, site: &Site, entry: usize) -> Result<String, AllocError> {
-    if let Some(served) = served_at(site, Some(entry)) {
-        if let Source::Sum(parts) = &served.source {
-            if let Some(demand) = demand_of_total(site, served, parts.as_slice()) {
-                return span(alloc, demand.low, demand.high, demand.exponent);
-            }
-        }
+    let demand = served_at(site, Some(entry)).and_then(|served| demand_of_sum(site, served));
+    match demand {
+        Some(demand) => span(alloc, demand.low, demand.high, demand.exponent),
+        None => Ok(String::new(alloc)),
     }
-    Ok(String::new(alloc))
 }
 
 fn span(alloc: Global, low: i128, high: i128, exponent: i8) -> Result<String, AllocError> {

@@ -8,10 +8,10 @@ use file_notes::{EntryName, entry_shown};
 use note_text::escaped;
 use point_writer::number_out;
 use served_ranges::{
-    Demand, always_shows_stored, always_shows_total, demand_of_stored, demand_of_total,
+    Demand, always_shows_stored, always_shows_sum, demand_of_stored, demand_of_sum,
     factor_for_range,
 };
-use site_model::{Access, Fit, Served, Sf, Site, SiteTag, Source};
+use site_model::{Access, Fit, Sf, Site, SiteTag};
 use std::alloc::{AllocError, Global};
 
 /// The most points that are told.
@@ -106,27 +106,14 @@ fn told_of(alloc: Global, subject: Subject<'_>, demand: &Demand) -> Result<Strin
 impl Warnings {
     fn push_sums(&mut self, alloc: Global, site: &Site) -> Result<(), AllocError> {
         for (number, entry) in site.served().iter().enumerate() {
-            if let Source::Sum(parts) = &entry.source {
-                if !always_shows_total(site, entry, parts.as_slice()) {
-                    let name = EntryName::Numbered("[[served]]", number.saturating_add(1));
-                    self.push_sum(alloc, site, entry, parts.as_slice(), name)?;
-                }
+            if !always_shows_sum(site, entry) {
+                let name = EntryName::Numbered("[[served]]", number.saturating_add(1));
+                let demand = demand_of_sum(site, entry);
+                let subject = Subject::of_entry(site.models(), entry);
+                self.push(alloc, name, subject, demand)?;
             }
         }
         Ok(())
-    }
-
-    fn push_sum(
-        &mut self,
-        alloc: Global,
-        site: &Site,
-        entry: &Served,
-        parts: &[usize],
-        name: EntryName<'_>,
-    ) -> Result<(), AllocError> {
-        let demand = demand_of_total(site, entry, parts);
-        let subject = Subject::of_entry(site.models(), entry);
-        self.push(alloc, name, subject, demand)
     }
 
     fn push_stored(&mut self, alloc: Global, site: &Site) -> Result<(), AllocError> {

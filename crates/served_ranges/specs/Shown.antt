@@ -1,12 +1,14 @@
 -- What the gateway's own points that show a total, or what the program stored, may have to say, and when they always say
 -- it: by the served image.
 -- SunSpec Device Information Model Specification, points and scale factors, the table of types.
-use Rattle.std.specs.Prelude.{◌≡◌, ℕ, nat_eq, List, [], ◌∷◌, All, find, slice_get, ℤ, pos, ◌+ℤ◌, ◌≤ℤ◌, Option, Some, None, IsSome, IsSomeAnd, option_map, option_and_then}
+use Rattle.std.specs.Prelude.{◌≡◌, ℕ, nat_eq, List, [], ◌∷◌, All, find, slice_get, ℤ, pos, ◌+ℤ◌, ◌≤ℤ◌, int_le, if◌then◌else◌, Option, Some, None, IsSome, IsSomeAnd, option_map, option_and_then, ⊤}
 use Rattle.point_types.specs.declared.kind.Kind.{Kind}
 use Rattle.point_types.specs.declared.reading.Reading.{Reading}
 use Rattle.model_defs.specs.declared.model.ModelDef.{ModelDef}
 use Rattle.model_defs.specs.declared.point.Point.{Point}
 use Rattle.site_model.specs.declared.served.Served.{Served}
+use Rattle.site_model.specs.declared.served.Source.{Source}
+use Rattle.site_model.specs.declared.served.Source.TheVariants as given
 use Rattle.site_model.specs.declared.site.Site.{Site}
 use Rattle.site_model.specs.declared.tag.SiteTag.{SiteTag}
 use Rattle.site_model.specs.Readings.{AreUsable}
@@ -14,7 +16,7 @@ use Rattle.point_types.specs.Reading.{IsExponent}
 use Rattle.site_model.specs.declared.tag.Sf.{Sf}
 use Rattle.site_model.specs.declared.tag.Sf.TheVariants as factors
 use Rattle.gateway.specs.served.Points.{served_factor}
-use Rattle.gateway.specs.served.ServedImage.{ReadsAs, amount, own_value, sum_of}
+use Rattle.gateway.specs.served.ServedImage.{ReadsAs, amount, joined_total, own_value, partial_total_of, sum_of, total_of}
 use Rattle.served_ranges.specs.declared.shown.Demand.{Demand}
 
 -- ---- the definition's point of an entry of the site file, and of a tag of the gateway's own models
@@ -34,17 +36,34 @@ point_of_tag models t = option_and_then (λ m. find (λ p. nat_eq p.offset t.off
 abbrev pub HaveValues : List Reading → List ℕ → Type 0
 HaveValues readings parts = All (λ i. IsSome (option_and_then own_value (slice_get readings i))) parts
 
--- with these readings the point shows the total: there is one, and words of its kind read as that
-abbrev pub ShowsTotal : Site → (model : ℕ) → List ℕ → List Reading → Point → Type 0
-ShowsTotal site model parts readings p =
-    IsSomeAnd (sum_of site.tags readings (served_factor site.served model p.sf) parts) (λ total. (words : List ℕ) × ReadsAs p.kind total words)
+-- one of them at least has one
+abbrev pub HasValue : List Reading → List ℕ → Type 0
+HasValue readings parts = IsSome (joined_total readings parts)
+
+-- the point shows a total of these parts: there is one, and words of its kind read as that
+abbrev pub ShowsTotal : Site → (model : ℕ) → List ℕ → (total : Option ℤ) → Point → Type 0
+ShowsTotal site model parts total p =
+    IsSomeAnd (sum_of site.tags (served_factor site.served model p.sf) parts total) (λ said. (words : List ℕ) × ReadsAs p.kind said words)
 
 -- whatever the readings of the tags are in their ranges: where each part of the sum has a value of its own, the point of
 -- the entry shows the total
 abbrev pub AlwaysShowsTotal : Site → Served → List ℕ → Type 0
 AlwaysShowsTotal site s parts =
     (readings : List Reading) → AreUsable site.tags readings → HaveValues readings parts →
-    IsSomeAnd (point_of_entry site.models s) (ShowsTotal site s.model parts readings)
+    IsSomeAnd (point_of_entry site.models s) (ShowsTotal site s.model parts (total_of readings parts))
+
+-- where one part has a value, the point shows the total of those that have
+abbrev pub AlwaysShowsPartial : Site → Served → List ℕ → Type 0
+AlwaysShowsPartial site s parts =
+    (readings : List Reading) → AreUsable site.tags readings → HasValue readings parts →
+    IsSomeAnd (point_of_entry site.models s) (ShowsTotal site s.model parts (partial_total_of readings parts))
+
+-- what the site file gives the point, where that is a sum
+abbrev pub AlwaysShows : Site → Served → Source → Type 0
+AlwaysShows site s (given.Sum parts) = AlwaysShowsTotal site s parts
+AlwaysShows site s (given.PartialSum parts) = AlwaysShowsPartial site s parts
+AlwaysShows site s (given.Raw n) = ⊤
+AlwaysShows site s (given.Text text) = ⊤
 
 -- each number from low to high, in units of 10^exponent, has words of the kind that read as it by the factor
 abbrev pub AllAreShown : Kind → Option ℤ → (exponent low high : ℤ) → Type 0
@@ -69,6 +88,36 @@ lowest_total tags parts = end_over (λ t. t.low) (pos 0) tags parts
 abbrev pub highest_total : List SiteTag → List ℕ → Option ℤ
 highest_total tags parts = end_over (λ t. t.high) (pos 0) tags parts
 
+-- ---- the ends of a partial total
+
+abbrev pub lesser : ℤ → ℤ → ℤ
+lesser m n = if int_le m n then m else n
+
+abbrev pub greater : ℤ → ℤ → ℤ
+greater m n = if int_le m n then n else m
+
+-- the least that there is to choose: what there was, a number, or both together
+abbrev pub least_choice : Option ℤ → ℤ → ℤ
+least_choice None n = n
+least_choice (Some m) n = lesser (lesser m n) (m +ℤ n)
+
+-- the greatest
+abbrev pub greatest_choice : Option ℤ → ℤ → ℤ
+greatest_choice None n = n
+greatest_choice (Some m) n = greater (greater m n) (m +ℤ n)
+
+-- one end of the totals of one or more of some tags, by that end of their ranges, after what there was to choose; none where
+-- one of the numbers is no tag's
+abbrev pub choice_over : (choice : Option ℤ → ℤ → ℤ) → (SiteTag → ℤ) → Option ℤ → List SiteTag → List ℕ → Option ℤ
+choice_over choice end n tags [] = n
+choice_over choice end n tags (i ∷ is) = option_and_then (λ v. choice_over choice end (Some (choice n v)) tags is) (option_map end (slice_get tags i))
+
+abbrev pub lowest_partial : List SiteTag → List ℕ → Option ℤ
+lowest_partial tags parts = choice_over least_choice (λ t. t.low) None tags parts
+
+abbrev pub highest_partial : List SiteTag → List ℕ → Option ℤ
+highest_partial tags parts = choice_over greatest_choice (λ t. t.high) None tags parts
+
 -- ---- what a point may have to say
 
 abbrev pub exponent_of : List SiteTag → List ℕ → Option ℤ
@@ -79,16 +128,31 @@ exponent_of tags (i ∷ is) = option_map (λ t. t.exponent) (slice_get tags i)
 abbrev pub demand_at : Site → (model : ℕ) → (exponent low high : ℤ) → Point → Demand
 demand_at site model exponent low high p = record { kind = p.kind; factor = served_factor site.served model p.sf; exponent = exponent; low = low; high = high }
 
--- of the total of some tags, which all have the exponent of the first
-abbrev pub demand_of_total : Site → Served → List ℕ → Option Demand
-demand_of_total site s parts =
+-- of totals between two ends, of tags that all have the exponent of the first
+abbrev pub demand_between : Site → Served → List ℕ → (lowest highest : Option ℤ) → Option Demand
+demand_between site s parts lowest highest =
     option_and_then (λ exponent.
     option_and_then (λ low.
     option_and_then (λ high.
     option_map (demand_at site s.model exponent low high) (point_of_entry site.models s))
-    (highest_total site.tags parts))
-    (lowest_total site.tags parts))
+    highest)
+    lowest)
     (exponent_of site.tags parts)
+
+-- of the total of some tags
+abbrev pub demand_of_total : Site → Served → List ℕ → Option Demand
+demand_of_total site s parts = demand_between site s parts (lowest_total site.tags parts) (highest_total site.tags parts)
+
+-- of the total of those that have a value
+abbrev pub demand_of_partial : Site → Served → List ℕ → Option Demand
+demand_of_partial site s parts = demand_between site s parts (lowest_partial site.tags parts) (highest_partial site.tags parts)
+
+-- of what the site file gives a point, where that is a sum
+abbrev pub demand_of_sum : Site → Served → Source → Option Demand
+demand_of_sum site s (given.Sum parts) = demand_of_total site s parts
+demand_of_sum site s (given.PartialSum parts) = demand_of_partial site s parts
+demand_of_sum site s (given.Raw n) = None
+demand_of_sum site s (given.Text text) = None
 
 -- of a `site` tag
 abbrev pub demand_of_stored : Site → SiteTag → Option Demand

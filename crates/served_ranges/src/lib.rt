@@ -16,6 +16,6 @@ pub use points::{model_of, point_of_entry, point_of_tag};
 pub use set_points::{demand_of_set, factor_for_range};
 // what they may have to say, and whether they always say it
 pub use shown::{
-    Demand, always_shows_stored, always_shows_total, demand_of_stored, demand_of_total,
-    is_always_met,
+    Demand, always_shows_stored, always_shows_sum, demand_of_partial, demand_of_stored,
+    demand_of_sum, demand_of_total, is_always_met,
 };

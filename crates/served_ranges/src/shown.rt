@@ -1,15 +1,15 @@
 //! Whether a point of the gateway's own always shows what it is to.
 ghost use Rattle.std.specs.Prelude.{◌≡◌, ◌-◌, ◌≤ℤ◌, neg_ℤ, pos, ◌^◌, IsTrue, IfSome};
 ghost use Rattle.point_types.specs.Reading.{IsExponent};
-ghost use Rattle.served_ranges.specs.Shown.{AllAreShown, AlwaysShowsStored, AlwaysShowsTotal, demand_at, demand_of_stored, demand_of_total};
+ghost use Rattle.served_ranges.specs.Shown.{AllAreShown, AlwaysShows, AlwaysShowsPartial, AlwaysShowsStored, AlwaysShowsTotal, demand_at, demand_between, demand_of_partial, demand_of_stored, demand_of_sum, demand_of_total};
 
 use crate::numbers::all_are_shown;
 use crate::points::{point_of_entry, point_of_tag};
-use crate::totals::{exponent_of, highest_total, lowest_total};
+use crate::totals::{exponent_of, highest_partial, highest_total, lowest_partial, lowest_total};
 use gateway::served_factor;
 use model_defs::Point;
 use point_types::Kind;
-use site_model::{Served, Site, SiteTag};
+use site_model::{Served, Site, SiteTag, Source};
 
 /// What a point of the gateway's own may have to say, and how: a number from low to high, in units of 10^exponent, in
 /// words of a kind, by a factor, which is None where it is absent or outside -10..10.
@@ -22,12 +22,31 @@ pub struct Demand {
     pub high: i128,
 }
 
-/// Whether the point of an entry always shows the total of these parts: whatever the readings of the tags are in their
-/// ranges, where each part has a value of its own.
-pub fn always_shows_total(site: &Site, entry: &Served, parts: &[usize]) -> bool
+/// Whether the point of an entry always shows its sum, where it has one: whatever the readings of the tags are in their
+/// ranges, where each part has a value of its own, or of a partial sum one part at least.
+pub fn always_shows_sum(site: &Site, entry: &Served) -> bool
+    ensures { IsTrue result → AlwaysShows site.now entry.now entry.now.source }
+{
+    match &entry.source {
+        Source::Sum(parts) => always_shows_total(site, entry, parts.as_slice()),
+        Source::PartialSum(parts) => always_shows_partial(site, entry, parts.as_slice()),
+        Source::Raw(_) | Source::Text(_) => true,
+    }
+}
+
+fn always_shows_total(site: &Site, entry: &Served, parts: &[usize]) -> bool
     ensures { IsTrue result → AlwaysShowsTotal site.now entry.now parts.now }
 {
     match demand_of_total(site, entry, parts) {
+        Some(demand) => is_always_met(&demand),
+        None => false,
+    }
+}
+
+fn always_shows_partial(site: &Site, entry: &Served, parts: &[usize]) -> bool
+    ensures { IsTrue result → AlwaysShowsPartial site.now entry.now parts.now }
+{
+    match demand_of_partial(site, entry, parts) {
         Some(demand) => is_always_met(&demand),
         None => false,
     }
@@ -43,15 +62,52 @@ pub fn always_shows_stored(site: &Site, tag: &SiteTag) -> bool
     }
 }
 
+/// What the point of an entry may have to say where the site file gives it a sum; None where it doesn't.
+pub fn demand_of_sum(site: &Site, entry: &Served) -> Option<Demand>
+    ensures value { result ≡ demand_of_sum site.now entry.now entry.now.source }
+    ensures scalable { IfSome result (λ demand. IsExponent demand.exponent) }
+{
+    match &entry.source {
+        Source::Sum(parts) => demand_of_total(site, entry, parts.as_slice()),
+        Source::PartialSum(parts) => demand_of_partial(site, entry, parts.as_slice()),
+        Source::Raw(_) | Source::Text(_) => None,
+    }
+}
+
 /// What the point of an entry may have to say that shows the total of these parts; None where there is no such point, or
 /// where there are no parts, or one is no tag.
 pub fn demand_of_total(site: &Site, entry: &Served, parts: &[usize]) -> Option<Demand>
     ensures value { result ≡ demand_of_total site.now entry.now parts.now }
     ensures scalable { IfSome result (λ demand. IsExponent demand.exponent) }
 {
+    let lowest = lowest_total(site.tags(), parts);
+    let highest = highest_total(site.tags(), parts);
+    demand_between(site, entry, parts, lowest, highest)
+}
+
+/// What the point of an entry may have to say that shows the total of those of these parts that have a value; None as of the
+/// total of all.
+pub fn demand_of_partial(site: &Site, entry: &Served, parts: &[usize]) -> Option<Demand>
+    ensures value { result ≡ demand_of_partial site.now entry.now parts.now }
+    ensures scalable { IfSome result (λ demand. IsExponent demand.exponent) }
+{
+    let lowest = lowest_partial(site.tags(), parts);
+    let highest = highest_partial(site.tags(), parts);
+    demand_between(site, entry, parts, lowest, highest)
+}
+
+fn demand_between(
+    site: &Site,
+    entry: &Served,
+    parts: &[usize],
+    lowest: Option<i128>,
+    highest: Option<i128>,
+) -> Option<Demand>
+    ensures value { result ≡ demand_between site.now entry.now parts.now lowest highest }
+    ensures scalable { IfSome result (λ demand. IsExponent demand.exponent) }
+{
     let exponent = exponent_of(site.tags(), parts)?;
-    let low = lowest_total(site.tags(), parts)?;
-    let high = highest_total(site.tags(), parts)?;
+    let (low, high) = (lowest?, highest?);
     let point = point_of_entry(site.models(), entry)?;
     Some(demand_at(site, entry.model, exponent, low, high, point))
 }

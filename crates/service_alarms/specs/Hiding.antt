@@ -1,6 +1,7 @@
 -- What clients aren't shown of sums and of `site` tags, and why: by the served image.
 -- SunSpec Device Information Model Specification, points and scale factors.
-use Rattle.std.specs.Prelude.{◌≡◌, ℕ, zero, suc, Bool, true, false, List, [], ◌∷◌, ◌++◌, find, slice_get, ℤ, Option, Some, None, option_and_then, Ok, Err}
+use Rattle.std.specs.Prelude.{◌≡◌, ℕ, zero, suc, Bool, true, false, not, if◌then◌else◌, List, [], ◌∷◌, ◌++◌, find, slice_get, ℤ, Option, Some, None, option_and_then, Ok, Err}
+use Rattle.std.specs.List.{list_any}
 use Rattle.point_types.specs.declared.encoding.Unencodable.TheVariants as unencodable
 use Rattle.point_types.specs.declared.kind.Kind.{Kind}
 use Rattle.point_types.specs.declared.reading.Reading.{Reading}
@@ -14,9 +15,9 @@ use Rattle.site_model.specs.declared.site.Site.{Site}
 use Rattle.site_model.specs.declared.tag.SiteTag.{SiteTag}
 use Rattle.site_model.specs.Readings.{known_at}
 use Rattle.site_model.specs.Tagging.{is_numeric}
-use Rattle.gateway.specs.served.ServedImage.{own_value, total_of}
+use Rattle.gateway.specs.served.ServedImage.{own_value, partial_total_of, total_of}
 use Rattle.served_ranges.specs.declared.shown.Demand.{Demand}
-use Rattle.served_ranges.specs.Shown.{demand_of_stored, demand_of_total}
+use Rattle.served_ranges.specs.Shown.{demand_of_partial, demand_of_stored, demand_of_total}
 use Rattle.service_alarms.specs.declared.alarm.Alarm.{Alarm}
 use Rattle.service_alarms.specs.declared.alarm.Alarm.TheVariants as alarm
 use Rattle.service_alarms.specs.declared.alarm.Hidden.{Hidden}
@@ -60,12 +61,25 @@ is_without readings i = has_none (option_and_then own_value (slice_get readings 
 abbrev pub first_without : List Reading → List ℕ → Option ℕ
 first_without readings parts = find (is_without readings) parts
 
+-- one of the parts at least has a value of its own
+abbrev pub is_with : List Reading → ℕ → Bool
+is_with readings i = not (is_without readings i)
+
+abbrev pub has_value : List Reading → List ℕ → Bool
+has_value readings parts = list_any (is_with readings) parts
+
+-- the first part, where none of them has a value of its own
+abbrev pub first_of_none : List Reading → List ℕ → Option ℕ
+first_of_none readings parts = if has_value readings parts then None else first_without readings parts
+
+-- by a part for which there is no total
 abbrev pub HidesWhole : Option Demand → Option ℤ → Option ℕ → Option Hidden → Type 0
 HidesWhole d total (Some i) h = h ≡ Some (hidden.Part i)
 HidesWhole d total None h = HidesTotal d total h
 
 abbrev pub HidesSource : Site → List Reading → Served → Source → Option Hidden → Type 0
 HidesSource site readings s (given.Sum parts) h = HidesWhole (demand_of_total site s parts) (total_of readings parts) (first_without readings parts) h
+HidesSource site readings s (given.PartialSum parts) h = HidesWhole (demand_of_partial site s parts) (partial_total_of readings parts) (first_of_none readings parts) h
 HidesSource site readings s (given.Raw n) h = h ≡ None
 HidesSource site readings s (given.Text text) h = h ≡ None
 

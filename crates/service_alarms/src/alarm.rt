@@ -9,7 +9,7 @@ use site_model::Want;
 /// Why a point of the gateway's own doesn't show what it is to, by the first cause that holds.
 #[derive(Clone, Copy, Debug, PartialEq, Eq)]
 pub enum Hidden {
-    /// This part of the sum, by its number among the tags, has no value of its own.
+    /// This part of the sum, by its number among the tags, has no value of its own; of a partial sum the first, where none has one.
     Part(usize),
     /// The program stored nothing.
     NotStored,

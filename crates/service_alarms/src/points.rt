@@ -1,8 +1,8 @@
 //! The points of the gateway's own that show a sum, or what the program stores.
 use crate::alarm::Alarm;
 use model_defs::Point;
-use served_ranges::{Demand, demand_of_stored, demand_of_total, point_of_entry, point_of_tag};
-use site_model::{Site, Source};
+use served_ranges::{Demand, demand_of_stored, demand_of_sum, point_of_entry, point_of_tag};
+use site_model::Site;
 
 /// The model and the name of the point that an alarm is of; None where it is of none.
 pub fn shown_point(site: &Site, alarm: Alarm) -> Option<(u16, &str)> {
@@ -26,13 +26,7 @@ fn name_of(point: &Point) -> &str {
 /// How the point that an alarm is of says a number; None where it is of none.
 pub(crate) fn demand_at(site: &Site, alarm: Alarm) -> Option<Demand> {
     match alarm {
-        Alarm::SumHidden(entry, _) => {
-            let entry = site.served().get(entry)?;
-            match &entry.source {
-                Source::Sum(parts) => demand_of_total(site, entry, parts.as_slice()),
-                Source::Raw(_) | Source::Text(_) => None,
-            }
-        }
+        Alarm::SumHidden(entry, _) => demand_of_sum(site, site.served().get(entry)?),
         Alarm::StoredHidden(tag, _) => demand_of_stored(site, site.tags().get(tag)?),
         _ => None,
     }

@@ -4,17 +4,17 @@ ghost use Rattle.point_types.specs.Reading.{IsExponent};
 ghost use Rattle.point_types.specs.declared.kind.Kind.TheVariants as kinds;
 ghost use Rattle.site_model.specs.Readings.{known_at};
 ghost use Rattle.site_model.specs.Tagging.{is_numeric};
-ghost use Rattle.gateway.specs.served.ServedImage.{total_of};
-ghost use Rattle.served_ranges.specs.Shown.{demand_of_stored, demand_of_total};
-ghost use Rattle.service_alarms.specs.Hiding.{AreStoredHidden, AreSumsHidden, HidesAccess, HidesAt, HidesEntry, HidesNumber, HidesSource, HidesStored, HidesTag, HidesTotal, HidesWhole, alarm_if, first_without, has_none, is_without};
+ghost use Rattle.gateway.specs.served.ServedImage.{partial_total_of, total_of};
+ghost use Rattle.served_ranges.specs.Shown.{demand_of_partial, demand_of_stored, demand_of_total};
+ghost use Rattle.service_alarms.specs.Hiding.{AreStoredHidden, AreSumsHidden, HidesAccess, HidesAt, HidesEntry, HidesNumber, HidesSource, HidesStored, HidesTag, HidesTotal, HidesWhole, alarm_if, first_of_none, first_without, has_none, has_value, is_with, is_without};
 ghost use Rattle.service_alarms.specs.declared.alarm.Alarm.{Alarm as AlarmValue};
 ghost use Rattle.service_alarms.specs.declared.alarm.Alarm.TheVariants as alarm;
 
 use crate::alarm::{Alarm, Hidden};
-use gateway::{own_value, total_of};
+use gateway::{own_value, partial_total_of, total_of};
 use point_types::{Items, Kind, Reading, Unencodable};
 use point_writer::plan::words_for;
-use served_ranges::{Demand, demand_of_stored, demand_of_total};
+use served_ranges::{Demand, demand_of_partial, demand_of_stored, demand_of_total};
 use site_model::{Access, Served, Site, SiteTag, Source};
 use std::alloc::AllocError;
 
@@ -65,6 +65,11 @@ fn hidden_source(
             total_of(readings, parts.as_slice()),
             first_without(readings, parts.as_slice()),
         ),
+        Source::PartialSum(parts) => hidden_whole(
+            demand_of_partial(site, entry, parts.as_slice()),
+            partial_total_of(readings, parts.as_slice()),
+            first_of_none(readings, parts.as_slice()),
+        ),
         Source::Raw(_) | Source::Text(_) => None,
     }
 }
@@ -93,6 +98,28 @@ fn first_without(readings: &[Reading], parts: &[usize]) -> Option<usize>
         }
     }
     None
+}
+
+/// The first part, where none of them has a value of its own.
+fn first_of_none(readings: &[Reading], parts: &[usize]) -> Option<usize>
+    ensures { result ≡ first_of_none readings.now parts.now }
+{
+    if has_value(readings, parts) {
+        None
+    } else {
+        first_without(readings, parts)
+    }
+}
+
+fn has_value(readings: &[Reading], parts: &[usize]) -> bool
+    ensures { result ≡ has_value readings.now parts.now }
+{
+    for part in parts {
+        if !is_without(readings, *part) {
+            return true;
+        }
+    }
+    false
 }
 
 fn is_without(readings: &[Reading], part: usize) -> bool

@@ -10,7 +10,7 @@ use Rattle.point_types.specs.declared.kind.Kind.{Kind}
 use Rattle.point_types.specs.declared.kind.Kind.TheVariants as kinds
 use Rattle.model_defs.specs.declared.point.Point.{Point}
 use Rattle.model_defs.specs.declared.model.ModelDef.{ModelDef}
-use Rattle.file_keys.specs.Keys.{text_at, number_at, optional_text_at, optional_number_at, optional_texts_at}
+use Rattle.file_keys.specs.Keys.{text_at, number_at, flag_or, optional_text_at, optional_number_at, optional_texts_at}
 use Rattle.site_model.specs.Gateway.{has_id}
 use Rattle.site_model.specs.Tagging.{Tag, is_input, is_own, is_numeric, is_sunssf, point_number, offset_at}
 use Rattle.site_model.specs.declared.served.Served.{Served}
@@ -21,11 +21,12 @@ use Rattle.site_model.specs.declared.fault.SiteFault.TheVariants as fault
 
 -- ---- the keys of an entry
 
--- what the point is to be served with, each where it is there
+-- what the point is to be served with, each where it is there, and whether a sum is of those of its inputs that have a value
 pub record Given : Type 0 where
   pub value : Option ℤ
   pub text : Option (List ℕ)
   pub sum : Option Items
+  pub partial : Bool
 
 pub record ServedKeys : Type 0 where
   pub model : ℤ
@@ -40,7 +41,9 @@ abbrev pub given_of : Data → Option Given
 given_of tree =
     option_and_then (λ value.
     option_and_then (λ text.
-    option_and_then (λ sum. let g : Given = record { value = value; text = text; sum = sum } in if has_one g then Some g else None)
+    option_and_then (λ sum.
+    option_and_then (λ partial. let g : Given = record { value = value; text = text; sum = sum; partial = partial } in if has_one g then Some g else None)
+    (flag_or (codes "partial") false tree))
     (optional_texts_at (codes "sum") tree))
     (optional_text_at (codes "text") tree))
     (optional_number_at (codes "value") tree)
@@ -124,16 +127,21 @@ sum_of tags (item part parts) = option_and_then (λ e. parts_behind e tags [] (i
 
 -- ---- the entry
 
--- one of them, on a point of its kind
-abbrev pub source_from : List Tag → Kind → Option ℤ → Option (List ℕ) → Option Items → Option Source
-source_from tags point (Some n) None None = if is_numeric point then Some (source.Raw n) else None
-source_from tags point None (Some text) None = if is_string point then Some (source.Text text) else None
-source_from tags point None None (Some parts) =
-    if is_numeric point && not (is_sunssf point) then option_map source.Sum (sum_of tags parts) else None
-source_from tags point value text parts = None
+-- the total of some inputs, or of those that have a value
+abbrev pub total_source : (partial : Bool) → List ℕ → Source
+total_source false parts = source.Sum parts
+total_source true parts = source.PartialSum parts
+
+-- one of them, on a point of its kind; only a sum may be partial
+abbrev pub source_from : List Tag → Kind → Option ℤ → Option (List ℕ) → Option Items → (partial : Bool) → Option Source
+source_from tags point (Some n) None None false = if is_numeric point then Some (source.Raw n) else None
+source_from tags point None (Some text) None false = if is_string point then Some (source.Text text) else None
+source_from tags point None None (Some parts) partial =
+    if is_numeric point && not (is_sunssf point) then option_map (total_source partial) (sum_of tags parts) else None
+source_from tags point value text parts partial = None
 
 abbrev pub source_of : List Tag → Kind → Given → Option Source
-source_of tags point g = source_from tags point g.value g.text g.sum
+source_of tags point g = source_from tags point g.value g.text g.sum g.partial
 
 -- ---- what is used already
 

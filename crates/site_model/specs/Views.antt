@@ -77,7 +77,7 @@ tag_view t = record {
 }
 
 abbrev pub given_view : Given → serving.Given
-given_view g = record { value = g.value; text = option_map (λ s. s.now) g.text; sum = option_map (λ s. items_view s.now) g.sum }
+given_view g = record { value = g.value; text = option_map (λ s. s.now) g.text; sum = option_map (λ s. items_view s.now) g.sum; partial = g.partial }
 
 abbrev pub served_keys_view : ServedKeys → serving.ServedKeys
 served_keys_view keys = record { model = keys.model; point = keys.point.now; given = given_view keys.given }

@@ -11,6 +11,8 @@ pub enum Source {
     Text(Text),
     /// The total of the readings of input tags with one exponent, by their numbers; at least one.
     Sum(Items<usize>),
+    /// The total of those of these tags' readings that have a value of their own; the tags are as those of a sum.
+    PartialSum(Items<usize>),
 }
 
 /// A point of the gateway's own models that the site file gives a value.

@@ -4,7 +4,7 @@ ghost use Rattle.std.specs.List.{list_any};
 ghost use Rattle.std.specs.Option.{option_map_or};
 ghost use Rattle.toml.specs.View.{view, items_view};
 ghost use Rattle.site_model.specs.Parts.{IsServedRefused};
-ghost use Rattle.site_model.specs.Serving.{can_be_encoded, exponent_of_part, fits, given_of, has_one, has_room, is_entry_of, is_input_named, is_part, is_string, is_tag_of, is_used, part_number, parts_behind, raw_range, served_at, served_behind, served_keys, served_of, source_for, source_of, sum_of};
+ghost use Rattle.site_model.specs.Serving.{can_be_encoded, exponent_of_part, fits, given_of, has_one, has_room, is_entry_of, is_input_named, is_part, is_string, is_tag_of, is_used, part_number, parts_behind, raw_range, served_at, served_behind, served_keys, served_of, source_for, source_of, sum_of, total_source};
 ghost use Rattle.site_model.specs.Tagging.{point_number};
 ghost use Rattle.site_model.specs.Views.{given_view, served_keys_view, tag_view};
 ghost use Rattle.site_model.specs.declared.fault.SiteFault.{SiteFault};
@@ -18,7 +18,9 @@ use crate::sums::sum_of;
 use crate::tag::SiteTag;
 use crate::tag_rules::{is_numeric, is_own, is_sunssf, offset_at};
 use crate::text::Text;
-use file_keys::{number_at, optional_number_at, optional_text_at, optional_texts_at, text_at};
+use file_keys::{
+    flag_or, number_at, optional_number_at, optional_text_at, optional_texts_at, text_at,
+};
 use model_defs::{ModelDef, Point};
 use point_types::{Items, Kind};
 use std::alloc::Global;
@@ -38,6 +40,8 @@ struct Given<'a> {
     value: Option<i64>,
     text: Option<&'a str>,
     sum: Option<&'a [Value]>,
+    /// Whether the sum is of those of its inputs that have a value.
+    partial: bool,
 }
 
 /// Reads the entries in order, and notes the one that it has come to.
@@ -144,8 +148,14 @@ fn given_of(entry: &Value) -> Option<Given<'_>>
     let value = optional_number_at(entry, "value")?;
     let text = optional_text_at(entry, "text")?;
     let sum = optional_texts_at(entry, "sum")?;
+    let partial = flag_or(entry, "partial", false)?;
     if value.is_some() || text.is_some() || sum.is_some() {
-        Some(Given { value, text, sum })
+        Some(Given {
+            value,
+            text,
+            sum,
+            partial,
+        })
     } else {
         None
     }
@@ -234,7 +244,7 @@ fn is_string(point: Kind) -> bool
     matches!(point, Kind::String)
 }
 
-/// One of value, text and sum, on a point of its kind; None where they don't go together.
+/// One of value, text and sum, on a point of its kind, and partial only beside sum; None where they don't go together.
 fn source_of(
     alloc: Global,
     tags: &[SiteTag],
@@ -244,15 +254,29 @@ fn source_of(
     ensures told { IfOk result (λ s. s ≡ source_of (map tag_view tags.now) point (given_view given.entry)) }
     ensures memory { IfErr result (λ e. e ≡ fault.OutOfMemory) }
 {
-    match (given.value, given.text, given.sum) {
-        (Some(raw), None, None) if is_numeric(point) => Ok(Some(Source::Raw(raw))),
-        (None, Some(text), None) if is_string(point) => Ok(Some(Source::Text(Text::new(
+    match (given.value, given.text, given.sum, given.partial) {
+        (Some(raw), None, None, false) if is_numeric(point) => Ok(Some(Source::Raw(raw))),
+        (None, Some(text), None, false) if is_string(point) => Ok(Some(Source::Text(Text::new(
             alloc, text,
         )?))),
-        (None, None, Some(parts)) if is_numeric(point) && !is_sunssf(point) => {
-            Ok(sum_of(alloc, tags, parts)?.map(Source::Sum))
+        (None, None, Some(parts), partial) if is_numeric(point) && !is_sunssf(point) => {
+            match sum_of(alloc, tags, parts)? {
+                Some(parts) => Ok(Some(total_source(partial, parts))),
+                None => Ok(None),
+            }
         }
         _ => Ok(None),
+    }
+}
+
+/// The total of some inputs, or of those that have a value.
+fn total_source(partial: bool, parts: Items<usize>) -> Source
+    ensures { result ≡ total_source partial parts }
+{
+    if partial {
+        Source::PartialSum(parts)
+    } else {
+        Source::Sum(parts)
     }
 }
 

@@ -3,12 +3,20 @@ use crate::row::Rows;
 use crate::seen::Wrongs;
 use crate::survey::Survey;
 use crate::units::push_unit_of;
-use gateway::total_of;
+use gateway::{partial_total_of, total_of};
 use note_text::{decimal, escaped};
+use point_types::Reading;
 use served_ranges::point_of_entry;
 use service_alarms::{Alarm, AlarmSubject, cause_text, mend, why_hidden};
 use site_model::{Served, SiteTag, Source};
 use std::alloc::{AllocError, Global};
+
+/// A sum: its parts, by their numbers among the tags, and their total.
+#[derive(Clone, Copy)]
+struct Sum<'a> {
+    parts: &'a [usize],
+    total: Option<i64>,
+}
 
 /// The rows of the sums that clients are shown.
 pub(crate) fn served_rows(
@@ -18,12 +26,12 @@ pub(crate) fn served_rows(
 ) -> Result<Rows, AllocError> {
     let mut rows = Rows::new(alloc);
     for (number, entry) in survey.site.served().iter().enumerate() {
-        if let Source::Sum(parts) = &entry.source {
+        if let Some(sum) = sum_of(entry, survey.service.core().readings()) {
             let wrong = wrongs.with(AlarmSubject::Sum(number));
             let subject = served_subject(alloc, survey, number)?;
             let said = match wrong {
                 Some(alarm) => hidden(alloc, survey, alarm)?,
-                None => total_text(alloc, survey, entry, parts.as_slice())?,
+                None => total_text(alloc, survey, entry, sum)?,
             };
             rows.push(subject, said, wrong.is_some())?;
         }
@@ -49,15 +57,36 @@ fn served_name<'a>(survey: &Survey<'a>, entry: &Served) -> &'a str {
     }
 }
 
-/// The total of some parts, and the unit of the point that shows it.
+/// What an entry of the site file sums, by these readings; None where it is no sum.
+fn sum_of<'a>(entry: &'a Served, readings: &[Reading]) -> Option<Sum<'a>> {
+    match &entry.source {
+        Source::Sum(parts) => {
+            let parts = parts.as_slice();
+            Some(Sum {
+                parts,
+                total: total_of(readings, parts),
+            })
+        }
+        Source::PartialSum(parts) => {
+            let parts = parts.as_slice();
+            Some(Sum {
+                parts,
+                total: partial_total_of(readings, parts),
+            })
+        }
+        Source::Raw(_) | Source::Text(_) => None,
+    }
+}
+
+/// The total, and the unit of the point that shows it.
 fn total_text(
     alloc: Global,
     survey: &Survey<'_>,
     entry: &Served,
-    parts: &[usize],
+    sum: Sum<'_>,
 ) -> Result<String, AllocError> {
-    let total = total_of(survey.service.core().readings(), parts);
-    let (Some(total), Some(exponent)) = (total, exponent_of(survey.site.tags(), parts)) else {
+    let exponent = exponent_of(survey.site.tags(), sum.parts);
+    let (Some(total), Some(exponent)) = (sum.total, exponent) else {
         return Ok(String::new(alloc));
     };
     let mut text = decimal(alloc, i128::from(total), exponent)?;

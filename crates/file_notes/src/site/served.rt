@@ -4,7 +4,7 @@ use crate::finding::{EntryName, Finding, Rule, Stands, named_entry, stands_at};
 use crate::keys::SERVED;
 use crate::looking::{first_broken, is_alike};
 use crate::points::{no_point, point_at};
-use file_keys::{list_at, number_at, section_at, text_at};
+use file_keys::{flag_or, list_at, number_at, section_at, text_at};
 use model_defs::{ModelDef, Point};
 use note_text::nearer;
 use site_model::{Access, SiteFault, raw_range};
@@ -87,6 +87,14 @@ fn unlike_point<'a>(file: &'a Value, entry: &'a Value) -> Finding<'a> {
     if given(entry) != 1 {
         let finding = Finding::of("value, text and sum", "exclude one another");
         return finding.helped("keep one of the three");
+    }
+    if flag_or(entry, "partial", false) == Some(true) && !has(entry, "sum") {
+        return Finding::advised(
+            entry,
+            "partial",
+            "is for a sum",
+            "take it away, or give the point a sum of tags",
+        );
     }
     if has(entry, "value") {
         return Finding::advised(

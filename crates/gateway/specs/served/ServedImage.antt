@@ -71,23 +71,38 @@ in_lint n = if is_within (low_of il.Lint) (high_of il.Lint) n then Some n else N
 abbrev pub total_of : List Reading → List ℕ → Option ℤ
 total_of readings parts = option_and_then in_lint (total_over (pos 0) readings parts)
 
+-- ---- partial totals
+
+-- the total of two values, or the one that is there
+abbrev pub joined : Option ℤ → Option ℤ → Option ℤ
+joined None value = value
+joined (Some n) None = Some n
+joined (Some n) (Some v) = Some (n +ℤ v)
+
+-- the total of those of some tags that have a value of their own; none where none of them has one
+abbrev pub joined_total : List Reading → List ℕ → Option ℤ
+joined_total readings [] = None
+joined_total readings (i ∷ is) = joined (option_and_then own_value (slice_get readings i)) (joined_total readings is)
+
+-- in LINT's range
+abbrev pub partial_total_of : List Reading → List ℕ → Option ℤ
+partial_total_of readings parts = option_and_then in_lint (joined_total readings parts)
+
 -- ---- what there is to say of a point
 
 abbrev pub amount : ℤ → Option ℤ → ℤ → Amount
 amount exponent factor n = record { number = n; exponent = exponent; factor = factor }
 
-abbrev pub sum_with : List Reading → Option ℤ → List ℕ → SiteTag → Option Amount
-sum_with readings factor parts t = option_map (amount t.exponent factor) (total_of readings parts)
-
--- the total of some tags, which all have the exponent of the first
-abbrev pub sum_of : List SiteTag → List Reading → Option ℤ → List ℕ → Option Amount
-sum_of tags readings factor [] = None
-sum_of tags readings factor (i ∷ is) = option_and_then (sum_with readings factor (i ∷ is)) (slice_get tags i)
+-- a total of some tags, which all have the exponent of the first
+abbrev pub sum_of : List SiteTag → Option ℤ → List ℕ → (total : Option ℤ) → Option Amount
+sum_of tags factor [] total = None
+sum_of tags factor (i ∷ is) total = option_and_then (λ t. option_map (amount t.exponent factor) total) (slice_get tags i)
 
 -- what the site file gives a point; a raw number is scaled by nothing
 abbrev pub amount_given : List SiteTag → List Reading → Option ℤ → Source → Option Amount
 amount_given tags readings factor (given.Raw n) = Some (amount (pos 0) (Some (pos 0)) n)
-amount_given tags readings factor (given.Sum parts) = sum_of tags readings factor parts
+amount_given tags readings factor (given.Sum parts) = sum_of tags factor parts (total_of readings parts)
+amount_given tags readings factor (given.PartialSum parts) = sum_of tags factor parts (partial_total_of readings parts)
 amount_given tags readings factor (given.Text text) = None
 
 -- what the program stored, or clients set

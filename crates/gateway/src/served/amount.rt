@@ -1,7 +1,7 @@
 //! What there is to say of a point of the gateway's own map.
-ghost use Rattle.std.specs.Prelude.{◌≡◌, ◌+ℤ◌, ◌≤ℤ◌, ◌^◌, neg_ℤ, pos, IfSome, option_and_then, slice_get};
+ghost use Rattle.std.specs.Prelude.{◌≡◌, ◌+ℤ◌, ◌≤ℤ◌, ◌^◌, neg_ℤ, pos, IfSome, option_and_then, option_map, slice_get};
 ghost use Rattle.point_types.specs.Reading.{IsExponent};
-ghost use Rattle.gateway.specs.served.ServedImage.{amount_from, amount_given, amount_of_tag, in_lint, number_of_tag, own_value, sum_of, sum_with, total_of, total_over};
+ghost use Rattle.gateway.specs.served.ServedImage.{amount, amount_from, amount_given, amount_of_tag, in_lint, joined, joined_total, number_of_tag, own_value, partial_total_of, sum_of, total_of, total_over};
 
 use crate::event_core::Memory;
 use crate::served::point::PointSource;
@@ -57,39 +57,42 @@ fn amount_given(
             factor: Some(0),
         }),
         Given::Text(_) => None,
-        Given::Sum(parts) => sum_of(tags, readings, factor, parts.as_slice()),
+        Given::Sum(parts) => {
+            let total = total_of(readings, parts.as_slice());
+            sum_of(tags, factor, parts.as_slice(), total)
+        }
+        Given::PartialSum(parts) => {
+            let total = partial_total_of(readings, parts.as_slice());
+            sum_of(tags, factor, parts.as_slice(), total)
+        }
     }
 }
 
-/// The total of some tags, which all have the exponent of the first.
+/// A total of some tags, which all have the exponent of the first.
 fn sum_of(
     tags: &[SiteTag],
-    readings: &[Reading],
     factor: Option<i16>,
     parts: &[usize],
+    total: Option<i64>,
 ) -> Option<Amount>
-    ensures value { result ≡ sum_of tags.now readings.now factor parts.now }
+    ensures value { result ≡ sum_of tags.now factor parts.now total }
     ensures scalable { IfSome result (λ a. IsExponent a.exponent) }
 {
     match parts {
         [first, ..] => match tags.get(*first) {
-            Some(tag) => sum_with(readings, factor, parts, tag),
+            Some(tag) => sum_by(tag, factor, total),
             None => None,
         },
         [] => None,
     }
 }
 
-fn sum_with(
-    readings: &[Reading],
-    factor: Option<i16>,
-    parts: &[usize],
-    tag: &SiteTag,
-) -> Option<Amount>
-    ensures value { result ≡ sum_with readings.now factor parts.now tag.now }
+/// A total of tags that have the exponent of this one.
+fn sum_by(tag: &SiteTag, factor: Option<i16>, total: Option<i64>) -> Option<Amount>
+    ensures value { result ≡ option_map (amount tag.now.exponent factor) total }
     ensures scalable { IfSome result (λ a. IsExponent a.exponent) }
 {
-    let number = total_of(readings, parts)?;
+    let number = total?;
     Some(Amount {
         number,
         exponent: tag.exponent,
@@ -125,6 +128,39 @@ fn added(total: i128, n: i64) -> i128
     ensures most { n ≤ℤ pos (2 ^ 63) }
 {
     total + i128::from(n)
+}
+
+/// The total of those of some tags' readings that are values of their own, where one is and the total lies in LINT's range.
+pub fn partial_total_of(readings: &[Reading], parts: &[usize]) -> Option<i64>
+    ensures { result ≡ partial_total_of readings.now parts.now }
+{
+    in_lint(joined_total(readings, parts)?)
+}
+
+fn joined_total(readings: &[Reading], parts: &[usize]) -> Option<i128>
+    ensures { result ≡ joined_total readings.now parts.now }
+{
+    let mut total: Option<i128> = None;
+    for part in parts {
+        total = joined(total, value_at(readings, *part));
+    }
+    total
+}
+
+/// The total of two values, or the one that is there.
+fn joined(total: Option<i128>, value: Option<i64>) -> Option<i128>
+    requires least { IfSome total (λ t. neg_ℤ (pos (2 ^ 126)) ≤ℤ t) }
+    requires most { IfSome total (λ t. t ≤ℤ pos (2 ^ 126)) }
+    ensures value { result ≡ joined total value }
+    ensures least { IfSome value (λ n. neg_ℤ (pos (2 ^ 63)) ≤ℤ n) }
+    ensures most { IfSome value (λ n. n ≤ℤ pos (2 ^ 63)) }
+{
+    match (total, value) {
+        (None, None) => None,
+        (Some(total), None) => Some(total),
+        (None, Some(n)) => Some(i128::from(n)),
+        (Some(total), Some(n)) => Some(added(total, n)),
+    }
 }
 
 fn value_at(readings: &[Reading], i: usize) -> Option<i64>

@@ -164,6 +164,6 @@ fn raw_in(given: &Given) -> Option<i64>
 {
     match given {
         Given::Raw(n) => Some(*n),
-        Given::Text(_) | Given::Sum(_) => None,
+        Given::Text(_) | Given::Sum(_) | Given::PartialSum(_) => None,
     }
 }

@@ -161,7 +161,7 @@ fn text_given(given: &Given) -> &[u8]
 {
     match given {
         Given::Text(text) => text.as_str().as_bytes(),
-        Given::Raw(_) | Given::Sum(_) => &[],
+        Given::Raw(_) | Given::Sum(_) | Given::PartialSum(_) => &[],
     }
 }
 

@@ -43,6 +43,7 @@ fn source_of(alloc: Global, source: &Source) -> Result<String, AllocError> {
         Source::Raw(raw) => format!(in alloc; "value {raw}"),
         Source::Text(text) => format!(in alloc; "text {}", text.as_str()),
         Source::Sum(parts) => format!(in alloc; "sum {:?}", parts.as_slice()),
+        Source::PartialSum(parts) => format!(in alloc; "partial sum {:?}", parts.as_slice()),
     }
 }
 
