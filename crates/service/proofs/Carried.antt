@@ -7,7 +7,8 @@ use Rattle.service_parts.specs.declared.device_connection.DeviceConnection.{Devi
 use Rattle.service_parts.specs.declared.asked.Asked.{Asked}
 use Rattle.service_parts.specs.Frames as frames
 use Rattle.service_requests.specs.declared.task.Task.{Task}
-use Rattle.service_parts.specs.Frames.{IsLed, LinkGoes, Sends, due_at, stays}
+use Rattle.service_parts.specs.Frames.{IsLed, LinkGoes, Sends, due_at}
+use Rattle.service_parts.proofs.Waited.{stands_led}
 use Rattle.service.specs.declared.device_side.DeviceSide.{DeviceSide}
 use Rattle.service.specs.declared.cycle.Cycle.{Cycle}
 use Rattle.service.specs.declared.held_writes.HeldWrites.{HeldWrites}
@@ -21,9 +22,6 @@ use Rattle.service.specs.Told.{Goes, TellsBy}
 
 pub not_both : {A : Type 0} {b : Bool} → b ≡ true → b ≡ false → A
 not_both yes_ no_ = absurd (cc)
-
-stands_led : (now : ℕ) (limits : Limits) (tasks : List Task) (lines : List DeviceConnection) (link : ℕ) (line : DeviceConnection) → slice_get lines link ≡ Some line → IsLed now limits (λ output. due_at output tasks) line tasks lines link
-stands_led now limits tasks lines link line at = record { line = line; there = at; course = stays line; within = λ output. omega arith }
 
 carried : (now : ℕ) (limits : Limits) (tasks left : List Task) (before lines : List DeviceConnection) (link : ℕ) (line : DeviceConnection) → slice_get before link ≡ Some line → LinkGoes now limits link tasks before left lines → ∥ IsLed now limits (λ output. due_at output tasks) line left lines link ∥₁
 carried now limits tasks left before lines link line at goes = goes (λ output. due_at output tasks) line ∣ stands_led now limits tasks before link line at ∣₁

@@ -15,7 +15,9 @@ use Rattle.service_parts.specs.declared.device_connection.DeviceConnection.{Devi
 use Rattle.service_parts.specs.declared.limits.Limits.{Limits}
 use Rattle.service_parts.specs.Calls.{write_to}
 use Rattle.service_parts.specs.Frames.{IsLed, LinkGoes, TakesDue, due_at, due_by, outputs_of, times_asked}
+use Rattle.service_parts.specs.Overdue.{NoneIsLeft, asked_at, is_left}
 use Rattle.service_parts.proofs.Frames.{set_other, set_there, still_goes}
+use Rattle.service_parts.proofs.Waited.{left_then}
 use Rattle.service.specs.declared.device_side.DeviceSide.{DeviceSide}
 use Rattle.service.specs.declared.round.Turn.TheVariants as turn
 use Rattle.service.specs.declared.service_state.Service.{Service}
@@ -172,3 +174,15 @@ once_more now limits most from before after lines link led = record {
 
 pub scanned_goes : (now : ℕ) (limits : Limits) (before after : List Task) (lines : List DeviceConnection) (link : ℕ) (most : ℕ → ℕ) (from : DeviceConnection) → ∥ IsLed now limits most from before lines link ∥₁ → ∥ IsLed now limits (λ output. most output + due_at output after) from after lines link ∥₁
 scanned_goes now limits before after lines link most from led = ∥∥₁_elim led ∥∥₁_prop (λ l. ∣ once_more now limits most from before after lines link l ∣₁)
+
+-- Where none is left whose time is over, none is after the rest of a call. The writes that may begin are more where the program runs.
+pub none_left : (time : ℕ) (more : (ℕ → ℕ) → ℕ → ℕ) (old middle new : Service) → new.side.now ≡ middle.side.now → new.side.limits ≡ middle.side.limits → middle.side.now ≡ time
+    → NoneIsLeft time old.lines.lines.items middle.lines.lines.items → LinksGo old middle
+    → ((link : ℕ) (most : ℕ → ℕ) (from : DeviceConnection) → ∥ IsLed new.side.now new.side.limits most from (tasks_of middle) middle.lines.lines.items link ∥₁ → ∥ IsLed new.side.now new.side.limits (more most) from (tasks_of new) new.lines.lines.items link ∥₁)
+    → NoneIsLeft time old.lines.lines.items new.lines.lines.items
+none_left time more old middle new now limits at none goes then_goes link line there =
+    let same : new.side.now ≡ time = now ∙ at in
+    subst (λ n. is_left n (asked_at new.lines.lines.items link) ≡ false) same
+    (left_then new.side.now new.side.limits more (tasks_of old) (tasks_of middle) (tasks_of new) old.lines.lines.items middle.lines.lines.items new.lines.lines.items link
+    (goes_then middle.side new.side now limits link _ _ _ _ (goes link)) (then_goes link) line there
+    (subst (λ n. is_left n (asked_at middle.lines.lines.items link) ≡ false) (sym same) (none link line there)))

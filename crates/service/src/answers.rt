@@ -1,7 +1,9 @@
 //! What becomes of requests: answers that come, and those that don't.
 ghost use Rattle.std.specs.Prelude.{◌≡◌, ◌<◌, ℕ, None, Some, slice_get, length, true, false};
 ghost use Rattle.service_parts.specs.declared.asked.Aim.TheVariants.{Output as OutputAim};
+ghost use Rattle.service_parts.specs.declared.device_connection.DeviceConnection.{DeviceConnection as LineValue};
 ghost use Rattle.service_parts.specs.Answering.{is_answer};
+ghost use Rattle.service_parts.specs.Overdue.{NoneIsLeft, asked_at, is_left};
 ghost use Rattle.service_requests.specs.declared.request_end.RequestEnd.TheVariants.{Told};
 ghost use Rattle.service.specs.declared.notice.Loss.TheVariants.{Frame as frame, Silent as silent};
 ghost use Rattle.service.specs.declared.notice.Unwritten.TheVariants.{Unanswered};
@@ -261,6 +263,7 @@ impl Service {
         ensures lines { LinksGo self.old self.new }
         ensures goes { LeadsOn self.old.cycle self.new.cycle }
         ensures held { HasNoMore self.old.held self.new.held }
+        ensures ended { NoneIsLeft self.old.side.now self.old.lines.lines.items self.new.lines.lines.items }
         ensures stands { LosesBy (LostByWait self.old.lines.links.stations.items self.old.lines.lines.items self.old.side.now) self.old.side self.new.side }
     {
         for link in 0..self.lines.count() {
@@ -274,6 +277,7 @@ impl Service {
         ensures goes { LeadsOn self.old.cycle self.new.cycle }
         ensures held { HasNoMore self.old.held self.new.held }
         ensures others { (other : ℕ) → (other ≡ link → ⊥) → slice_get self.new.lines.lines.items other ≡ slice_get self.old.lines.lines.items other }
+        ensures ended { (line : LineValue) → slice_get self.old.lines.lines.items link ≡ Some line → is_left self.old.side.now (asked_at self.new.lines.lines.items link) ≡ false }
         ensures stands { LosesBy (LostByWaitAt self.old.lines.links.stations.items self.old.lines.lines.items self.old.side.now link) self.old.side self.new.side }
     {
         if let Some(asked) = self.lines.give_up_overdue(link, self.side.now) {

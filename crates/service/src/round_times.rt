@@ -4,6 +4,7 @@ ghost use Rattle.service.specs.Losing.{LostByWait};
 ghost use Rattle.service.specs.Counting.{came_to};
 ghost use Rattle.service.specs.Told.{Goes, IsReportOf, RunsBy};
 ghost use Rattle.service.specs.Cycle.{LeadsOn, stage_of};
+ghost use Rattle.service_parts.specs.Overdue.{NoneIsLeft};
 ghost use Rattle.service_parts.specs.Places.{closed_if_idle};
 ghost use Rattle.service.specs.Timing.{RunsNow, ScansNow, Ticks};
 ghost use Rattle.service.specs.Rounds.{IsRecent};
@@ -26,6 +27,7 @@ impl Service {
         ensures goes { RunsIf (nat_le self.old.side.next_scan (max self.old.side.now now))
             (λ scanned. TellsAt (LostByWait self.old.lines.links.stations.items self.old.lines.lines.items (max self.old.side.now now)) scanned.core self.old.held self.old.side self.new.side × LinksGoByScan scanned.round.writes self.old self.new × (self.new.side.last_scan ≡ came_to scanned.core.standing.last))
             (max self.old.side.now now) (stage_of self.old.cycle) (stage_of self.new.cycle) }
+        ensures ended { NoneIsLeft (max self.old.side.now now) self.old.lines.lines.items self.new.lines.lines.items }
         ensures held { HasNoMore self.old.held self.new.held }
         ensures places { self.new.places.items ≡ map (closed_if_idle (max self.old.side.now now) self.old.side.limits.idle) self.old.places.items }
         ensures last { nat_le self.old.side.next_scan (max self.old.side.now now) ≡ false → self.new.side.last_scan ≡ self.old.side.last_scan }

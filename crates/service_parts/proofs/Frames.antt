@@ -1,9 +1,9 @@
 -- Steps of what goes out over a connection.
 use Rattle.std.proofs.Common.{◌≡◌, ◌≢◌, ◌⊎◌, inl, inr, ℕ, zero, suc, eqb, Bool, true, false, List, [], ◌∷◌, ◌++◌, take, drop, length, Option, None, Some, slice_get, set, refl, sym, ap, subst, ◌∙◌, append_assoc, arith, ◌+◌, ◌≤◌, if◌then◌else◌}
-use Rattle.std.specs.Prelude.{IsTrue, is_none, not, min, ◌&&◌, ◌==◌}
+use Rattle.std.specs.Prelude.{IsTrue, is_none, not, min, nat_le, ◌&&◌, ◌==◌}
 use Rattle.std.specs.List.{flat_map}
 use Rattle.std.proofs.Math.Logic.{∥∥₁_elim, ∥∥₁_prop}
-use Rattle.std.proofs.lemmas.Bool.{eqb-true}
+use Rattle.std.proofs.lemmas.Bool.{eq-eqb, eqb-true}
 use Rattle.std.proofs.lemmas.Bool.Decides.{eqb_tells}
 use Rattle.std.proofs.lemmas.List.{append-nil, take-append-drop}
 use Rattle.modbus_frame.specs.Frame.{frame_bytes}
@@ -16,7 +16,7 @@ use Rattle.service_parts.specs.declared.asked.Asked.{Asked}
 use Rattle.service_parts.specs.Frames.{AnsweredLinesHaveNoBackOff, AreNumbered, Begins, CourseBy, FramesGoOutWhole, GivesUp, GoesDown, HearingStep, IsLed, IsSending, IsUnwaited, Keeps, LinesGo, LinesGoAt, LinkGoes, OthersGo, OwnStep, RequestsHaveTheirTime, Sends, StaysLinked, TakesDue, begins, begun, begun_by, dialled, dials, due_at, gives_up, goes, is_idle, keeps, stays, times_asked}
 use Rattle.service_parts.specs.Answering.{answers}
 use Rattle.service_parts.specs.Backing.{longer}
-use Rattle.service_parts.specs.Overdue.{IsTimed, is_over}
+use Rattle.service_parts.specs.Overdue.{IsTimed, is_left, is_over}
 use Rattle.service_parts.specs.declared.limits.Limits.{Limits}
 
 pub keeps_by : (old new : DeviceConnection) → new.asked ≡ old.asked → new.pending ≡ old.pending → new.id ≡ old.id → new.out.items ≡ old.out.items → (old.is_bad ≡ true → new.is_bad ≡ true) → new.is_up ≡ old.is_up → new.is_heard ≡ old.is_heard → new.dial_until ≡ old.dial_until → new.dial_at ≡ old.dial_at → new.wait ≡ old.wait → Keeps old new
@@ -256,8 +256,23 @@ module _ (now : ℕ) (limits : Limits) where
       let there = waits_course old middle course asked is waits in
       waits_step middle new step asked there (ap (is_over now) (there ∙ sym is) ∙ waits)
 
+  began_now : (b : Bool) (asked : Asked) → asked.since ≡ now → (b && not (asked.since == now)) ≡ false
+  began_now false asked since = refl
+  began_now true asked since = ap not (eq-eqb asked.since now since)
+
+  not_left : (before : Option Asked) (asked : Asked) → is_left now before ≡ false → (before ≡ Some asked) ⊎ IsTimed now limits asked → is_left now (Some asked) ≡ false
+  not_left before asked none (inl still) = ap (is_left now) (sym still) ∙ none
+  not_left before asked none (inr timed) = began_now (nat_le asked.until now) asked timed.since
+
+  ends_course : (old new : DeviceConnection) → CourseBy (OwnStep now limits) old new → is_left now old.asked ≡ false → is_left now new.asked ≡ false
+  ends_course old new course none = go new.asked refl
+    where
+      go : (o : Option Asked) → new.asked ≡ o → is_left now o ≡ false
+      go None is = refl
+      go (Some asked) is = not_left old.asked asked none (asked_course old new course asked is)
+
 pub requests_have_their_time : RequestsHaveTheirTime
-requests_have_their_time = record { under_way = asked_course; waits = waits_course }
+requests_have_their_time = record { under_way = asked_course; waits = waits_course; ends = ends_course }
 
 -- ---- what is free
 

@@ -3,3 +3,4 @@ pub mod Heard
 pub mod Frames
 pub mod Placed
 pub mod Waking
+pub mod Waited

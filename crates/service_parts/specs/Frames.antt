@@ -17,7 +17,7 @@ use Rattle.service_parts.specs.declared.asked.Aim.TheVariants as aim
 use Rattle.service_parts.specs.declared.asked.Asked.{Asked}
 use Rattle.service_parts.specs.Answering.{answers}
 use Rattle.service_parts.specs.Backing.{after, longer}
-use Rattle.service_parts.specs.Overdue.{IsTimed, is_over}
+use Rattle.service_parts.specs.Overdue.{IsTimed, is_left, is_over}
 
 -- ---- the connection itself
 
@@ -224,12 +224,15 @@ pub record TakesDue (made_for : Aim) (before after : List Task) : Type 0 where
 -- ---- how long a request has
 
 -- From a line on, by what a service does by itself at this time: a request that is under way then was so before, or it begins now
--- and has its time from now on; and one whose time isn't over stays under way.
+-- and has its time from now on; one whose time isn't over stays under way; and where none is left whose time is over, none is
+-- then.
 pub record RequestsHaveTheirTime : Type 0 where
   pub under_way : (now : ℕ) (limits : Limits) (old new : DeviceConnection) → CourseBy (OwnStep now limits) old new
       → (asked : Asked) → new.asked ≡ Some asked → (old.asked ≡ Some asked) ⊎ IsTimed now limits asked
   pub waits : (now : ℕ) (limits : Limits) (old new : DeviceConnection) → CourseBy (OwnStep now limits) old new
       → (asked : Asked) → old.asked ≡ Some asked → is_over now old.asked ≡ false → new.asked ≡ Some asked
+  pub ends : (now : ℕ) (limits : Limits) (old new : DeviceConnection) → CourseBy (OwnStep now limits) old new
+      → is_left now old.asked ≡ false → is_left now new.asked ≡ false
 
 -- ---- what went out
 

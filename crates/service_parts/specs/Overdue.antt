@@ -1,6 +1,6 @@
 -- How long a request may take, which one took its time, and which devices are reached over a link. No standard says it; it is
 -- this project's.
-use Rattle.std.specs.Prelude.{◌≡◌, ◌≤◌, ℕ, ◌*◌, ◌/◌, min, max, nat_le, Bool, false, List, Option, None, Some, option_and_then, slice_get, if◌then◌else◌}
+use Rattle.std.specs.Prelude.{◌≡◌, ◌≤◌, ℕ, ◌*◌, ◌/◌, ◌==◌, ◌&&◌, not, min, max, nat_le, Bool, false, List, Option, None, Some, option_and_then, slice_get, if◌then◌else◌}
 use Rattle.service_parts.specs.declared.limits.Limits.{Limits}
 use Rattle.service_parts.specs.declared.limits.Station.{Station}
 use Rattle.service_parts.specs.declared.device_connection.DeviceConnection.{DeviceConnection}
@@ -38,3 +38,12 @@ if_over now asked = if nat_le asked.until now then Some asked else None
 -- the same, where its time is over
 abbrev pub overdue_at : List DeviceConnection → ℕ → ℕ → Option Asked
 overdue_at lines now link = option_and_then (if_over now) (asked_at lines link)
+
+-- One is still under way whose time is over, and which didn't begin at this very time.
+abbrev pub is_left : ℕ → Option Asked → Bool
+is_left now None = false
+is_left now (Some asked) = nat_le asked.until now && not (asked.since == now)
+
+-- None is, on any link that had a line before.
+abbrev pub NoneIsLeft : (now : ℕ) → (before lines : List DeviceConnection) → Type 0
+NoneIsLeft now before lines = (link : ℕ) (line : DeviceConnection) → slice_get before link ≡ Some line → is_left now (asked_at lines link) ≡ false

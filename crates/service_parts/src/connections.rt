@@ -48,7 +48,9 @@ impl Connections {
     }
 
     /// How many links there are.
-    pub fn count(&self) -> usize {
+    pub fn count(&self) -> usize
+        ensures { result ≡ length self.now.lines.items }
+    {
         self.lines.len()
     }
 

@@ -1,5 +1,5 @@
 //! Requests to devices, and what comes of them.
-ghost use Rattle.std.specs.Prelude.{◌≡◌, ◌⊎◌, ◌≤◌, ℕ, List, None, Some, drop, length, slice_get, true};
+ghost use Rattle.std.specs.Prelude.{◌≡◌, ◌⊎◌, ◌≤◌, ℕ, List, None, Some, drop, length, slice_get, false, true};
 ghost use Rattle.modbus_frame.specs.Message.{HasQuantity, address_of};
 ghost use Rattle.gateway.specs.event_core.Core.{Gateway};
 ghost use Rattle.service_parts.specs.declared.device_connection.DeviceConnection.{DeviceConnection as LineValue};
@@ -95,6 +95,7 @@ impl Connections {
         ensures rightful { StayRightful self.old self.new }
         ensures links { self.new.links ≡ self.old.links }
         ensures overdue { result ≡ overdue_at self.old.lines.items now link }
+        ensures ended { is_over now (asked_at self.new.lines.items link) ≡ false }
         ensures lines { LinesGoAt now self.old.lines.items self.new.lines.items }
         ensures others { (other : ℕ) → (other ≡ link → ⊥) → slice_get self.new.lines.items other ≡ slice_get self.old.lines.items other }
     {
@@ -119,6 +120,7 @@ impl Connections {
     fn give_up(&mut self, link: usize, now: u64) -> Option<Asked>
         requires waited { is_over now (asked_at self.old.lines.items link) ≡ true }
         ensures asked { result ≡ asked_at self.old.lines.items link }
+        ensures ended { asked_at self.new.lines.items link ≡ None }
         ensures rightful { StayRightful self.old self.new }
         ensures links { self.new.links ≡ self.old.links }
         ensures lines { LinesGoAt now self.old.lines.items self.new.lines.items }

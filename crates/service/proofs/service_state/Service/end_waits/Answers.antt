@@ -1,6 +1,8 @@
-use Rattle.std.proofs.Common.{rules, ◌<◌, ap, ◌∙◌}
+use Rattle.std.proofs.Common.{rules, ◌≡◌, ◌<◌, false, ap, subst, ◌∙◌}
 use Rattle.std.proofs.Math.Nat.{le_refl}
 use Rattle.service_parts.specs.declared.stations.Stations.{Stations}
+use Rattle.service_parts.specs.Overdue.{asked_at, is_left}
+use Rattle.service_parts.proofs.Waited.{none_further}
 use Rattle.service.proofs.Losing.{below_other, waited_before}
 use Rattle.service.proofs.service_state.Service.end_waits.Goals as goal
 
@@ -21,4 +23,6 @@ loop-link-preserved c =
       search rules,
       search rules,
       search rules,
+      none_further c.args.self.now.side.now c.args.self.now.lines.lines.items c.loop-link.self.lines.lines.items c.end_wait.new.self.lines.lines.items c.loop-link.link so_far.2 so_far.6 c.end_wait.ensures.others
+          (λ line there. subst (λ n. is_left n (asked_at c.end_wait.new.self.lines.lines.items c.loop-link.link) ≡ false) so_far.0.time.side.now (c.end_wait.ensures.ended line there)),
     )

@@ -1,4 +1,6 @@
-use Rattle.std.proofs.Common.{rules, ◌≡◌, true, max, nat_le, ap, subst, ◌∙◌}
+use Rattle.std.proofs.Common.{rules, ◌≡◌, ◌+◌, true, max, nat_le, ap, subst, ◌∙◌}
+use Rattle.service_parts.specs.Frames.{due_at}
+use Rattle.service_parts.specs.Overdue.{NoneIsLeft}
 use Rattle.service.specs.declared.device_side.DeviceSide.{DeviceSide}
 use Rattle.service.specs.Counting.{came_to}
 use Rattle.service.specs.Cycle.{stage_of}
@@ -8,7 +10,7 @@ use Rattle.service.specs.Losing.{LostByWait}
 use Rattle.service.specs.Stages.{RunsOnce, Stage}
 use Rattle.service.specs.Told.{LosesBy}
 use Rattle.service.proofs.Courses.{runs_where}
-use Rattle.service.proofs.Going.{goes_then}
+use Rattle.service.proofs.Going.{goes_then, none_left}
 use Rattle.service.proofs.Having.{tells_at}
 use Rattle.service.proofs.service_state.Service.tick.Goals as goal
 
@@ -23,3 +25,15 @@ returns-then-is_due-clause-goes c =
       λ link most from led. after.1 link most from (goes_then c.end_waits.new.self.side c.scan.new.self.side c.scan.ensures.time.now c.scan.ensures.time.limits link _ _ _ _ (c.end_waits.ensures.lines link) most from led),
       after.2,
     ))
+
+pub returns-then-is_due-clause-ended : goal.returns-then-is_due-clause-ended
+returns-then-is_due-clause-ended c =
+    let turned = ap (λ (x : DeviceSide). x.now) c.turn_to.ensures.now in
+    none_left _ (λ most output. most output + due_at output c.scan.ensures.runs.scanned.round.writes) c.args.self.now c.end_waits.new.self c.scan.new.self c.scan.ensures.time.now c.scan.ensures.time.limits (c.end_waits.ensures.rest.time.side.now ∙ turned)
+    (subst (λ n. NoneIsLeft n c.args.self.now.lines.lines.items c.end_waits.new.self.lines.lines.items) turned c.end_waits.ensures.ended) c.end_waits.ensures.lines c.scan.ensures.runs.after.1
+
+pub returns-else-is_due-clause-ended : goal.returns-else-is_due-clause-ended
+returns-else-is_due-clause-ended c =
+    let turned = ap (λ (x : DeviceSide). x.now) c.turn_to.ensures.now in
+    none_left _ (λ most. most) c.args.self.now c.end_waits.new.self c.go_on.new.self c.go_on.ensures.rest.time.side.now c.go_on.ensures.rest.time.side.limits (c.end_waits.ensures.rest.time.side.now ∙ turned)
+    (subst (λ n. NoneIsLeft n c.args.self.now.lines.lines.items c.end_waits.new.self.lines.lines.items) turned c.end_waits.ensures.ended) c.end_waits.ensures.lines c.go_on.ensures.lines
