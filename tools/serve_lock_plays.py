@@ -51,7 +51,7 @@ def play_one_service(counts, program, folder):
     first.end()
     ran = start(program, *more)
     counts.note("and one after one that ends by itself", ran.returncode == 0 and start(program, *more).returncode == 0, ran)
-    counts.note("beside it stands the file that is locked, and no other", sorted(os.listdir(folder)) == ["state", "state.lock"], os.listdir(folder))
+    counts.note("beside it stand the file that is locked, that of the program, and no other", sorted(os.listdir(folder)) == ["state", "state.lock", "state.program"], os.listdir(folder))
     device.gone()
 
 

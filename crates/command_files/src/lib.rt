@@ -18,7 +18,7 @@ pub use explain_table::ExplainTable;
 pub use failing::{no_start, tell_file, tell_lost, tell_unserved};
 pub use files::{
     STANDARD_INPUT, SourceFault, WriteFault, definitions_in, read_again, read_file, read_kept,
-    warn_of_none,
+    read_kept_program, warn_of_none,
 };
 pub use links::{
     ProbeAddress, ProbeRun, WatchedLink, cause_of_link, link_over, loopback, probe_over,

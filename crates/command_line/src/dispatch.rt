@@ -16,7 +16,7 @@ use clap::ArgMatches;
 use command_files::{trial_of, warn_of_none, warn_of_site};
 use commands::{USUAL_PERIOD, tell_no_memory};
 use file_keys::TomlFile;
-use refusal_notes::{Notes, explain_unusable};
+use refusal_notes::{FileFault, Notes, explain_unusable};
 use service_loop::seconds_of_day;
 use service_texts::{DeviceSource, Start};
 use std::alloc::{AllocError, Global};
@@ -205,7 +205,17 @@ fn obey_on_notes<W: Write>(
     match (file_command(name, matches), trace) {
         (Some(command), Some(trace)) => explain_with(rt, alloc, command, notes, trace, out),
         (Some(command), None) => obey_on(rt, alloc, itself, command, notes, out),
-        (None, _) if name == "serve" => served(rt, alloc, itself, matches, notes, out),
+        (None, _) if name == "serve" => {
+            served(
+                rt,
+                alloc,
+                itself,
+                matches,
+                notes,
+                sources.program_fault,
+                out,
+            )
+        },
         (None, _) if name == "survey" => surveyed(rt, alloc, matches, notes, out),
         (None, _) if name == "map" => mapped(rt, alloc, matches, notes, out),
         (None, _) => BAD_COMMAND_LINE,
@@ -289,10 +299,20 @@ fn served<W: Write>(
     itself: &str,
     matches: &ArgMatches<'_>,
     notes: &Notes<'_>,
+    program_fault: Option<FileFault>,
     out: &mut W,
 ) -> u8 {
     match read_state(rt, alloc, matches) {
-        Ok(state) => served_with(rt, alloc, itself, matches, notes, state.as_str(), out),
+        Ok(state) => served_with(
+            rt,
+            alloc,
+            itself,
+            matches,
+            notes,
+            program_fault,
+            state.as_str(),
+            out,
+        ),
         Err(refusal) => unread(rt, alloc, matches, &refusal, out),
     }
 }
@@ -304,6 +324,7 @@ fn served_with<W: Write>(
     itself: &str,
     matches: &ArgMatches<'_>,
     notes: &Notes<'_>,
+    program_fault: Option<FileFault>,
     state: &str,
     out: &mut W,
 ) -> u8 {
@@ -317,6 +338,7 @@ fn served_with<W: Write>(
             let devices = words.devices;
             let run = ServiceRun {
                 notes: *notes,
+                program_fault,
                 devices,
                 exe,
                 limits: service_limits(matches),
@@ -324,6 +346,7 @@ fn served_with<W: Write>(
                 keeping: keeping_of(matches, state),
                 reloads: matches.get_flag("reload"),
                 names: &[],
+                refused: None,
             };
             match devices {
                 DeviceSource::Plant(_) => warn_of_site(rt, notes),

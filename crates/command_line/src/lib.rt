@@ -27,6 +27,6 @@ pub use file_command::{FileCommand, obey_on};
 // a plant of simulated inverters, on a port
 pub use plant_server::{PlantPort, simulate};
 // a service on a site
-pub use serve::{ServiceRun, run_service};
+pub use serve::{RefusedText, ServiceRun, run_service};
 // a survey of a site
 pub use survey::{SurveyRun, run_survey};

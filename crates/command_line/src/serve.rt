@@ -1,9 +1,12 @@
 //! The command `serve`: a service on a site, and why there is none.
+mod last_program;
 mod program_file;
+mod refused_words;
 mod refusing;
 mod retained;
 mod service_run;
 mod unkept;
 
+pub use last_program::RefusedText;
 pub(crate) use refusing::{tell_no_core, tell_unreachable};
 pub use service_run::{ServiceRun, run_service};

@@ -2,7 +2,9 @@
 ghost use Rattle.command_files.specs.Printing.{Fails};
 
 use clap::ArgMatches;
-use command_files::{SourceFault, definitions_in, read_file, read_kept, tell_file};
+use command_files::{
+    SourceFault, definitions_in, read_file, read_kept, read_kept_program, tell_file,
+};
 use commands::tell_no_memory;
 use refusal_notes::FileFault;
 use std::alloc::{AllocError, AllocFailed, Global};
@@ -14,6 +16,8 @@ use std::rt::Files;
 pub(crate) struct Sources {
     pub site: String,
     pub program: String,
+    /// Why the program's file isn't had, where that is the text of the one that was accepted last.
+    pub program_fault: Option<FileFault>,
     pub plant: String,
     /// What clients set in a run.
     pub sets: String,
@@ -60,6 +64,14 @@ impl SourceRefusal {
         }
     }
 
+    /// Why the file can't be used, where it is that.
+    fn fault(&self) -> Option<FileFault> {
+        match self {
+            SourceRefusal::File(_, fault) => Some(*fault),
+            SourceRefusal::OutOfMemory => None,
+        }
+    }
+
     /// Writes its line, and gives the status.
     pub fn tell<W: Write>(&self, alloc: Global, out: &mut W) -> u8
         ensures { Fails (W.contents out.old) (W.contents out.new) result }
@@ -85,24 +97,87 @@ impl<T: Drop> From<AllocFailed<T>> for SourceRefusal {
 
 /// Reads the files that the command names, in the order site, program, plant, set values, trace, definitions.
 pub(crate) fn read_sources(
-    rt: &(impl Input + AllocGlobal + Files),
+    rt: &(impl Input + Eprint + AllocGlobal + Files),
     alloc: Global,
     matches: &ArgMatches<'_>,
 ) -> Result<Sources, SourceRefusal> {
     let site = named_text(rt, alloc, matches.get_str("SITE"))?;
-    let program = named_text(rt, alloc, matches.get_str("PROGRAM"))?;
+    let program = read_program(rt, alloc, matches)?;
     let plant = named_text(rt, alloc, matches.get_str("PLANT"))?;
     let sets = named_text(rt, alloc, matches.get_str("sets"))?;
     let trace = named_text(rt, alloc, matches.get_str("traced"))?;
-    let definitions = read_definitions(rt, alloc, matches.get_strs("def").unwrap_or(&[]))?;
+    let definitions = match read_definitions(rt, alloc, matches.get_strs("def").unwrap_or(&[])) {
+        Ok(definitions) => definitions,
+        Err(refusal) => return Err(program.refusal_before(alloc, matches, refusal)),
+    };
+    let ProgramSource { text, fault } = program;
     Ok(Sources {
         site,
-        program,
+        program: text,
+        program_fault: fault,
         plant,
         sets,
         trace,
         definitions,
     })
+}
+
+/// The text of a program.
+#[derive(Drop)]
+struct ProgramSource {
+    text: String,
+    /// Why its file isn't had, where that is the text of the one that was accepted last.
+    fault: Option<FileFault>,
+}
+
+impl ProgramSource {
+    /// The first refusal: that of the program's file, where it isn't had, else this one.
+    fn refusal_before(
+        &self,
+        alloc: Global,
+        matches: &ArgMatches<'_>,
+        refusal: SourceRefusal,
+    ) -> SourceRefusal {
+        match (self.fault, matches.get_str("PROGRAM")) {
+            (Some(fault), Some(path)) => {
+                SourceRefusal::of(alloc, path, SourceFault::Unusable(fault))
+            }
+            _ => refusal,
+        }
+    }
+}
+
+/// The text of the program, where one is named. Where its file isn't had, and the command keeps its programs, it is that of
+/// the one that was accepted last.
+fn read_program(
+    rt: &(impl Input + Eprint + AllocGlobal + Files),
+    alloc: Global,
+    matches: &ArgMatches<'_>,
+) -> Result<ProgramSource, SourceRefusal> {
+    let path = matches.get_str("PROGRAM");
+    match named_text(rt, alloc, path) {
+        Ok(text) => Ok(ProgramSource { text, fault: None }),
+        Err(refusal) => kept_source(rt, alloc, matches, refusal),
+    }
+}
+
+/// The program that was accepted last, where it is kept; else its file's refusal stands.
+fn kept_source(
+    rt: &(impl Eprint + AllocGlobal + Files),
+    alloc: Global,
+    matches: &ArgMatches<'_>,
+    refusal: SourceRefusal,
+) -> Result<ProgramSource, SourceRefusal> {
+    let (Some(fault), Some(state)) = (refusal.fault(), matches.get_str("state")) else {
+        return Err(refusal);
+    };
+    match read_kept_program(rt, alloc, state, matches.get_flag("quiet")) {
+        Some(text) => Ok(ProgramSource {
+            text,
+            fault: Some(fault),
+        }),
+        None => Err(refusal),
+    }
 }
 
 /// The text of the file of set values; empty where there is none, or none is kept.

@@ -10,7 +10,7 @@ pub struct Keeping<'a, 't> {
     pub status: Option<&'a str>,
 }
 
-/// The file of set values and variables.
+/// The file of set values and variables, and the one beside it of the program that was accepted last.
 #[derive(Clone, Copy)]
 pub struct KeptState<'a, 't> {
     pub path: &'a str,
@@ -18,4 +18,6 @@ pub struct KeptState<'a, 't> {
     pub text: &'t str,
     /// The names of the variables that are kept.
     pub retained: &'a [Name],
+    /// The program that runs from the start.
+    pub program: &'a str,
 }

@@ -1,6 +1,7 @@
 //! The files of a service, over its time.
 use crate::keeping::Keeping;
 use crate::line_writer::LineWriter;
+use crate::program_copy::ProgramCopy;
 use crate::restoring::restore;
 use crate::sockets::TurnTaken;
 use crate::state_file::StateFile;
@@ -18,6 +19,7 @@ use std::rt::Files;
 pub(crate) struct KeptFiles<'a> {
     alloc: Global,
     state: Option<StateFile<'a>>,
+    program: Option<ProgramCopy<'a>>,
     status: Option<StatusFile<'a>>,
     /// No other service keeps its set values in the same file.
     _lock: Option<StateLock>,
@@ -45,6 +47,10 @@ impl<'a> KeptFiles<'a> {
             }
             None => None,
         };
+        let program = match keeping.state {
+            Some(state) => Some(ProgramCopy::new(&state)),
+            None => None,
+        };
         let status = match keeping.status {
             Some(path) => Some(StatusFile::new(path)),
             None => None,
@@ -52,6 +58,7 @@ impl<'a> KeptFiles<'a> {
         Ok(KeptFiles {
             alloc,
             state,
+            program,
             status,
             _lock: lock,
         })
@@ -62,15 +69,36 @@ impl<'a> KeptFiles<'a> {
         if let Some(state) = &mut self.state {
             state.scanned();
         }
+        if let Some(program) = &mut self.program {
+            program.scanned();
+        }
         if let Some(status) = &mut self.status {
             status.scanned();
         }
     }
 
-    /// Another program runs from now on: its variables are kept.
+    /// Another program runs from now on: it is kept, and its variables are.
     pub(crate) fn take_program(&mut self) {
         if let Some(state) = &mut self.state {
             state.take_program();
+        }
+        if let Some(program) = &mut self.program {
+            program.take_program();
+        }
+    }
+
+    /// Keeps the program that runs, where that may not be kept yet: the one that was taken last, or that of the start.
+    pub(crate) fn keep_program<R: Files, W: Write>(
+        &mut self,
+        rt: &R,
+        taken: Option<&str>,
+        line_writer: &mut LineWriter<'_, W>,
+    ) {
+        let alloc = self.alloc;
+        if let Some(program) = &mut self.program {
+            if let Some(word) = program.keep(rt, alloc, taken) {
+                line_writer.tell(file_line(alloc, "program", word));
+            }
         }
     }
 

@@ -19,6 +19,7 @@ mod nights;
 mod paces;
 mod plant_client;
 mod plant_door;
+mod program_copy;
 mod program_watch;
 mod replacing;
 mod restoring;

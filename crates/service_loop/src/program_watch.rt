@@ -41,6 +41,9 @@ pub trait ProgramWatch {
     /// What is told of the program that was taken last; None where none was since the start.
     fn taken(&self) -> Option<&Start>;
 
+    /// The text of the program that was taken last; None where none was since the start.
+    fn taken_text(&self) -> Option<&str>;
+
     /// When it looks next, in milliseconds since the start; None where it never does.
     fn looks_at(&self) -> Option<u64>;
 
@@ -63,6 +66,10 @@ pub struct OneProgram;
 
 impl ProgramWatch for OneProgram {
     fn taken(&self) -> Option<&Start> {
+        None
+    }
+
+    fn taken_text(&self) -> Option<&str> {
         None
     }
 

@@ -3,7 +3,7 @@ use crate::alarm_watch::AlarmWatch;
 use crate::keeping::Keeping;
 use crate::kept_files::KeptFiles;
 use crate::line_writer::LineWriter;
-use crate::program_watch::{Looked, ProgramWatch};
+use crate::program_watch::{Looked, ProgramRefusal, ProgramWatch};
 use crate::room::{Room, STANDARD_ERROR, STANDARD_OUTPUT};
 use crate::serving::{End, Serving};
 use crate::sockets::Sockets;
@@ -12,7 +12,9 @@ use crate::status::status_text;
 use crate::telling::{pace_line, sleep_line, tell, tell_changes, tell_scan, tell_taken};
 use crate::wall_clock::seconds_of_day;
 use service::{Notice, Service};
-use service_texts::{Addresses, Start, late_line, listening_line, program_refused_line};
+use service_texts::{
+    Addresses, Start, late_line, listening_line, program_kept_line, program_refused_line,
+};
 use site_model::Site;
 use std::alloc::{AllocError, Global};
 use std::io;
@@ -87,6 +89,22 @@ impl<'a, W: Write> ServeLoop<'a, W> {
         }
     }
 
+    /// Tells why the program in its file is refused, and which one runs in its place, where one does.
+    pub(crate) fn tell_kept(&mut self, serving: &Serving<'_>) -> Result<(), End> {
+        let Some(words) = serving.refused else {
+            return Ok(());
+        };
+        let Ok(cause) = String::from_str(self.alloc, words) else {
+            return Err(End::OutOfMemory);
+        };
+        let hash = serving.start.program.as_str();
+        self.line_writer
+            .tell(program_refused_line(self.alloc, words));
+        self.line_writer.tell(program_kept_line(self.alloc, hash));
+        self.alarm_watch.refuse(ProgramRefusal::Cause(cause));
+        Ok(())
+    }
+
     /// The files that are kept, where what the one of set values says is set, and told where it isn't. The lock is that of
     /// this file.
     pub(crate) fn restore<'k>(
@@ -122,6 +140,7 @@ impl<'a, W: Write> ServeLoop<'a, W> {
         if self.tell_look(&*program, looked, files) && self.has_room() {
             program.explain(rt, &*service);
         }
+        files.keep_program(rt, program.taken_text(), &mut self.line_writer);
         self.hear(service, now)?;
         service.tick(now);
         let taken = self

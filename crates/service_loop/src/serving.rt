@@ -10,6 +10,8 @@ use std::net::SocketAddr;
 pub struct Serving<'a> {
     /// What is told of its start.
     pub start: &'a Start,
+    /// Why the program in its file is refused, where the one that was accepted last runs from the start in its place.
+    pub refused: Option<&'a str>,
     /// By which time lines are told.
     pub times: Times,
     /// Where clients come to.

@@ -38,6 +38,7 @@ pub fn serve_site<
     let is_noting = program.looks_at().is_some();
     let mut serve_loop = ServeLoop::new(rt, alloc, serving, addresses, is_noting, out)?;
     serve_loop.tell_address();
+    serve_loop.tell_kept(serving)?;
     let mut files = serve_loop.restore(keeping, lock, service)?;
     let ended = turns(rt, serving, program, service, &mut serve_loop, &mut files);
     serve_loop.end();

@@ -1,4 +1,5 @@
 pub mod Placing
+pub mod KeptProgram
 pub mod KeptVariables
 pub mod StateLines
 pub mod Named

@@ -1,3 +1,4 @@
+pub mod Keeping
 pub mod Lapsing
 pub mod Lines
 pub mod Places

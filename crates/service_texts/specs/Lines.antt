@@ -42,6 +42,10 @@ left_out_setting_line line = codes "setting " ++ line ++ codes " left out"
 abbrev pub program_refused_line : (cause : List ℕ) → List ℕ
 program_refused_line cause = codes "program refused " ++ cause
 
+-- program kept HASH
+abbrev pub program_kept_line : (hash : List ℕ) → List ℕ
+program_kept_line hash = codes "program kept " ++ hash
+
 -- program taken budget N
 abbrev pub program_taken_line : (budget : ℕ) → List ℕ
 program_taken_line budget = codes "program taken budget " ++ decimal budget

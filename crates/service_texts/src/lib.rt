@@ -1,5 +1,6 @@
 //! What a service over sockets reads and writes as text, and what it is told: where a site file says that devices are, who
-//! may write, how long is waited, the file of set values, what clients set, the start, and its lines and how often they come.
+//! may write, how long is waited, the files of set values and of the kept program, what clients set, the start, and its lines
+//! and how often they come.
 #![tactic(auto)]
 
 mod addresses;
@@ -7,6 +8,7 @@ mod clock_times;
 mod device_places;
 mod digits;
 mod hit;
+mod kept_program;
 mod lapsing_lines;
 mod lines;
 mod number;
@@ -35,6 +37,7 @@ pub use writers::{Writer, WriterFault, may_write, writers_of};
 // how long is waited
 pub use waiting::limits;
 // what is kept over a restart
+pub use kept_program::{kept_program_text, program_in, program_path};
 pub use lapsing_lines::{AgedSetting, aged_settings, aged_text, lasting_settings, time_in};
 pub use retain_pace::RetainPace;
 pub use retaining::{
@@ -45,8 +48,8 @@ pub use write_record::WriteRecord;
 // what is told of a service
 pub use lines::{
     client_line, device_line, file_line, late_line, left_out_line, left_out_setting_line,
-    listening_line, lost_line, program_refused_line, program_taken_line, stamped, unwritten_line,
-    written_line,
+    listening_line, lost_line, program_kept_line, program_refused_line, program_taken_line,
+    stamped, unwritten_line, written_line,
 };
 // what clients set, and what a number that is refused would have been
 pub use hit::{RefusedNumber, refused_number};

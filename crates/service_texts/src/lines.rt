@@ -109,6 +109,14 @@ pub fn program_refused_line(alloc: Global, cause: &str) -> Result<String, AllocE
     Ok(text)
 }
 
+/// `program kept HASH`.
+pub fn program_kept_line(alloc: Global, hash: &str) -> Result<String, AllocError>
+    ensures { IfOk result (λ text. string_bytes text ≡ told.program_kept_line hash.now) }
+{
+    let text = format!(in alloc; "program kept {hash}")?;
+    Ok(text)
+}
+
 /// `program taken budget N`.
 pub fn program_taken_line(alloc: Global, budget: u32) -> Result<String, AllocError>
     ensures { IfOk result (λ text. string_bytes text ≡ told.program_taken_line budget) }

@@ -1,10 +1,12 @@
 //! The program's file, looked at while a service runs its program.
+use crate::serve::last_program::RefusedText;
+use crate::serve::refused_words::{cause_words, file_words};
 use crate::words::version;
 use command_files::{SourceFault, read_again, warn_of_names};
 use commands::{CommandOutcome, CommandRefusal, DEPTH, accept_program};
 use gateway::CoreFault;
 use point_types::Name;
-use refusal_notes::{FileFault, Notes, escaped, explain_unusable};
+use refusal_notes::{FileFault, Notes, explain_unusable};
 use served_site::replace_program;
 use service::Service;
 use service_loop::{Looked, ProgramRefusal, ProgramWatch, seconds_of_day};
@@ -12,15 +14,11 @@ use service_texts::Start;
 use site_model::Site;
 use std::alloc::{AllocError, Global};
 use std::rt::Files;
-use std::str;
 use std::time::Clock;
 use verifier::Verified;
 
 /// From one look to the next, in milliseconds.
 const BETWEEN: u64 = 1000;
-
-/// What stands in the line of a refusal before its cause.
-const REFUSED: &str = "refused: ";
 
 /// The program's file. What it has counts once two looks in a row found the same, and is judged once, or until there is memory
 /// for that.
@@ -75,6 +73,13 @@ impl ProgramWatch for ProgramFile<'_> {
         }
     }
 
+    fn taken_text(&self) -> Option<&str> {
+        match &self.runs {
+            Some(Sight::Text(text)) => Some(text.as_str()),
+            _ => None,
+        }
+    }
+
     fn looks_at(&self) -> Option<u64> {
         Some(self.looks_at)
     }
@@ -103,20 +108,30 @@ impl ProgramWatch for ProgramFile<'_> {
 }
 
 impl<'n> ProgramFile<'n> {
-    /// The file whose text runs from the start. Nothing was looked at yet.
-    pub(crate) fn new(alloc: Global, notes: &Notes<'n>, names: &'n [Name]) -> ProgramFile<'n> {
-        ProgramFile {
+    /// The file, whose text runs from the start; or another one does, since this is what the file had then, and was refused.
+    /// Nothing was looked at yet.
+    pub(crate) fn new(
+        alloc: Global,
+        notes: &Notes<'n>,
+        names: &'n [Name],
+        refused: Option<RefusedText<'_>>,
+    ) -> Result<ProgramFile<'n>, AllocError> {
+        let refused = match refused {
+            Some(found) => Some(refused_sight(alloc, found)?),
+            None => None,
+        };
+        Ok(ProgramFile {
             alloc,
             notes: *notes,
             names,
             looks_at: 0,
             seen: None,
-            refused: None,
+            refused,
             lacked_memory: false,
             runs: None,
             taken: None,
             known: KnownFile::Nothing,
-        }
+        })
     }
 
     fn look_again<R: Files + Clock + AllocGlobal>(
@@ -280,6 +295,14 @@ fn sight_of<R: Files + AllocGlobal>(rt: &R, alloc: Global, path: &str) -> Sight 
     }
 }
 
+/// What was found at the start, and was refused then.
+fn refused_sight(alloc: Global, found: RefusedText<'_>) -> Result<Sight, AllocError> {
+    match found {
+        RefusedText::Text(text) => Ok(Sight::Text(String::from_str(alloc, text)?)),
+        RefusedText::NoText(fault) => Ok(Sight::NoText(SourceFault::Unusable(fault))),
+    }
+}
+
 /// Whether what was found before is just this.
 fn is_it(before: &Option<Sight>, sight: &Sight) -> bool {
     match before {
@@ -334,27 +357,4 @@ fn refusal_by(alloc: Global, fault: CoreFault) -> ProgramRefusal {
 fn core_words(alloc: Global, word: &str) -> Result<String, AllocError> {
     let text = format!(in alloc; "core {word}")?;
     Ok(text)
-}
-
-// `file PATH`.
-fn file_words(alloc: Global, path: &str) -> Result<String, AllocError> {
-    let path = escaped(alloc, path)?;
-    let text = format!(in alloc; "file {path}")?;
-    Ok(text)
-}
-
-// What the line of a refusal says after `refused: `.
-fn cause_words(alloc: Global, outcome: &CommandOutcome) -> Result<String, AllocError> {
-    match str::from_utf8(outcome.lines.as_slice()) {
-        Ok(line) => String::from_str(alloc, cause_in(line)),
-        Err(_) => Ok(String::new(alloc)),
-    }
-}
-
-fn cause_in(line: &str) -> &str {
-    let line = line.trim_end();
-    match line.strip_prefix(REFUSED) {
-        Some(cause) => cause,
-        None => line,
-    }
 }

@@ -33,11 +33,16 @@ impl Retained {
         Ok(Retained { names, kept })
     }
 
-    /// The files that are kept, the variables among what is kept.
-    pub(crate) fn keeping<'r, 't>(&'r self, keeping: &Keeping<'r, 't>) -> Keeping<'r, 't> {
+    /// The files that are kept, the variables and this program among what is kept.
+    pub(crate) fn keeping<'r, 't>(
+        &'r self,
+        keeping: &Keeping<'r, 't>,
+        program: &'r str,
+    ) -> Keeping<'r, 't> {
         let state = match keeping.state {
             Some(state) => Some(KeptState {
                 retained: self.names.as_slice(),
+                program,
                 ..state
             }),
             None => None,

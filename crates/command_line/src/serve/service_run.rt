@@ -1,21 +1,25 @@
 //! The command `serve`: a program on a site, scan by scan, by the clock.
 use crate::runtimes::LoopRuntime;
+use crate::serve::last_program::{ProgramFault, RefusedText};
 use crate::serve::program_file::ProgramFile;
 use crate::serve::refusing::{tell_no_core, tell_no_hours, tell_unreachable, tell_unretained};
 use crate::serve::retained::Retained;
 use crate::serve::unkept::tell_unkept;
+use crate::words::version;
 use command_files::{
-    no_start, start_plant, tell_lost, tell_no_port, tell_unserved, told_port, variables_of,
-    warn_of_names, warn_of_short_lapses, warn_on_site,
+    no_start, read_kept_program, start_plant, tell_lost, tell_no_port, tell_unserved, told_port,
+    variables_of, warn_of_names, warn_of_short_lapses, warn_on_site,
 };
 use commands::{Accepted, CommandOutcome, accept, tell_no_memory, write_lines};
 use modbus_frame::LinkFault;
 use point_types::Name;
-use refusal_notes::Notes;
+use refusal_notes::{FileFault, Notes};
 use served_site::service_of;
 use service::{Limits, Service};
-use service_loop::{End, Keeping, OneProgram, Serving, serve_site};
-use service_texts::{Addresses, DeviceSource, addresses_of, plant_addresses, sleeping_hours};
+use service_loop::{End, Keeping, OneProgram, Serving, seconds_of_day, serve_site};
+use service_texts::{
+    Addresses, DeviceSource, Start, addresses_of, plant_addresses, sleeping_hours,
+};
 use std::alloc::{AllocError, Global};
 use std::fs::File;
 use std::io::{Read, Write};
@@ -34,6 +38,8 @@ const UNRETAINED: &str =
 pub struct ServiceRun<'n, 'a, 's, 'k, 't> {
     /// The files of the site, the program and the definitions, and whether a refusal is explained.
     pub notes: Notes<'n>,
+    /// Why the program's file isn't had, where the program is the one that was accepted last.
+    pub program_fault: Option<FileFault>,
     pub devices: DeviceSource<'a>,
     /// The path of the program that is started for a plant.
     pub exe: &'a str,
@@ -45,6 +51,8 @@ pub struct ServiceRun<'n, 'a, 's, 'k, 't> {
     pub reloads: bool,
     /// The names of the variables that are kept, once they are known.
     pub names: &'k [Name],
+    /// What the program's file has, where it was refused and the program is the one that was accepted last, once that is known.
+    pub refused: Option<RefusedText<'n>>,
 }
 
 /// Serves a site, and gives the status: 0 after the last scan that was asked for, 1 for a refusal or a failed write, 2
@@ -56,15 +64,95 @@ pub fn run_service<R: LoopRuntime + Print + Files<File = File>, W: Write>(
     out: &mut W,
 ) -> u8 {
     let notes = &run.notes;
+    if let Some(fault) = run.program_fault {
+        let fault = ProgramFault::Unread(fault);
+        return serve_last(rt, alloc, run, &fault, notes.program, out);
+    }
     match accept(alloc, notes.site, notes.program, notes.defs) {
         Ok(Ok(given)) => serve_accepted(rt, alloc, run, given, out),
-        Ok(Err(outcome)) => {
-            let status = outcome.tell(out);
-            notes.explain(rt, &outcome.cause);
-            status
-        }
+        Ok(Err(outcome)) => serve_refused(rt, alloc, run, outcome, out),
         Err(AllocError) => tell_no_memory(out),
     }
+}
+
+/// Serves a site whose program is refused by the one that was accepted last, where that is kept; else refuses the start.
+fn serve_refused<R: LoopRuntime + Print + Files<File = File>, W: Write>(
+    rt: &R,
+    alloc: Global,
+    run: &ServiceRun<'_, '_, '_, '_, '_>,
+    outcome: CommandOutcome,
+    out: &mut W,
+) -> u8 {
+    let notes = &run.notes;
+    let fault = ProgramFault::Refused(outcome);
+    let last = match run.keeping.state {
+        Some(state) if fault.is_of_program() => {
+            read_kept_program(rt, alloc, state.path, notes.quiet)
+        }
+        _ => None,
+    };
+    match last {
+        Some(last) => serve_last(rt, alloc, run, &fault, last.as_str(), out),
+        None => fault.refuse(rt, alloc, notes, out),
+    }
+}
+
+/// Serves a site by the program that was accepted last, where that still is accepted; else refuses the start for the fault of
+/// the program in its file.
+fn serve_last<R: LoopRuntime + Print + Files<File = File>, W: Write>(
+    rt: &R,
+    alloc: Global,
+    run: &ServiceRun<'_, '_, '_, '_, '_>,
+    fault: &ProgramFault,
+    last: &str,
+    out: &mut W,
+) -> u8 {
+    let notes = &run.notes;
+    match accept(alloc, notes.site, last, notes.defs) {
+        Ok(Ok(given)) => serve_in_place(rt, alloc, run, fault, last, given, out),
+        Ok(Err(_)) => fault.refuse(rt, alloc, notes, out),
+        Err(AllocError) => tell_no_memory(out),
+    }
+}
+
+/// Serves a site by the program that was accepted last, in place of the one in its file.
+fn serve_in_place<R: LoopRuntime + Print + Files<File = File>, W: Write>(
+    rt: &R,
+    alloc: Global,
+    run: &ServiceRun<'_, '_, '_, '_, '_>,
+    fault: &ProgramFault,
+    last: &str,
+    given: Accepted,
+    out: &mut W,
+) -> u8 {
+    let notes = &run.notes;
+    let Ok(words) = fault.words(alloc, notes) else {
+        return tell_no_memory(out);
+    };
+    let Ok(start) = Start::of(
+        alloc,
+        seconds_of_day(rt),
+        version(),
+        notes.site.text(),
+        last,
+    ) else {
+        return tell_no_memory(out);
+    };
+    fault.explain(rt, notes);
+    let run = ServiceRun {
+        notes: Notes {
+            program: last,
+            ..*notes
+        },
+        serving: Serving {
+            start: &start,
+            refused: Some(words.as_str()),
+            ..run.serving
+        },
+        refused: Some(fault.text(notes)),
+        ..*run
+    };
+    serve_accepted(rt, alloc, &run, given, out)
 }
 
 fn serve_accepted<R: LoopRuntime + Print + Files<File = File>, W: Write>(
@@ -89,7 +177,7 @@ fn serve_accepted<R: LoopRuntime + Print + Files<File = File>, W: Write>(
                     sleeps: hours.as_slice(),
                     ..run.serving
                 },
-                keeping: retained.keeping(&run.keeping),
+                keeping: retained.keeping(&run.keeping, run.notes.program),
                 names: retained.names.as_slice(),
                 ..*run
             };
@@ -228,7 +316,9 @@ fn serve_programs<R: LoopRuntime + Files<File = File>, W: Write>(
 ) -> Result<(), End> {
     let (serving, keeping) = (&run.serving, &run.keeping);
     if run.reloads {
-        let mut file = ProgramFile::new(alloc, &run.notes, run.names);
+        let Ok(mut file) = ProgramFile::new(alloc, &run.notes, run.names, run.refused) else {
+            return Err(End::OutOfMemory);
+        };
         serve_site(
             rt, alloc, serving, keeping, addresses, &mut file, service, out,
         )

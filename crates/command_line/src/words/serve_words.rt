@@ -9,8 +9,8 @@ use point_types::Items;
 use service::Limits;
 use service_loop::{Keeping, KeptState, Serving};
 use service_texts::{
-    DeviceSource, DevicesFault, Start, Times, Writer, WriterFault, devices_of, limits, times_of,
-    writers_of,
+    DeviceSource, DevicesFault, Start, Times, Writer, WriterFault, devices_of, limits,
+    program_path, times_of, writers_of,
 };
 use std::alloc::{AllocError, Global};
 use std::net::{Net, SocketAddr, ToSocketAddrs};
@@ -23,6 +23,11 @@ const USUAL_TIMES: &str = "seconds";
 
 /// What is wrong with another address.
 const UNKNOWN_LISTEN: Misuse = Misuse::Words("'--listen' is no HOST:PORT that is known");
+
+/// What is wrong with a file of set values beside which the program can't be kept.
+const KEPT_OVER: Misuse = Misuse::Words(
+    "'--state PATH' keeps the program in PATH.program, and that is another file of the command",
+);
 
 /// What is wrong with the address of all devices.
 pub(crate) const NO_PORT: &str = "'--devices' is no HOST:PORT";
@@ -220,6 +225,9 @@ pub(crate) fn service_words<'a, R: Net>(
     if state.is_some() && state == status {
         return Err(Misuse::Words("'--state' and '--status-file' are one file"));
     }
+    if is_kept_over(alloc, matches, state)? {
+        return Err(KEPT_OVER);
+    }
     let listen = listen_address(rt, matches)?;
     let writers = writers_of(alloc, matches.get_strs("write-from").unwrap_or(&[]))?;
     let devices = devices_of(matches.get_str("devices"), matches.get_str("plant"))?;
@@ -230,6 +238,34 @@ pub(crate) fn service_words<'a, R: Net>(
         devices,
         times,
     })
+}
+
+/// Whether the file in which the program is kept, beside that of set values, is another one of the command.
+fn is_kept_over(
+    alloc: Global,
+    matches: &ArgMatches<'_>,
+    state: Option<&str>,
+) -> Result<bool, Misuse> {
+    let Some(state) = state else {
+        return Ok(false);
+    };
+    let Ok(path) = program_path(alloc, state) else {
+        return Err(Misuse::OutOfMemory);
+    };
+    let path = path.as_str();
+    Ok(
+        is_at(matches.get_str("SITE"), path)
+            || is_at(matches.get_str("PROGRAM"), path)
+            || is_at(matches.get_str("status-file"), path),
+    )
+}
+
+/// Whether a file is named, and by this path.
+fn is_at(file: Option<&str>, path: &str) -> bool {
+    match file {
+        Some(file) => file == path,
+        None => false,
+    }
 }
 
 /// By which time lines are told.
@@ -265,6 +301,7 @@ pub(crate) fn serving_of<'a>(
 ) -> Serving<'a> {
     Serving {
         start,
+        refused: None,
         times: words.times,
         listen: words.listen,
         clients: most_clients(matches),
@@ -287,7 +324,7 @@ fn listen_address<R: Net>(rt: &R, matches: &ArgMatches<'_>) -> Result<SocketAddr
     }
 }
 
-/// The files that the service keeps; the one of set values has this text. No variable is kept.
+/// The files that the service keeps; the one of set values has this text. No variable is kept, and no program.
 pub(crate) fn keeping_of<'a, 't>(matches: &ArgMatches<'a>, state: &'t str) -> Keeping<'a, 't> {
     Keeping {
         state: kept_state(matches.get_str("state"), state),
@@ -301,6 +338,7 @@ fn kept_state<'a, 't>(path: Option<&'a str>, text: &'t str) -> Option<KeptState<
             path,
             text,
             retained: &[],
+            program: "",
         }),
         None => None,
     }
