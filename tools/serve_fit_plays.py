@@ -1,4 +1,5 @@
-"""Plays of tools/try-serve on numbers that a device's point can't say: the next one goes out where the tag has `fit`.
+"""Plays of tools/try-serve on numbers that a device's point can't say: the next one goes out where the tag has `fit`, and a tag
+that goes with it, by `with`, waits for it.
 
   tools/serve_fit_plays.py [PROGRAM]     these plays alone
 """
@@ -36,7 +37,7 @@ type = "BOOL"
 exponent = 0
 low = 0
 high = 1
-"""
+{companion}"""
 # 34.6 percent
 PROGRAM = """PROGRAM limits
 VAR_EXTERNAL
@@ -51,18 +52,19 @@ END_PROGRAM
 """
 
 
-def begin(program, folder, name, fit):
-    """A service of a device that counts whole percents, and the path of its status file."""
+def begin(program, folder, name, fit, companion=""):
+    """A service of a device that counts whole percents and has no limit, and the path of its status file."""
     device, status = OwnDevice({1: inverter(5000)}), f"{folder}/{name}.status"
-    site = put(folder, f"{name}.toml", GATEWAY + DEVICE.format(n=1) + f'address = "{device.address()}"\n' + TAGS.format(fit=fit))
+    device.units[1][ENABLE] = 0
+    site = put(folder, f"{name}.toml", GATEWAY + DEVICE.format(n=1) + f'address = "{device.address()}"\n' + TAGS.format(fit=fit, companion=companion))
     words = [site, put(folder, "limits.il", PROGRAM), "--listen", "127.0.0.1:0", "--every", "100", "--status-file", status]
     return Service(program, words), device, status
 
 
-def output_in(status):
-    """What a status file says of the limit."""
+def output_in(status, name="lim1"):
+    """What a status file says of an output, by default of the limit."""
     text = text_of(status)
-    return json.loads(text)["outputs"]["lim1"] if text else None
+    return json.loads(text)["outputs"][name] if text else None
 
 
 def play_fitted(counts, program, folder):
@@ -96,7 +98,25 @@ def play_exact(counts, program, folder):
     device.gone()
 
 
-PLAYS = (play_fitted, play_exact)
+def play_together(counts, program, folder):
+    """What enables a limit isn't written while the limit isn't."""
+    service, device, status = begin(program, folder, "together", "", 'with = "lim1"\n')
+    registers = device.units[1]
+    counts.note("it isn't enabled", service.has(r"\S+ output ena1 unwritten With"), service.lines)
+    wanted = {"value": 1, "state": "unwritten", "cause": "With"}
+    counts.note("so says the status", until(lambda: output_in(status, "ena1"), wanted) == wanted, text_of(status))
+    alarms = {(it["kind"], it["name"], it["cause"]) for it in json.loads(text_of(status))["alarms"]}
+    counts.note("both are alarms", alarms == {("output_unwritten", "lim1", "Inexact"), ("output_unwritten", "ena1", "With")}, alarms)
+    time.sleep(0.5)
+    counts.note("the device has no limit", registers[ENABLE] == 0, (registers[LIMIT], registers[ENABLE]))
+    registers[FACTOR] = 0xFFFF
+    counts.note("by a finer factor both are written", until(lambda: (registers[LIMIT], registers[ENABLE]), (346, 1)) == (346, 1), (registers[LIMIT], registers[ENABLE]))
+    counts.note("and so they are told", service.has(r"\S+ output ena1 written"), service.lines)
+    service.end()
+    device.gone()
+
+
+PLAYS = (play_fitted, play_exact, play_together)
 
 if __name__ == "__main__":
     sys.exit(try_alone(sys.argv[1:], PLAYS))

@@ -13,7 +13,9 @@ use Rattle.point_writer.specs.SetPoint.{IsPlan, IsPlanAt, IsSetPoint, PointPlace
 use Rattle.point_writer.specs.declared.write.NoWrite.{NoWrite}
 use Rattle.point_writer.specs.declared.write.Write.{Write}
 use Rattle.verifier.specs.Verified.{Acceptance}
-use Rattle.gateway.proofs.Sized.{are_set_points}
+use Rattle.gateway.proofs.Sized.{are_set_points, tag_of}
+use Rattle.point_writer.proofs.Companions.{companions_of_write}
+use Rattle.point_writer.specs.Going.{AreCompanionsSet}
 use Rattle.gateway.specs.declared.event_core.event.Answer.{Answer}
 use Rattle.gateway.specs.declared.event_core.event.Answer.TheVariants as answer
 use Rattle.gateway.specs.declared.event_core.event.Event.{Event}
@@ -21,7 +23,7 @@ use Rattle.gateway.specs.declared.event_core.event.Event.TheVariants as event
 use Rattle.gateway.specs.declared.poller.cycle.Call.{Call}
 use Rattle.gateway.specs.declared.poller.outcome.Outcome.{Outcome}
 use Rattle.gateway.specs.declared.poller.outcome.Outcome.TheVariants as outcome
-use Rattle.gateway.specs.event_core.Control.{IsDue, IsPlanned, Notes, SetsItsTag, after_scan, after_wait}
+use Rattle.gateway.specs.event_core.Control.{HasItsCompanions, IsDue, IsPlanned, Notes, SetsItsTag, after_scan, after_wait}
 use Rattle.gateway.specs.event_core.Core.{Gateway, IsSame, numbers_of}
 use Rattle.gateway.specs.event_core.Driving.{ScansOnce, TakesEvent}
 use Rattle.gateway.specs.event_core.SiteRun.{Standing, after_time, reading_at, scanned}
@@ -198,8 +200,19 @@ held_behind s t readings steps end is = subst IsHeld (sym is) refl
 
 -- ---- what is due
 
+same_some : {X : Type 0} {o : Option X} {x y : X} → o ≡ Some x → o ≡ Some y → x ≡ y
+same_some p q = cc
+
+-- those that the tag of a write goes with
+with_companions : (g : Gateway) (i : ℕ) (w : Write) → i < length g.site.outs → IsPlanned g i (Ok w) → HasItsCompanions g i
+with_companions g i w within h number out =
+    let tag = tag_of g.site i g.site.written within in
+    let set = companions_of_write g.site.tags g.site.wants g.maps (g.standing.last).blocks (g.standing.last).outputs tag.0 tag.2 w (h.plan tag.0 tag.2 tag.1 tag.3) in
+    let same : tag.0 ≡ number = same_some tag.1 out in
+    subst (λ (n : ℕ). AreCompanionsSet g.site.tags g.site.wants g.maps (g.standing.last).blocks (g.standing.last).outputs n) same set
+
 due_of : (g : Gateway) (i : ℕ) (r : Result Write NoWrite) → i < length g.site.outs → IsPlanned g i r → IsDue g i r
-due_of g i (Ok w) within h = are_set_points g i w within h
+due_of g i (Ok w) within h = (are_set_points g i w within h, with_companions g i w within h)
 due_of g i (Err cause) within h = h.plan
 
 pub due_all : (g : Gateway) (i : ℕ) (plans : List (Result Write NoWrite)) → i + length plans ≤ length g.site.outs → ArePlans IsPlanned g i plans → ArePlans IsDue g i plans
@@ -208,9 +221,6 @@ due_all g i (plan ∷ plans) within h = (due_of g i plan (omega (arith, within))
 
 pub due_one : (g : Gateway) (i : ℕ) (r : Result Write NoWrite) → i < length g.site.outs → IsPlanned g i r → IsDue g i r
 due_one g i r within h = due_of g i r within h
-
-same_some : {X : Type 0} {o : Option X} {x y : X} → o ≡ Some x → o ≡ Some y → x ≡ y
-same_some p q = cc
 
 -- what the tag of a set point is: the output's own
 module _ (g : Gateway) (i : ℕ) (w : Write) (of : SetsItsTag g i w) where
@@ -233,8 +243,8 @@ planned_at g i w t n value e set =
 
 planned_of : (g : Gateway) (i : ℕ) (r : Result Write NoWrite) → AreSettings g.site.tags (g.standing.last).outputs → IsDue g i r → IsPlanned g i r
 planned_of g i (Ok w) ranged h = record {
-  plan = λ number t out tag. let k = set_at g i w h number t w out tag refl in planned_at g i w t (known_at (g.standing.last).outputs number) k.0 k.1 k.2;
-  set_point = λ number t v out tag same. set_at g i w h number t v out tag same;
+  plan = λ number t out tag. let k = set_at g i w h.0 number t w out tag refl in record { alone = Ok w; plan = planned_at g i w t (known_at (g.standing.last).outputs number) k.0 k.1 k.2; goes = (refl, h.1 number out) };
+  set_point = λ number t v out tag same. set_at g i w h.0 number t v out tag same;
   ranged = ranged;
 }
 planned_of g i (Err cause) ranged h = record { plan = h; set_point = λ number t v out tag same. absurd (cc); ranged = ranged }

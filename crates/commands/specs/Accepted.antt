@@ -6,7 +6,8 @@ use Rattle.model_defs.specs.declared.model.ModelDef.{ModelDef}
 use Rattle.model_defs.specs.Fault as definition
 use Rattle.site_model.specs.File.{Layout, site_in}
 use Rattle.site_model.specs.Fault as site
-use Rattle.site_model.specs.Views.{site_view, tag_view}
+use Rattle.site_model.specs.Views.{site_view}
+use Rattle.site_model.specs.TagView.{tag_view}
 use Rattle.site_model.specs.declared.fault.SiteFault.{SiteFault}
 use Rattle.site_model.specs.declared.site.Site.{Site}
 use Rattle.site_model.specs.declared.tag.SiteTag.{SiteTag}

@@ -145,6 +145,7 @@ pub(crate) const TAG: Section = Section {
         Key("round", ValueKind::Text, Need::Last),
         LAPSE,
         Key("fit", ValueKind::Text, Need::Last),
+        Key("with", ValueKind::Text, Need::Last),
     ],
     needs: None,
 };

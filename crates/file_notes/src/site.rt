@@ -1,4 +1,5 @@
 //! Where a text breaks a rule of site files.
+mod companions;
 mod gateway;
 mod served;
 mod tag_words;

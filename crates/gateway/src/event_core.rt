@@ -90,7 +90,8 @@ impl<const DEPTH: usize> Core<DEPTH> {
     ghost use Rattle.verifier.specs.Verified.{HasLinks};
     ghost use Rattle.gateway.specs.declared.event_core.fault.CoreFault.TheVariants.{Foreign, OutOfMemory};
     ghost use Rattle.modbus_frame.specs.Message.{request_of, IsAnswerTo, IsRequest};
-    ghost use Rattle.point_writer.specs.SetPoint.{IsFactorFor, IsPlanFor, WritesASetPoint};
+    ghost use Rattle.point_writer.specs.Going.{IsPlanFor};
+    ghost use Rattle.point_writer.specs.SetPoint.{IsFactorFor, WritesASetPoint};
     ghost use Rattle.site_model.specs.Readings.{AreSettings};
     ghost use Rattle.gateway.specs.event_core.Core.{IsSame, RunsOn, StepsOn, adopting, gateway_of, numbers_of};
     ghost use Rattle.gateway.specs.event_core.Driving.{Drives, ScansOnce};

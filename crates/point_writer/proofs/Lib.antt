@@ -1,4 +1,5 @@
 mod Bounds
+pub mod Companions
 mod Fitted
 mod Outputs
 pub mod Plans

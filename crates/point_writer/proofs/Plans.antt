@@ -88,6 +88,7 @@ refused_has_none maps wants blocks t v e w h s = go e (subst (λ (p : Option Poi
     go : (x : NoWrite) → IsPlanAt (Some s.place) t v (Err x) → ⊥
     go refusal.NotSet k = k
     go refusal.NoBlock k = k
+    go refusal.With k = k
     go refusal.BadScale k = k.none s.sets.number s.sets.out
     go refusal.Inexact k = k.none s.sets.number s.sets.out
     go refusal.OutOfType k = k.none s.sets.number s.sets.out

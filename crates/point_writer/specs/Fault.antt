@@ -12,6 +12,7 @@ no_write_word refusal.NoBlock = codes "NoBlock"
 no_write_word refusal.BadScale = codes "BadScale"
 no_write_word refusal.Inexact = codes "Inexact"
 no_write_word refusal.OutOfType = codes "OutOfType"
+no_write_word refusal.With = codes "With"
 
 abbrev pub no_write_of : Unencodable → NoWrite
 no_write_of unencodable.BadScale = refusal.BadScale

@@ -59,13 +59,14 @@ pub record IsSetPoint (maps : List (Option Layout)) (wants : List Want) (blocks 
   pub placed : place_of maps wants blocks t ≡ Some place
   pub sets : SetsAt place t v w
 
--- ---- what is written of a tag, or the first cause why nothing is
+-- ---- what is written of a tag that goes alone, or the first cause why nothing is
 
 abbrev pub IsPlanAt : Option PointPlace → SiteTag → ℤ → Result Write NoWrite → Type 0
 IsPlanAt None t v r = r ≡ Err refusal.NoBlock
 IsPlanAt (Some place) t v (Ok w) = SetsAt place t v w
 IsPlanAt (Some place) t v (Err refusal.NotSet) = ⊥
 IsPlanAt (Some place) t v (Err refusal.NoBlock) = ⊥
+IsPlanAt (Some place) t v (Err refusal.With) = ⊥
 IsPlanAt (Some place) t v (Err refusal.BadScale) = NoneGoesOut t place.factor v unencodable.BadScale
 IsPlanAt (Some place) t v (Err refusal.Inexact) = NoneGoesOut t place.factor v unencodable.Inexact
 IsPlanAt (Some place) t v (Err refusal.OutOfType) = NoneGoesOut t place.factor v unencodable.OutOfType
@@ -75,12 +76,7 @@ abbrev pub IsPlan : List (Option Layout) → List Want → List (Option (List �
 IsPlan maps wants blocks t None r = r ≡ Err refusal.NotSet
 IsPlan maps wants blocks t (Some v) r = IsPlanAt (place_of maps wants blocks t) t v r
 
--- the same for the tag whose number is the i-th of these
-abbrev pub IsPlanFor : List SiteTag → (outs : List ℕ) → List Want → List (Option Layout) → List (Option (List ℕ)) → List (Option ℤ) → ℕ → Result Write NoWrite → Type 0
-IsPlanFor tags outs wants maps blocks outputs i r =
-    (number : ℕ) (t : SiteTag) → slice_get outs i ≡ Some number → slice_get tags number ≡ Some t → IsPlan maps wants blocks t (known_at outputs number) r
-
--- what is written is a set point of that tag, for the number that the program stored
+-- what is written for the i-th of these numbers is a set point of its tag, for the number that the program stored
 abbrev pub WritesASetPoint : List SiteTag → (outs : List ℕ) → List Want → List (Option Layout) → List (Option (List ℕ)) → List (Option ℤ) → ℕ → Result Write NoWrite → Type 0
 WritesASetPoint tags outs wants maps blocks outputs i r =
     (number : ℕ) (t : SiteTag) (w : Write) → slice_get outs i ≡ Some number → slice_get tags number ≡ Some t → r ≡ Ok w →
@@ -91,7 +87,7 @@ WritesASetPoint tags outs wants maps blocks outputs i r =
 abbrev pub factor_of : List (Option Layout) → List Want → List (Option (List ℕ)) → SiteTag → Option ℤ
 factor_of maps wants blocks t = option_and_then (λ (place : PointPlace). place.factor) (place_of maps wants blocks t)
 
--- the same for the tag whose number is the i-th of these
+-- for the tag whose number is the i-th of these
 abbrev pub IsFactorFor : List SiteTag → (outs : List ℕ) → List Want → List (Option Layout) → List (Option (List ℕ)) → ℕ → Option ℤ → Type 0
 IsFactorFor tags outs wants maps blocks i factor =
     (number : ℕ) (t : SiteTag) → slice_get outs i ≡ Some number → slice_get tags number ≡ Some t → factor ≡ factor_of maps wants blocks t

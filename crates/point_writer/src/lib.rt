@@ -2,6 +2,7 @@
 #![tactic(auto)]
 
 mod fitting;
+mod going;
 pub mod laws;
 mod nearest;
 mod place;

@@ -3,10 +3,12 @@ ghost use Rattle.std.specs.Prelude.{◌≡◌, ◌≢◌, ◌≤◌, ◌<◌, �
 ghost use Rattle.point_types.specs.declared.kind.Kind.TheVariants as kinds;
 ghost use Rattle.point_types.specs.Encoding.{IsEncoding};
 ghost use Rattle.point_types.specs.Reading.{IsExponent};
-ghost use Rattle.point_writer.specs.SetPoint.{IsPlan, IsPlanFor, WritesASetPoint};
+ghost use Rattle.point_writer.specs.Going.{IsAlone, IsPlanFor, together};
+ghost use Rattle.point_writer.specs.SetPoint.{IsPlan, WritesASetPoint};
 ghost use Rattle.site_model.specs.Readings.{AreSettings};
 
 use crate::fitting::outgoing;
+use crate::going::are_companions_set;
 use crate::place::place_of;
 use crate::write::{NoWrite, Write};
 use point_types::{Kind, Unencodable, encode};
@@ -23,7 +25,7 @@ use site_model::{Site, SiteTag, Want, Words};
 /// NotSet: the program didn't store the tag. NoBlock: the device has no map, the map hasn't the model, no words of the
 /// block are known, or the point or its factor lies past the map's length or the known words. BadScale: the factor is absent
 /// or outside -10..10. Inexact: no raw number is the value. OutOfType: the raw number lies outside the kind, or its words
-/// would read as absent.
+/// would read as absent. With: the tag has a set point, and one that it goes with (by the key `with`, through others too) has none.
 pub fn plan(
     site: &Site,
     outputs: &[Option<i64>],
@@ -40,6 +42,36 @@ pub fn plan(
     ensures set_point { WritesASetPoint site.now.tags site.now.outs site.now.wants maps.now blocks.now outputs.now i result }
 {
     let number = site.outs()[i];
+    let alone = plan_alone(site, outputs, blocks, maps, number);
+    let are_set = are_companions_set(site, outputs, blocks, maps, number);
+    together(alone, are_set)
+}
+
+/// What is written of a tag that would be so if it went alone, by whether those that it goes with are set.
+fn together(alone: Result<Write, NoWrite>, are_set: bool) -> Result<Write, NoWrite>
+    ensures { result ≡ together alone are_set }
+{
+    match alone {
+        Ok(write) if are_set => Ok(write),
+        Ok(_) => Err(NoWrite::With),
+        Err(cause) => Err(cause),
+    }
+}
+
+/// The words that set the tag with this number to the number that the program stored, if it goes alone.
+pub(crate) fn plan_alone(
+    site: &Site,
+    outputs: &[Option<i64>],
+    blocks: &[Option<Words>],
+    maps: &[Option<Map>],
+    number: usize,
+) -> Result<Write, NoWrite>
+    requires inside { number < length site.now.tags }
+    requires outputs { length outputs.now ≡ length site.now.tags }
+    requires ranged { AreSettings site.now.tags outputs.now }
+    requires blocks { length blocks.now ≡ length site.now.wants }
+    ensures { IsAlone site.now.tags site.now.wants maps.now blocks.now outputs.now number result }
+{
     plan_of(
         &site.tags()[number],
         outputs[number],
@@ -49,7 +81,7 @@ pub fn plan(
     )
 }
 
-/// The words that set a tag to the number that the program stored.
+/// The same of a tag, by what the program stored for it.
 pub fn plan_of(
     tag: &SiteTag,
     output: Option<i64>,

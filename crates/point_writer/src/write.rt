@@ -32,6 +32,8 @@ pub enum NoWrite {
     Inexact,
     /// The raw number lies outside the point's kind, or its words would read as absent.
     OutOfType,
+    /// A tag that it goes with isn't written.
+    With,
 }
 
 impl fmt::Display for NoWrite {
@@ -51,6 +53,7 @@ impl NoWrite {
             NoWrite::BadScale => "BadScale",
             NoWrite::Inexact => "Inexact",
             NoWrite::OutOfType => "OutOfType",
+            NoWrite::With => "With",
         }
     }
 

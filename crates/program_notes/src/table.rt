@@ -52,6 +52,7 @@ pub fn table_of(
             let mut lines = table_in(alloc, text, program, image, &context, refused, beside)?;
             if refused.is_none() && beside == Beside::Known {
                 push_fits(&mut lines, site)?;
+                push_companions(&mut lines, site)?;
             }
             Ok(lines)
         }
@@ -98,6 +99,29 @@ fn table_in(
 fn push_fits(lines: &mut String, site: &Site) -> Result<(), AllocError> {
     push_fitted(lines, site, Fit::Down, "fitted down:")?;
     push_fitted(lines, site, Fit::Up, "fitted up:")
+}
+
+/// Appends which `out` tags are written only together with another one, and which that is.
+fn push_companions(lines: &mut String, site: &Site) -> Result<(), AllocError> {
+    let mut is_first = true;
+    for tag in site.tags() {
+        if let Some(companion) = &tag.companion {
+            if is_first {
+                lines.push_str("written together:")?;
+            } else {
+                lines.push_str(",")?;
+            }
+            lines.push_str(" ")?;
+            lines.push_str(tag.name.as_str())?;
+            lines.push_str(" with ")?;
+            lines.push_str(companion.as_str())?;
+            is_first = false;
+        }
+    }
+    if !is_first {
+        lines.push_str("\n")?;
+    }
+    Ok(())
 }
 
 fn push_fitted(lines: &mut String, site: &Site, fit: Fit, head: &str) -> Result<(), AllocError> {

@@ -11,10 +11,11 @@ use Rattle.site_model.specs.Gateway.{Gateway, gateway_of}
 use Rattle.site_model.specs.Devices.{device_of, devices_behind}
 use Rattle.site_model.specs.Tagging.{Tag, tag_of, tags_behind}
 use Rattle.site_model.specs.Serving.{served_of, served_behind}
-use Rattle.site_model.specs.File.{devices_in, tags_in, section_in, has_long_section, has_many_models}
-use Rattle.site_model.specs.Parts.{IsAtFault, IsDeviceRefused, IsServedRefused, IsTagRefused, IsTreeFault, IsUnread, in_devices, in_served, in_tags}
-use Rattle.site_model.specs.Views.{tag_view}
+use Rattle.site_model.specs.File.{devices_in, tags_in, served_in, section_in, has_long_section, has_many_models}
+use Rattle.site_model.specs.Parts.{IsAtFault, IsDeviceRefused, IsServedRefused, IsTagRefused, IsTreeFault, IsUnpaired, IsUnread, in_companions, in_devices, in_served, in_tags}
+use Rattle.site_model.specs.TagView.{tag_view}
 use Rattle.site_model.specs.declared.device.SiteDevice.{SiteDevice}
+use Rattle.site_model.specs.declared.served.Served.{Served}
 use Rattle.site_model.specs.declared.tag.SiteTag.{SiteTag}
 use Rattle.site_model.specs.declared.part.SitePart.{SitePart}
 use Rattle.site_model.specs.declared.part.SitePart.TheVariants as parts
@@ -111,6 +112,17 @@ served_refused defs doc part e g entries tag_entries served_entries devices foun
     in_served g devices (map tag_view tags) gateway (devices_read doc entries devices listed are_read)
     (tags_read defs doc g tag_entries devices found own (map tag_view tags) same_devices same_own tags_listed tags_are_read)
     (inr (served_entries, served_listed, subst (λ (ts : List SiteTag). IsServedRefused g.models (map tag_view ts) served_entries part e) same_tags over))
+
+pub companions_refused :
+    (defs : List ModelDef) (doc : Data) (part : SitePart) (e : SiteFault) (g : Gateway) (entries tag_entries served_entries : Items) (devices found : List SiteDevice) (own again : List ModelDef) (tags known last : List SiteTag) (served : List Served) → gateway_of defs doc ≡ Ok g →
+    section_in (codes "device") doc ≡ Ok entries → devices_behind [] entries ≡ Ok devices → found ≡ devices → own ≡ g.models →
+    section_in (codes "tag") doc ≡ Ok tag_entries → tags_behind found own defs [] tag_entries ≡ Ok (map tag_view tags) → again ≡ g.models → known ≡ tags →
+    section_in (codes "served") doc ≡ Ok served_entries → served_behind again (map tag_view known) [] served_entries ≡ Ok served → last ≡ tags → IsUnpaired (map tag_view last) part e → IsUnread defs doc part e
+companions_refused defs doc part e g entries tag_entries served_entries devices found own again tags known last served gateway listed are_read same_devices same_own tags_listed tags_are_read same_again same_tags served_listed served_are_read same_last bad =
+    let over : served_in g (map tag_view tags) doc ≡ Ok served = rw (served_listed, ← same_again, ← same_tags) served_are_read in
+    in_companions g devices (map tag_view tags) served gateway (devices_read doc entries devices listed are_read)
+    (tags_read defs doc g tag_entries devices found own (map tag_view tags) same_devices same_own tags_listed tags_are_read) over
+    (subst (λ (ts : List SiteTag). IsUnpaired (map tag_view ts) part e) same_last bad)
 
 -- ---- the file
 

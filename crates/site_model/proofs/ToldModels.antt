@@ -10,7 +10,7 @@ use Rattle.file_keys.specs.Keys.{all_numbers, natural_within, number_at, list_at
 use Rattle.site_model.specs.Gateway.{Gateway, GatewayKeys, definition_of, definitions_behind, gateway_keys, gateway_of, gateway_within, has_id, is_map, latest}
 use Rattle.site_model.specs.Lengths.{length_of_model, length_of_tag, lengths_of}
 use Rattle.site_model.specs.Told.{AreTold, IsDefined}
-use Rattle.site_model.specs.Views.{tag_view}
+use Rattle.site_model.specs.TagView.{tag_view}
 use Rattle.site_model.specs.Wants.{length_of}
 use Rattle.site_model.specs.declared.fault.SiteFault.TheVariants as fault
 use Rattle.site_model.specs.declared.tag.SiteTag.{SiteTag}

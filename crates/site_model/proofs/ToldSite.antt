@@ -12,14 +12,16 @@ use Rattle.point_types.specs.declared.il_type.IlType.{IlType}
 use Rattle.model_defs.specs.declared.point.Point.{Point}
 use Rattle.model_defs.specs.declared.model.ModelDef.{ModelDef}
 use Rattle.file_keys.specs.Keys.{number_at, optional_number_at, optional_text_at, section_at, text_at}
+use Rattle.site_model.specs.Companions.{companions_of, first_unpaired, paired, unless_unpaired}
 use Rattle.site_model.specs.Devices.{devices_behind}
 use Rattle.site_model.specs.File.{Layout, has_too_many, layout_of, layout_over, section_in, site_of}
 use Rattle.site_model.specs.Gateway.{Gateway, definition_of, gateway_of}
 use Rattle.site_model.specs.Lengths.{lengths_of}
 use Rattle.site_model.specs.Serving.{served_behind}
-use Rattle.site_model.specs.Tagging.{Tag, TagKeys, access_of, clashes, device_for, goes_together, is_bit_place, is_fitting, is_on_heading, is_place, is_lapsing, is_rounding, may_be_written, measures_of, Measures, model_for, numbers_of, place_of, point_for, point_tag_of, tag_keys, tag_name, tag_of, tag_over, tag_placed, tag_typed, tags_behind, type_of, TimeKeys, has_point_words, has_range, has_time_range, is_time, time_keys, time_over, time_placed, time_tag_of, time_typed}
+use Rattle.site_model.specs.Tagging.{Tag, TagKeys, access_of, clashes, device_for, goes_together, is_bit_place, is_companion, is_fitting, is_on_heading, is_place, is_lapsing, is_rounding, may_be_written, measures_of, Measures, model_for, numbers_of, place_of, point_for, point_tag_of, tag_keys, tag_name, tag_of, tag_over, tag_placed, tag_typed, tags_behind, type_of, TimeKeys, has_point_words, has_range, has_time_range, is_time, time_keys, time_over, time_placed, time_tag_of, time_typed}
 use Rattle.site_model.specs.Told.{AreIn, AreTold, IsDefined, IsDevice, IsPlaced, IsPoint, IsPointTag, IsTag, IsTimeTag, IsTold, SitesAreTold, word_of_fit}
-use Rattle.site_model.specs.Views.{site_view, tag_view}
+use Rattle.site_model.specs.Views.{site_view}
+use Rattle.site_model.specs.TagView.{tag_view}
 use Rattle.site_model.specs.Wants.{length_of}
 use Rattle.site_model.specs.declared.access.Access.{Access}
 use Rattle.site_model.specs.declared.device.SiteDevice.{SiteDevice}
@@ -30,7 +32,7 @@ use Rattle.site_model.specs.declared.tag.SiteTag.{SiteTag}
 use Rattle.site_model.proofs.ToldKeys.{by_both, chosen, given, ok_is, some_is, spared, text_there, unsaid}
 use Rattle.site_model.proofs.ToldModels.{IsSaid, defined_by_its_id, gateway_said, model_length, own_defined}
 use Rattle.site_model.proofs.Owns.{at_most}
-use Rattle.site_model.proofs.ToldTags.{bit_told, devices_told, fit_told, keys_told, lapse_told, measures_told, model_told, name_told, numbers_told, place_told, placed, point_told, round_told}
+use Rattle.site_model.proofs.ToldTags.{bit_told, companion_told, devices_told, fit_told, keys_told, lapse_told, measures_told, model_told, name_told, numbers_told, place_told, placed, point_told, round_told}
 use Rattle.point_types.proofs.Truths.{both}
 
 -- ---- what a tag was made of
@@ -235,17 +237,19 @@ module _ (defs : List ModelDef) (site : Site) (ids : Items) (own : List ModelDef
   tag_said tree i t at made =
       let keys = made.keys in
       let words = words_told keys made.measures made.device made.model made.point (tag_view t) made.typed in
-      let k = keys_told (text_at (codes "name") tree) (text_at (codes "access") tree) (text_at (codes "type") tree) (place_of tree) (numbers_of tree) (optional_number_at (codes "bit") tree) (optional_text_at (codes "round") tree) (optional_number_at (codes "lapse") tree) (optional_text_at (codes "fit") tree) keys made.read in
+      let k = keys_told (text_at (codes "name") tree) (text_at (codes "access") tree) (text_at (codes "type") tree) (place_of tree) (numbers_of tree) (optional_number_at (codes "bit") tree) (optional_text_at (codes "round") tree) (optional_number_at (codes "lapse") tree) (optional_text_at (codes "fit") tree) (optional_text_at (codes "with") tree) keys made.read in
       let n = numbers_told (number_at (codes "exponent") tree) (number_at (codes "low") tree) (number_at (codes "high") tree) (optional_number_at (codes "default") tree) keys.numbers k.numbers_is in
       let p = place_told (optional_text_at (codes "device") tree) (number_at (codes "model") tree) (text_at (codes "point") tree) keys.place k.place_is in
       let u = measures_told (type_of keys.kind) (made.point).kind keys.numbers keys.bit keys.lapse made.measures made.measured in
-      let ends = is_lapsing words.access (keys.numbers).default keys.lapse && is_fitting words.access keys.fit in
+      let written = is_fitting words.access keys.fit && is_companion words.access keys.companion in
+      let ends = is_lapsing words.access (keys.numbers).default keys.lapse && written in
       let last = is_rounding words.access keys.bit keys.round && ends in
       let rules = both (is_bit_place words.access words.kind (made.point).kind keys.bit) last (both (is_place words.access keys.place.device (made.point).kind) (is_bit_place words.access words.kind (made.point).kind keys.bit && last) words.together).1 in
       let rounds = both (is_rounding words.access keys.bit keys.round) ends rules.1 in
       let down = round_told words.access keys.bit keys.round (get (codes "round") tree) k.round_is rounds.0 in
-      let fitting = (both (is_lapsing words.access (keys.numbers).default keys.lapse) (is_fitting words.access keys.fit) rounds.1).1 in
-      let fit = fit_told words.access keys.fit (get (codes "fit") tree) k.fit_is fitting in
+      let fitting = both (is_fitting words.access keys.fit) (is_companion words.access keys.companion) (both (is_lapsing words.access (keys.numbers).default keys.lapse) written rounds.1).1 in
+      let fit = fit_told words.access keys.fit (get (codes "fit") tree) k.fit_is fitting.0 in
+      let companion = companion_told words.access keys.companion (get (codes "with") tree) k.companion_is fitting.1 in
       let device = placed site.devices words.access (text_at (codes "device") tree) keys.place.device made.device
       (λ s e. text_there (get (codes "device") tree) s (p.0 ∙ ap Some e)) (ap (λ o. device_for site.devices o keys.place.device) (sym words.accessed) ∙ made.at) in
       record {
@@ -260,6 +264,7 @@ module _ (defs : List ModelDef) (site : Site) (ids : Items) (own : List ModelDef
         round = down ∙ ap (λ (x : Tag). if x.down then Some (codes "down") else None) words.is;
         lapse = k.lapse_is ∙ ap Some (lapse_told keys.lapse (made.measures).lapse u.2) ∙ ap (λ (x : Tag). Some (option_map pos x.lapse)) words.is;
         fit = fit ∙ ap (λ (x : Tag). word_of_fit x.fit) words.is;
+        companion = companion ∙ ap (λ (x : Tag). x.companion) words.is;
         device = subst (λ (x : Tag). IsPlaced site.devices (text_at (codes "device") tree) x.access x.device) words.is device;
         point = point_said tree i t at made words p.1 p.2;
       }
@@ -290,14 +295,25 @@ record IsLaid (defs : List ModelDef) (doc : Data) (l : Layout) : Type 0 where
   pub tags : List Tag
   pub tags_are : AreTold (IsEntry devices gateway.models defs) tag_entries tags
   pub served : List Served
-  pub is : layout_over defs gateway devices tags served ≡ l
+  pub companions : List (Option ℕ)
+  pub pairs : first_unpaired tags ≡ None
+  pub is : layout_over defs gateway devices tags companions served ≡ l
+
+-- where all go with tags that they may, none is the first that doesn't
+none_unpaired : (tags : List Tag) (companions : List (Option ℕ)) → paired tags ≡ Ok companions → first_unpaired tags ≡ None
+none_unpaired tags companions e = by_first (first_unpaired tags) refl (let f : unless_unpaired (first_unpaired tags) (companions_of tags) ≡ Ok companions = e in f)
+  where
+    by_first : (o : Option ℕ) → first_unpaired tags ≡ o → unless_unpaired o (companions_of tags) ≡ Ok companions → first_unpaired tags ≡ None
+    by_first None p f = p
+    by_first (Some i) p f = absurd (cc)
 
 laid_by : (defs : List ModelDef) (doc : Data) (l : Layout) → layout_of defs doc ≡ Ok l → IsLaid defs doc l
 laid_by defs doc l e =
-    by_both (gateway_of defs doc) (λ g. section_in (codes "device") doc >>= devices_behind [] >>= λ devices. section_in (codes "tag") doc >>= tags_behind devices g.models defs [] >>= λ tags. section_in (codes "served") doc >>= served_behind g.models tags [] >>= λ served. Ok (layout_over defs g devices tags served)) l e (λ g p f.
-    by_both (section_in (codes "device") doc >>= devices_behind []) (λ devices. section_in (codes "tag") doc >>= tags_behind devices g.models defs [] >>= λ tags. section_in (codes "served") doc >>= served_behind g.models tags [] >>= λ served. Ok (layout_over defs g devices tags served)) l f (λ devices q h.
-    by_both (section_in (codes "tag") doc >>= tags_behind devices g.models defs []) (λ tags. section_in (codes "served") doc >>= served_behind g.models tags [] >>= λ served. Ok (layout_over defs g devices tags served)) l h (λ tags r i.
-    by_both (section_in (codes "served") doc >>= served_behind g.models tags []) (λ served. Ok (layout_over defs g devices tags served)) l i (λ served s j.
+    by_both (gateway_of defs doc) (λ g. section_in (codes "device") doc >>= devices_behind [] >>= λ devices. section_in (codes "tag") doc >>= tags_behind devices g.models defs [] >>= λ tags. section_in (codes "served") doc >>= served_behind g.models tags [] >>= λ served. paired tags >>= λ companions. Ok (layout_over defs g devices tags companions served)) l e (λ g p f.
+    by_both (section_in (codes "device") doc >>= devices_behind []) (λ devices. section_in (codes "tag") doc >>= tags_behind devices g.models defs [] >>= λ tags. section_in (codes "served") doc >>= served_behind g.models tags [] >>= λ served. paired tags >>= λ companions. Ok (layout_over defs g devices tags companions served)) l f (λ devices q h.
+    by_both (section_in (codes "tag") doc >>= tags_behind devices g.models defs []) (λ tags. section_in (codes "served") doc >>= served_behind g.models tags [] >>= λ served. paired tags >>= λ companions. Ok (layout_over defs g devices tags companions served)) l h (λ tags r i.
+    by_both (section_in (codes "served") doc >>= served_behind g.models tags []) (λ served. paired tags >>= λ companions. Ok (layout_over defs g devices tags companions served)) l i (λ served s j.
+    by_both (paired tags) (λ companions. Ok (layout_over defs g devices tags companions served)) l j (λ companions u v.
     by_both (section_in (codes "device") doc) (devices_behind []) devices q (λ ds a b.
     by_both (section_in (codes "tag") doc) (tags_behind devices g.models defs []) tags r (λ ts c d.
     let k = devices_told [] ds devices b in
@@ -314,8 +330,10 @@ laid_by defs doc l e =
       tags = tags;
       tags_are = subst (λ (xs : List Tag). AreTold (IsEntry devices g.models defs) ts xs) (sym m.1) m.2;
       served = served;
-      is = ok_is (layout_over defs g devices tags served) l j;
-    }))))))
+      companions = companions;
+      pairs = none_unpaired tags companions u;
+      is = ok_is (layout_over defs g devices tags companions served) l v;
+    })))))))
 
 in_section : {T : Type 0} (Is : Data → T → Type 0) (o : Option Items) (entries : Items) (xs : List T) → o ≡ Some entries → AreTold Is entries xs → AreIn Is o xs
 in_section Is o entries xs e told = subst (λ (o : Option Items). AreIn Is o xs) (sym e) told
@@ -344,6 +362,7 @@ told_by defs text members site parsed laid =
       );
       devices = in_section IsDevice (section_at (codes "device") (table members)) laid.device_entries site.devices laid.device_section (subst (λ (ds : List SiteDevice). AreTold IsDevice laid.device_entries ds) devices laid.devices_are);
       tags = in_section (IsTag defs site) (section_at (codes "tag") (table members)) laid.tag_entries site.tags laid.tag_section (tags_said defs site said.ids g.models said.models lengths laid.tag_entries site.tags (λ i t e. (i, e)) own);
+      pairs = sym (ap first_unpaired tags) ∙ laid.pairs;
     }
 
 pub sites_are_told : SitesAreTold

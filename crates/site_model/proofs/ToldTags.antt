@@ -15,7 +15,7 @@ use Rattle.model_defs.specs.declared.model.ModelDef.{ModelDef}
 use Rattle.file_keys.specs.Keys.{natural_within, number_at, number_or, optional_number_at, text_at}
 use Rattle.site_model.specs.Devices.{DeviceKeys, device_keys, device_of, device_within, devices_behind, has_name_or_unit, optional_base, write_of}
 use Rattle.site_model.specs.Gateway.{definition_of, has_id}
-use Rattle.site_model.specs.Tagging.{Measures, Numbers, TagPlace, TagKeys, bit_of, device_for, device_named, device_number, ends_in_ok, exponent_of, has_range, fit_by, is_bit_place, is_device_named, is_fitting, is_input, is_output, is_rounding, lapse_of, last_bit, measures_of, measures_within, model_for, point_for, point_number, tag_name}
+use Rattle.site_model.specs.Tagging.{Measures, Numbers, TagPlace, TagKeys, bit_of, device_for, device_named, device_number, ends_in_ok, exponent_of, has_range, fit_by, is_bit_place, is_companion, is_device_named, is_fitting, is_input, is_output, is_rounding, lapse_of, last_bit, measures_of, measures_within, model_for, point_for, point_number, tag_name}
 use Rattle.site_model.specs.Tag.{start_of}
 use Rattle.site_model.specs.Told.{AreTold, IsDevice, IsPlaced, word_of_fit}
 use Rattle.site_model.specs.Wants.{is_of_device}
@@ -106,8 +106,8 @@ place_told (Some d) (Some m) (Some q) p e =
     let same : own ≡ p = some_is own p e in
     (ap (λ (k : TagPlace). Some k.device) same, ap (λ (k : TagPlace). Some k.model) same, ap (λ (k : TagPlace). Some k.point) same)
 
--- what the nine parts of a tag's keys are
-pub record AreKeys (name access kind : Option (List ℕ)) (place : Option TagPlace) (numbers : Option Numbers) (bit : Option (Option ℤ)) (round : Option (Option (List ℕ))) (lapse : Option (Option ℤ)) (fit : Option (Option (List ℕ))) (keys : TagKeys) : Type 0 where
+-- what the ten parts of a tag's keys are
+pub record AreKeys (name access kind : Option (List ℕ)) (place : Option TagPlace) (numbers : Option Numbers) (bit : Option (Option ℤ)) (round : Option (Option (List ℕ))) (lapse : Option (Option ℤ)) (fit companion : Option (Option (List ℕ))) (keys : TagKeys) : Type 0 where
   pub name_is : name ≡ Some keys.name
   pub access_is : access ≡ Some keys.access
   pub kind_is : kind ≡ Some keys.kind
@@ -117,22 +117,24 @@ pub record AreKeys (name access kind : Option (List ℕ)) (place : Option TagPla
   pub round_is : round ≡ Some keys.round
   pub lapse_is : lapse ≡ Some keys.lapse
   pub fit_is : fit ≡ Some keys.fit
+  pub companion_is : companion ≡ Some keys.companion
 
-pub keys_told : (name access kind : Option (List ℕ)) (place : Option TagPlace) (numbers : Option Numbers) (bit : Option (Option ℤ)) (round : Option (Option (List ℕ))) (lapse : Option (Option ℤ)) (fit : Option (Option (List ℕ))) (keys : TagKeys)
+pub keys_told : (name access kind : Option (List ℕ)) (place : Option TagPlace) (numbers : Option Numbers) (bit : Option (Option ℤ)) (round : Option (Option (List ℕ))) (lapse : Option (Option ℤ)) (fit companion : Option (Option (List ℕ))) (keys : TagKeys)
     → option_and_then (λ n. option_and_then (λ a. option_and_then (λ k. option_and_then (λ p. option_and_then (λ m. option_and_then (λ b.
-    option_and_then (λ r. option_and_then (λ l. option_map (λ f. record { name = n; access = a; kind = k; place = p; numbers = m; bit = b; round = r; lapse = l; fit = f }) fit) lapse) round) bit) numbers) place) kind) access) name ≡ Some keys
-    → AreKeys name access kind place numbers bit round lapse fit keys
-keys_told None access kind place numbers bit round lapse fit keys e = absurd (cc)
-keys_told (Some n) None kind place numbers bit round lapse fit keys e = absurd (cc)
-keys_told (Some n) (Some a) None place numbers bit round lapse fit keys e = absurd (cc)
-keys_told (Some n) (Some a) (Some k) None numbers bit round lapse fit keys e = absurd (cc)
-keys_told (Some n) (Some a) (Some k) (Some p) None bit round lapse fit keys e = absurd (cc)
-keys_told (Some n) (Some a) (Some k) (Some p) (Some m) None round lapse fit keys e = absurd (cc)
-keys_told (Some n) (Some a) (Some k) (Some p) (Some m) (Some b) None lapse fit keys e = absurd (cc)
-keys_told (Some n) (Some a) (Some k) (Some p) (Some m) (Some b) (Some r) None fit keys e = absurd (cc)
-keys_told (Some n) (Some a) (Some k) (Some p) (Some m) (Some b) (Some r) (Some l) None keys e = absurd (cc)
-keys_told (Some n) (Some a) (Some k) (Some p) (Some m) (Some b) (Some r) (Some l) (Some f) keys e =
-    let own : TagKeys = record { name = n; access = a; kind = k; place = p; numbers = m; bit = b; round = r; lapse = l; fit = f } in
+    option_and_then (λ r. option_and_then (λ l. option_and_then (λ f. option_map (λ c. record { name = n; access = a; kind = k; place = p; numbers = m; bit = b; round = r; lapse = l; fit = f; companion = c }) companion) fit) lapse) round) bit) numbers) place) kind) access) name ≡ Some keys
+    → AreKeys name access kind place numbers bit round lapse fit companion keys
+keys_told None access kind place numbers bit round lapse fit companion keys e = absurd (cc)
+keys_told (Some n) None kind place numbers bit round lapse fit companion keys e = absurd (cc)
+keys_told (Some n) (Some a) None place numbers bit round lapse fit companion keys e = absurd (cc)
+keys_told (Some n) (Some a) (Some k) None numbers bit round lapse fit companion keys e = absurd (cc)
+keys_told (Some n) (Some a) (Some k) (Some p) None bit round lapse fit companion keys e = absurd (cc)
+keys_told (Some n) (Some a) (Some k) (Some p) (Some m) None round lapse fit companion keys e = absurd (cc)
+keys_told (Some n) (Some a) (Some k) (Some p) (Some m) (Some b) None lapse fit companion keys e = absurd (cc)
+keys_told (Some n) (Some a) (Some k) (Some p) (Some m) (Some b) (Some r) None fit companion keys e = absurd (cc)
+keys_told (Some n) (Some a) (Some k) (Some p) (Some m) (Some b) (Some r) (Some l) None companion keys e = absurd (cc)
+keys_told (Some n) (Some a) (Some k) (Some p) (Some m) (Some b) (Some r) (Some l) (Some f) None keys e = absurd (cc)
+keys_told (Some n) (Some a) (Some k) (Some p) (Some m) (Some b) (Some r) (Some l) (Some f) (Some c) keys e =
+    let own : TagKeys = record { name = n; access = a; kind = k; place = p; numbers = m; bit = b; round = r; lapse = l; fit = f; companion = c } in
     let same : own ≡ keys = some_is own keys e in
     record {
       name_is = ap (λ (k : TagKeys). Some k.name) same;
@@ -144,6 +146,7 @@ keys_told (Some n) (Some a) (Some k) (Some p) (Some m) (Some b) (Some r) (Some l
       round_is = ap (λ (k : TagKeys). Some k.round) same;
       lapse_is = ap (λ (k : TagKeys). Some k.lapse) same;
       fit_is = ap (λ (k : TagKeys). Some k.fit) same;
+      companion_is = ap (λ (k : TagKeys). Some k.companion) same;
     }
 
 -- ---- the parts of a tag
@@ -260,3 +263,13 @@ fit_told a (Some word) o e h = text_there o word e ∙ by_word (bytes_eq word (c
     by_word : (up : Bool) → bytes_eq word (codes "up") ≡ up → Some word ≡ word_of_fit (if up then fits.Up else fits.Down)
     by_word true p = ap Some (same_bytes word (codes "up") p)
     by_word false p = ap Some (same_bytes word (codes "down") (below (bytes_eq word (codes "down")) (bytes_eq word (codes "up")) one p))
+
+-- the word of the key `with` is the name that it is read as
+pub companion_told : (a : Access) (companion : Option (List ℕ)) (o : Option Data) → option_map_or (λ d. option_map Some (as_str d)) o (Some None) ≡ Some companion → is_companion a companion ≡ true
+    → option_and_then as_str o ≡ option_and_then tag_name companion
+companion_told a None o e h = text_missing o e
+companion_told a (Some word) o e h = text_there o word e ∙ by_name (tag_name word) refl
+  where
+    by_name : (n : Option (List ℕ)) → tag_name word ≡ n → Some word ≡ n
+    by_name None q = absurd (let f : is_some (tag_name word) ≡ false = ap is_some q in let t = (both (is_output a) (is_some (tag_name word)) h).1 in cc)
+    by_name (Some n) q = ap Some (name_told word n q)

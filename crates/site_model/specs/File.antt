@@ -1,6 +1,6 @@
 -- Which site a site file stands for, over given model definitions.
 -- SunSpec Device Information Model Specification, device modbus maps; site files are this project's.
-use Rattle.std.specs.Prelude.{ℕ, Bool, false, ◌||◌, List, [], option_map, if◌then◌else◌, Result, Ok, Err, codes}
+use Rattle.std.specs.Prelude.{ℕ, Bool, false, ◌||◌, List, [], Option, option_map, if◌then◌else◌, Result, Ok, Err, codes}
 use Rattle.std.specs.Option.{ok_or, option_map_or}
 use Rattle.toml.specs.Data.{Data, table, Items, get}
 use Rattle.toml.specs.Parse.{parse_document}
@@ -11,6 +11,7 @@ use Rattle.site_model.specs.Gateway.{Gateway, gateway_of}
 use Rattle.site_model.specs.Lengths.{lengths_of}
 use Rattle.site_model.specs.Devices.{devices_behind}
 use Rattle.site_model.specs.Tagging.{Tag, tags_behind}
+use Rattle.site_model.specs.Companions.{paired}
 use Rattle.site_model.specs.Serving.{served_behind}
 use Rattle.site_model.specs.declared.device.SiteDevice.{SiteDevice}
 use Rattle.site_model.specs.declared.served.Served.{Served}
@@ -25,6 +26,7 @@ pub record Layout : Type 0 where
   pub devices : List SiteDevice
   pub tags : List Tag
   pub served : List Served
+  pub companions : List (Option ℕ)
   pub lengths : List (ℕ × ℕ)
 
 -- ---- lists that are too long
@@ -42,14 +44,15 @@ has_too_many doc = has_many_models doc || has_long_section doc
 
 -- ---- the site
 
-abbrev pub layout_over : List ModelDef → Gateway → List SiteDevice → List Tag → List Served → Layout
-layout_over defs g devices tags served = record {
+abbrev pub layout_over : List ModelDef → Gateway → List SiteDevice → List Tag → List (Option ℕ) → List Served → Layout
+layout_over defs g devices tags companions served = record {
   unit = g.unit;
   base = g.base;
   models = g.models;
   devices = devices;
   tags = tags;
   served = served;
+  companions = companions;
   lengths = lengths_of g.models defs tags;
 }
 
@@ -74,9 +77,10 @@ layout_of defs doc =
     devices_in doc >>= λ devices.
     tags_in defs g devices doc >>= λ tags.
     served_in g tags doc >>= λ served.
-    Ok (layout_over defs g devices tags served)
+    paired tags >>= λ companions.
+    Ok (layout_over defs g devices tags companions served)
 
--- the site of a tree, or the first rule that it breaks: lists that are too long, the gateway, devices, tags, served points
+-- the site of a tree, or the first rule that it breaks: lists that are too long, the gateway, devices, tags, served points, which tags go with which
 abbrev pub site_of : List ModelDef → Data → Result Layout SiteFault
 site_of defs doc = if has_too_many doc then Err fault.TooMany else layout_of defs doc
 

@@ -6,6 +6,8 @@ pub mod Examples
 pub mod Gateway
 pub mod Devices
 pub mod Tagging
+pub mod Companions
+pub mod TagView
 pub mod Serving
 pub mod Lengths
 pub mod File

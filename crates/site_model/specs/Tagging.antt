@@ -52,6 +52,7 @@ pub record TagKeys : Type 0 where
   pub round : Option (List ℕ)
   pub lapse : Option ℤ
   pub fit : Option (List ℕ)
+  pub companion : Option (List ℕ)
 
 abbrev pub numbers_of : Data → Option Numbers
 numbers_of tree =
@@ -84,7 +85,9 @@ tag_keys tree =
     option_and_then (λ bit.
     option_and_then (λ round.
     option_and_then (λ lapse.
-    option_map (λ fit. record { name = name; access = access; kind = kind; place = place; numbers = numbers; bit = bit; round = round; lapse = lapse; fit = fit })
+    option_and_then (λ fit.
+    option_map (λ companion. record { name = name; access = access; kind = kind; place = place; numbers = numbers; bit = bit; round = round; lapse = lapse; fit = fit; companion = companion })
+    (optional_text_at (codes "with") tree))
     (optional_text_at (codes "fit") tree))
     (optional_number_at (codes "lapse") tree))
     (optional_text_at (codes "round") tree))
@@ -262,9 +265,14 @@ abbrev pub fit_by : Option (List ℕ) → Fit
 fit_by None = fits.Exact
 fit_by (Some word) = if bytes_eq word (codes "up") then fits.Up else fits.Down
 
+-- it is written only where the `out` tag of this name is
+abbrev pub is_companion : Access → Option (List ℕ) → Bool
+is_companion a None = true
+is_companion a (Some word) = is_output a && is_some (tag_name word)
+
 abbrev pub goes_together : Access → IlType → Kind → TagKeys → Bool
 goes_together a kind point keys =
-    is_place a keys.place.device point && (is_bit_place a kind point keys.bit && (is_rounding a keys.bit keys.round && (is_lapsing a keys.numbers.default keys.lapse && is_fitting a keys.fit)))
+    is_place a keys.place.device point && (is_bit_place a kind point keys.bit && (is_rounding a keys.bit keys.round && (is_lapsing a keys.numbers.default keys.lapse && (is_fitting a keys.fit && is_companion a keys.companion))))
 
 -- ---- the tag
 
@@ -281,6 +289,7 @@ pub record Tag : Type 0 where
   pub down : Bool
   pub lapse : Option ℕ
   pub fit : Fit
+  pub companion : Option (List ℕ)
   pub device : Option ℕ
   pub model : ℕ
   pub point : Kind
@@ -312,6 +321,7 @@ tag_over keys measures device model p name a kind = record {
   down = is_some keys.round;
   lapse = measures.lapse;
   fit = fit_by keys.fit;
+  companion = option_and_then tag_name keys.companion;
   device = device;
   model = model.id;
   point = p.kind;
@@ -401,7 +411,7 @@ has_key tree key = is_some (get key tree)
 
 -- the keys that speak of a point, and of what it is worth while it has no value
 abbrev pub point_words : List (List ℕ)
-point_words = codes "device" ∷ codes "model" ∷ codes "point" ∷ codes "exponent" ∷ codes "default" ∷ codes "bit" ∷ codes "round" ∷ codes "lapse" ∷ codes "fit" ∷ []
+point_words = codes "device" ∷ codes "model" ∷ codes "point" ∷ codes "exponent" ∷ codes "default" ∷ codes "bit" ∷ codes "round" ∷ codes "lapse" ∷ codes "fit" ∷ codes "with" ∷ []
 
 abbrev pub has_point_words : Data → Bool
 has_point_words tree = list_any (has_key tree) point_words
@@ -424,6 +434,7 @@ time_over keys name kind = record {
   down = false;
   lapse = None;
   fit = fits.Exact;
+  companion = None;
   device = None;
   model = 0;
   point = kinds.Uint32;

@@ -1,18 +1,20 @@
 -- What a site file says of a site: its gateway, its devices and its tags, entry by entry.
 -- The rules that a file may break are those of File: a site that was read breaks none of them.
 -- SunSpec Device Information Model Specification, points and scale factors; site files are this project's, written in TOML 1.0.
-use Rattle.std.specs.Prelude.{◌≡◌, ◌⊎◌, ℕ, ℤ, pos, ◌≤ℤ◌, true, false, List, [], ◌∷◌, slice_get, Option, None, Some, option_map, option_and_then, if◌then◌else◌, Ok, codes}
+use Rattle.std.specs.Prelude.{◌≡◌, ◌⊎◌, ℕ, ℤ, pos, ◌≤ℤ◌, true, false, List, [], ◌∷◌, map, slice_get, Option, None, Some, option_map, option_and_then, if◌then◌else◌, Ok, codes}
 use Rattle.toml.specs.Data.{Data, table, Items, no_items, item, get, as_integer}
 use Rattle.toml.specs.Parse.{parse_document}
 use Rattle.model_defs.specs.declared.model.ModelDef.{ModelDef}
 use Rattle.model_defs.specs.declared.point.Point.{Point}
 use Rattle.file_keys.specs.Keys.{list_at, number_at, number_or, optional_number_at, section_at, text_at}
+use Rattle.site_model.specs.Companions.{first_unpaired}
 use Rattle.site_model.specs.Devices.{write_of}
 use Rattle.site_model.specs.File.{site_in}
 use Rattle.site_model.specs.Gateway.{definition_of}
 use Rattle.point_types.specs.Value.{is_bool}
 use Rattle.site_model.specs.Tagging.{access_of, factor_in, has_point_words, type_of}
 use Rattle.site_model.specs.Views.{site_view}
+use Rattle.site_model.specs.TagView.{tag_view}
 use Rattle.site_model.specs.Wants.{is_of_device, length_of}
 use Rattle.site_model.specs.declared.access.Access.{Access}
 use Rattle.site_model.specs.declared.access.Access.TheVariants as access
@@ -95,6 +97,7 @@ pub record IsPointTag (defs : List ModelDef) (site : Site) (entry : Data) (t : S
   pub round : text_at (codes "round") entry ≡ (if t.down then Some (codes "down") else None)
   pub lapse : optional_number_at (codes "lapse") entry ≡ Some (option_map pos t.lapse)
   pub fit : text_at (codes "fit") entry ≡ word_of_fit t.fit
+  pub companion : text_at (codes "with") entry ≡ t.companion
   pub device : IsPlaced site.devices (text_at (codes "device") entry) t.access t.device
   pub point : IsPoint defs site.lengths entry t
 
@@ -122,6 +125,7 @@ pub record IsTold (defs : List ModelDef) (text : List ℕ) (site : Site) : Type 
   pub gateway : (entry : Data) × (get (codes "gateway") file ≡ Some entry) × IsGateway defs entry site
   pub devices : AreIn IsDevice (section_at (codes "device") file) site.devices
   pub tags : AreIn (IsTag defs site) (section_at (codes "tag") file) site.tags
+  pub pairs : first_unpaired (map tag_view site.tags) ≡ None
 
 -- a site that is read is the one that the file says
 abbrev pub SitesAreTold : Type 0

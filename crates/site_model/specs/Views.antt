@@ -15,7 +15,7 @@ use Rattle.site_model.specs.declared.tag_keys.TagPlace.{TagPlace}
 use Rattle.site_model.specs.declared.tag_keys.TagKeys.{TagKeys}
 use Rattle.site_model.specs.declared.time_tag.TimeKeys.{TimeKeys}
 use Rattle.site_model.specs.declared.measures.Measures.{Measures}
-use Rattle.site_model.specs.declared.tag.SiteTag.{SiteTag}
+use Rattle.site_model.specs.TagView.{tag_view}
 use Rattle.site_model.specs.declared.gateway.GatewayKeys.{GatewayKeys}
 use Rattle.site_model.specs.declared.gateway.Gateway.{Gateway}
 use Rattle.site_model.specs.declared.devices.DeviceKeys.{DeviceKeys}
@@ -46,6 +46,7 @@ tag_keys_view keys = record {
   round = option_map (λ s. s.now) keys.round;
   lapse = keys.lapse;
   fit = option_map (λ s. s.now) keys.fit;
+  companion = option_map (λ s. s.now) keys.companion;
 }
 
 abbrev pub time_keys_view : TimeKeys → tagging.TimeKeys
@@ -53,28 +54,6 @@ time_keys_view keys = record { name = keys.name.now; kind = keys.kind.now; low =
 
 abbrev pub measures_view : Measures → tagging.Measures
 measures_view m = record { exponent = m.exponent; bit = m.bit; lapse = m.lapse }
-
--- a tag without what it proves of itself
-abbrev pub tag_view : SiteTag → tagging.Tag
-tag_view t = record {
-  name = t.name;
-  access = t.access;
-  kind = t.kind;
-  low = t.low;
-  high = t.high;
-  default = t.default;
-  exponent = t.exponent;
-  bit = t.bit;
-  down = t.down;
-  lapse = t.lapse;
-  fit = t.fit;
-  device = t.device;
-  model = t.model;
-  point = t.point;
-  writable = t.writable;
-  offset = t.offset;
-  sf = t.sf;
-}
 
 abbrev pub given_view : Given → serving.Given
 given_view g = record { value = g.value; text = option_map (λ s. s.now) g.text; sum = option_map (λ s. items_view s.now) g.sum; partial = g.partial }
@@ -84,4 +63,4 @@ served_keys_view keys = record { model = keys.model; point = keys.point.now; giv
 
 -- a site without what its tags prove of themselves
 abbrev pub site_view : Site → file.Layout
-site_view s = record { unit = s.unit; base = s.base; models = s.models; devices = s.devices; tags = map tag_view s.tags; served = s.served; lengths = s.lengths }
+site_view s = record { unit = s.unit; base = s.base; models = s.models; devices = s.devices; tags = map tag_view s.tags; served = s.served; companions = s.companions; lengths = s.lengths }

@@ -1,13 +1,16 @@
 //! From the text of a site file to the site.
 ghost use Rattle.std.specs.Prelude.{◌≡◌, ◌≢◌, [], map, Ok, Err, IfOk, IfErr, MatchResult};
 ghost use Rattle.toml.specs.View.{view, items_view};
+ghost use Rattle.site_model.specs.Companions.{companions_of};
 ghost use Rattle.site_model.specs.File.{has_long_section, has_many_models, layout_of, layout_over, section_in, site_in, site_of};
 ghost use Rattle.site_model.specs.Parts.{IsAtFault, IsTagRefused, IsTreeFault, IsUnread};
 ghost use Rattle.site_model.specs.Tagging.{tags_behind};
-ghost use Rattle.site_model.specs.Views.{gateway_view, site_view, tag_view};
+ghost use Rattle.site_model.specs.Views.{gateway_view, site_view};
+ghost use Rattle.site_model.specs.TagView.{tag_view};
 ghost use Rattle.site_model.specs.declared.fault.SiteFault.TheVariants as fault;
 ghost use Rattle.site_model.specs.declared.part.SitePart.TheVariants as parts;
 
+use crate::companions::read_companions;
 use crate::device::SiteDevice;
 use crate::device_numbers::device_numbers;
 use crate::devices::read_devices;
@@ -135,7 +138,15 @@ fn read_sections(
         entries,
         part,
     )?;
-    Ok(with_lookups(alloc, defs, gateway, devices, tags, served)?)
+    let companions = read_companions(alloc, tags.as_slice(), part)?;
+    let read = Sections {
+        gateway,
+        devices,
+        tags,
+        served,
+        companions,
+    };
+    Ok(with_lookups(alloc, defs, read)?)
 }
 
 /// The entries of a section, none where it is missing; one that is no list is a fault of the file.
@@ -178,18 +189,29 @@ fn tags_over<'x>(
     read_tags(alloc, scope, entries, part)
 }
 
-/// The site of these parts, with what it looks up for its callers.
-fn with_lookups(
-    alloc: Global,
-    defs: &[ModelDef],
+/// What was read of a site file, section by section.
+#[derive(Drop)]
+struct Sections {
     gateway: Gateway,
     devices: Items<SiteDevice>,
     tags: Items<SiteTag>,
     served: Items<Served>,
-) -> Result<Site, AllocError>
+    companions: Items<Option<usize>>,
+}
+
+/// The site of these parts, with what it looks up for its callers.
+fn with_lookups(alloc: Global, defs: &[ModelDef], read: Sections) -> Result<Site, AllocError>
+    requires { read.companions ≡ companions_of (map tag_view read.tags) }
     ensures { IfOk result
-        (λ site. site_view site ≡ layout_over defs.now (gateway_view gateway) devices (map tag_view tags) served) }
+        (λ site. site_view site ≡ layout_over defs.now (gateway_view read.gateway) read.devices (map tag_view read.tags) read.companions read.served) }
 {
+    let Sections {
+        gateway,
+        devices,
+        tags,
+        served,
+        companions,
+    } = read;
     let wants = wants_of(alloc, tags.as_slice())?;
     let outs = outs_of(alloc, tags.as_slice())?;
     let lengths = lengths_of(alloc, gateway.models.as_slice(), defs, tags.as_slice())?;
@@ -200,6 +222,7 @@ fn with_lookups(
         devices,
         tags,
         served,
+        companions,
         wants,
         outs,
         lengths,

@@ -3,7 +3,7 @@ ghost use Rattle.std.specs.Prelude.{◌≡◌, ◌++◌, map, pos, IfOk};
 ghost use Rattle.std.specs.Option.{option_map_or};
 ghost use Rattle.site_model.specs.Gateway.{definition_of};
 ghost use Rattle.site_model.specs.Lengths.{defined_length, length_of_model, length_of_tag, lengths_of};
-ghost use Rattle.site_model.specs.Views.{tag_view};
+ghost use Rattle.site_model.specs.TagView.{tag_view};
 
 use crate::gateway::definition_of;
 use crate::tag::SiteTag;

@@ -2,6 +2,7 @@
 #![tactic(auto)]
 
 mod access;
+mod companions;
 mod device;
 mod device_numbers;
 mod devices;

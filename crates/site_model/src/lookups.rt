@@ -2,9 +2,11 @@
 ghost use Rattle.std.specs.Prelude.{◌≡◌, length};
 ghost use Rattle.std.specs.List.{position};
 ghost use Rattle.std.specs.Str.{bytes_eq};
+ghost use Rattle.site_model.specs.TagView.{companion_at};
 ghost use Rattle.site_model.specs.Readings.{AreReadings, AreSettings, AreUsable};
 ghost use Rattle.site_model.specs.Wants.{AreOutputs, length_of, outs_of, wants_of};
 
+use crate::companions::companion_at;
 use crate::readings::readings;
 use crate::site::Site;
 use crate::want::Want;
@@ -27,6 +29,13 @@ impl Site {
         ensures outputs { AreOutputs self.now.tags result.now }
     {
         self.outs.as_slice()
+    }
+
+    /// The number of the `out` tag without which the tag with this number isn't written (by the key `with`).
+    pub fn companion(&self, number: usize) -> Option<usize>
+        ensures { result ≡ companion_at self.now.tags number }
+    {
+        companion_at(self.companions.as_slice(), number)
     }
 
     /// The device and the model's ID of the `in` and `out` tags, each pair once, by first use.

@@ -6,7 +6,8 @@ ghost use Rattle.toml.specs.View.{view, items_view};
 ghost use Rattle.site_model.specs.Parts.{IsServedRefused};
 ghost use Rattle.site_model.specs.Serving.{can_be_encoded, exponent_of_part, fits, given_of, has_one, has_room, is_entry_of, is_input_named, is_part, is_string, is_tag_of, is_used, part_number, parts_behind, raw_range, served_at, served_behind, served_keys, served_of, source_for, source_of, sum_of, total_source};
 ghost use Rattle.site_model.specs.Tagging.{point_number};
-ghost use Rattle.site_model.specs.Views.{given_view, served_keys_view, tag_view};
+ghost use Rattle.site_model.specs.Views.{given_view, served_keys_view};
+ghost use Rattle.site_model.specs.TagView.{tag_view};
 ghost use Rattle.site_model.specs.declared.fault.SiteFault.{SiteFault};
 ghost use Rattle.site_model.specs.declared.fault.SiteFault.TheVariants as fault;
 

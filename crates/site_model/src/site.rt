@@ -1,5 +1,7 @@
 //! A site: its gateway, devices, tags and what it serves.
-ghost use Rattle.std.specs.Prelude.{◌≡◌};
+ghost use Rattle.std.specs.Prelude.{◌≡◌, map};
+ghost use Rattle.site_model.specs.Companions.{companions_of};
+ghost use Rattle.site_model.specs.TagView.{tag_view};
 ghost use Rattle.site_model.specs.Wants.{outs_of, wants_of};
 
 use crate::device::SiteDevice;
@@ -18,11 +20,14 @@ pub struct Site {
     pub(crate) devices: Items<SiteDevice>,
     pub(crate) tags: Items<SiteTag>,
     pub(crate) served: Items<Served>,
+    /// For each tag the number of the `out` tag without which it isn't written.
+    pub(crate) companions: Items<Option<usize>>,
     pub(crate) wants: Items<Want>,
     pub(crate) outs: Items<usize>,
     pub(crate) lengths: Items<(u16, u16)>,
     pub ghost wanted: { wants ≡ wants_of tags },
     pub ghost written: { outs ≡ outs_of tags },
+    pub ghost paired: { companions ≡ companions_of (map tag_view tags) },
 }
 
 impl Site {

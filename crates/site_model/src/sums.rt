@@ -3,7 +3,7 @@ ghost use Rattle.std.specs.Prelude.{◌≡◌, [], map, find, option_map, option
 ghost use Rattle.toml.specs.Data.{as_str};
 ghost use Rattle.toml.specs.View.{view, items_view};
 ghost use Rattle.site_model.specs.Serving.{exponent_of_part, is_input_named, is_part, part_from, part_number, parts_behind, sum_of};
-ghost use Rattle.site_model.specs.Views.{tag_view};
+ghost use Rattle.site_model.specs.TagView.{tag_view};
 ghost use Rattle.site_model.specs.declared.fault.SiteFault.{SiteFault};
 ghost use Rattle.site_model.specs.declared.fault.SiteFault.TheVariants as fault;
 

@@ -43,6 +43,8 @@ pub struct SiteTag {
     pub lapse: Option<u32>,
     /// What is written where its point can't say what the program stored.
     pub fit: Fit,
+    /// The name of the `out` tag of the same device without which this one isn't written.
+    pub companion: Option<Name>,
     /// The number of its device; None for the gateway's own points.
     pub device: Option<usize>,
     /// The ID of its model.

@@ -22,6 +22,7 @@ pub(crate) struct TagKeys<'a> {
     pub(crate) round: Option<&'a str>,
     pub(crate) lapse: Option<i64>,
     pub(crate) fit: Option<&'a str>,
+    pub(crate) companion: Option<&'a str>,
 }
 
 /// The keys that say where the tag's point is.
@@ -54,6 +55,7 @@ pub(crate) fn keys_of(entry: &Value) -> Option<TagKeys<'_>>
         round: optional_text_at(entry, "round")?,
         lapse: optional_number_at(entry, "lapse")?,
         fit: optional_text_at(entry, "fit")?,
+        companion: optional_text_at(entry, "with")?,
     })
 }
 

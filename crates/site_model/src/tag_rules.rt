@@ -1,11 +1,12 @@
 //! The rules of a tag over its point.
-ghost use Rattle.std.specs.Prelude.{◌≡◌, pos, neg_ℤ, option_map, IfSome, Some, true};
+ghost use Rattle.std.specs.Prelude.{◌≡◌, pos, neg_ℤ, option_and_then, option_map, IfSome, Some, true};
 ghost use Rattle.point_types.specs.Reading.{IsExponent};
 ghost use Rattle.point_types.specs.Value.{is_ranged, is_within};
 ghost use Rattle.site_model.specs.Tag.{is_written, start_of};
 ghost use Rattle.file_keys.specs.Keys.{natural_within};
-ghost use Rattle.site_model.specs.Tagging.{access_of, bit_of, exponent_of, factor_in, fit_by, goes_together, has_range, is_bit_place, is_fitting, is_input, is_lapsing, is_numeric, is_own, is_place, is_polled, is_rounding, is_setting, is_sunssf, lapse_of, last_bit, may_be_written, measures_of, measures_within, offset_at, tag_over, tag_typed, type_of};
-ghost use Rattle.site_model.specs.Views.{measures_view, numbers_view, tag_keys_view, tag_view};
+ghost use Rattle.site_model.specs.Tagging.{access_of, bit_of, exponent_of, factor_in, fit_by, goes_together, has_range, is_bit_place, is_companion, is_fitting, is_input, is_lapsing, is_numeric, is_own, is_place, is_polled, is_rounding, is_setting, is_sunssf, lapse_of, last_bit, may_be_written, measures_of, measures_within, offset_at, tag_name, tag_over, tag_typed, type_of};
+ghost use Rattle.site_model.specs.Views.{measures_view, numbers_view, tag_keys_view};
+ghost use Rattle.site_model.specs.TagView.{tag_view};
 
 use crate::access::Access;
 use crate::fit::Fit;
@@ -13,7 +14,7 @@ use crate::measures::Measures;
 use crate::tag::{Sf, SiteTag};
 use crate::tag_keys::{Numbers, TagKeys, access_of, tag_name, type_of};
 use model_defs::{ModelDef, Point};
-use point_types::{IlType, Kind};
+use point_types::{IlType, Kind, Name};
 
 /// Whether the tag's point is a device's.
 pub fn is_polled(access: Access) -> bool
@@ -242,6 +243,22 @@ fn fit_by(word: Option<&str>) -> Fit
     }
 }
 
+fn is_companion(access: Access, name: Option<&str>) -> bool
+    ensures { result ≡ is_companion access (option_map (λ s. s.now) name.entry) }
+{
+    match name {
+        None => true,
+        Some(name) => matches!(access, Access::Output) && tag_name(name).is_some(),
+    }
+}
+
+/// The name of the tag that another one goes with.
+fn companion_by(name: Option<&str>) -> Option<Name>
+    ensures { result ≡ option_and_then tag_name (option_map (λ s. s.now) name.entry) }
+{
+    tag_name(name?)
+}
+
 fn is_setting(access: Access) -> bool
     ensures { result ≡ is_setting access }
 {
@@ -256,6 +273,7 @@ fn goes_together(access: Access, kind: IlType, point: Kind, keys: TagKeys<'_>) -
         && is_rounding(access, keys.bit, keys.round)
         && is_lapsing(access, keys.numbers.default, keys.lapse)
         && is_fitting(access, keys.fit)
+        && is_companion(access, keys.companion)
 }
 
 /// The tag, where its words are allowed.
@@ -288,6 +306,7 @@ pub(crate) fn tag_typed(
         down: keys.round.is_some(),
         lapse: measures.lapse,
         fit: fit_by(keys.fit),
+        companion: companion_by(keys.companion),
         device,
         model: model.id,
         point: point.kind,

@@ -6,7 +6,8 @@ ghost use Rattle.name_places.specs.Places.{IsPlaced};
 ghost use Rattle.site_model.specs.Parts.{IsTagRefused};
 ghost use Rattle.site_model.specs.Tag.{start_of};
 ghost use Rattle.site_model.specs.Tagging.{clashes, device_for, device_named, device_number, is_device_named, is_on_heading, is_same_device, is_same_point, is_same_side, model_for, point_for, point_tag_of, tag_of, tag_placed, tags_behind};
-ghost use Rattle.site_model.specs.Views.{tag_keys_view, tag_view};
+ghost use Rattle.site_model.specs.Views.{tag_keys_view};
+ghost use Rattle.site_model.specs.TagView.{tag_view};
 ghost use Rattle.site_model.specs.declared.fault.SiteFault.{SiteFault};
 ghost use Rattle.site_model.specs.declared.fault.SiteFault.TheVariants as fault;
 
@@ -143,7 +144,10 @@ fn tag_placed(
         keys.lapse,
     )
     .ok_or(SiteFault::BadRange)?;
-    tag_typed(keys, measures, device, model, point).ok_or(SiteFault::BadType)
+    match tag_typed(keys, measures, device, model, point) {
+        Some(tag) => Ok(tag),
+        None => Err(SiteFault::BadType),
+    }
 }
 
 /// The tag's model: one of the gateway's own, or any that is defined.
@@ -208,7 +212,7 @@ pub fn is_same_side(access: Access, other: Access) -> bool
     }
 }
 
-fn is_same_device(device: Option<usize>, other: Option<usize>) -> bool
+pub(crate) fn is_same_device(device: Option<usize>, other: Option<usize>) -> bool
     ensures { result ≡ is_same_device device other }
 {
     match (device, other) {

@@ -3,7 +3,8 @@ ghost use Rattle.std.specs.Prelude.{◌≡◌, map, option_map, Some, Ok, Err, M
 ghost use Rattle.std.specs.Option.{option_map_or};
 ghost use Rattle.toml.specs.View.{view};
 ghost use Rattle.site_model.specs.Tagging.{has_key, has_point_words, has_range, has_time_range, is_time, time_keys, time_over, time_placed, time_tag_of, time_typed, type_of};
-ghost use Rattle.site_model.specs.Views.{tag_view, time_keys_view};
+ghost use Rattle.site_model.specs.Views.{time_keys_view};
+ghost use Rattle.site_model.specs.TagView.{tag_view};
 
 use crate::access::Access;
 use crate::fault::SiteFault;
@@ -73,6 +74,7 @@ fn has_point_words(entry: &Value) -> bool
         || has_key(entry, "round")
         || has_key(entry, "lapse")
         || has_key(entry, "fit")
+        || has_key(entry, "with")
 }
 
 fn has_key(entry: &Value, key: &str) -> bool
@@ -94,7 +96,10 @@ fn time_placed(keys: TimeKeys<'_>, has_point: bool) -> Result<SiteTag, SiteFault
     if has_point {
         return Err(SiteFault::BadType);
     }
-    time_typed(keys).ok_or(SiteFault::BadType)
+    match time_typed(keys) {
+        Some(tag) => Ok(tag),
+        None => Err(SiteFault::BadType),
+    }
 }
 
 /// Whether the range ascends within the type, where it is known; no time is negative.
@@ -134,6 +139,7 @@ fn time_over(keys: TimeKeys<'_>, name: Name, kind: IlType) -> SiteTag
         down: false,
         lapse: None,
         fit: Fit::Exact,
+        companion: None,
         device: None,
         model: 0,
         point: Kind::Uint32,

@@ -89,13 +89,14 @@ fn read_outputs(alloc: Global, tags: &mut [Value]) -> Result<(), AllocError> {
     Ok(())
 }
 
-/// Makes an `out` tag an `in` tag, which isn't fitted to its point.
+/// Makes an `out` tag an `in` tag, which neither is fitted to its point nor goes with another one.
 fn read_output(alloc: Global, tag: &mut Value) -> Result<(), AllocError> {
     if let Some(access) = tag.get_mut("access") {
         *access = Value::string(alloc, "in")?;
     }
     if let Some(keys) = tag.as_table_mut() {
         keys.remove("fit");
+        keys.remove("with");
     }
     Ok(())
 }

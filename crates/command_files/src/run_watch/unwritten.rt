@@ -135,6 +135,7 @@ fn met(
     cause: NoWrite,
 ) -> Result<String, AllocError> {
     let text = match (cause, factor) {
+        (NoWrite::With, _) => format!(in alloc; "{stored}, without the tag that it goes with")?,
         (NoWrite::NoBlock, _) => format!(in alloc; "{stored}, for which the device has no place")?,
         (_, Some(factor)) => format!(in alloc; "{stored} by factor {factor}")?,
         (_, None) => format!(in alloc; "{stored} without a factor")?,

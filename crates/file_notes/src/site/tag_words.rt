@@ -1,4 +1,5 @@
 //! What breaks a rule in the words of a tag.
+use super::companions::{leads_back, names_output};
 use super::tags::{access, is_of_device, kind};
 use crate::finding::Finding;
 use file_keys::text_at;
@@ -15,7 +16,7 @@ const TYPES: &[&str] = &[
 ];
 
 /// The word that isn't allowed, or the key that doesn't go with the others.
-pub(super) fn bad_word(entry: &Value) -> Finding<'_> {
+pub(super) fn bad_word<'a>(file: &Value, entry: &'a Value) -> Finding<'a> {
     if let Some(finding) = no_name(entry) {
         return finding;
     }
@@ -25,7 +26,7 @@ pub(super) fn bad_word(entry: &Value) -> Finding<'_> {
     }
     match no_type(entry) {
         Some(finding) => finding,
-        None => unlike_others(entry),
+        None => unlike_others(file, entry),
     }
 }
 
@@ -75,16 +76,19 @@ enum TagMisfit {
     LapseAlone,
     FitOfOther,
     FitWord,
+    WithOfOther,
+    WithNone,
+    WithItself,
     Point,
 }
 
 /// The key that doesn't go with the others.
-fn unlike_others(entry: &Value) -> Finding<'_> {
-    let (key, words, help) = told_of(misfit_in(entry));
+fn unlike_others<'a>(file: &Value, entry: &'a Value) -> Finding<'a> {
+    let (key, words, help) = told_of(misfit_in(file, entry));
     Finding::advised(entry, key, words, help)
 }
 
-fn misfit_in(entry: &Value) -> TagMisfit {
+fn misfit_in(file: &Value, entry: &Value) -> TagMisfit {
     if has(entry, "device") && !is_of_device(entry) {
         TagMisfit::DeviceOfGateway
     } else if has(entry, "bit") && !may_have_bit(entry) {
@@ -101,6 +105,21 @@ fn misfit_in(entry: &Value) -> TagMisfit {
         TagMisfit::FitOfOther
     } else if has(entry, "fit") && !matches!(text_at(entry, "fit"), Some("down" | "up")) {
         TagMisfit::FitWord
+    } else if has(entry, "with") {
+        misfit_with(file, entry)
+    } else {
+        TagMisfit::Point
+    }
+}
+
+/// Why the key `with` doesn't go with the others.
+fn misfit_with(file: &Value, entry: &Value) -> TagMisfit {
+    if !is_output(entry) {
+        TagMisfit::WithOfOther
+    } else if !names_output(file, entry) {
+        TagMisfit::WithNone
+    } else if leads_back(file, entry) {
+        TagMisfit::WithItself
     } else {
         TagMisfit::Point
     }
@@ -149,6 +168,21 @@ fn told_of(misfit: TagMisfit) -> (&'static str, &'static str, &'static str) {
             "is neither down nor up",
             "write \"down\" or \"up\", or take the key away",
         ),
+        TagMisfit::WithOfOther => (
+            "with",
+            "is for tags out",
+            "take the key away: only what is written to a device goes with another tag",
+        ),
+        TagMisfit::WithNone => (
+            "with",
+            "is no name of a tag out of that device",
+            "write the name of the out tag of the same device without which this one isn't to be written",
+        ),
+        TagMisfit::WithItself => (
+            "with",
+            "leads back to this tag",
+            "take the key away at one of these tags: none of them would ever be written",
+        ),
         TagMisfit::Point => (
             "point",
             "is of a kind that such a tag can't have",
@@ -169,7 +203,7 @@ fn is_input(entry: &Value) -> bool {
     matches!(access(entry), Some(Access::Input))
 }
 
-fn is_output(entry: &Value) -> bool {
+pub(super) fn is_output(entry: &Value) -> bool {
     matches!(access(entry), Some(Access::Output))
 }
 

@@ -31,7 +31,7 @@ pub(super) fn tag_finding<'a>(
         SiteFault::UnknownPoint => Some(no_point(entry, defs)),
         SiteFault::NotWritable => Some(Finding::at(entry, "point", "can't be written")),
         SiteFault::BadRange => Some(outside(entry, defs)),
-        SiteFault::BadType => Some(bad_word(entry)),
+        SiteFault::BadType => Some(bad_word(file, entry)),
         SiteFault::Duplicate => Some(known_tag(before, entry)),
         _ => None,
     }

@@ -10,7 +10,8 @@ use Rattle.site_model.specs.declared.tag.SiteTag.{SiteTag}
 use Rattle.site_model.specs.Readings.{AreSettings, known_at}
 use Rattle.point_writer.specs.declared.write.Write.{Write}
 use Rattle.point_writer.specs.declared.write.NoWrite.{NoWrite}
-use Rattle.point_writer.specs.SetPoint.{IsPlanFor, IsSetPoint, WritesASetPoint}
+use Rattle.point_writer.specs.Going.{AreCompanionsOf, IsPlanFor}
+use Rattle.point_writer.specs.SetPoint.{IsSetPoint, WritesASetPoint}
 use Rattle.gateway.specs.declared.event_core.event.Event.{Event}
 use Rattle.gateway.specs.declared.event_core.event.Event.TheVariants as event
 use Rattle.gateway.specs.declared.event_core.event.Answer.{Answer}
@@ -61,9 +62,13 @@ pub record SetsItsTag (g : Gateway) (i : ℕ) (w : Write) : Type 0 where
   pub low : tag.low ≤ℤ value
   pub high : value ≤ℤ tag.high
 
--- What is due for the i-th output: its tag's set point; or nothing, for this cause.
+-- Each tag that the one of the i-th output goes with has a set point, by the same scan.
+abbrev pub HasItsCompanions : Gateway → ℕ → Type 0
+HasItsCompanions g i = AreCompanionsOf g.site.tags g.site.outs g.site.wants g.maps (g.standing.last).blocks (g.standing.last).outputs i
+
+-- What is due for the i-th output: its tag's set point, where those that it goes with have one; or nothing, for this cause.
 abbrev pub IsDue : Gateway → ℕ → Result Write NoWrite → Type 0
-IsDue g i (Ok w) = SetsItsTag g i w
+IsDue g i (Ok w) = SetsItsTag g i w × HasItsCompanions g i
 IsDue g i (Err cause) = IsPlanFor g.site.tags g.site.outs g.site.wants g.maps (g.standing.last).blocks (g.standing.last).outputs i (Err cause)
 
 abbrev pub steps_of : Gateway → ℕ

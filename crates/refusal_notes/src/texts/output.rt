@@ -17,5 +17,6 @@ pub fn unwritten_help(cause: NoWrite) -> &'static str {
         NoWrite::OutOfType => {
             "the raw number doesn't fit the point's words by the factor: give the tag fit (down or up), or store what the factor holds (the tag's exponent, low and high), or set another factor in the device"
         }
+        NoWrite::With => "it goes with another tag, which isn't written: look why that one isn't",
     }
 }

@@ -21,6 +21,7 @@ fn tag(rt: &impl Abort, name: &str, access: Access, device: Option<usize>, model
         down: false,
         lapse: None,
         fit: Fit::Exact,
+        companion: None,
         device,
         model,
         point: Kind::Uint16,

@@ -1,6 +1,6 @@
 use Rattle.std.proofs.Common.{◌≡◌, ◌++◌, drop, map}
 use Rattle.site_model.specs.Lengths.{length_of_tag, lengths_of}
-use Rattle.site_model.specs.Views.{tag_view}
+use Rattle.site_model.specs.TagView.{tag_view}
 use Rattle.site_model.proofs.lengths.lengths_of.Given as goal
 
 -- the lengths so far, then those of the later tags

@@ -1,7 +1,7 @@
 use Rattle.std.proofs.Common.{◌≡◌, drop, map}
 use Rattle.std.specs.List.{list_any}
 use Rattle.site_model.specs.Serving.{is_tag_of}
-use Rattle.site_model.specs.Views.{tag_view}
+use Rattle.site_model.specs.TagView.{tag_view}
 use Rattle.site_model.proofs.serving.is_tagged.Given as goal
 
 abbrev pub invariant-loop-tag : goal.invariant-loop-tag

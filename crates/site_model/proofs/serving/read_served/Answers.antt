@@ -2,7 +2,7 @@ use Rattle.std.proofs.Common.{◌≡◌, ◌∙◌, [], Err, Ok, map, subst}
 use Rattle.toml.specs.View.{view}
 use Rattle.file_keys.proofs.InOrder.{next_read, refused_here}
 use Rattle.site_model.specs.Serving.{served_of, served_behind}
-use Rattle.site_model.specs.Views.{tag_view}
+use Rattle.site_model.specs.TagView.{tag_view}
 use Rattle.site_model.specs.declared.part.SitePart.TheVariants as parts
 use Rattle.site_model.proofs.Refused.{one_longer, rest_read, served_in_order, told_of_fault}
 use Rattle.site_model.proofs.serving.read_served.Goals as goal

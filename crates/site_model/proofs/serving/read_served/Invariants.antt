@@ -2,7 +2,7 @@ use Rattle.std.proofs.Common.{◌≡◌, drop, length, [], map, Ok}
 use Rattle.toml.specs.View.{items_view}
 use Rattle.file_keys.specs.Refusals.{before}
 use Rattle.site_model.specs.Serving.{served_behind}
-use Rattle.site_model.specs.Views.{tag_view}
+use Rattle.site_model.specs.TagView.{tag_view}
 use Rattle.site_model.proofs.serving.read_served.Given as goal
 
 -- what is served so far is that of the entries so far, and what the later entries give after it is what all give

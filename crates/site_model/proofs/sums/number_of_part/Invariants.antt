@@ -1,6 +1,6 @@
 use Rattle.std.proofs.Common.{◌≡◌, drop, map}
 use Rattle.site_model.specs.Serving.{part_from}
-use Rattle.site_model.specs.Views.{tag_view}
+use Rattle.site_model.specs.TagView.{tag_view}
 use Rattle.site_model.proofs.sums.number_of_part.Given as goal
 
 -- the first among those after it, with its number

@@ -1,7 +1,7 @@
 use Rattle.std.proofs.Common.{◌≡◌, drop, [], map}
 use Rattle.toml.specs.View.{items_view}
 use Rattle.site_model.specs.Serving.{parts_behind}
-use Rattle.site_model.specs.Views.{tag_view}
+use Rattle.site_model.specs.TagView.{tag_view}
 use Rattle.site_model.proofs.sums.parts_of.Given as goal
 
 -- what the later parts give after those so far

@@ -2,7 +2,7 @@ use Rattle.std.proofs.Common.{◌≡◌, ◌∙◌, [], Err, Ok, List, map, subs
 use Rattle.toml.specs.View.{view}
 use Rattle.file_keys.proofs.InOrder.{next_read, refused_here}
 use Rattle.site_model.specs.Tagging.{tag_of, tags_behind}
-use Rattle.site_model.specs.Views.{tag_view}
+use Rattle.site_model.specs.TagView.{tag_view}
 use Rattle.site_model.specs.declared.part.SitePart.TheVariants as parts
 use Rattle.site_model.specs.declared.tag.SiteTag.{SiteTag}
 use Rattle.site_model.proofs.Refused.{more_tags, one_longer, rest_read, tags_in_order, told_of_fault}

@@ -2,7 +2,7 @@ use Rattle.std.proofs.Common.{◌≡◌, drop, length, [], map, Ok}
 use Rattle.toml.specs.View.{items_view}
 use Rattle.file_keys.specs.Refusals.{before}
 use Rattle.site_model.specs.Tagging.{tags_behind}
-use Rattle.site_model.specs.Views.{tag_view}
+use Rattle.site_model.specs.TagView.{tag_view}
 use Rattle.site_model.proofs.tags.read_tags.Given as goal
 
 -- the tags so far are those of the entries so far, and what the later entries give after them is what all give

@@ -2,7 +2,8 @@ use Rattle.std.proofs.Common.{List, ℕ, subst}
 use Rattle.std.specs.Prelude.{ℤ, Option}
 use Rattle.register_map.specs.Layout.{Layout}
 use Rattle.site_model.specs.Readings.{AreSettings}
-use Rattle.point_writer.specs.SetPoint.{IsPlanFor, WritesASetPoint}
+use Rattle.point_writer.specs.Going.{IsPlanFor}
+use Rattle.point_writer.specs.SetPoint.{WritesASetPoint}
 use Rattle.gateway.specs.event_core.Core.{Gateway}
 use Rattle.gateway.proofs.Sized.{write_sized}
 use Rattle.gateway.proofs.event_core.Core.write.Goals as goal
