@@ -200,7 +200,7 @@ def play_damaged(counts, program, folder):
     put(folder, "state.program", whole)
     with open(site.site, encoding="utf-8") as it:
         text = it.read()
-    put(folder, "site.toml", text.replace('name = "lim1"', 'name = "lim"'))
+    put(folder, "site.toml", text.replace('"lim1"', '"lim"'))
     for what, change in (("wrong", lambda: site.replace(UNREAD)), ("missing", lambda: os.remove(site.path))):
         change()
         ran = start(site)

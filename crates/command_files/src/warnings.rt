@@ -1,5 +1,6 @@
 //! What is warned of beside an acceptance, and what its warnings know.
 mod line;
+mod read_back;
 mod retained_names;
 mod short_lapses;
 mod shown;
@@ -7,6 +8,7 @@ mod sleeping_hours;
 mod unreached;
 
 pub use line::device_fault;
+pub use read_back::why_no_read_back;
 pub use retained_names::{variables_of, warn_of_names, why_unretained};
 pub use short_lapses::warn_of_short_lapses;
 pub use shown::{warn_beside, warn_of_site, warn_on_site};

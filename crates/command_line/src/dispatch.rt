@@ -347,6 +347,7 @@ fn served_with<W: Write>(
                 reloads: matches.get_flag("reload"),
                 names: &[],
                 refused: None,
+                read_back: &[],
             };
             match devices {
                 DeviceSource::Plant(_) => warn_of_site(rt, notes),

@@ -33,8 +33,9 @@ pub enum ValueKind {
     Number,
     /// A number within these limits.
     Within(i64, i64),
-    Truth,
     TextOrNumber,
+    /// True or false.
+    Truth,
     Texts,
     Numbers,
     List,
@@ -218,8 +219,8 @@ pub(crate) fn is_of(value: &Value, kind: ValueKind) -> bool {
     match kind {
         ValueKind::Text => value.is_str(),
         ValueKind::Number | ValueKind::Within(_, _) => value.is_integer(),
-        ValueKind::Truth => value.is_bool(),
         ValueKind::TextOrNumber => value.is_str() || value.is_integer(),
+        ValueKind::Truth => value.as_bool().is_some(),
         ValueKind::Texts => texts_in(value).is_some(),
         ValueKind::Numbers => numbers_in(value).is_some(),
         ValueKind::List | ValueKind::Tables | ValueKind::Objects => value.is_array(),

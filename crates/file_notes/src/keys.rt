@@ -146,6 +146,7 @@ pub(crate) const TAG: Section = Section {
         LAPSE,
         Key("fit", ValueKind::Text, Need::Last),
         Key("with", ValueKind::Text, Need::Last),
+        Key("read_back", ValueKind::Truth, Need::Elsewhere),
     ],
     needs: None,
 };

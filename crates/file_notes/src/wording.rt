@@ -104,8 +104,8 @@ fn other_than(kind: ValueKind) -> &'static str {
     match kind {
         ValueKind::Text => "is no text",
         ValueKind::Number | ValueKind::Within(_, _) => "is no whole number",
-        ValueKind::Truth => "is neither true nor false",
         ValueKind::TextOrNumber => "is neither a text nor a whole number",
+        ValueKind::Truth => "is neither true nor false",
         ValueKind::Texts => "is no list of texts",
         ValueKind::Numbers => "is no list of whole numbers",
         ValueKind::List => "is no list",
@@ -141,8 +141,8 @@ fn help_for(kind: ValueKind) -> &'static str {
         ValueKind::Number | ValueKind::Within(_, _) => {
             "write a whole number, without quotes and without a point"
         }
-        ValueKind::Truth => "write true or false, without quotes",
         ValueKind::TextOrNumber => "write a text in quotes, or a whole number",
+        ValueKind::Truth => "write true or false, without quotes",
         ValueKind::Texts => "write a list of texts in quotes, as [\"a\", \"b\"]",
         ValueKind::Numbers => "write a list of whole numbers, as [1, 103]",
         ValueKind::List => "write a list, in square brackets",

@@ -121,7 +121,7 @@ module _ (tags : List SiteTag) (wants : List Want) (maps : List (Option Layout))
     alone = alone;
     plan = alone_of number t alone q (subst (λ (n : ℕ). IsAlone tags wants maps blocks outputs n alone) same h);
     goes = subst (λ (x : Result Write NoWrite). GoesWith tags wants maps blocks outputs number alone x) (sym is) (goes_together tags wants maps blocks outputs number alone are_set
-      (λ e. subst (λ (n : ℕ). AreCompanionsSet tags wants maps blocks outputs n) same (set e)) (λ e. subst (λ (n : ℕ). IsOneUnset tags wants maps blocks outputs (length tags) (companion_at tags n)) same (unset e)));
+        (λ e. subst (λ (n : ℕ). AreCompanionsSet tags wants maps blocks outputs n) same (set e)) (λ e. subst (λ (n : ℕ). IsOneUnset tags wants maps blocks outputs (length tags) (companion_at tags n)) same (unset e)));
   }
 
   -- one step on the way from tag to tag

@@ -47,7 +47,12 @@ module _ {X : Type 0} where
   this_here (z ∷ xs) zero y x is = cc
   this_here (z ∷ xs) (suc i) y x is = this_here xs i y x is
 
-  same_there : (xs : List (Option X)) (i k : ℕ) (entry : Option X) → k ≢ i → known_at (slice_set xs i entry) k ≡ known_at xs k
+  pub none_known : (xs : List (Option X)) (i : ℕ) → known_at (slice_set xs i None) i ≡ None
+  none_known [] i = refl
+  none_known (y ∷ xs) zero = refl
+  none_known (y ∷ xs) (suc i) = none_known xs i
+
+  pub same_there : (xs : List (Option X)) (i k : ℕ) (entry : Option X) → k ≢ i → known_at (slice_set xs i entry) k ≡ known_at xs k
   same_there xs i k entry other = ap (option_and_then (λ (o : Option X). o)) (set_other xs i k entry other)
 
 -- ---- nothing more
@@ -333,3 +338,10 @@ had_then took old middle new more then_none output write has = more output write
 
 pub none_more : (took : ℕ → Option HeldWrite) (old new : HeldWrites) → HasNoMore old new → HasMoreBy took old new
 none_more took old new more output write has = inl (had old new more output write has)
+
+pub had_since : (took : ℕ → Option HeldWrite) (first old new : HeldWrites) → HasNoMore first old → HasMoreBy took old new → HasMoreBy took first new
+had_since took first old new none more output write has = go (more output write has)
+  where
+    go : Has old output write ⊎ (took output ≡ Some write) → Has first output write ⊎ (took output ≡ Some write)
+    go (inl before) = inl (had first old none output write before)
+    go (inr taken) = inr taken

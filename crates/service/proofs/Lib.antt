@@ -3,6 +3,7 @@ pub mod Runs
 pub mod Calls
 pub mod Restored
 pub mod Told
+pub mod Compared
 pub mod Courses
 pub mod Known
 pub mod Blocks

@@ -10,11 +10,13 @@ ghost use Rattle.service.specs.declared.notice.Unwritten.TheVariants.{Unanswered
 ghost use Rattle.service.specs.declared.output.OutputState.TheVariants.{Unwritten as unwritten_for};
 ghost use Rattle.service.specs.declared.polled_device.PolledDevice.{PolledDevice as DeviceValue};
 ghost use Rattle.service.specs.declared.refusals.ReadRefusal.{ReadRefusal as RefusalValue};
+ghost use Rattle.service.specs.Comparing.{WritesAnew};
 ghost use Rattle.service.specs.Counting.{CountsOneLossAtMost, KeepsLosses};
 ghost use Rattle.service.specs.Noting.{Refuses};
+ghost use Rattle.service.specs.ReadBack.{IsShownAt, IsShownBy, IsShownIf};
 ghost use Rattle.service.specs.Refusing.{refusal_by};
 ghost use Rattle.service.specs.Losing.{AreLost, AreLostWith, LostByFate, LostByHearing, LostByWait, LostByWaitAt, loss_by};
-ghost use Rattle.service.specs.Told.{BecomesBy, Goes, IsThis, LosesBy, TellsBy};
+ghost use Rattle.service.specs.Told.{AnswersBy, BecomesBy, Goes, TellsAllBy, IsThis, LosesBy};
 ghost use Rattle.service.specs.Cycle.{Answers, AnswersIf, DevicesLeadOn, EndsOwn, LeadsOn, Settles, SettlesIf, stage_of};
 ghost use Rattle.service.specs.Rewriting.{after_answer, write_of};
 ghost use Rattle.service.specs.Telling.{state_by, told_at};
@@ -41,7 +43,8 @@ impl Service {
         ensures rest { Stays self.old self.new }
         ensures lines { LinksGo self.old self.new }
         ensures held { HasMoreBy (taken_if asked (Some fate) self.old.side.now) self.old.held self.new.held }
-        ensures stands { TellsBy (LostByHearing self.old.lines.links.stations.items link asked (Some fate)) (IsHeardBy (taken_if asked (Some fate) self.old.side.now) (IsRefusedIf asked (Some fate)) self.old.held) self.old.side self.new.side }
+        ensures stands { TellsAllBy (LostByHearing self.old.lines.links.stations.items link asked (Some fate)) (IsHeardBy (taken_if asked (Some fate) self.old.side.now) (IsRefusedIf asked (Some fate)) self.old.held) (IsShownIf self.old.cycle.core.value.site.wants self.old.held asked (Some fate)) self.old.side self.new.side }
+        ensures anew { WritesAnew (IsShownIf self.old.cycle.core.value.site.wants self.old.held asked (Some fate)) self.old.side self.new.held }
     {
         match asked {
             Some(asked) => self.settle_asked(link, asked, fate),
@@ -54,7 +57,8 @@ impl Service {
         ensures rest { Stays self.old self.new }
         ensures lines { LinksGo self.old self.new }
         ensures held { HasMoreBy (taken_at fate asked self.old.side.now) self.old.held self.new.held }
-        ensures stands { TellsBy (LostByFate self.old.lines.links.stations.items link asked fate) (IsHeardBy (taken_at fate asked self.old.side.now) (IsRefusedAt fate asked) self.old.held) self.old.side self.new.side }
+        ensures stands { TellsAllBy (LostByFate self.old.lines.links.stations.items link asked fate) (IsHeardBy (taken_at fate asked self.old.side.now) (IsRefusedAt fate asked) self.old.held) (IsShownAt self.old.cycle.core.value.site.wants self.old.held asked fate) self.old.side self.new.side }
+        ensures anew { WritesAnew (IsShownAt self.old.cycle.core.value.site.wants self.old.held asked fate) self.old.side self.new.held }
     {
         match fate {
             RequestEnd::Lost => self.lose_stream(link, asked.aim),
@@ -81,7 +85,8 @@ impl Service {
         ensures rest { Stays self.old self.new }
         ensures lines { LinksGo self.old self.new }
         ensures held { HasMoreBy (taken_by outcome asked self.old.side.now) self.old.held self.new.held }
-        ensures stands { TellsBy (LostByFate self.old.lines.links.stations.items link asked (Told outcome)) (IsHeardBy (taken_by outcome asked self.old.side.now) (IsRefusedAt (Told outcome) asked) self.old.held) self.old.side self.new.side }
+        ensures stands { TellsAllBy (LostByFate self.old.lines.links.stations.items link asked (Told outcome)) (IsHeardBy (taken_by outcome asked self.old.side.now) (IsRefusedAt (Told outcome) asked) self.old.held) (IsShownBy self.old.cycle.core.value.site.wants self.old.held asked outcome) self.old.side self.new.side }
+        ensures anew { WritesAnew (IsShownBy self.old.cycle.core.value.site.wants self.old.held asked outcome) self.old.side self.new.held }
     {
         if is_answer(&outcome) {
             self.take_answer(link, asked, outcome);
@@ -108,13 +113,15 @@ impl Service {
         ensures rest { Stays self.old self.new }
         ensures lines { LinksGo self.old self.new }
         ensures held { HasMoreBy (taken_by outcome asked self.old.side.now) self.old.held self.new.held }
-        ensures stands { BecomesBy (IsHeardBy (taken_by outcome asked self.old.side.now) (IsRefusedBy outcome asked) self.old.held) self.old.side self.new.side }
+        ensures stands { AnswersBy (IsHeardBy (taken_by outcome asked self.old.side.now) (IsRefusedBy outcome asked) self.old.held) (IsShownBy self.old.cycle.core.value.site.wants self.old.held asked outcome) self.old.side self.new.side }
+        ensures anew { WritesAnew (IsShownBy self.old.cycle.core.value.site.wants self.old.held asked outcome) self.old.side self.new.held }
     {
         let device = asked.device;
         let is_mapped = self.cycle.is_mapped(device);
         self.side.hear(device, is_mapped);
         self.note_reply(link, &asked);
         self.note_refusal(&asked, &outcome);
+        self.compare(&asked, &outcome);
         let foreign = self.take(asked, outcome);
         self.forget_if(foreign, device);
         self.leave_turn(link, device);

@@ -11,6 +11,7 @@ ghost use Rattle.service.specs.Having.{HasNothing};
 ghost use Rattle.service.specs.Rounds.{IsRoundFor, IsUntold};
 ghost use Rattle.service.specs.Stages.{IsFirst};
 ghost use Rattle.service.specs.Timing.{Starts, most_notes};
+ghost use Rattle.service.specs.Turning.{output_for, outputs_for};
 
 use crate::cycle::Cycle;
 use crate::device_side::DeviceSide;
@@ -33,7 +34,8 @@ use std::alloc::{AllocError, Global};
 impl Service {
     /// A service for a site and the program that runs, over so many connections, all of them down; no device has a map
     /// yet. All memory is taken here. `stations` has an entry for each of the site's devices; one without is never asked.
-    /// The first scan is a period from now. Foreign: the program was accepted for tags that the site doesn't have so;
+    /// The first scan is a period from now. `read_back` says of each of the site's tags whether what its device shows of it is compared
+    /// with what it took; of those without an entry it is. Foreign: the program was accepted for tags that the site doesn't have so;
     /// OutOfMemory: memory is refused.
     pub fn new(
         alloc: Global,
@@ -41,6 +43,7 @@ impl Service {
         machine: Machine<DEPTH>,
         links: usize,
         stations: &[Station],
+        read_back: &[bool],
         limits: Limits,
         now: u64,
     ) -> Result<Service, CoreFault>
@@ -51,10 +54,11 @@ impl Service {
         ensures numbers { IfOk result (λ service. service.lines.links.numbers.items ≡ replicate links 0) }
         ensures starts { IfOk result (λ service. Starts now limits service.side) }
         ensures nothing { IfOk result (λ service. HasNothing service.held) }
+        ensures outputs { IfOk result (λ service. service.side.outputs.items ≡ outputs_for read_back.now site.outs) }
         ensures places { IfOk result (λ service. length service.places.items ≡ limits.clients) }
         ensures foreign { IfErr result (λ e. e ≡ Foreign → HasLinks site.tags machine.accepted.links → ⊥) }
     {
-        let parts = parts_of(alloc, &site, links, stations, limits, now)?;
+        let parts = parts_of(alloc, &site, links, stations, read_back, limits, now)?;
         let core = Core::new(alloc, site, machine, parts.maps)?;
         let cycle = Cycle::new(alloc, core, parts.round, parts.searches, parts.over)?;
         Ok(Service {
@@ -83,6 +87,7 @@ fn parts_of(
     site: &Site,
     links: usize,
     stations: &[Station],
+    read_back: &[bool],
     limits: Limits,
     now: u64,
 ) -> Result<Parts, AllocError>
@@ -95,6 +100,7 @@ fn parts_of(
     ensures numbers { IfOk result (λ parts. parts.peers.lines.links.numbers.items ≡ replicate links 0) }
     ensures starts { IfOk result (λ parts. Starts now limits parts.peers.side) }
     ensures nothing { IfOk result (λ parts. HasNothing parts.held) }
+    ensures outputs { IfOk result (λ parts. parts.peers.side.outputs.items ≡ outputs_for read_back.now site.now.outs) }
     ensures places { IfOk result (λ parts. length parts.peers.places.items ≡ limits.clients) }
 {
     let maps = no_maps(alloc, site.devices())?;
@@ -102,7 +108,7 @@ fn parts_of(
     let searches = searches_for(alloc, site.devices())?;
     let over = vec![in alloc; 0; site.devices().len()]?;
     let held = HeldWrites::new(alloc, site.outs().len())?;
-    let peers = peers_of(alloc, site, links, stations, limits, now)?;
+    let peers = peers_of(alloc, site, links, stations, read_back, limits, now)?;
     Ok(Parts {
         maps,
         round,
@@ -127,6 +133,7 @@ fn peers_of(
     site: &Site,
     links: usize,
     stations: &[Station],
+    read_back: &[bool],
     limits: Limits,
     now: u64,
 ) -> Result<Peers, AllocError>
@@ -134,10 +141,11 @@ fn peers_of(
     ensures stations { IfOk result (λ peers. peers.lines.links.stations.items ≡ stations.now) }
     ensures numbers { IfOk result (λ peers. peers.lines.links.numbers.items ≡ replicate links 0) }
     ensures starts { IfOk result (λ peers. Starts now limits peers.side) }
+    ensures outputs { IfOk result (λ peers. peers.side.outputs.items ≡ outputs_for read_back.now site.now.outs) }
     ensures places { IfOk result (λ peers. length peers.places.items ≡ limits.clients) }
 {
     let lines = Connections::new(alloc, links, stations, site.devices().len())?;
-    let side = device_side(alloc, site, links, limits, now)?;
+    let side = device_side(alloc, site, links, read_back, limits, now)?;
     let places = places_for(alloc, limits.clients)?;
     Ok(Peers {
         lines,
@@ -151,13 +159,15 @@ fn device_side(
     alloc: Global,
     site: &Site,
     links: usize,
+    read_back: &[bool],
     limits: Limits,
     now: u64,
 ) -> Result<DeviceSide, AllocError>
     ensures starts { IfOk result (λ side. Starts now limits side) }
+    ensures outputs { IfOk result (λ side. side.outputs.items ≡ outputs_for read_back.now site.now.outs) }
 {
     let devices = devices_of(alloc, site.devices().len())?;
-    let outputs = outputs_of(alloc, site.outs())?;
+    let outputs = outputs_for(alloc, site.outs(), read_back)?;
     let links = vec![in alloc; LinkPace::new(); links]?;
     let notes = Notices::new(alloc, most_notes(devices.len(), outputs.len()))?;
     Ok(DeviceSide {
@@ -211,12 +221,24 @@ fn devices_of(alloc: Global, count: usize) -> Result<Vec<PolledDevice>, AllocErr
     Ok(devices)
 }
 
-fn outputs_of(alloc: Global, outs: &[usize]) -> Result<Vec<Output>, AllocError> {
+/// The outputs of these tags.
+fn outputs_for(alloc: Global, outs: &[usize], read_back: &[bool]) -> Result<Vec<Output>, AllocError>
+    ensures { IfOk result (λ outputs. outputs.items ≡ outputs_for read_back.now outs.now) }
+{
     let mut outputs = Vec::new(alloc);
-    for _ in outs {
-        outputs.push(Output::new())?;
+    for tag in outs {
+        outputs.push(output_for(read_back, *tag))?;
     }
     Ok(outputs)
+}
+
+fn output_for(read_back: &[bool], tag: usize) -> Output
+    ensures { result ≡ output_for read_back.now tag }
+{
+    match read_back.get(tag) {
+        Some(is_read_back) => Output::new(*is_read_back),
+        None => Output::new(true),
+    }
 }
 
 fn places_for(alloc: Global, clients: usize) -> Result<Vec<ClientPlace>, AllocError>

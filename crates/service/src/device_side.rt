@@ -1,5 +1,5 @@
 //! The devices' side of a service, apart from its core and its connections: devices, outputs, and the times of scans.
-ghost use Rattle.std.specs.Prelude.{◌≡◌, ◌≤◌, ◌<◌, ℕ, Bool, Option, Some, true, length, max, slice_get, nat_le};
+ghost use Rattle.std.specs.Prelude.{◌≡◌, ◌≤◌, ◌<◌, ℕ, Bool, Option, Some, true, length, max, slice_get, nat_le, ◌==◌, option_map, if◌then◌else◌};
 ghost use Rattle.service.specs.declared.polled_device.PolledDevice.{PolledDevice as DeviceValue};
 ghost use Rattle.service_parts.specs.Backing.{after};
 ghost use Rattle.service.specs.Counting.{CountsLoss, KeepsLosses, asked_once_more, counts_at};
@@ -9,7 +9,8 @@ ghost use Rattle.service.specs.declared.output.OutputState.{OutputState as State
 ghost use Rattle.service.specs.declared.notice.Unwritten.TheVariants.{Unanswered};
 ghost use Rattle.service.specs.declared.output.OutputState.TheVariants.{Unwritten as unwritten_for};
 ghost use Rattle.service.specs.Losing.{IsLost};
-ghost use Rattle.service.specs.Told.{Allowed, BecomesBy, Goes, IsReportOf, IsSo, IsThis, IsUnanswered, LosesBy, PlansBy, RunsBy, allows, awaited_then, awaits_at, lost_then, note_of, state_then};
+ghost use Rattle.service.specs.Told.{Allowed, BecomesBy, Goes, IsReportOf, IsSo, IsThis, IsUnanswered, LosesBy, PlansBy, RunsBy, allows, awaited_then, awaits_at, compares_at, differs_then, lost_then, note_by, note_of, state_then, IsShown, ShowsBy};
+ghost use Rattle.service.specs.Turning.{showing};
 ghost use Rattle.service.specs.Having.{IsOfPlan, IsToWait};
 ghost use Rattle.service.specs.Timing.{CountsScan, KeepsCounts, KeepsTime, PlansScan, not_over, planned_from, scan_after};
 
@@ -19,6 +20,7 @@ use crate::notice::{Loss, Notice, Unwritten};
 use crate::notices::Notices;
 use crate::output::{Output, OutputState};
 use crate::polled_device::PolledDevice;
+use crate::read_back::Shown;
 use crate::refusals::ReadRefusal;
 use crate::round::Round;
 use gateway::Report;
@@ -126,6 +128,7 @@ impl DeviceSide {
         requires device { (device : ℕ) (was : Bool) → lost_then note device was ≡ was }
         requires output { (output : ℕ) (was : Option StateValue) → state_then note output was ≡ was }
         requires awaited { (output : ℕ) (was : Bool) → awaited_then note output was ≡ was }
+        requires shown { (output : ℕ) (was : Bool) → differs_then note output was ≡ was }
         requires so { IsSo note self.old }
         ensures time { KeepsTime self.old self.new }
         ensures stands { Goes self.old self.new }
@@ -360,6 +363,30 @@ impl DeviceSide {
         }
     }
 
+    /// The device of an output shows this of it; it is told where that is new. One that isn't compared stays as it is.
+    pub(crate) fn show(&mut self, output: usize, shown: Shown)
+        ensures shows { (k : ℕ) → slice_get self.new.outputs.items k ≡ (if k == output then option_map (showing shown) (slice_get self.old.outputs.items k) else slice_get self.old.outputs.items k) }
+        ensures time { KeepsTime self.old self.new }
+        ensures counts { KeepsCounts self.old self.new }
+        ensures stands { ShowsBy (IsShown output shown) self.old self.new }
+    {
+        if let Some(found) = self.outputs.get_mut(output) {
+            if found.show(shown) {
+                self.notes.add(note_by(output, shown));
+            }
+        }
+    }
+
+    /// Whether what the device of an output shows is compared with what it took.
+    pub(crate) fn compares(&self, output: usize) -> bool
+        ensures { result ≡ compares_at self.entry.now output }
+    {
+        match self.outputs.get(output) {
+            Some(found) => found.is_read_back(),
+            None => false,
+        }
+    }
+
     /// An output isn't written, for this; it is told where it is new.
     fn leave_unwritten(&mut self, output: usize, cause: Unwritten)
         requires waited { cause ≡ Unanswered → awaits_at self.old output ≡ true }
@@ -445,6 +472,16 @@ fn note_of(output: usize, state: OutputState) -> Notice
     match state {
         OutputState::Written => Notice::Written(output),
         OutputState::Unwritten(cause) => Notice::Unwritten(output, cause),
+    }
+}
+
+/// What is told of an output whose device shows this.
+fn note_by(output: usize, shown: Shown) -> Notice
+    ensures { result ≡ note_by output shown }
+{
+    match shown {
+        Shown::Same => Notice::Agrees(output),
+        Shown::Other(difference) => Notice::Differs(output, difference),
     }
 }
 

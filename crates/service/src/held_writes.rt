@@ -1,9 +1,11 @@
 //! What devices have of what was written to them.
-ghost use Rattle.std.specs.Prelude.{◌≡◌, ℕ, IfOk, None, Some, length, slice_set};
+ghost use Rattle.std.specs.Prelude.{◌≡◌, ℕ, IfOk, None, Some, length, slice_set, if◌then◌else◌};
 ghost use Rattle.site_model.specs.Readings.{known_at};
 ghost use Rattle.service.specs.Rewriting.{had_beside, had_without, is_held, is_of, is_recent, is_same, is_written, write_of};
+ghost use Rattle.service.specs.ReadBack.{is_over, shown_in, shown_of};
 ghost use Rattle.service.specs.Having.{Forgets, HasNoMore, HasNothing};
 
+use crate::read_back::{Shown, compared, shown_at};
 use modbus_frame::{Request, Words};
 use service_parts::{Aim, Asked};
 use std::alloc::{AllocError, Global};
@@ -81,6 +83,27 @@ impl HeldWrites {
         }
     }
 
+    /// What a block that was asked for shows of an output.
+    pub(crate) fn shown_in(&self, asked: &Asked, block: &[u16], output: usize) -> Option<Shown>
+        ensures { result ≡ shown_in self.now asked.now block.now output }
+    {
+        match self.writes.get(output) {
+            Some(Some(write)) => shown_of(write, asked, block),
+            _ => None,
+        }
+    }
+
+    /// Where this is so, it isn't known any more that a device has an output.
+    #[tactic(auto, using(crate::proofs::Having::had_no_more))]
+    pub(crate) fn drop_if(&mut self, is_over: bool, output: usize)
+        ensures dropped { self.new.writes.items ≡ (if is_over then slice_set self.old.writes.items output None else self.old.writes.items) }
+        ensures no_more { HasNoMore self.old self.new }
+    {
+        if is_over {
+            put(&mut self.writes, output, None);
+        }
+    }
+
     /// It isn't known any more what a device has.
     pub(crate) fn forget(&mut self, device: usize)
         ensures forgotten { Forgets device self.old self.new }
@@ -139,6 +162,24 @@ pub(crate) fn write_of(asked: Asked, now: u64) -> HeldWrite
         number,
         at: now,
     }
+}
+
+/// What a block that was asked for shows of what a device took: only of what the same device took over the same connection.
+fn shown_of(write: &HeldWrite, asked: &Asked, block: &[u16]) -> Option<Shown>
+    ensures { result ≡ shown_of write.now asked.now block.now }
+{
+    if !is_over(write, asked) {
+        return None;
+    }
+    let words = write.words.as_slice();
+    let shows = shown_at(asked.address, block, write.address, words.len())?;
+    compared(words, shows)
+}
+
+fn is_over(write: &HeldWrite, asked: &Asked) -> bool
+    ensures { result ≡ is_over write.now asked.now }
+{
+    write.device == asked.device && write.number == asked.number
 }
 
 /// Whether a request to a device writes the same words into the same registers.

@@ -1,4 +1,5 @@
 //! What a service tells of what happened.
+use crate::read_back::Difference;
 use crate::refusals::ReadRefusal;
 use gateway::Report;
 use modbus_frame::Exception;
@@ -25,6 +26,10 @@ pub enum Notice {
     Unwritten(usize, Unwritten),
     /// A device took an output that wasn't written before.
     Written(usize),
+    /// A device shows an output otherwise than it took it. It isn't told again before it agrees or something new becomes of the output.
+    Differs(usize, Difference),
+    /// A device shows an output again as it took it.
+    Agrees(usize),
 }
 
 /// Why a device is lost.

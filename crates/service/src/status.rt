@@ -5,10 +5,12 @@ ghost use Rattle.service.specs.Noting.{TakesOldest};
 ghost use Rattle.service.specs.Rounds.{is_ready};
 ghost use Rattle.service.specs.Standing.{IsStatus, is_reached, refusals_at};
 ghost use Rattle.service.specs.Telling.{told_at};
+ghost use Rattle.service.specs.Turning.{difference_at};
 
 use crate::counts::Counts;
 use crate::notice::{Loss, Notice};
 use crate::output::OutputState;
+use crate::read_back::Difference;
 use crate::refusals::ReadRefusal;
 use crate::replies::Replies;
 use crate::service_state::Service;
@@ -95,5 +97,12 @@ impl Service {
         ensures { result ≡ told_at self.now.side.outputs.items output }
     {
         self.side.outputs.get(output)?.told()
+    }
+
+    /// What the device of an output shows of it otherwise than it took it, as it was shown last; None where that isn't so.
+    pub fn difference(&self, output: usize) -> Option<Difference>
+        ensures { result ≡ difference_at self.now.side.outputs.items output }
+    {
+        self.side.outputs.get(output)?.differs()
     }
 }

@@ -1,2 +1,3 @@
 mod Fittings
 mod Found
+mod Same

@@ -12,6 +12,7 @@ use Rattle.site_model.specs.declared.want.Want.{Want}
 use Rattle.site_model.specs.Readings.{known_at}
 use Rattle.gateway.specs.event_core.SiteRun.{has_lapsed}
 use Rattle.gateway.specs.event_core.Core.{Gateway}
+use Rattle.service.specs.declared.read_back.Difference.{Difference}
 use Rattle.service.specs.declared.output.OutputState.{OutputState}
 use Rattle.service.specs.declared.output.OutputState.TheVariants as state
 use Rattle.service.specs.declared.status.DeviceStatus.{DeviceStatus}
@@ -91,6 +92,15 @@ of_output i None = []
 abbrev pub outputs_unwritten : List (Option OutputState) → List Alarm
 outputs_unwritten outputs = of_each of_output 0 outputs
 
+-- ---- outputs that their devices show otherwise than they took them
+
+abbrev pub of_difference : ℕ → Option Difference → List Alarm
+of_difference i (Some difference) = alarm.OutputDiffers i difference ∷ []
+of_difference i None = []
+
+abbrev pub outputs_differing : List (Option Difference) → List Alarm
+outputs_differing differences = of_each of_difference 0 differences
+
 -- ---- set values: one that has lapsed, since no client wrote it again in its time; or one that lapses and was never set
 
 -- Where it was set, its age says whether it has lapsed. Where it was not, neither since the start nor before, what had been set at the
@@ -108,12 +118,13 @@ sets_missing running ages tags = of_each (of_setting running ages) 0 tags
 -- ---- all of them, each kind in the site's order
 
 -- of the devices, their models, the inputs, the outputs and what clients set
-abbrev pub wrong_beside : Gateway → List DeviceStatus → List (Option OutputState) → (running : ℕ) → List Alarm
-wrong_beside core devices outputs running =
+abbrev pub wrong_beside : Gateway → List DeviceStatus → List (Option OutputState) → List (Option Difference) → (running : ℕ) → List Alarm
+wrong_beside core devices outputs differences running =
     devices_amiss devices
     ++ models_missing core.maps core.site.wants
     ++ inputs_missing core.standing.last.readings core.site.tags
     ++ outputs_unwritten outputs
+    ++ outputs_differing differences
     ++ sets_missing running core.standing.ages core.site.tags
 
 -- of the service itself
@@ -129,10 +140,10 @@ pub record AreServedMissing (core : Gateway) (alarms : List Alarm) : Type 0 wher
   pub all : alarms ≡ sums ++ stored
 
 -- all that is wrong so many milliseconds after the start, and nothing else
-pub record IsAllWrong (core : Gateway) (devices : List DeviceStatus) (outputs : List (Option OutputState)) (running : ℕ) (is_late is_unkept is_refused : Bool) (alarms : List Alarm) : Type 0 where
+pub record IsAllWrong (core : Gateway) (devices : List DeviceStatus) (outputs : List (Option OutputState)) (differences : List (Option Difference)) (running : ℕ) (is_late is_unkept is_refused : Bool) (alarms : List Alarm) : Type 0 where
   pub served : List Alarm
   pub are_served : AreServedMissing core served
-  pub all : alarms ≡ wrong_beside core devices outputs running ++ served ++ wrong_itself is_late is_unkept is_refused
+  pub all : alarms ≡ wrong_beside core devices outputs differences running ++ served ++ wrong_itself is_late is_unkept is_refused
 
 -- what of that the core alone says of numbers
 pub record IsAllMissing (core : Gateway) (alarms : List Alarm) : Type 0 where

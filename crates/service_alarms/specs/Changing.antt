@@ -14,6 +14,7 @@ subject_of (alarm.DeviceUnmapped i) = subject.Device i
 subject_of (alarm.ModelMissing w) = subject.Model w
 subject_of (alarm.InputMissing i why) = subject.Input i
 subject_of (alarm.OutputUnwritten i why) = subject.Output i
+subject_of (alarm.OutputDiffers i difference) = subject.ReadBack i
 subject_of (alarm.SetLapsed i) = subject.Set i
 subject_of (alarm.NeverSet i) = subject.Set i
 subject_of (alarm.SumHidden i why) = subject.Sum i

@@ -67,6 +67,7 @@ device_of site (alarm.DeviceUnmapped i) = Some i
 device_of site (alarm.ModelMissing w) = None
 device_of site (alarm.InputMissing i why) = device_of_tag site i
 device_of site (alarm.OutputUnwritten o why) = device_of_output site o
+device_of site (alarm.OutputDiffers o difference) = device_of_output site o
 device_of site (alarm.SetLapsed i) = None
 device_of site (alarm.NeverSet i) = None
 device_of site (alarm.SumHidden i why) = device_hidden site why

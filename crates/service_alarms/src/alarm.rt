@@ -3,7 +3,7 @@ ghost use Rattle.std.specs.Prelude.{◌≡◌, Decides};
 ghost use Rattle.service_alarms.specs.Changing.{subject_of};
 
 use point_types::Cause;
-use service::{Loss, Unwritten};
+use service::{Difference, Loss, Unwritten};
 use site_model::Want;
 
 /// Why a point of the gateway's own doesn't show what it is to, by the first cause that holds.
@@ -34,6 +34,8 @@ pub enum Alarm {
     InputMissing(usize, Cause),
     /// An output, by its number among the `out` tags, isn't written, and why.
     OutputUnwritten(usize, Unwritten),
+    /// A device shows an output, by the same number, otherwise than it took it.
+    OutputDiffers(usize, Difference),
     /// What clients set a tag to has lapsed: none wrote it again in its time.
     SetLapsed(usize),
     /// A tag that lapses has never been set, for as long as what was set at the start would have held.
@@ -61,6 +63,8 @@ pub enum AlarmSubject {
     Input(usize),
     /// The output of this number.
     Output(usize),
+    /// The output of this number, as its device shows it.
+    ReadBack(usize),
     /// The tag of this number, as one that clients set.
     Set(usize),
     /// The point of the entry of this number.
@@ -87,6 +91,7 @@ impl Alarm {
             Alarm::ModelMissing(want) => AlarmSubject::Model(want),
             Alarm::InputMissing(tag, _) => AlarmSubject::Input(tag),
             Alarm::OutputUnwritten(output, _) => AlarmSubject::Output(output),
+            Alarm::OutputDiffers(output, _) => AlarmSubject::ReadBack(output),
             Alarm::SetLapsed(tag) | Alarm::NeverSet(tag) => AlarmSubject::Set(tag),
             Alarm::SumHidden(entry, _) => AlarmSubject::Sum(entry),
             Alarm::StoredHidden(tag, _) => AlarmSubject::Stored(tag),

@@ -18,6 +18,7 @@ mod places;
 mod points;
 mod sentences;
 mod served;
+mod shown_numbers;
 mod sleeping;
 mod standing;
 mod words;
@@ -40,6 +41,7 @@ pub use lines::{begun_line, lacks_text, missing_text, over_line, refuses_text, u
 pub use mending::mend;
 pub use names::{device_name, output_name, tag_name};
 pub use sentences::{push_models, sentence, why_hidden, why_missing};
+pub use shown_numbers::shown_number;
 pub use words::{
     cause_text, kind_word, loss_word, missing_word, name_text, subject_text, unwritten_word,
 };

@@ -6,13 +6,15 @@ use crate::lines::{is_of_number, unwritten_text};
 use crate::met::{MetNumber, met_at};
 use crate::names::{device_name, output_name, tag_name};
 use crate::points::demand_at;
+use crate::shown_numbers::shown_number;
 use crate::words::subject_text;
 use gateway::{Core, DEPTH};
 use note_text::escaped;
 use point_types::Cause;
+use point_writer::NoWrite;
 use register_map::Map;
 use served_ranges::Demand;
-use service::{Loss, Unwritten};
+use service::{Difference, Loss, Unwritten};
 use site_model::{Site, SiteTag, Want};
 use std::alloc::{AllocError, Global};
 
@@ -26,6 +28,9 @@ pub fn sentence(alloc: Global, core: &Core<DEPTH>, alarm: Alarm) -> Result<Strin
         Alarm::InputMissing(tag, cause) => input_text(alloc, core, tag, cause),
         Alarm::OutputUnwritten(output, cause) => {
             output_text(alloc, output_name(site, output), cause)
+        }
+        Alarm::OutputDiffers(output, difference) => {
+            differing_text(alloc, core, output, difference)
         }
         Alarm::SetLapsed(tag) => lapsed_text(alloc, site, tag),
         Alarm::NeverSet(tag) => never_set_text(alloc, site, tag),
@@ -94,11 +99,28 @@ pub fn push_models(alloc: Global, text: &mut String, map: &Map) -> Result<(), Al
 fn output_text(alloc: Global, name: &str, cause: Unwritten) -> Result<String, AllocError> {
     let why = unwritten_text(alloc, cause)?;
     let what = match cause {
+        Unwritten::NoSetPoint(NoWrite::With) => "the tag that it goes with isn't written",
         Unwritten::NoSetPoint(_) => "there is no set point for it",
         Unwritten::Refused(exception) => refusal_words(exception),
         Unwritten::Unanswered => "its device didn't answer",
     };
     let text = format!(in alloc; "{name} isn't written ({why}): {what}")?;
+    Ok(text)
+}
+
+// `the device of NAME took W and shows V: ..`.
+fn differing_text(
+    alloc: Global,
+    core: &Core<DEPTH>,
+    output: usize,
+    difference: Difference,
+) -> Result<String, AllocError> {
+    let name = output_name(core.site(), output);
+    let wrote = shown_number(alloc, core, output, difference.wrote)?;
+    let shows = shown_number(alloc, core, output, difference.shows)?;
+    let mut text = format!(in alloc; "the device of {name} took {wrote}")?;
+    let rest = format!(in alloc; " and shows {shows}: look whether its remote control is on")?;
+    text.push_str(rest.as_str())?;
     Ok(text)
 }
 

@@ -156,6 +156,7 @@ fn device_of(alarm: Alarm, site: &Site) -> Option<usize>
         Alarm::DeviceLost(device, _) | Alarm::DeviceUnmapped(device) => Some(device),
         Alarm::InputMissing(tag, _) => device_of_tag(site, tag),
         Alarm::OutputUnwritten(output, _) => device_of_output(site, output),
+        Alarm::OutputDiffers(output, _) => device_of_output(site, output),
         Alarm::SumHidden(_, why) => device_hidden(site, why),
         Alarm::ModelMissing(_)
         | Alarm::SetLapsed(_)

@@ -16,6 +16,7 @@ pub fn kind_word(alarm: Alarm) -> &'static str {
         Alarm::ModelMissing(_) => "model_missing",
         Alarm::InputMissing(..) => "input_missing",
         Alarm::OutputUnwritten(..) => "output_unwritten",
+        Alarm::OutputDiffers(..) => "differs",
         Alarm::SetLapsed(_) => "lapsed",
         Alarm::NeverSet(_) => "never_set",
         Alarm::SumHidden(..) | Alarm::StoredHidden(..) => "served_missing",
@@ -33,7 +34,9 @@ pub fn name_text(alloc: Global, site: &Site, alarm: Alarm) -> Result<String, All
         Alarm::InputMissing(tag, _) | Alarm::SetLapsed(tag) | Alarm::NeverSet(tag) => {
             tag_name(site, tag)
         }
-        Alarm::OutputUnwritten(output, _) => output_name(site, output),
+        Alarm::OutputUnwritten(output, _) | Alarm::OutputDiffers(output, _) => {
+            output_name(site, output)
+        }
         Alarm::SumHidden(..) | Alarm::StoredHidden(..) => return point_text(alloc, site, alarm),
         Alarm::RoundLate => "rounds",
         Alarm::StateUnwritten => "state",
@@ -61,6 +64,7 @@ pub fn cause_text(alloc: Global, site: &Site, alarm: Alarm) -> Result<String, Al
         Alarm::ModelMissing(want) => return model_text(alloc, want.model),
         Alarm::InputMissing(_, cause) => missing_word(cause),
         Alarm::OutputUnwritten(_, cause) => unwritten_word(cause),
+        Alarm::OutputDiffers(..) => "Differs",
         Alarm::SetLapsed(_) => "Lapsed",
         Alarm::NeverSet(_) => "NeverSet",
         Alarm::SumHidden(_, why) | Alarm::StoredHidden(_, why) => {

@@ -7,11 +7,11 @@ use crate::alarm::Alarm;
 use crate::devices::{push_devices, push_models};
 use crate::inputs::push_inputs;
 use crate::lapses::push_lapses;
-use crate::outputs::push_outputs;
+use crate::outputs::{push_differences, push_outputs};
 use crate::served::{push_stored, push_sums};
 use gateway::{Core, DEPTH};
 use point_types::Items;
-use service::{DeviceStatus, OutputState};
+use service::{DeviceStatus, Difference, OutputState};
 use std::alloc::AllocError;
 
 /// What is looked at beside the core.
@@ -21,6 +21,8 @@ pub struct Seen<'a> {
     pub devices: &'a [DeviceStatus],
     /// What became of each of its outputs last.
     pub outputs: &'a [Option<OutputState>],
+    /// What the device of each of these shows of it otherwise than it took it.
+    pub differences: &'a [Option<Difference>],
     /// How many milliseconds ago the service began.
     pub running: u64,
     /// Whether a round began late within the last minute.
@@ -31,18 +33,18 @@ pub struct Seen<'a> {
     pub is_refused: bool,
 }
 
-/// From now on `alarms` is all that is wrong now: of the devices, the models that are wanted of them, the inputs, the outputs,
-/// the set values, the sums and the `site` tags that clients are shown, each in the site's order, of the rounds, of the file of
+/// From now on `alarms` is all that is wrong now: of the devices, the models that are wanted of them, the inputs, the outputs and
+/// how their devices show them, the set values, the sums and the `site` tags that clients are shown, each in the site's order, of the rounds, of the file of
 /// set values and of the program's file.
 pub fn wrong_now(
     alarms: &mut Items<Alarm>,
     core: &Core<DEPTH>,
     seen: &Seen<'_>,
 ) -> Result<(), AllocError>
-    ensures { OnOk result (IsAllWrong core.now seen.now.devices.now seen.now.outputs.now seen.now.running seen.now.is_late seen.now.is_unkept seen.now.is_refused alarms.new) }
+    ensures { OnOk result (IsAllWrong core.now seen.now.devices.now seen.now.outputs.now seen.now.differences.now seen.now.running seen.now.is_late seen.now.is_unkept seen.now.is_refused alarms.new) }
 {
     alarms.clear();
-    push_beside(alarms, core, seen.devices, seen.outputs, seen.running)?;
+    push_beside(alarms, core, seen)?;
     push_served(alarms, core)?;
     push_itself(alarms, seen.is_late, seen.is_unkept, seen.is_refused)
 }
@@ -60,17 +62,16 @@ pub fn missing_now(alarms: &mut Items<Alarm>, core: &Core<DEPTH>) -> Result<(), 
 fn push_beside(
     alarms: &mut Items<Alarm>,
     core: &Core<DEPTH>,
-    devices: &[DeviceStatus],
-    outputs: &[Option<OutputState>],
-    running: u64,
+    seen: &Seen<'_>,
 ) -> Result<(), AllocError>
-    ensures { OnOk result (alarms.new ≡ alarms.old ++ wrong_beside core.now devices.now outputs.now running) }
+    ensures { OnOk result (alarms.new ≡ alarms.old ++ wrong_beside core.now seen.now.devices.now seen.now.outputs.now seen.now.differences.now seen.now.running) }
 {
-    push_devices(alarms, devices)?;
+    push_devices(alarms, seen.devices)?;
     push_models(alarms, core.maps(), core.site().wants())?;
     push_inputs(alarms, core.readings(), core.site().tags())?;
-    push_outputs(alarms, outputs)?;
-    push_lapses(alarms, running, core.ages(), core.site().tags())
+    push_outputs(alarms, seen.outputs)?;
+    push_differences(alarms, seen.differences)?;
+    push_lapses(alarms, seen.running, core.ages(), core.site().tags())
 }
 
 /// Appends what clients aren't shown of sums and `site` tags.

@@ -4,7 +4,7 @@ use crate::nights::Nights;
 use crate::paces::Paces;
 use crate::program_watch::ProgramRefusal;
 use point_types::Items;
-use service::{DeviceStatus, OutputState, Service};
+use service::{DeviceStatus, Difference, OutputState, Service};
 use service_alarms::{
     Alarm, Changes, Seen, Slept, StandingAlarm, Watch, leave_out_sleepers, wrong_now,
 };
@@ -17,10 +17,11 @@ const LATE_FOR: u64 = 60_000;
 #[derive(Drop)]
 pub(crate) struct AlarmWatch {
     watch: Watch,
-    /// Room for how the devices stand, for what became of the outputs, and for what is wrong: memory is taken only where a
-    /// list is longer than any before.
+    /// Room for how the devices stand, for what became of the outputs and how their devices show them, and for what is wrong: memory
+    /// is taken only where a list is longer than any before.
     devices: Items<DeviceStatus>,
     outputs: Items<Option<OutputState>>,
+    differences: Items<Option<Difference>>,
     wrong: Items<Alarm>,
     alarms: Items<Alarm>,
     /// Which devices sleep.
@@ -46,6 +47,7 @@ impl AlarmWatch {
             watch: Watch::new(alloc),
             devices: Items::new(alloc),
             outputs: Items::new(alloc),
+            differences: Items::new(alloc),
             wrong: Items::new(alloc),
             alarms: Items::new(alloc),
             nights: Nights::new(alloc, devices, hours)?,
@@ -106,6 +108,7 @@ impl AlarmWatch {
         let seen = Seen {
             devices: self.devices.as_slice(),
             outputs: self.outputs.as_slice(),
+            differences: self.differences.as_slice(),
             running: now,
             is_late: is_late(self.late_at, now),
             is_unkept: files.is_unkept(),
@@ -132,11 +135,13 @@ impl AlarmWatch {
         Ok(())
     }
 
-    // What became of the outputs.
+    // What became of the outputs, and how their devices show them.
     fn see_outputs(&mut self, service: &Service) -> Result<(), AllocError> {
         self.outputs.clear();
+        self.differences.clear();
         for output in 0..service.core().site().outs().len() {
             self.outputs.push(service.output_state(output))?;
+            self.differences.push(service.difference(output))?;
         }
         Ok(())
     }

@@ -1,6 +1,6 @@
 //! What is wrong at a service, as JSON.
 use crate::members::{put_number, put_text};
-use crate::status_tags::put_code;
+use crate::status_tags::{put_code, put_difference};
 use gateway::{Core, DEPTH};
 use serde_json::{Map, Value};
 use service_alarms::{Alarm, StandingAlarm, cause_text, kind_word, name_text, sentence};
@@ -33,8 +33,12 @@ fn alarm_value(
     put_text(&mut value, alloc, "kind", kind_word(one.alarm))?;
     put_text(&mut value, alloc, "name", name.as_str())?;
     put_text(&mut value, alloc, "cause", cause.as_str())?;
-    if let Alarm::OutputUnwritten(_, cause) = one.alarm {
-        put_code(&mut value, alloc, cause)?;
+    match one.alarm {
+        Alarm::OutputUnwritten(_, cause) => put_code(&mut value, alloc, cause)?,
+        Alarm::OutputDiffers(output, difference) => {
+            put_difference(&mut value, alloc, core, output, difference)?;
+        }
+        _ => {}
     }
     put_number(&mut value, alloc, "since", one.since)?;
     put_text(&mut value, alloc, "text", text.as_str())?;

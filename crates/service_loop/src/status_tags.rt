@@ -3,8 +3,8 @@ use crate::members::{put_number, put_signed, put_text};
 use gateway::{Core, DEPTH};
 use point_types::{Cause, Reading};
 use serde_json::{Map, Value, put};
-use service::{OutputState, Service, Unwritten};
-use service_alarms::{fitted_number, missing_word, unwritten_word};
+use service::{Difference, OutputState, Service, Unwritten};
+use service_alarms::{fitted_number, missing_word, shown_number, unwritten_word};
 use site_model::{Access, SiteTag};
 use std::alloc::{AllocError, Global};
 
@@ -57,15 +57,14 @@ fn access_word(access: Access) -> &'static str {
     }
 }
 
-/// What the program stored in each `out` tag, the number that goes out where it isn't that one, and whether its device took it.
+/// What the program stored in each `out` tag, the number that goes out where it isn't that one, and whether its device took it and
+/// shows it so.
 pub(crate) fn outputs_value(alloc: Global, service: &Service) -> Result<Value, AllocError> {
     let core = service.core();
     let mut values = Map::new(alloc);
     for (output, place) in core.site().outs().iter().enumerate() {
         if let Some(tag) = core.site().tags().get(*place) {
-            let number = number_at(core.outputs(), *place);
-            let fitted = fitted_number(core, output);
-            let value = output_value(alloc, number, fitted, service.output_state(output))?;
+            let value = output_value(alloc, service, output, *place)?;
             put(&mut values, alloc, tag.name.as_str(), value)?;
         }
     }
@@ -81,25 +80,55 @@ fn number_at(numbers: &[Option<i64>], place: usize) -> Option<i64> {
 
 fn output_value(
     alloc: Global,
-    number: Option<i64>,
-    fitted: Option<i64>,
-    state: Option<OutputState>,
+    service: &Service,
+    output: usize,
+    place: usize,
 ) -> Result<Value, AllocError> {
+    let core = service.core();
     let mut value = Map::new(alloc);
-    put_signed(&mut value, alloc, "value", number)?;
+    put_signed(&mut value, alloc, "value", number_at(core.outputs(), place))?;
+    let fitted = fitted_number(core, output);
     if fitted.is_some() {
         put_signed(&mut value, alloc, "fitted", fitted)?;
     }
-    match state {
-        Some(OutputState::Written) => put_text(&mut value, alloc, "state", "written")?,
-        Some(OutputState::Unwritten(cause)) => {
-            put_text(&mut value, alloc, "state", "unwritten")?;
-            put_text(&mut value, alloc, "cause", unwritten_word(cause))?;
-            put_code(&mut value, alloc, cause)?;
+    match service.difference(output) {
+        Some(difference) => {
+            put_text(&mut value, alloc, "state", "differs")?;
+            put_difference(&mut value, alloc, core, output, difference)?;
         }
-        None => put(&mut value, alloc, "state", Value::Null)?,
+        None => put_state(&mut value, alloc, service.output_state(output))?,
     }
     Ok(Value::Object(value))
+}
+
+fn put_state(
+    value: &mut Map<String, Value>,
+    alloc: Global,
+    state: Option<OutputState>,
+) -> Result<(), AllocError> {
+    match state {
+        Some(OutputState::Written) => put_text(value, alloc, "state", "written"),
+        Some(OutputState::Unwritten(cause)) => {
+            put_text(value, alloc, "state", "unwritten")?;
+            put_text(value, alloc, "cause", unwritten_word(cause))?;
+            put_code(value, alloc, cause)
+        }
+        None => put(value, alloc, "state", Value::Null),
+    }
+}
+
+/// Puts what a device took of an output, and what it shows.
+pub(crate) fn put_difference(
+    value: &mut Map<String, Value>,
+    alloc: Global,
+    core: &Core<DEPTH>,
+    output: usize,
+    difference: Difference,
+) -> Result<(), AllocError> {
+    let wrote = shown_number(alloc, core, output, difference.wrote)?;
+    let shows = shown_number(alloc, core, output, difference.shows)?;
+    put_text(value, alloc, "wrote", wrote.as_str())?;
+    put_text(value, alloc, "device", shows.as_str())
 }
 
 /// Puts the exception code with which a device refused an output, where it did.

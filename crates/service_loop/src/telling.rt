@@ -3,13 +3,14 @@ use crate::line_writer::LineWriter;
 use gateway::{Core, DEPTH, Report};
 use note_text::escaped;
 use register_map::Map;
-use service::{Notice, ReadRefusal, Unwritten};
+use service::{Difference, Notice, ReadRefusal, Unwritten};
 use service_alarms::{
     Changes, Slept, begun_line, device_name, is_lacking, lacks_text, loss_word, output_name,
-    over_line, push_models, refuses_text, unwritten_text,
+    over_line, push_models, refuses_text, shown_number, unwritten_text,
 };
 use service_texts::{
-    Start, device_line, lost_line, program_taken_line, unwritten_line, written_line,
+    Start, agrees_line, device_line, differs_line, lost_line, program_taken_line, unwritten_line,
+    written_line,
 };
 use site_model::{Site, Want};
 use std::alloc::{AllocError, Global};
@@ -83,6 +84,8 @@ fn line_of(alloc: Global, note: &Notice, core: &Core<DEPTH>) -> Option<Result<St
         Notice::Refused(device, refusal) => Some(refused_line(alloc, site, *device, *refusal)),
         Notice::Unwritten(output, cause) => Some(unwritten(alloc, site, *output, *cause)),
         Notice::Written(output) => Some(written_line(alloc, output_name(site, *output))),
+        Notice::Differs(output, difference) => Some(differs(alloc, core, *output, *difference)),
+        Notice::Agrees(output) => Some(agrees_line(alloc, output_name(site, *output))),
         Notice::Late(_) | Notice::Scanned(_) => None,
     }
 }
@@ -145,6 +148,23 @@ fn unwritten(
 ) -> Result<String, AllocError> {
     let cause = unwritten_text(alloc, cause)?;
     unwritten_line(alloc, output_name(site, output), cause.as_str())
+}
+
+// `output NAME differs wrote W device V`.
+fn differs(
+    alloc: Global,
+    core: &Core<DEPTH>,
+    output: usize,
+    difference: Difference,
+) -> Result<String, AllocError> {
+    let wrote = shown_number(alloc, core, output, difference.wrote)?;
+    let shows = shown_number(alloc, core, output, difference.shows)?;
+    differs_line(
+        alloc,
+        output_name(core.site(), output),
+        wrote.as_str(),
+        shows.as_str(),
+    )
 }
 
 // `device NAME refuses 3 ADDRESS CODE`.

@@ -3,6 +3,7 @@ pub mod Lapsing
 pub mod Lines
 pub mod Places
 pub mod Reaching
+pub mod ReadingBack
 pub mod Retaining
 pub mod Sleeping
 pub mod State

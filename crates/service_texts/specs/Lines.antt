@@ -26,6 +26,17 @@ written_line name = codes "output " ++ name ++ codes " written"
 abbrev pub unwritten_line : (name cause : List ℕ) → List ℕ
 unwritten_line name cause = codes "output " ++ name ++ codes " unwritten " ++ cause
 
+abbrev pub took_text : (name wrote : List ℕ) → List ℕ
+took_text name wrote = codes "output " ++ name ++ codes " differs wrote " ++ wrote
+
+-- output NAME differs wrote W device V
+abbrev pub differs_line : (name wrote shows : List ℕ) → List ℕ
+differs_line name wrote shows = took_text name wrote ++ codes " device " ++ shows
+
+-- output NAME agrees
+abbrev pub agrees_line : (name : List ℕ) → List ℕ
+agrees_line name = codes "output " ++ name ++ codes " agrees"
+
 -- late N
 abbrev pub late_line : ℕ → List ℕ
 late_line late = codes "late " ++ decimal late

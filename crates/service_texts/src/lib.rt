@@ -14,6 +14,7 @@ mod lines;
 mod number;
 mod ration;
 mod reaching;
+mod reading_back;
 mod retain_pace;
 mod retaining;
 mod settings;
@@ -31,6 +32,7 @@ pub use addresses::{Addresses, has_port};
 pub use device_places::{AddressFault, DevicePlace, read_places};
 pub use reaching::{DeviceSource, DevicesFault, addresses_of, devices_of, plant_addresses};
 // which devices sleep
+pub use reading_back::{ReadBackFault, read_back_tags};
 pub use sleeping::{SleepFault, sleeping_hours};
 // which clients may write
 pub use writers::{Writer, WriterFault, may_write, writers_of};
@@ -47,9 +49,9 @@ pub use state_lines::{KeptSetting, StateLine, setting_in, state_line, state_text
 pub use write_record::WriteRecord;
 // what is told of a service
 pub use lines::{
-    client_line, device_line, file_line, late_line, left_out_line, left_out_setting_line,
-    listening_line, lost_line, program_kept_line, program_refused_line, program_taken_line,
-    stamped, unwritten_line, written_line,
+    agrees_line, client_line, device_line, differs_line, file_line, late_line, left_out_line,
+    left_out_setting_line, listening_line, lost_line, program_kept_line, program_refused_line,
+    program_taken_line, stamped, unwritten_line, written_line,
 };
 // what clients set, and what a number that is refused would have been
 pub use hit::{RefusedNumber, refused_number};

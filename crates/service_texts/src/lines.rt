@@ -77,6 +77,36 @@ pub fn unwritten_line(alloc: Global, name: &str, cause: &str) -> Result<String, 
     Ok(text)
 }
 
+/// `output NAME differs wrote W device V`.
+pub fn differs_line(
+    alloc: Global,
+    name: &str,
+    wrote: &str,
+    shows: &str,
+) -> Result<String, AllocError>
+    ensures { IfOk result (λ text. string_bytes text ≡ told.differs_line name.now wrote.now shows.now) }
+{
+    let mut text = took_text(alloc, name, wrote)?;
+    text.push_str(" device ")?;
+    text.push_str(shows)?;
+    Ok(text)
+}
+
+fn took_text(alloc: Global, name: &str, wrote: &str) -> Result<String, AllocError>
+    ensures { IfOk result (λ text. string_bytes text ≡ told.took_text name.now wrote.now) }
+{
+    let text = format!(in alloc; "output {name} differs wrote {wrote}")?;
+    Ok(text)
+}
+
+/// `output NAME agrees`.
+pub fn agrees_line(alloc: Global, name: &str) -> Result<String, AllocError>
+    ensures { IfOk result (λ text. string_bytes text ≡ told.agrees_line name.now) }
+{
+    let text = format!(in alloc; "output {name} agrees")?;
+    Ok(text)
+}
+
 /// `late N`.
 pub fn late_line(alloc: Global, late: u64) -> Result<String, AllocError>
     ensures { IfOk result (λ text. string_bytes text ≡ told.late_line late) }

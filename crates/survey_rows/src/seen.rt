@@ -18,6 +18,7 @@ impl Wrongs {
         let seen = Seen {
             devices: devices.as_slice(),
             outputs: &[],
+            differences: &[],
             running: 0,
             is_late: false,
             is_unkept: false,

@@ -60,7 +60,16 @@ impl ServiceBench {
         let site = site(alloc, texts, SITE)?;
         let machine = machine(alloc, &site, texts.get(PROGRAM)?)?;
         let limits = limits(PERIOD, TIMEOUT, clients);
-        let service = Service::new(alloc, site, machine, plants.len(), &stations, limits, 0);
+        let service = Service::new(
+            alloc,
+            site,
+            machine,
+            plants.len(),
+            &stations,
+            &[],
+            limits,
+            0,
+        );
         Ok(ServiceBench {
             alloc,
             service: needed(service.ok())?,

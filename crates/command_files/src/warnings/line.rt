@@ -28,3 +28,13 @@ pub fn device_fault(
     let text = format!(in alloc; "device '{name}' {why}")?;
     Ok(text)
 }
+
+/// What is wrong with a tag, of which this is said.
+pub fn tag_fault(alloc: Global, site: &Site, tag: usize, why: &str) -> Result<String, AllocError> {
+    let name = match site.tags().get(tag) {
+        Some(tag) => tag.name.as_str(),
+        None => "",
+    };
+    let text = format!(in alloc; "tag '{name}' {why}")?;
+    Ok(text)
+}

@@ -2,7 +2,9 @@
 use crate::runtimes::LoopRuntime;
 use crate::serve::last_program::{ProgramFault, RefusedText};
 use crate::serve::program_file::ProgramFile;
-use crate::serve::refusing::{tell_no_core, tell_no_hours, tell_unreachable, tell_unretained};
+use crate::serve::refusing::{
+    tell_no_core, tell_no_hours, tell_no_read_back, tell_unreachable, tell_unretained,
+};
 use crate::serve::retained::Retained;
 use crate::serve::unkept::tell_unkept;
 use crate::words::version;
@@ -18,7 +20,7 @@ use served_site::service_of;
 use service::{Limits, Service};
 use service_loop::{End, Keeping, OneProgram, Serving, seconds_of_day, serve_site};
 use service_texts::{
-    Addresses, DeviceSource, Start, addresses_of, plant_addresses, sleeping_hours,
+    Addresses, DeviceSource, Start, addresses_of, plant_addresses, read_back_tags, sleeping_hours,
 };
 use std::alloc::{AllocError, Global};
 use std::fs::File;
@@ -53,6 +55,8 @@ pub struct ServiceRun<'n, 'a, 's, 'k, 't> {
     pub names: &'k [Name],
     /// What the program's file has, where it was refused and the program is the one that was accepted last, once that is known.
     pub refused: Option<RefusedText<'n>>,
+    /// Of each tag, whether what its device shows is compared with what it took, once that is known.
+    pub read_back: &'k [bool],
 }
 
 /// Serves a site, and gives the status: 0 after the last scan that was asked for, 1 for a refusal or a failed write, 2
@@ -66,7 +70,10 @@ pub fn run_service<R: LoopRuntime + Print + Files<File = File>, W: Write>(
     let notes = &run.notes;
     if let Some(fault) = run.program_fault {
         let fault = ProgramFault::Unread(fault);
-        return serve_last(rt, alloc, run, &fault, notes.program, out);
+        let Ok(last) = String::from_str(alloc, notes.program) else {
+            return tell_no_memory(out);
+        };
+        return serve_last(rt, alloc, run, &fault, last, out);
     }
     match accept(alloc, notes.site, notes.program, notes.defs) {
         Ok(Ok(given)) => serve_accepted(rt, alloc, run, given, out),
@@ -92,7 +99,7 @@ fn serve_refused<R: LoopRuntime + Print + Files<File = File>, W: Write>(
         _ => None,
     };
     match last {
-        Some(last) => serve_last(rt, alloc, run, &fault, last.as_str(), out),
+        Some(last) => serve_last(rt, alloc, run, &fault, last, out),
         None => fault.refuse(rt, alloc, notes, out),
     }
 }
@@ -104,11 +111,11 @@ fn serve_last<R: LoopRuntime + Print + Files<File = File>, W: Write>(
     alloc: Global,
     run: &ServiceRun<'_, '_, '_, '_, '_>,
     fault: &ProgramFault,
-    last: &str,
+    last: String,
     out: &mut W,
 ) -> u8 {
     let notes = &run.notes;
-    match accept(alloc, notes.site, last, notes.defs) {
+    match accept(alloc, notes.site, last.as_str(), notes.defs) {
         Ok(Ok(given)) => serve_in_place(rt, alloc, run, fault, last, given, out),
         Ok(Err(_)) => fault.refuse(rt, alloc, notes, out),
         Err(AllocError) => tell_no_memory(out),
@@ -121,7 +128,7 @@ fn serve_in_place<R: LoopRuntime + Print + Files<File = File>, W: Write>(
     alloc: Global,
     run: &ServiceRun<'_, '_, '_, '_, '_>,
     fault: &ProgramFault,
-    last: &str,
+    last: String,
     given: Accepted,
     out: &mut W,
 ) -> u8 {
@@ -134,22 +141,50 @@ fn serve_in_place<R: LoopRuntime + Print + Files<File = File>, W: Write>(
         seconds_of_day(rt),
         version(),
         notes.site.text(),
-        last,
+        last.as_str(),
     ) else {
         return tell_no_memory(out);
     };
     fault.explain(rt, notes);
+    let place = InPlace {
+        start: &start,
+        words: words.as_str(),
+        program: last.as_str(),
+        refused: fault.text(notes),
+    };
+    serve_replaced(rt, alloc, run, place, given, out)
+}
+
+/// What runs in place of the program in its file, and why.
+#[derive(Clone, Copy)]
+struct InPlace<'x> {
+    start: &'x Start,
+    words: &'x str,
+    program: &'x str,
+    refused: RefusedText<'x>,
+}
+
+fn serve_replaced<'x, R: LoopRuntime + Print + Files<File = File>, W: Write>(
+    rt: &R,
+    alloc: Global,
+    run: &ServiceRun<'x, 'x, 'x, 'x, 'x>,
+    place: InPlace<'x>,
+    given: Accepted,
+    out: &mut W,
+) -> u8 {
+    let notes = Notes {
+        program: place.program,
+        ..run.notes
+    };
+    let serving = Serving {
+        start: place.start,
+        refused: Some(place.words),
+        ..run.serving
+    };
     let run = ServiceRun {
-        notes: Notes {
-            program: last,
-            ..*notes
-        },
-        serving: Serving {
-            start: &start,
-            refused: Some(words.as_str()),
-            ..run.serving
-        },
-        refused: Some(fault.text(notes)),
+        notes,
+        serving,
+        refused: Some(place.refused),
         ..*run
     };
     serve_accepted(rt, alloc, &run, given, out)
@@ -170,6 +205,10 @@ fn serve_accepted<R: LoopRuntime + Print + Files<File = File>, W: Write>(
         Ok(hours) => hours,
         Err(fault) => return tell_no_hours(rt, alloc, &given.site, fault, out),
     };
+    let read_back = match read_back_tags(alloc, run.notes.site) {
+        Ok(read_back) => read_back,
+        Err(fault) => return tell_no_read_back(rt, alloc, &given.site, fault, out),
+    };
     match prepared(rt, alloc, run, &given, &retained, out) {
         Ok(addresses) => {
             let run = ServiceRun {
@@ -179,6 +218,7 @@ fn serve_accepted<R: LoopRuntime + Print + Files<File = File>, W: Write>(
                 },
                 keeping: retained.keeping(&run.keeping, run.notes.program),
                 names: retained.names.as_slice(),
+                read_back: read_back.as_slice(),
                 ..*run
             };
             serve_made(rt, alloc, &run, given, &retained, &addresses, out)
@@ -203,6 +243,7 @@ fn serve_made<R: LoopRuntime + Files<File = File>, W: Write>(
         retained.kept.as_slice(),
         addresses.links.len(),
         addresses.stations.as_slice(),
+        run.read_back,
         run.limits,
     ) {
         Ok(mut service) => serve_begun(rt, alloc, run, addresses, &mut service, out),

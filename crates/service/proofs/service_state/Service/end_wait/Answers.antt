@@ -13,5 +13,5 @@ returns-in-Some-clause-ended c line there =
     (goes_then c.give_up.new.self.side side (sym time.now) (sym time.limits) c.args.link _ _ _ _ (c.give_up.ensures.lines c.args.link))
     line there (none_over side.now _ c.give_up_overdue.ensures.ended)
 
-pub returns-in_default-clause-ended : goal.returns-else-clause-ended
+pub returns-in_default-clause-ended : goal.returns-in_default-clause-ended
 returns-in_default-clause-ended c line there = none_over c.args.self.now.side.now _ c.give_up_overdue.ensures.ended

@@ -1,3 +1,6 @@
+use Rattle.std.proofs.Common.{Some}
+use Rattle.service.specs.declared.read_back.Shown.TheVariants as shown
+use Rattle.service.proofs.Compared.{shown_of_none}
 use Rattle.service.proofs.Courses.{own_of_rounds, own_of_settles}
 use Rattle.service.proofs.Having.{none_more, writes_by}
 use Rattle.service.proofs.service_state.Service.settle.Goals as goal
@@ -12,4 +15,7 @@ pub returns-in-None-clause-held : goal.returns-in-None-clause-held
 returns-in-None-clause-held c = none_more _ _ _ c.go_on.ensures.held
 
 pub returns-in-None-clause-stands : goal.returns-in-None-clause-stands
-returns-in-None-clause-stands c may lost = writes_by _ _ _ _ _ c.go_on.ensures.stands may
+returns-in-None-clause-stands c may lost has shows = writes_by _ _ _ _ _ c.go_on.ensures.stands may has
+
+pub returns-in-None-clause-anew : goal.returns-in-None-clause-anew
+returns-in-None-clause-anew c output difference shows compares is = shown_of_none c.args.self.now.cycle.core.value.site.wants c.args.self.now.held c.args.asked (Some c.args.fate) output (shown.Other difference) c.in-None.is shows

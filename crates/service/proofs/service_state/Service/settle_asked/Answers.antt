@@ -1,5 +1,7 @@
 use Rattle.std.proofs.Common.{subst, sym}
 use Rattle.service.specs.Losing.{LostByFate}
+use Rattle.service.specs.ReadBack.{IsShownAt}
+use Rattle.service.specs.declared.read_back.Shown.TheVariants as shown
 use Rattle.service.proofs.Having.{none_more, tells_by}
 use Rattle.service.proofs.service_state.Service.settle_asked.Goals as goal
 
@@ -7,6 +9,9 @@ pub returns-in-Lost-clause-held : goal.returns-in-Lost-clause-held
 returns-in-Lost-clause-held c = none_more _ _ _ c.lose_stream.ensures.held
 
 pub returns-in-Lost-clause-stands : goal.returns-in-Lost-clause-stands
-returns-in-Lost-clause-stands c may lost =
+returns-in-Lost-clause-stands c may lost has shows =
     tells_by _ _ _ _ _ _ c.lose_stream.ensures.stands may
-    (λ device why is. lost device why (subst (λ f. LostByFate c.args.self.now.lines.links.stations.items c.args.link c.args.asked f device why) (sym c.in-Lost.is) is))
+    (λ device why is. lost device why (subst (λ f. LostByFate c.args.self.now.lines.links.stations.items c.args.link c.args.asked f device why) (sym c.in-Lost.is) is)) has
+
+pub returns-in-Lost-clause-anew : goal.returns-in-Lost-clause-anew
+returns-in-Lost-clause-anew c output difference shows compares is = subst (λ f. IsShownAt c.args.self.now.cycle.core.value.site.wants c.args.self.now.held c.args.asked f output (shown.Other difference)) c.in-Lost.is shows
