@@ -3,6 +3,7 @@ mod missing;
 mod recorder;
 mod set_lines;
 mod set_player;
+mod tag_points;
 mod trace;
 mod trace_rows;
 mod traced_spans;
@@ -22,15 +23,15 @@ pub use unwritten::UnwrittenWatch;
 /// Looks on at the scans of a run, and hears of the writes that were refused.
 pub trait RunLook: ScanWatch {
     /// After the last scan, once for each write that a device refused, in order: which one it is of all that the scans sent,
-    /// counted from 0. A scan sends those of its outputs in the order of the site file.
-    fn refused(&mut self, write: usize);
+    /// counted from 0, and by which exception. A scan sends those of its outputs in the order of the site file.
+    fn refused(&mut self, write: usize, exception: u8);
 
     /// What clients were to set and couldn't, as soon as that is known, and why.
     fn unset(&mut self, setting: Setting<'_>, why: &'static str);
 }
 
 impl RunLook for Unwatched {
-    fn refused(&mut self, _write: usize) {}
+    fn refused(&mut self, _write: usize, _exception: u8) {}
 
     fn unset(&mut self, _setting: Setting<'_>, _why: &'static str) {}
 }
@@ -82,8 +83,8 @@ impl<R: Eprint, V: ScanWatch> ScanWatch for RunWatch<'_, R, V> {
 }
 
 impl<R: Eprint, V: RunLook> RunLook for RunWatch<'_, R, V> {
-    fn refused(&mut self, write: usize) {
-        self.beside.refused(write);
+    fn refused(&mut self, write: usize, exception: u8) {
+        self.beside.refused(write, exception);
     }
 
     fn unset(&mut self, setting: Setting<'_>, why: &'static str) {

@@ -2,7 +2,19 @@
 ghost use Rattle.std.specs.Prelude.{◌≤◌};
 
 use crate::coordinates::{BOTTOM, TOP, y_on};
-use crate::recorded::{Sample, ScanSeries};
+use crate::recorded::Sample;
+
+/// How many steps the numbers of a line reach over at most.
+const MOST: i128 = 5;
+
+/// How far apart the numbers beside an axis may be, for each power of ten.
+const STEPS: [i128; 3] = [1, 2, 5];
+
+/// The powers of ten that numbers of 64 bits reach.
+const POWERS: i32 = 20;
+
+/// How many numbers may stand beside an axis: one more than steps, and one more where the numbers begin within a step.
+pub(crate) const MARKS: i32 = 7;
 
 /// The least and the greatest of some numbers.
 #[derive(Clone, Copy)]
@@ -11,11 +23,12 @@ pub(crate) struct Extent {
     pub high: i64,
 }
 
-/// The numbers of a chart's lower and upper end.
+/// The numbers of a chart's lower and upper end, and how far apart those are that stand beside it.
 #[derive(Clone, Copy)]
 pub(crate) struct Axis {
     pub low: i128,
     pub high: i128,
+    step: i128,
 }
 
 /// The least and the greatest number of some samples; none where none has a number.
@@ -40,53 +53,34 @@ fn with(extent: Option<Extent>, n: i64) -> Extent {
 }
 
 impl Axis {
-    /// From the least to the greatest number of a line, and on to 0 and to the ends of its range where these aren't so far
-    /// that its steps couldn't be seen.
-    pub fn of(series: &ScanSeries) -> Axis {
-        let (low, high) = (i128::from(series.low), i128::from(series.high));
-        let axis = match extent_of(series.samples.as_slice()) {
-            Some(all) => Axis {
-                low: i128::from(all.low),
-                high: i128::from(all.high),
-            },
-            None => Axis { low, high },
-        };
-        let reach = axis.reach();
-        axis.on_to(0, reach)
-            .on_to(low, reach)
-            .on_to(high, reach)
-            .opened()
+    /// From the least to the greatest number of a line, and on to the round numbers beside these; to 0 where there is only one.
+    pub fn of(samples: &[Sample]) -> Axis {
+        match extent_of(samples) {
+            Some(all) if all.low < all.high => Axis::over(
+                i128::from(all.low),
+                i128::from(all.high),
+            ),
+            Some(all) => Axis::over(i128::from(all.low.min(0)), i128::from(all.high.max(0))),
+            None => Axis::over(0, 1),
+        }
     }
 
-    /// How far from its numbers an end may lie; of a line without steps further than of others.
-    fn reach(self) -> i128 {
-        let size = match self.high.saturating_sub(self.low) {
-            0 => self.high.saturating_abs().saturating_mul(2).max(1),
-            size => size,
-        };
-        size.saturating_mul(4)
+    fn over(low: i128, high: i128) -> Axis {
+        let step = step_over(high.saturating_sub(low));
+        let low = round_down(low, step);
+        let high = round_up(high, step).max(low.saturating_add(step));
+        Axis { low, high, step }
     }
 
-    /// The axis on to a number, where that is in reach.
-    fn on_to(self, end: i128, reach: i128) -> Axis {
-        let (below, above) = (self.low.saturating_sub(end), end.saturating_sub(self.high));
-        if 0 < below && below <= reach {
-            Axis { low: end, ..self }
-        } else if 0 < above && above <= reach {
-            Axis { high: end, ..self }
+    /// The k-th number beside the axis, counted from 0 at its lower end; none above its upper end.
+    pub fn mark(self, k: i32) -> Option<i128> {
+        let number = self
+            .low
+            .saturating_add(self.step.saturating_mul(i128::from(k)));
+        if number <= self.high {
+            Some(number)
         } else {
-            self
-        }
-    }
-
-    /// The axis with two ends that differ.
-    fn opened(self) -> Axis {
-        if self.low < self.high {
-            return self;
-        }
-        Axis {
-            high: self.low.saturating_add(1),
-            ..self
+            None
         }
     }
 
@@ -105,26 +99,48 @@ impl Axis {
     {
         self.y(i128::from(number))
     }
+}
 
-    /// How high the upper end of the numbers to this one stands: the plot's edge where that lies above.
-    pub fn top_to(self, high: i64) -> u32
-        ensures top { TOP ≤ result }
-        ensures bottom { result ≤ BOTTOM }
-    {
-        if i128::from(high) > self.high {
-            return TOP;
+/// How far apart round numbers are, so that a span needs few of them.
+fn step_over(span: i128) -> i128 {
+    let mut power: i128 = 1;
+    for _ in 0..POWERS {
+        if let Some(step) = step_by(power, span) {
+            return step;
         }
-        self.y_of(high)
+        power = power.saturating_mul(10);
     }
+    power
+}
 
-    /// How high the lower end of the numbers from this one stands: the plot's edge where that lies below.
-    pub fn bottom_from(self, low: i64) -> u32
-        ensures top { TOP ≤ result }
-        ensures bottom { result ≤ BOTTOM }
-    {
-        if i128::from(low) < self.low {
-            return BOTTOM;
+/// The same, where a step of this power of ten is enough.
+fn step_by(power: i128, span: i128) -> Option<i128> {
+    for count in STEPS {
+        let step = power.saturating_mul(count);
+        if span <= step.saturating_mul(MOST) {
+            return Some(step);
         }
-        self.y_of(low)
+    }
+    None
+}
+
+/// The greatest number of whole steps that isn't above a number.
+fn round_down(number: i128, step: i128) -> i128 {
+    let over = number.checked_rem(step).unwrap_or(0);
+    let down = number.saturating_sub(over);
+    if over < 0 {
+        down.saturating_sub(step)
+    } else {
+        down
+    }
+}
+
+/// The least one that isn't below it.
+fn round_up(number: i128, step: i128) -> i128 {
+    let down = round_down(number, step);
+    if down == number {
+        down
+    } else {
+        down.saturating_add(step)
     }
 }

@@ -3,6 +3,8 @@ ghost use Rattle.std.specs.Prelude.{◌≤◌, ◌+◌};
 
 /// A chart's width.
 pub(crate) const WIDE: u32 = 4800;
+/// The width of one with a second axis at its right.
+pub(crate) const WIDER: u32 = 5300;
 /// Its height.
 pub(crate) const TALL: u32 = 1700;
 /// The plot's edges.

@@ -1,6 +1,6 @@
-//! What stands in a chart before its line: the plot, the declared range, and the numbers of both axes.
-use crate::axis::Axis;
-use crate::coordinates::{BOTTOM, LEFT, RIGHT, TOP, x_within};
+//! What stands in a chart before its line: the plot, and the numbers of its axes.
+use crate::axis::{Axis, MARKS};
+use crate::coordinates::{BOTTOM, LEFT, RIGHT, TOP, WIDER, x_within};
 use crate::numbers::time_of;
 use crate::recorded::ScanSeries;
 use crate::sheet::Sheet;
@@ -8,54 +8,106 @@ use crate::ticks::{is_tick, tick_step};
 use note_text::decimal;
 use std::alloc::Global;
 
-/// How many letters have room before the plot.
-const ROOM: usize = 11;
-
-/// Appends the plot with the declared range.
-pub(crate) fn push_plot(page: &mut Sheet, series: &ScanSeries, axis: Axis) {
-    let (wide, tall) = (RIGHT - LEFT, BOTTOM - TOP);
-    let top = axis.top_to(series.high);
-    let range = axis.bottom_from(series.low).saturating_sub(top);
-    page.say(format_args!(
-        "<rect class=\"plot\" x=\"{LEFT}\" y=\"{TOP}\" width=\"{wide}\" height=\"{tall}\"/>\n"
-    ));
-    page.say(format_args!(
-        "<rect class=\"range\" x=\"{LEFT}\" y=\"{top}\" width=\"{wide}\" height=\"{range}\"/>\n"
-    ));
+/// Where an axis of numbers is.
+#[derive(Clone, Copy)]
+pub(crate) enum Side {
+    Left,
+    /// That of a limit.
+    Right,
 }
 
-/// Appends the numbers at the ends of the upright axis, and the line of 0 where that is between them.
-pub(crate) fn push_numbers(page: &mut Sheet, alloc: Global, axis: Axis, exponent: i8) {
-    push_number(page, alloc, axis, axis.high, exponent);
-    push_number(page, alloc, axis, axis.low, exponent);
-    if axis.low < 0 && 0 < axis.high {
-        let y = axis.y_of(0);
-        page.say(format_args!("<path class=\"zero\" d=\"M{LEFT} {y}H{RIGHT}\"/>\n"));
-        if is_apart(y, axis) {
-            push_number(page, alloc, axis, 0, exponent);
+impl Side {
+    /// How many letters of a number have room beside the plot.
+    fn room(self) -> usize {
+        match self {
+            Side::Left => 9,
+            Side::Right => 6,
+        }
+    }
+
+    /// How long a number is that has more.
+    fn length(self) -> u32 {
+        match self {
+            Side::Left => 700,
+            Side::Right => 430,
         }
     }
 }
 
-/// Whether there is room for a number at a height beside those at the ends.
-fn is_apart(y: u32, axis: Axis) -> bool {
-    let (top, bottom) = (axis.y(axis.high), axis.y(axis.low));
-    y.saturating_sub(top) > 180 && bottom.saturating_sub(y) > 180
+/// Appends the plot.
+pub(crate) fn push_plot(page: &mut Sheet) {
+    let (wide, tall) = (RIGHT - LEFT, BOTTOM - TOP);
+    page.say(format_args!(
+        "<rect class=\"plot\" x=\"{LEFT}\" y=\"{TOP}\" width=\"{wide}\" height=\"{tall}\"/>\n"
+    ));
 }
 
-fn push_number(page: &mut Sheet, alloc: Global, axis: Axis, number: i128, exponent: i8) {
-    let (x, y) = (LEFT - 80, axis.y(number));
+/// Appends the numbers beside the axis of a line, and their unit.
+pub(crate) fn push_numbers(
+    page: &mut Sheet,
+    alloc: Global,
+    axis: Axis,
+    series: &ScanSeries,
+    side: Side,
+) {
+    for k in 0..MARKS {
+        if let Some(number) = axis.mark(k) {
+            push_mark(page, axis.y(number), number, side);
+            push_number(page, alloc, axis, number, series.exponent, side);
+        }
+    }
+    push_unit(page, series.unit.as_str(), side);
+}
+
+/// Appends the line of a number: over the whole plot at the left axis, and more so that of 0.
+fn push_mark(page: &mut Sheet, y: u32, number: i128, side: Side) {
+    let (before, after) = (LEFT - 50, RIGHT + 50);
+    match side {
+        Side::Left if number == 0 => {
+            page.say(format_args!("<path class=\"zero\" d=\"M{before} {y}H{RIGHT}\"/>"));
+        }
+        Side::Left => page.say(format_args!("<path class=\"tick\" d=\"M{before} {y}H{RIGHT}\"/>")),
+        Side::Right => page.say(format_args!("<path class=\"tick\" d=\"M{RIGHT} {y}H{after}\"/>")),
+    }
+}
+
+fn push_number(
+    page: &mut Sheet,
+    alloc: Global,
+    axis: Axis,
+    number: i128,
+    exponent: i8,
+    side: Side,
+) {
+    let base = axis.y(number) + 50;
     let text = page.got(decimal(alloc, number, exponent));
-    let base = y + 50;
-    let squeezed = if text.len() > ROOM {
-        " textLength=\"860\" lengthAdjust=\"spacingAndGlyphs\""
-    } else {
-        ""
+    let (class, x) = match side {
+        Side::Left => ("end", LEFT - 80),
+        Side::Right => ("limit", RIGHT + 80),
     };
-    let edge = LEFT - 50;
+    page.say(format_args!("<text class=\"{class}\" x=\"{x}\" y=\"{base}\""));
+    if text.len() > side.room() {
+        let length = side.length();
+        page.say(format_args!(" textLength=\"{length}\" lengthAdjust=\"spacingAndGlyphs\""));
+    }
+    page.say(format_args!(">{text}</text>\n"));
+}
+
+/// Appends the unit of an axis, where there is one: upright, in the middle of its outer side.
+fn push_unit(page: &mut Sheet, unit: &str, side: Side) {
+    if unit.is_empty() {
+        return;
+    }
+    let middle = (TOP + BOTTOM) / 2;
+    let (class, x) = match side {
+        Side::Left => ("mid", LEFT - 800),
+        Side::Right => ("mid limit", WIDER - 50),
+    };
     page.say(format_args!(
-        "<path class=\"tick\" d=\"M{edge} {y}H{LEFT}\"/><text class=\"end\" x=\"{x}\" y=\"{base}\"{squeezed}>{text}</text>\n"
+        "<text class=\"{class}\" transform=\"translate({x} {middle}) rotate(-90)\">"
     ));
+    page.push_html(unit);
+    page.push("</text>\n");
 }
 
 /// Appends the numbers of scans below the plot, and the time of the first and the last.

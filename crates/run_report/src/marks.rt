@@ -1,8 +1,9 @@
 //! What is marked in a chart: when there was no number or it wasn't written, and when a client set one.
+use crate::amounts::push_amount;
 use crate::axis::Axis;
 use crate::coordinates::{BOTTOM, TOP, x_at};
-use crate::numbers::shown;
-use crate::recorded::{Sample, ScanSeries};
+use crate::frame::Side;
+use crate::recorded::{Role, Sample, ScanSeries};
 use crate::sheet::Sheet;
 use crate::spans::FaultSpan;
 use std::alloc::{AllocError, Global};
@@ -10,14 +11,15 @@ use std::alloc::{AllocError, Global};
 /// The width of a letter of a mark, with room to spare.
 const LETTER: u32 = 78;
 
-/// Appends a mark over the whole plot for each span of a line over n scans.
-pub(crate) fn push_spans(page: &mut Sheet, spans: &[FaultSpan], n: usize) {
+/// Appends a mark over the whole plot for each span of a line over n scans. Causes of the two lines of a chart
+/// don't stand at one height.
+pub(crate) fn push_spans(page: &mut Sheet, spans: &[FaultSpan], n: usize, side: Side) {
     for span in spans {
-        push_span(page, *span, n);
+        push_span(page, *span, n, side);
     }
 }
 
-fn push_span(page: &mut Sheet, span: FaultSpan, n: usize) {
+fn push_span(page: &mut Sheet, span: FaultSpan, n: usize, side: Side) {
     let x = x_at(span.first.saturating_sub(1), n);
     let (wide, tall) = (x_at(span.last, n).saturating_sub(x), BOTTOM - TOP);
     let (class, words, cause) = (span.wrong.class(), span.wrong.words(), span.cause);
@@ -29,7 +31,11 @@ fn push_span(page: &mut Sheet, span: FaultSpan, n: usize) {
     if !has_room(cause, wide) {
         return;
     }
-    let (middle, base) = (x + wide / 2, TOP + 160);
+    let base = match side {
+        Side::Left => TOP + 160,
+        Side::Right => TOP + 320,
+    };
+    let middle = x + wide / 2;
     page.say(format_args!(
         "<text class=\"mid cause\" x=\"{middle}\" y=\"{base}\">{cause}</text>\n"
     ));
@@ -57,8 +63,16 @@ pub(crate) struct Set {
     pub scan: usize,
 }
 
-/// The numbers that clients set: each that isn't the one before.
-pub(crate) fn sets_of(alloc: Global, samples: &[Sample]) -> Result<Vec<Set>, AllocError> {
+/// The numbers that clients set a line to; none of a line that they don't set.
+pub(crate) fn sets_of(alloc: Global, series: &ScanSeries) -> Result<Vec<Set>, AllocError> {
+    match series.role {
+        Role::Setting => changes_of(alloc, series.samples.as_slice()),
+        _ => Ok(Vec::new(alloc)),
+    }
+}
+
+/// The numbers of some samples: each that isn't the one before.
+fn changes_of(alloc: Global, samples: &[Sample]) -> Result<Vec<Set>, AllocError> {
     let mut sets = Vec::new(alloc);
     let mut before = None;
     for (i, sample) in samples.iter().enumerate() {
@@ -82,15 +96,14 @@ pub(crate) fn push_sets(
     axis: Axis,
 ) {
     for set in sets {
-        let number = page.got(shown(alloc, set.number, series.exponent));
-        push_set(page, *set, number.as_str(), n, axis);
+        push_set(page, alloc, series, *set, n, axis);
     }
 }
 
-fn push_set(page: &mut Sheet, set: Set, number: &str, n: usize, axis: Axis) {
+fn push_set(page: &mut Sheet, alloc: Global, series: &ScanSeries, set: Set, n: usize, axis: Axis) {
     let scan = set.scan;
     let (x, y) = (x_at(scan.saturating_sub(1), n), axis.y_of(set.number));
-    page.say(format_args!(
-        "<circle class=\"set\" cx=\"{x}\" cy=\"{y}\" r=\"45\"><title>set to {number} in scan {scan}</title></circle>\n"
-    ));
+    page.say(format_args!("<circle class=\"set\" cx=\"{x}\" cy=\"{y}\" r=\"45\"><title>set to "));
+    push_amount(page, alloc, series, set.number);
+    page.say(format_args!(" in scan {scan}</title></circle>\n"));
 }

@@ -1,30 +1,21 @@
 //! The whole page.
 use crate::axis::extent_of;
-use crate::chart::push_chart;
+use crate::groups::push_groups;
 use crate::numbers::seconds;
-use crate::recorded::{Role, RunFile, RunReport};
+use crate::recorded::{RunFile, RunReport};
 use crate::sheet::Sheet;
-use crate::style::{LEGEND, STYLE};
+use crate::style::{LEGEND, SIGNATURE, STYLE};
 use crate::table::push_table;
 use std::alloc::{AllocError, Global};
-
-/// The parts of a page: their heads, and whose charts they have.
-const PARTS: [(&str, &[Role]); 3] = [
-    (
-        "What the program reads",
-        &[Role::Input, Role::Setting, Role::Time],
-    ),
-    ("What it stores", &[Role::Output, Role::Shown]),
-    ("Its variables", &[Role::Variable]),
-];
 
 /// The page of a run, in HTML.
 pub fn page_of(alloc: Global, report: &RunReport) -> Result<String, AllocError> {
     let mut page = Sheet::new(alloc);
     push_head(&mut page, report);
     push_run(&mut page, alloc, report);
-    push_parts(&mut page, alloc, report);
+    push_groups(&mut page, alloc, report);
     push_table(&mut page, alloc, report);
+    page.push(SIGNATURE);
     page.push("</body>\n</html>\n");
     page.whole()
 }
@@ -85,41 +76,14 @@ fn push_scans(page: &mut Sheet, alloc: Global, report: &RunReport) {
 fn push_steps(page: &mut Sheet, report: &RunReport) {
     let budget = report.budget;
     match extent_of(report.steps.samples.as_slice()) {
+        Some(all) if all.low == all.high => {
+            let all = all.high;
+            page.say(format_args!("{all} in each scan, of a budget of {budget}"));
+        }
         Some(all) => {
             let most = all.high;
             page.say(format_args!("{most} at most in a scan, of a budget of {budget}"));
         }
         None => page.say(format_args!("none, of a budget of {budget}")),
     }
-}
-
-/// Appends the parts with charts.
-fn push_parts(page: &mut Sheet, alloc: Global, report: &RunReport) {
-    for (head, roles) in PARTS {
-        let charts = page.got(charts_of(alloc, report, roles));
-        push_part(page, head, charts.as_str());
-    }
-    let mut steps = Sheet::new(alloc);
-    push_chart(&mut steps, alloc, report, &report.steps);
-    let steps = page.got(steps.whole());
-    push_part(page, "Its instructions", steps.as_str());
-}
-
-/// Appends a part of the page, where it has a chart.
-fn push_part(page: &mut Sheet, head: &str, charts: &str) {
-    if charts.is_empty() {
-        return;
-    }
-    page.say(format_args!("<h2>{head}</h2>\n<section>\n{charts}</section>\n"));
-}
-
-/// The charts of the lines of some roles.
-fn charts_of(alloc: Global, report: &RunReport, roles: &[Role]) -> Result<String, AllocError> {
-    let mut charts = Sheet::new(alloc);
-    for series in &report.series {
-        if roles.contains(&series.role) {
-            push_chart(&mut charts, alloc, report, series);
-        }
-    }
-    charts.whole()
 }

@@ -15,6 +15,8 @@ pub struct RunReport {
     pub budget: u32,
     /// How many each scan took: there are as many scans as samples.
     pub steps: ScanSeries,
+    /// The names of the devices, in the order of the site file.
+    pub devices: Vec<String>,
     pub series: Vec<ScanSeries>,
     /// What clients were to set and couldn't, in the order in which it was found.
     pub unset: Vec<Unset>,
@@ -27,8 +29,8 @@ pub struct Unset {
     pub scan: u32,
     /// The name of the tag.
     pub name: String,
-    /// The number, in the unit of the tag's exponent, or `absent`.
-    pub said: String,
+    /// The number, in the unit of the tag's exponent; None where a client was to fall silent.
+    pub said: Option<i64>,
     /// Why it wasn't set.
     pub why: &'static str,
 }
@@ -46,6 +48,11 @@ pub struct RunFile {
 pub struct ScanSeries {
     pub name: String,
     pub role: Role,
+    /// The place of its device in the report's list; None for what is of no device.
+    pub device: Option<usize>,
+    pub measure: Measure,
+    /// The unit of its values; empty where they have none, or it isn't known.
+    pub unit: String,
     /// Its numbers count this power of ten.
     pub exponent: i8,
     /// The least number that it may have.
@@ -73,6 +80,17 @@ pub enum Role {
     Variable,
     /// The instructions that the program took.
     Steps,
+}
+
+/// What a line of numbers measures, as far as lines are drawn in one chart by it.
+#[derive(Clone, Copy, PartialEq, Eq)]
+pub enum Measure {
+    /// The power that its device gives.
+    Power,
+    /// The limit that is written for that power.
+    Limit,
+    /// Anything else.
+    Other,
 }
 
 /// What a line of numbers was in a scan.

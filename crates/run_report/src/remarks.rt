@@ -1,7 +1,7 @@
 //! What is said of a line above and below its chart.
+use crate::amounts::{push_amount, push_amounts};
 use crate::axis::extent_of;
 use crate::marks::{Set, push_scan_range};
-use crate::numbers::shown;
 use crate::recorded::{Role, ScanSeries};
 use crate::sheet::Sheet;
 use crate::spans::FaultSpan;
@@ -12,14 +12,13 @@ const MOST: usize = 4;
 
 /// Appends a line's name, the least and the greatest of its numbers, and its range.
 pub(crate) fn push_caption(page: &mut Sheet, alloc: Global, series: &ScanSeries) {
-    page.push("<figcaption><b>");
+    page.push("<b>");
     page.push_html(series.name.as_str());
     page.push("</b> ");
     page.push(role_words(series.role));
     push_extent(page, alloc, series);
-    let low = page.got(shown(alloc, series.low, series.exponent));
-    let high = page.got(shown(alloc, series.high, series.exponent));
-    page.say(format_args!("; may be {low} to {high}</figcaption>\n"));
+    page.push("; may be ");
+    push_amounts(page, alloc, series, series.low, series.high);
 }
 
 fn role_words(role: Role) -> &'static str {
@@ -39,20 +38,16 @@ fn push_extent(page: &mut Sheet, alloc: Global, series: &ScanSeries) {
         page.push("; never had a number");
         return;
     };
-    let low = page.got(shown(alloc, all.low, series.exponent));
-    if all.low == all.high {
-        page.say(format_args!("; was {low}"));
-        return;
-    }
-    let high = page.got(shown(alloc, all.high, series.exponent));
-    page.say(format_args!("; was {low} to {high}"));
+    page.push("; was ");
+    push_amounts(page, alloc, series, all.low, all.high);
 }
 
-/// Appends when clients set a line, and when it was missing or not written.
+/// Appends when clients set a line, and when it was missing or not written; with its name, where there is one.
 pub(crate) fn push_remarks(
     page: &mut Sheet,
     alloc: Global,
     series: &ScanSeries,
+    name: &str,
     sets: &[Set],
     spans: &[FaultSpan],
 ) {
@@ -60,26 +55,35 @@ pub(crate) fn push_remarks(
         return;
     }
     page.push("<ul>\n");
-    for set in sets.iter().take(MOST) {
-        let number = page.got(shown(alloc, set.number, series.exponent));
-        let scan = set.scan;
-        page.say(format_args!("<li class=\"set\">set to {number} in scan {scan}</li>\n"));
-    }
-    push_more(page, "set", sets.len());
-    push_span_remarks(page, spans);
+    push_set_remarks(page, alloc, series, sets);
+    push_span_remarks(page, name, spans);
     page.push("</ul>\n");
 }
 
-fn push_span_remarks(page: &mut Sheet, spans: &[FaultSpan]) {
+fn push_set_remarks(page: &mut Sheet, alloc: Global, series: &ScanSeries, sets: &[Set]) {
+    for set in sets.iter().take(MOST) {
+        let scan = set.scan;
+        page.push("<li class=\"set\">set to ");
+        push_amount(page, alloc, series, set.number);
+        page.say(format_args!(" in scan {scan}</li>\n"));
+    }
+    push_more(page, "set", sets.len());
+}
+
+fn push_span_remarks(page: &mut Sheet, name: &str, spans: &[FaultSpan]) {
     for span in spans.iter().take(MOST) {
-        push_span_remark(page, *span);
+        push_span_remark(page, name, *span);
     }
     push_more(page, "more", spans.len());
 }
 
-fn push_span_remark(page: &mut Sheet, span: FaultSpan) {
+fn push_span_remark(page: &mut Sheet, name: &str, span: FaultSpan) {
     let (class, words, cause) = (span.wrong.class(), span.wrong.words(), span.cause);
     page.say(format_args!("<li class=\"{class}\">"));
+    if !name.is_empty() {
+        page.push_html(name);
+        page.push(", ");
+    }
     push_scan_range(page, span.first, span.last);
     page.say(format_args!(": {words} ({cause})</li>\n"));
 }

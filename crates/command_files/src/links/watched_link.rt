@@ -26,8 +26,16 @@ pub struct WatchedLink<L: Link> {
     models: Vec<ModelAt>,
     /// How many requests to write were answered.
     writes: usize,
-    /// Which of them were refused, counted from 0, in order.
-    refused: Vec<usize>,
+    /// Those of them that were refused, in order.
+    refused: Vec<RefusedWrite>,
+}
+
+/// A write that was refused.
+#[derive(Clone, Copy)]
+pub(crate) struct RefusedWrite {
+    /// Which it is of all writes that were answered, counted from 0.
+    pub place: usize,
+    pub exception: u8,
 }
 
 /// The front of some bytes, and how many there were.
@@ -145,17 +153,20 @@ impl<L: Link> WatchedLink<L> {
         found
     }
 
-    /// Which writes were refused, in order, counted from 0 over all that were answered; the last request isn't among them.
-    pub(crate) fn refused(&self) -> &[usize] {
+    /// The writes that were refused, in order; the last request isn't among them.
+    pub(crate) fn refused(&self) -> &[RefusedWrite] {
         self.refused.as_slice()
     }
 
-    /// The number of the last request among the writes, where it is one that was refused.
-    pub(crate) fn refused_last(&self) -> Option<usize> {
-        if self.is_write() && self.is_refused() {
-            return Some(self.writes);
+    /// The last request, where it is a write that was refused.
+    pub(crate) fn refused_last(&self) -> Option<RefusedWrite> {
+        if !self.is_write() {
+            return None;
         }
-        None
+        Some(RefusedWrite {
+            place: self.writes,
+            exception: self.exception()?,
+        })
     }
 
     /// Whether the last request is to write registers.
@@ -166,11 +177,14 @@ impl<L: Link> WatchedLink<L> {
         }
     }
 
-    /// Whether the reply to the last request says that it is refused.
-    fn is_refused(&self) -> bool {
+    /// By which exception the reply to the last request says that it is refused; none where it doesn't say so.
+    fn exception(&self) -> Option<u8> {
         match self.reply.number_at(7) {
-            Some(function) => function & REFUSED != 0,
-            None => false,
+            Some(word) if word & REFUSED != 0 => {
+                let [_, exception] = word.to_be_bytes();
+                Some(exception)
+            }
+            _ => None,
         }
     }
 
@@ -194,8 +208,8 @@ impl<L: Link> WatchedLink<L> {
             return;
         }
         let place = self.writes;
-        if self.is_refused() {
-            let _ = self.refused.push(place);
+        if let Some(exception) = self.exception() {
+            let _ = self.refused.push(RefusedWrite { place, exception });
         }
         self.writes = place.saturating_add(1);
     }

@@ -188,13 +188,13 @@ fn scans_by<L: Link, V: RunLook + ScanClients, W: Write>(
     ended
 }
 
-/// Tells which writes over a link were refused.
+/// Tells which writes over a link were refused, and how.
 fn tell_refused<L: Link, V: RunLook>(link: &WatchedLink<L>, watch: &mut V) {
     for write in link.refused() {
-        watch.refused(*write);
+        watch.refused(write.place, write.exception);
     }
     if let Some(write) = link.refused_last() {
-        watch.refused(write);
+        watch.refused(write.place, write.exception);
     }
 }
 

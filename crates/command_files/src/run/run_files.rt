@@ -47,9 +47,9 @@ impl<W: Write + Drop> ScanWatch for RunFiles<W> {
 }
 
 impl<W: Write + Drop> RunLook for RunFiles<W> {
-    fn refused(&mut self, write: usize) {
+    fn refused(&mut self, write: usize, exception: u8) {
         if let Some(report) = &mut self.report {
-            report.refused(write);
+            report.refused(write, exception);
         }
     }
 

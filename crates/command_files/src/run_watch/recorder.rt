@@ -4,31 +4,31 @@ ghost use Rattle.std.specs.Prelude.{◌<◌, length};
 use crate::files::WriteFault;
 use crate::run::PlantRun;
 use crate::run_watch::RunLook;
-use crate::run_watch::set_lines::Setting;
-use crate::run_watch::set_player::{LATE, said_text};
+use crate::run_watch::set_lines::{Said, Setting};
+use crate::run_watch::set_player::LATE;
+use crate::run_watch::tag_points::TagPoints;
 use crate::run_watch::trace_rows::variables;
 use commands::{DEPTH, ScanWatch};
 use gateway::Core;
 use point_types::{Reading, Var};
 use refusal_notes::escaped;
-use run_report::{Role, RunFile, RunReport, Sample, ScanSeries, Unset, page_of};
+use run_report::{Measure, Role, RunFile, RunReport, Sample, ScanSeries, Unset, page_of};
 use service_alarms::missing_word;
 use service_texts::digits_of;
-use site_model::{Access, SiteTag};
+use site_model::{Access, SiteDevice, SiteTag};
 use std::alloc::{AllocError, Global};
 use std::io::Write;
 
 /// Why a tag has no number that the program was to store.
 const NOT_SET: &str = "NotSet";
 
-/// Why a number isn't written that a device was told.
-const REFUSED: &str = "Refused";
-
 /// Records what the scans of a run read, store and write, and writes a page of it once no more come.
 #[derive(Drop)]
 pub struct Recorder<W: Write + Drop> {
     alloc: Global,
     file: W,
+    /// What the definitions say of tags.
+    points: TagPoints,
     /// What was recorded.
     report: RunReport,
     /// Whether it has its lines, as from the first scan on.
@@ -52,6 +52,7 @@ impl<W: Write + Drop> Recorder<W> {
         Ok(Recorder {
             alloc,
             file,
+            points: TagPoints::read(alloc, run.notes.defs)?,
             report: report_of(alloc, run)?,
             has_lines: false,
             sent: Vec::new(alloc),
@@ -71,7 +72,7 @@ impl<W: Write + Drop> Recorder<W> {
 
     fn record(&mut self, core: &Core<DEPTH>) -> Result<(), AllocError> {
         if !self.has_lines {
-            push_lines(self.alloc, &mut self.report, core)?;
+            push_lines(self.alloc, &mut self.report, &self.points, core)?;
             self.has_lines = true;
         }
         push_scan(&mut self.report, &mut self.sent, core)
@@ -87,9 +88,10 @@ impl<W: Write + Drop> ScanWatch for Recorder<W> {
 }
 
 impl<W: Write + Drop> RunLook for Recorder<W> {
-    fn refused(&mut self, write: usize) {
+    fn refused(&mut self, write: usize, exception: u8) {
         if let Some(sent) = self.sent.get(write) {
-            mark_sample(self.report.series.as_mut_slice(), *sent, REFUSED);
+            let cause = refused_word(exception);
+            mark_sample(self.report.series.as_mut_slice(), *sent, cause);
         }
     }
 
@@ -97,6 +99,22 @@ impl<W: Write + Drop> RunLook for Recorder<W> {
         if self.hindered.is_ok() {
             self.hindered = push_unset(self.alloc, &mut self.report.unset, setting, why);
         }
+    }
+}
+
+/// Why a number isn't written that a device was told (Modbus Application Protocol V1.1b3, section 7).
+fn refused_word(exception: u8) -> &'static str {
+    match exception {
+        1 => "Refused 1",
+        2 => "Refused 2",
+        3 => "Refused 3",
+        4 => "Refused 4",
+        5 => "Refused 5",
+        6 => "Refused 6",
+        8 => "Refused 8",
+        10 => "Refused 10",
+        11 => "Refused 11",
+        _ => "Refused",
     }
 }
 
@@ -110,7 +128,10 @@ fn push_unset(
     unset.push(Unset {
         scan: setting.scan,
         name: escaped(alloc, setting.name)?,
-        said: said_text(alloc, setting.said)?,
+        said: match setting.said {
+            Said::Number(number) => Some(number),
+            Said::Absent => None,
+        },
         why,
     })?;
     Ok(())
@@ -141,15 +162,22 @@ fn report_of(alloc: Global, run: &PlantRun<'_, '_>) -> Result<RunReport, AllocEr
         scans: run.pace.scans,
         every: run.pace.every,
         budget: 0,
-        steps: line(alloc, "instructions", Role::Steps, 0, (0, 0))?,
+        steps: line(alloc, "instructions", Role::Steps, (0, 0))?,
+        devices: Vec::new(alloc),
         series: Vec::new(alloc),
         unset: late_unset(alloc, run.settings, run.pace.scans)?,
     })
 }
 
-/// Appends the lines of a core's tags and variables, and notes its budget.
-fn push_lines(alloc: Global, report: &mut RunReport, core: &Core<DEPTH>) -> Result<(), AllocError> {
-    push_tags(alloc, &mut report.series, core.site().tags())?;
+/// Appends the devices and the lines of a core's tags and variables, and notes its budget.
+fn push_lines(
+    alloc: Global,
+    report: &mut RunReport,
+    points: &TagPoints,
+    core: &Core<DEPTH>,
+) -> Result<(), AllocError> {
+    push_devices(alloc, &mut report.devices, core.site().devices())?;
+    push_tags(alloc, &mut report.series, points, core.site().tags())?;
     push_variables(alloc, &mut report.series, variables(core))?;
     report.budget = core.machine().verified().budget();
     report.steps.high = i64::from(report.budget);
@@ -163,17 +191,42 @@ fn source(alloc: Global, path: &str, text: &str) -> Result<RunFile, AllocError> 
     })
 }
 
+fn push_devices(
+    alloc: Global,
+    names: &mut Vec<String>,
+    devices: &[SiteDevice],
+) -> Result<(), AllocError> {
+    for device in devices {
+        names.push(escaped(alloc, device.name.as_str())?)?;
+    }
+    Ok(())
+}
+
 fn push_tags(
     alloc: Global,
     series: &mut Vec<ScanSeries>,
+    points: &TagPoints,
     tags: &[SiteTag],
 ) -> Result<(), AllocError> {
     for tag in tags {
-        let range = (tag.low, tag.high);
-        let name = tag.name.as_str();
-        series.push(line(alloc, name, role_of(tag.access), tag.exponent, range)?)?;
+        series.push(tag_line(alloc, points, tag)?)?;
     }
     Ok(())
+}
+
+/// The line of a tag, without numbers.
+fn tag_line(alloc: Global, points: &TagPoints, tag: &SiteTag) -> Result<ScanSeries, AllocError> {
+    Ok(ScanSeries {
+        name: String::from_str(alloc, tag.name.as_str())?,
+        role: role_of(tag.access),
+        device: tag.device,
+        measure: points.measure_of(tag),
+        unit: points.unit_of(alloc, tag)?,
+        exponent: tag.exponent,
+        low: tag.low,
+        high: tag.high,
+        samples: Vec::new(alloc),
+    })
 }
 
 fn role_of(access: Access) -> Role {
@@ -193,24 +246,26 @@ fn push_variables(
 ) -> Result<(), AllocError> {
     for var in vars {
         let range = (var.low, var.high);
-        series.push(line(alloc, var.name.as_str(), Role::Variable, 0, range)?)?;
+        series.push(line(alloc, var.name.as_str(), Role::Variable, range)?)?;
     }
     Ok(())
 }
 
-/// A line without numbers.
+/// A line that is no tag's, without numbers.
 fn line(
     alloc: Global,
     name: &str,
     role: Role,
-    exponent: i8,
     range: (i64, i64),
 ) -> Result<ScanSeries, AllocError> {
     let (low, high) = range;
     Ok(ScanSeries {
         name: String::from_str(alloc, name)?,
         role,
-        exponent,
+        device: None,
+        measure: Measure::Other,
+        unit: String::new(alloc),
+        exponent: 0,
         low,
         high,
         samples: Vec::new(alloc),

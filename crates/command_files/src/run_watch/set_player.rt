@@ -138,7 +138,7 @@ fn unset_note(alloc: Global, setting: Setting<'_>, why: &str) -> Result<String, 
 }
 
 /// What is said of a tag, as it stands in the file.
-pub(crate) fn said_text(alloc: Global, said: Said) -> Result<String, AllocError> {
+fn said_text(alloc: Global, said: Said) -> Result<String, AllocError> {
     match said {
         Said::Number(number) => number.to_string(alloc),
         Said::Absent => String::from_str(alloc, "absent"),
