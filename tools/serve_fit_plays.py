@@ -1,10 +1,11 @@
-"""Plays of tools/try-serve on numbers that a device's point can't say: the next one goes out where the tag has `fit`, and a tag
-that goes with it, by `with`, waits for it.
+"""Plays of tools/try-serve on numbers that a device's point can't say: the next one goes out where the tag has `fit`; and on a tag
+that goes with another one, by `with`: it waits for that one.
 
   tools/serve_fit_plays.py [PROGRAM]     these plays alone
 """
 
 import json
+import struct
 import sys
 import time
 
@@ -116,7 +117,45 @@ def play_together(counts, program, folder):
     device.gone()
 
 
-PLAYS = (play_fitted, play_exact, play_together)
+class LimitRefuser(OwnDevice):
+    """One that refuses writes of its limit, as long as it is told to."""
+
+    refuses_limit = True
+
+    def reply(self, unit, pdu):
+        if self.refuses_limit and pdu[0] != 3 and struct.unpack(">H", pdu[1:3])[0] == LIMIT:
+            return bytes([pdu[0] | 0x80, 2])
+        return super().reply(unit, pdu)
+
+
+def play_acknowledged(counts, program, folder):
+    """What enables a limit is written only after the device took the limit, though it stands before it in the site file."""
+    device, status = LimitRefuser({1: inverter(5000)}), f"{folder}/acknowledged.status"
+    device.units[1][ENABLE] = 0
+    limit, enable = TAGS.format(fit="", companion='with = "lim1"\n').replace("[[tag]]", "\0[[tag]]").split("\0")[1:]
+    site = put(folder, "acknowledged.toml", GATEWAY + DEVICE.format(n=1) + f'address = "{device.address()}"\n' + enable + limit)
+    code = put(folder, "whole.il", PROGRAM.replace("346", "340"))
+    service = Service(program, [site, code, "--listen", "127.0.0.1:0", "--every", "100", "--status-file", status])
+    counts.note("the limit is refused", service.has(r"\S+ output lim1 unwritten Refused 2"), service.lines)
+    counts.note("it isn't enabled", service.has(r"\S+ output ena1 unwritten With"), service.lines)
+    wanted = {"value": 1, "state": "unwritten", "cause": "With"}
+    counts.note("so says the status", until(lambda: output_in(status, "ena1"), wanted) == wanted, text_of(status))
+    time.sleep(0.5)
+    counts.note("nothing was written", device.written == [] and device.units[1][ENABLE] == 0, device.written)
+    device.refuses_limit = False
+    counts.note("both are written", until(lambda: device.units[1][ENABLE], 1) == 1 and service.has(r"\S+ output ena1 written"), service.lines)
+    counts.note("the limit first", [at for _, at, _ in device.written[:2]] == [LIMIT, ENABLE], device.written)
+    device.refuses_limit = True
+    counts.note("without the limit it isn't enabled again", service.has(r"\S+ output ena1 unwritten With", behind=len(service.lines)), service.lines)
+    time.sleep(0.2)
+    count = len(device.written)
+    time.sleep(0.5)
+    counts.note("and so it stays", len(device.written) == count, device.written[count:])
+    service.end()
+    device.gone()
+
+
+PLAYS = (play_fitted, play_exact, play_together, play_acknowledged)
 
 if __name__ == "__main__":
     sys.exit(try_alone(sys.argv[1:], PLAYS))

@@ -1,4 +1,5 @@
 //! What is warned of beside an acceptance, and what its warnings know.
+mod identities;
 mod line;
 mod read_back;
 mod retained_names;
@@ -7,6 +8,7 @@ mod shown;
 mod sleeping_hours;
 mod unreached;
 
+pub use identities::why_no_identities;
 pub use line::device_fault;
 pub use read_back::why_no_read_back;
 pub use retained_names::{variables_of, warn_of_names, why_unretained};

@@ -4,9 +4,10 @@ mod program_file;
 mod refused_words;
 mod refusing;
 mod retained;
+mod served_keys;
 mod service_run;
 mod unkept;
 
 pub use last_program::RefusedText;
-pub(crate) use refusing::{tell_no_core, tell_unreachable};
+pub(crate) use refusing::{tell_no_core, tell_no_identities, tell_unreachable};
 pub use service_run::{ServiceRun, run_service};

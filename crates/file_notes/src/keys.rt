@@ -124,6 +124,9 @@ pub(crate) const DEVICE: Section = Section {
         Key("address", ValueKind::Text, Need::Elsewhere),
         Key("remote_unit", ValueKind::Number, Need::Elsewhere),
         Key("sleeps", ValueKind::Number, Need::Elsewhere),
+        Key("serial", ValueKind::Text, Need::Elsewhere),
+        Key("maker", ValueKind::Text, Need::Elsewhere),
+        Key("type", ValueKind::Text, Need::Elsewhere),
     ],
     needs: Some("add it: a device needs name and unit"),
 };

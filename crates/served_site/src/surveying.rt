@@ -38,7 +38,7 @@ pub fn survey_of(
     if has_outputs(&site) {
         return Err(NoSurvey::HasOutputs);
     }
-    match Service::new(alloc, site, machine, links, stations, &[], limits, 0) {
+    match Service::new(alloc, site, machine, links, stations, &[], &[], limits, 0) {
         Ok(service) => Ok(service),
         Err(fault) => Err(NoSurvey::NoCore(fault)),
     }

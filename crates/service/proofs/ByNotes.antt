@@ -23,7 +23,7 @@ use Rattle.service.specs.declared.output.OutputState.TheVariants as state
 use Rattle.service.specs.declared.read_back.Shown.{Shown}
 use Rattle.service.specs.declared.read_back.Shown.TheVariants as shown
 use Rattle.service.specs.declared.refusals.ReadRefusal.{ReadRefusal}
-use Rattle.service.specs.Noting.{Finds, HearsFrom, Loses, Refuses, heard_by, lost_by, refusing, told, told_if}
+use Rattle.service.specs.Noting.{Finds, HearsFrom, Loses, Refuses, heard_by, lost_by, refusing, told, told_if, found_by}
 use Rattle.service.specs.Refusing.{is_more}
 use Rattle.service.specs.Telling.{told_at}
 use Rattle.service.specs.Losing.{IsLost}
@@ -239,12 +239,12 @@ not_either true b is = absurd (cc)
 not_either false b is = refl
 
 pub found_quiet : (old new : DeviceSide) (device : ℕ) (own : PolledDevice) → slice_get old.devices.items device ≡ Some own → (own.is_lost || not own.is_told) ≡ false
-    → new.devices.items ≡ set old.devices.items device (record own { is_lost = false; is_behind = true; is_told = true }) → new.outputs ≡ old.outputs → new.notes.items.items ≡ old.notes.items.items → new.notes.items.cap ≡ old.notes.items.cap → new.last_scan ≡ old.last_scan → Goes old new
+    → new.devices.items ≡ set old.devices.items device (found_by own) → new.outputs ≡ old.outputs → new.notes.items.items ≡ old.notes.items.items → new.notes.items.cap ≡ old.notes.items.cap → new.last_scan ≡ old.last_scan → Goes old new
 found_quiet old new device own at quiet devices outputs notes room last =
-    device_goes old new device own at (record own { is_lost = false; is_behind = true; is_told = true }) devices (sym (not_either own.is_lost (not own.is_told) quiet)) outputs notes room last
+    device_goes old new device own at (found_by own) devices (sym (not_either own.is_lost (not own.is_told) quiet)) outputs notes room last
 
 pub finds_so : (old new : DeviceSide) (device : ℕ) (found own : PolledDevice) → slice_get old.devices.items device ≡ Some found → slice_get old.devices.items device ≡ Some own → (found.is_lost || not found.is_told) ≡ false
-    → new.devices.items ≡ set old.devices.items device (record found { is_lost = false; is_behind = true; is_told = true }) → new.notes.items.items ≡ old.notes.items.items → Finds device own old new
+    → new.devices.items ≡ set old.devices.items device (found_by found) → new.notes.items.items ≡ old.notes.items.items → Finds device own old new
 finds_so old new device found own at there quiet devices notes = subst (λ (x : PolledDevice). Finds device x old new) (same_of (sym at ∙ there)) (record {
   stands = devices;
   tells = notes ∙ ap (λ b. told_if b (note.Found device) old.notes) (sym quiet);
@@ -536,6 +536,7 @@ after_note (note.Unwritten which cause) k was is = if_awaited (k == which) was i
 after_note (note.Written which) k was is = if_awaited (k == which) was is
 after_note (note.Found which) k was is = is
 after_note (note.NoMap which) k was is = is
+after_note (note.Another which) k was is = is
 after_note (note.Lost which cause) k was is = is
 after_note (note.Back which) k was is = is
 after_note (note.Refused which refusal) k was is = is
@@ -570,6 +571,7 @@ not_told (note.Unwritten which (unwritten.NoSetPoint cause)) side output so none
 not_told (note.Written which) side output so none = refl
 not_told (note.Found which) side output so none = refl
 not_told (note.NoMap which) side output so none = refl
+not_told (note.Another which) side output so none = refl
 not_told (note.Lost which cause) side output so none = refl
 not_told (note.Back which) side output so none = refl
 not_told (note.Refused which refusal) side output so none = refl
@@ -617,6 +619,7 @@ in_turn (note.Unwritten which cause) side output so = refl
 in_turn (note.Written which) side output so = refl
 in_turn (note.Found which) side output so = refl
 in_turn (note.NoMap which) side output so = refl
+in_turn (note.Another which) side output so = refl
 in_turn (note.Lost which cause) side output so = refl
 in_turn (note.Back which) side output so = refl
 in_turn (note.Refused which refusal) side output so = refl
@@ -652,6 +655,7 @@ compared_one old middle (note.Unwritten which cause) so same = tt
 compared_one old middle (note.Written which) so same = tt
 compared_one old middle (note.Found which) so same = tt
 compared_one old middle (note.NoMap which) so same = tt
+compared_one old middle (note.Another which) so same = tt
 compared_one old middle (note.Lost which cause) so same = tt
 compared_one old middle (note.Back which) so same = tt
 compared_one old middle (note.Refused which refusal) so same = tt
@@ -689,6 +693,7 @@ reported_one may old middle (note.Unwritten which cause) so is = tt
 reported_one may old middle (note.Written which) so is = tt
 reported_one may old middle (note.Found which) so is = tt
 reported_one may old middle (note.NoMap which) so is = tt
+reported_one may old middle (note.Another which) so is = tt
 reported_one may old middle (note.Lost which cause) so is = tt
 reported_one may old middle (note.Back which) so is = tt
 reported_one may old middle (note.Refused which refusal) so is = tt

@@ -38,7 +38,7 @@ module _ (g : Gateway) (device : ℕ) (old : Progress) (t : Turn) (new : Progres
 
   inside_of : (i : ℕ) → next_place device old.writes ≡ Some i → i < length g.site.outs
   inside_of i next =
-      let (task, at, due) = at_place (is_due device) old.writes i some_task (next_is_due device old.writes (position (is_asked device) old.writes) i refl next) in
+      let (task, at, due) = next_is_due device old.writes i next in
       subst (λ n. i < n) fits.writes (slice_get_within old.writes i task at)
 
   write_by : (i : ℕ) (plan : Result Write NoWrite) (c : Option Call) → i < length g.site.outs → IsPlanned g i plan → write_to device g.site.devices plan ≡ c → AsksWrite i c old t new → IsCallFor g made_for device call

@@ -14,16 +14,19 @@ use Rattle.service.specs.declared.cycle.Cycle.{Cycle}
 use Rattle.service.specs.declared.held_writes.HeldWrites.{HeldWrites}
 use Rattle.service.specs.declared.service_state.Service.{Service}
 use Rattle.service.specs.Connections.{GoesFrom, HearsOver}
-use Rattle.service.specs.Comparing.{WritesAnew}
+use Rattle.service.specs.Comparing.{TellsOthers, WritesAnew}
 use Rattle.service.specs.Cycle.{SettlesIf}
 use Rattle.service.specs.Going.{tasks_of}
 use Rattle.service.specs.Having.{HasMoreBy, IsHeardBy, IsRefusedIf, taken_if}
+use Rattle.service.specs.Identity.{IsSaidIf, SaysMoreBy}
 use Rattle.service.specs.Losing.{LostByHearing}
 use Rattle.service.specs.ReadBack.{IsShownIf}
 use Rattle.service.specs.Told.{Goes, TellsAllBy}
 use Rattle.service.specs.declared.read_back.Shown.TheVariants as shown
 use Rattle.service.proofs.ByNotes.{goes_compare}
 use Rattle.service.proofs.Compared.{anew_since, shown_by_nothing}
+use Rattle.service.proofs.Differing.{others_since}
+use Rattle.service.proofs.Saying.{says_own}
 
 pub not_both : {A : Type 0} {b : Bool} → b ≡ true → b ≡ false → A
 not_both yes_ no_ = absurd (cc)
@@ -40,16 +43,18 @@ pub asked_own : (result : Option RequestEnd) (fate : RequestEnd) (asked own : Op
 asked_own result fate asked own told ended = ended ∙ ap (λ f. frames.ended_by f own) told
 
 pub heard_so : (stations : List Station) (link : ℕ) (line : DeviceConnection) (bytes unused : List ℕ) (now : ℕ) (result : Option RequestEnd) (fate : RequestEnd) (asked : Option Asked) (old new : Cycle) (side next : DeviceSide) (held left : HeldWrites) (before lines : List DeviceConnection) → result ≡ Some fate → asked ≡ line.asked
-    → ((heard : DeviceConnection) × (slice_get before link ≡ Some heard) × frames.Hears bytes unused result line heard) → LinkGoes now next.limits link old.round.writes before new.round.writes lines → SettlesIf asked fate old new → HasMoreBy (taken_if asked (Some fate) now) held left → TellsAllBy (LostByHearing stations link asked (Some fate)) (IsHeardBy (taken_if asked (Some fate) now) (IsRefusedIf asked (Some fate)) held) (IsShownIf old.core.value.site.wants held asked (Some fate)) side next → WritesAnew (IsShownIf old.core.value.site.wants held asked (Some fate)) side left
+    → ((heard : DeviceConnection) × (slice_get before link ≡ Some heard) × frames.Hears bytes unused result line heard) → LinkGoes now next.limits link old.round.writes before new.round.writes lines → SettlesIf asked fate old new → HasMoreBy (taken_if asked (Some fate) now) held left → SaysMoreBy (IsSaidIf asked (Some fate)) held.identities left.identities → TellsAllBy (LostByHearing stations link asked (Some fate)) (IsHeardBy (taken_if asked (Some fate) now) (IsRefusedIf asked (Some fate)) held) (IsShownIf old.core.value.site.wants held asked (Some fate)) side next → TellsOthers (IsShownIf old.core.value.site.wants held asked (Some fate)) side next → WritesAnew (IsShownIf old.core.value.site.wants held asked (Some fate)) side left
     → HearsOver stations link line bytes unused now old new side next held left lines
-heard_so stations link line bytes unused now result fate asked old new side next held left before lines told own (heard, at, hears) goes settles has tells anew = record {
+heard_so stations link line bytes unused now result fate asked old new side next held left before lines told own (heard, at, hears) goes settles has says tells differing anew = record {
   fate = Some fate;
   heard = heard;
   hears = subst (λ f. frames.Hears bytes unused f line heard) told hears;
   goes = carried now next.limits old.round.writes new.round.writes before lines link heard at goes;
   settles = subst (λ a. SettlesIf a fate old new) own settles;
   has = subst (λ a. HasMoreBy (taken_if a (Some fate) now) held left) own has;
+  says = subst (λ a. SaysMoreBy (IsSaidIf a (Some fate)) held.identities left.identities) own says;
   tells = subst (λ a. TellsAllBy (LostByHearing stations link a (Some fate)) (IsHeardBy (taken_if a (Some fate) now) (IsRefusedIf a (Some fate)) held) (IsShownIf old.core.value.site.wants held a (Some fate)) side next) own tells;
+  differing = subst (λ a. TellsOthers (IsShownIf old.core.value.site.wants held a (Some fate)) side next) own differing;
   anew = subst (λ a. WritesAnew (IsShownIf old.core.value.site.wants held a (Some fate)) side left) own anew;
 }
 
@@ -61,8 +66,10 @@ heard_nothing stations link line bytes unused now result cycle side held lines t
   hears = subst (λ f. frames.Hears bytes unused f line heard) told hears;
   goes = ∣ stands_led now side.limits cycle.round.writes lines link heard at ∣₁;
   settles = refl;
-  has = λ output write has. inl has;
+  has = record { each = λ output write has. inl has; companions = refl };
+  says = says_own (IsSaidIf line.asked None) held.identities;
   tells = λ may lost written shows from before. before;
+  differing = λ output difference shows compares. absurd (shown_by_nothing cycle.core.value.site.wants held line.asked output (shown.Other difference) shows);
   anew = λ output difference shows compares is. shown_by_nothing cycle.core.value.site.wants held line.asked output (shown.Other difference) shows;
 }
 
@@ -76,6 +83,8 @@ heard_after stations link line bytes unused now old new side middle next held le
   goes = heard.goes;
   settles = heard.settles;
   has = heard.has;
+  says = heard.says;
   tells = λ may lost written shows from before. heard.tells may lost written shows from (goes may from before);
+  differing = others_since (IsShownIf old.core.value.site.wants held line.asked heard.fate) side middle next (goes_compare side middle goes) heard.differing;
   anew = anew_since (IsShownIf old.core.value.site.wants held line.asked heard.fate) side middle left (goes_compare side middle goes) heard.anew;
 }

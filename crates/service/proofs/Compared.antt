@@ -187,13 +187,13 @@ dropped_so (Some (shown.Other other)) difference true entry is compares = refl
 dropped_so (Some (shown.Other other)) difference false entry is compares = absurd (cc)
 
 -- a block is told of which this is so
-by_block : (wants : List Want) (held : HeldWrites) (asked : Asked) (output : ℕ) (this : Shown) (told : Option (List ℕ)) → option_and_then (λ block. shown_in held asked block output) told ≡ Some this → (block : List ℕ) × (told ≡ Some block) × (shown_in held asked block output ≡ Some this)
+pub by_block : (wants : List Want) (held : HeldWrites) (asked : Asked) (output : ℕ) (this : Shown) (told : Option (List ℕ)) → option_and_then (λ block. shown_in held asked block output) told ≡ Some this → (block : List ℕ) × (told ≡ Some block) × (shown_in held asked block output ≡ Some this)
 by_block wants held asked output this None is = absurd (cc)
 by_block wants held asked output this (Some block) is = (block, refl, is)
 
 pub writes_anew : (wants : List Want) (asked : Asked) (o : Outcome) (now : ℕ) (first second : Service) (third last : HeldWrites) → ((block : List ℕ) → block_by wants asked.aim o ≡ Some block → AreCompared asked block first second)
     → HasMoreBy (taken_by o asked now) second.held third → HasNoMore third last → WritesAnew (IsShownBy wants first.held asked o) first.side last
-writes_anew wants asked o now first second third last compared more then_none output difference shows compares is = go (more output is.write (had third last then_none output is.write is.has))
+writes_anew wants asked o now first second third last compared more then_none output difference shows compares is = go (more.each output is.write (had third last then_none output is.write is.has))
   where
     go : Has second.held output is.write ⊎ (taken_by o asked now output ≡ Some is.write) → ⊥
     go (inr taken) = never (sym (nothing_taken wants first.held asked o output (shown.Other difference) shows now output) ∙ taken)

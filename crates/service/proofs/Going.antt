@@ -99,7 +99,7 @@ aim_same same = cc
 
 next_task : (device : ℕ) (tasks : List Task) (i : ℕ) → next_place device tasks ≡ Some i → (u : Task) × (slice_get tasks i ≡ Some u) × (due_by u.mark ≡ 1)
 next_task device tasks i next =
-    let (u, at, due) = at_place (is_due device) tasks i some_task (next_is_due device tasks (position (is_asked device) tasks) i refl next) in
+    let (u, at, due) = next_is_due device tasks i next in
     (u, at, is_due_by device u u.mark refl due)
 
 module _ (g : Gateway) (device : ℕ) (old new : Progress) where

@@ -27,10 +27,19 @@ use Rattle.service.specs.declared.notice.Unwritten.TheVariants as unwritten
 use Rattle.service.specs.declared.output.OutputState.{OutputState}
 use Rattle.service.specs.declared.output.OutputState.TheVariants as state
 use Rattle.service.specs.declared.held_writes.HeldWrite.{HeldWrite}
+use Rattle.service.specs.declared.held_back.LeftOut.{LeftOut}
+use Rattle.service.specs.declared.held_back.LeftOut.TheVariants as why
 use Rattle.service.specs.declared.held_writes.HeldWrites.{HeldWrites}
+use Rattle.service.specs.declared.identities.Identities.{Identities}
+use Rattle.service.specs.declared.identities.Said.{Said}
+use Rattle.service.specs.Identity as identity
+use Rattle.service.proofs.Saying as identity_proofs
 use Rattle.service.specs.Counting.{came_to}
-use Rattle.service.specs.Having.{Forgets, Has, HasMoreBy, HasNoMore, IsAnsweredBy, IsHad, IsHeardBy, IsOfPlan, IsRefusedAt, IsRefusedBy, IsRefusedIf, IsToldBy, IsToWait, IsToWrite, IsUnplanned, IsWithin, TellsAt, TellsHad, WritesAt, WritesHad, taken_by, taken_for, taken_if}
-use Rattle.service.specs.Rewriting.{after_answer, had_without, held_output, is_held, is_of, is_recent, is_same, write_of}
+use Rattle.service.specs.Having as having
+use Rattle.service.specs.Having.{Forgets, Has, HasMoreBy, HasNoMore, HasOrTook, IsAnsweredBy, IsHad, IsHeardBy, IsOfPlan, IsRefusedAt, IsRefusedBy, IsRefusedIf, IsToldBy, IsToWait, IsToWrite, IsUnplanned, IsWithin, StillHas, TellsAt, TellsHad, WritesAt, WritesHad, taken_by, taken_for, taken_if}
+use Rattle.service.specs.LeftOut.{IsLeftOut, left_in}
+use Rattle.service.specs.Pairing.{is_had_if}
+use Rattle.service.specs.Rewriting.{after_answer, had_without, is_held, is_of, is_recent, is_same, write_of}
 use Rattle.service.specs.Telling.{state_by}
 use Rattle.service.specs.Told.{BecomesBy, Goes, IsThis, IsUnanswered, LosesBy, PlansBy, RunsBy, TellsBy}
 
@@ -57,24 +66,39 @@ module _ {X : Type 0} where
 
 -- ---- nothing more
 
-pub no_more : (old new : HeldWrites) → ((output : ℕ) (write : HeldWrite) → Has new output write → Has old output write) → HasNoMore old new
-no_more old new each first within = record { each = λ output write has. within.each output write (each output write has) }
+pub all_within : (first held : HeldWrites) → IsWithin first held → StillHas first held
+all_within first held (having.still all) = all
+
+pub no_more : (old new : HeldWrites) → new.companions.items ≡ old.companions.items → ((output : ℕ) (write : HeldWrite) → Has new output write → Has old output write) → ((first : Identities) → identity.IsWithin first old.identities → identity.IsWithin first new.identities) → HasNoMore old new
+no_more old new companions each said first within =
+    let before = all_within first old within in
+    having.still (record { each = λ output write has. before.each output write (each output write has); said = said first.identities before.said; companions = companions ∙ before.companions })
+
+pub within_own : (held : HeldWrites) → IsWithin held held
+within_own held = having.still (record { each = λ output write has. has; said = identity_proofs.within_own held.identities; companions = refl })
 
 pub had : (old new : HeldWrites) → HasNoMore old new → (output : ℕ) (write : HeldWrite) → Has new output write → Has old output write
-had old new more = (more old (record { each = λ output write has. has })).each
+had old new more = (all_within old new (more old (within_own old))).each
+
+pub still_with : (old new : HeldWrites) → HasNoMore old new → new.companions.items ≡ old.companions.items
+still_with old new more = (all_within old new (more old (within_own old))).companions
+
+-- nor do they say more
+pub said_within : (old new : HeldWrites) → HasNoMore old new → identity.IsWithin old.identities new.identities
+said_within old new more = (all_within old new (more old (within_own old))).said
 
 -- ---- what is known no more
 
 -- of one output nothing is had any more
-pub had_no_more : (old new : HeldWrites) (at : ℕ) → new.writes.items ≡ slice_set old.writes.items at None → HasNoMore old new
-had_no_more old new at is = no_more old new (λ output write has. go output write (eqb_tells output at) (ap (λ (xs : List (Option HeldWrite)). known_at xs output) (sym is) ∙ has.is))
+pub had_no_more : (old new : HeldWrites) (at : ℕ) → new.writes.items ≡ slice_set old.writes.items at None → new.companions.items ≡ old.companions.items → new.identities ≡ old.identities → HasNoMore old new
+had_no_more old new at is companions same = no_more old new companions (λ output write has. go output write (eqb_tells output at) (ap (λ (xs : List (Option HeldWrite)). known_at xs output) (sym is) ∙ has.is)) (λ first. identity_proofs.within_same old.identities new.identities first same)
   where
     go : (output : ℕ) (write : HeldWrite) → ((eqb output at ≡ true) × (output ≡ at)) ⊎ ((eqb output at ≡ false) × (output ≢ at)) → known_at (slice_set old.writes.items at None) output ≡ Some write → Has old output write
     go output write (inl here) has = absurd (none_here old.writes.items at write (ap (λ k. known_at (slice_set old.writes.items at None) k) (sym here.1) ∙ has))
     go output write (inr away) has = record { is = sym (same_there old.writes.items at output None away.1) ∙ has }
 
-pub forgets_no_more : (device : ℕ) (old new : HeldWrites) → Forgets device old new → HasNoMore old new
-forgets_no_more device old new forgets = no_more old new (λ output write has. record { is = go (known_at old.writes.items output) write (sym (forgets output) ∙ has.is) })
+pub forgets_no_more : (device : ℕ) (old new : HeldWrites) → Forgets device old new → new.companions.items ≡ old.companions.items → new.identities ≡ old.identities → HasNoMore old new
+forgets_no_more device old new forgets companions same = no_more old new companions (λ output write has. record { is = go (known_at old.writes.items output) write (sym (forgets output) ∙ has.is) }) (λ first. identity_proofs.within_same old.identities new.identities first same)
   where
     go : (entry : Option HeldWrite) (write : HeldWrite) → had_without device entry ≡ Some write → entry ≡ Some write
     go None write is = is
@@ -83,6 +107,23 @@ forgets_no_more device old new forgets = no_more old new (λ output write has. r
         by_own : (b : Bool) → (if b then None else Some held) ≡ Some write → Some held ≡ Some write
         by_own true none = absurd (cc)
         by_own false same = same
+
+-- ---- what devices say of themselves
+
+same_had : (old new : HeldWrites) → new.writes ≡ old.writes → (output : ℕ) (write : HeldWrite) → Has new output write → Has old output write
+same_had old new same output write has = record { is = known ∙ has.is }
+  where
+    known : known_at old.writes.items output ≡ known_at new.writes.items output
+    known = cc
+
+-- a device says nothing now
+pub said_no_more : (device : ℕ) (old new : HeldWrites) → new.writes ≡ old.writes → new.companions.items ≡ old.companions.items → new.identities.wanted ≡ old.identities.wanted → new.identities.found ≡ old.identities.found → new.identities.last.items ≡ slice_set old.identities.last.items device None → HasNoMore old new
+said_no_more device old new same companions wanted found last = no_more old new companions (same_had old new same) (λ first. identity_proofs.unsaid_within device old.identities new.identities first wanted found last)
+
+-- what it said is kept
+pub found_no_more : (b : Bool) (device : ℕ) (old new : HeldWrites) → new.writes ≡ old.writes → new.companions.items ≡ old.companions.items → new.identities.wanted ≡ old.identities.wanted → new.identities.last ≡ old.identities.last
+    → new.identities.found.items ≡ (if b then slice_set old.identities.found.items device (identity.said_of old.identities device) else old.identities.found.items) → HasNoMore old new
+found_no_more b device old new same companions wanted last found = no_more old new companions (same_had old new same) (λ first. identity_proofs.found_within_if b device old.identities new.identities first wanted last found)
 
 -- ---- one after another
 
@@ -115,18 +156,22 @@ known_past xs k past = ap (option_and_then (λ entry. entry)) (slice_get_past xs
 
 -- of the first so many outputs it isn't known any more what the device has; the others are as before
 pub record IsForgotTo (device n : ℕ) (old new : HeldWrites) : Type 0 where
+  pub said : new.identities ≡ old.identities
   pub len : length new.writes.items ≡ length old.writes.items
+  pub companions : new.companions.items ≡ old.companions.items
   pub before : (k : ℕ) → k < n → known_at new.writes.items k ≡ had_without device (known_at old.writes.items k)
   pub after : (k : ℕ) → n ≤ k → known_at new.writes.items k ≡ known_at old.writes.items k
 
 module _ (device : ℕ) where
   pub forgot_none : (old : HeldWrites) → IsForgotTo device 0 old old
-  forgot_none old = record { len = refl; before = λ k below. absurd (omega (arith, below)); after = λ k above. refl }
+  forgot_none old = record { said = refl; len = refl; companions = refl; before = λ k below. absurd (omega (arith, below)); after = λ k above. refl }
 
-  pub forgot_further : (i : ℕ) (old middle new : HeldWrites) → IsForgotTo device i old middle → i < length middle.writes.items → length new.writes.items ≡ length middle.writes.items
-      → new.writes.items ≡ slice_set middle.writes.items i (had_without device (known_at middle.writes.items i)) → IsForgotTo device (i + 1) old new
-  forgot_further i old middle new forgot within same is = record {
+  pub forgot_further : (i : ℕ) (old middle new : HeldWrites) → IsForgotTo device i old middle → i < length middle.writes.items → length new.writes.items ≡ length middle.writes.items → new.companions.items ≡ middle.companions.items
+      → new.writes.items ≡ slice_set middle.writes.items i (had_without device (known_at middle.writes.items i)) → new.identities ≡ middle.identities → IsForgotTo device (i + 1) old new
+  forgot_further i old middle new forgot within same with_same is said = record {
+    said = said ∙ forgot.said;
     len = same ∙ forgot.len;
+    companions = with_same ∙ forgot.companions;
     before = λ k below. ap (λ (xs : List (Option HeldWrite)). known_at xs k) is ∙ go k below (eqb_tells k i);
     after = λ k above. ap (λ (xs : List (Option HeldWrite)). known_at xs k) is ∙ (same_there middle.writes.items i k entry (λ at. absurd (omega (arith, above, at))) ∙ forgot.after k (omega (arith, above)));
   }
@@ -159,7 +204,7 @@ module _ (old new : HeldWrites) (asked : Asked) (which now : ℕ) (aimed : asked
   nothing_taken : new.writes.items ≡ old.writes.items → (output : ℕ) (write : HeldWrite) → Has new output write → Has old output write
   nothing_taken same output write has = record { is = sym (ap (λ (xs : List (Option HeldWrite)). known_at xs output) same) ∙ has.is }
 
-  wrote : new.writes.items ≡ slice_set old.writes.items which (Some (write_of asked now)) → HasMoreBy (taken_by outcome.Wrote asked now) old new
+  wrote : new.writes.items ≡ slice_set old.writes.items which (Some (write_of asked now)) → (output : ℕ) (write : HeldWrite) → Has new output write → HasOrTook (taken_by outcome.Wrote asked now) old output write
   wrote is output write has = go (eqb_tells output which)
     where
       took : known_at (slice_set old.writes.items which (Some (write_of asked now))) output ≡ Some write
@@ -171,12 +216,12 @@ module _ (old new : HeldWrites) (asked : Asked) (which now : ℕ) (aimed : asked
           inr (ap (λ a. taken_for a (write_of asked now) output) aimed ∙ (if_same which output (write_of asked now) (sym here.1) ∙ ap Some own))
       go (inr away) = inl (record { is = sym (same_there old.writes.items which output (Some (write_of asked now)) away.1) ∙ took })
 
-  pub had_by : (o : Outcome) → new.writes.items ≡ after_answer (state_by o) which (write_of asked now) old.writes.items → HasMoreBy (taken_by o asked now) old new
-  had_by outcome.Wrote is = wrote is
-  had_by (outcome.Words words) is = λ output write has. inl (nothing_taken is output write has)
-  had_by (outcome.Exception e) is = λ output write has. inl (nothing_taken is output write has)
-  had_by outcome.Mismatch is = λ output write has. inl (nothing_taken is output write has)
-  had_by outcome.Stale is = λ output write has. inl (nothing_taken is output write has)
+  pub had_by : (o : Outcome) → new.writes.items ≡ after_answer (state_by o) which (write_of asked now) old.writes.items → new.companions.items ≡ old.companions.items → HasMoreBy (taken_by o asked now) old new
+  had_by outcome.Wrote is same = record { each = wrote is; companions = same }
+  had_by (outcome.Words words) is same = record { each = λ output write has. inl (nothing_taken is output write has); companions = same }
+  had_by (outcome.Exception e) is same = record { each = λ output write has. inl (nothing_taken is output write has); companions = same }
+  had_by outcome.Mismatch is same = record { each = λ output write has. inl (nothing_taken is output write has); companions = same }
+  had_by outcome.Stale is same = record { each = λ output write has. inl (nothing_taken is output write has); companions = same }
 
 -- ---- where no request is under way
 
@@ -184,8 +229,8 @@ unasked_none : (asked : Option Asked) (f : Option RequestEnd) (now output : ℕ)
 unasked_none None f now output write none is = absurd (cc)
 unasked_none (Some a) f now output write none is = absurd (cc)
 
-pub unasked : (asked : Option Asked) (f : Option RequestEnd) (now : ℕ) (old new : HeldWrites) → asked ≡ None → HasMoreBy (taken_if asked f now) old new → HasNoMore old new
-unasked asked f now old new none more = no_more old new (λ output write has. go output write (more output write has))
+pub unasked : (asked : Option Asked) (f : Option RequestEnd) (now : ℕ) (old new : HeldWrites) → asked ≡ None → HasMoreBy (taken_if asked f now) old new → identity.SaysMoreBy (identity.IsSaidIf asked f) old.identities new.identities → HasNoMore old new
+unasked asked f now old new none more says = no_more old new more.companions (λ output write has. go output write (more.each output write has)) (λ first. identity_proofs.unasked_within asked f old.identities new.identities first none says)
   where
     go : (output : ℕ) (write : HeldWrite) → Has old output write ⊎ (taken_if asked f now output ≡ Some write) → Has old output write
     go output write (inl before) = before
@@ -218,7 +263,7 @@ told_before old new more output (state.Unwritten (unwritten.Refused code)) is = 
 told_before old new more output (state.Unwritten (unwritten.NoSetPoint cause)) is = is
 
 told_by_before : (took : ℕ → Option HeldWrite) (IsRefused : Option Exception → ℕ → Type 0) (old new : HeldWrites) → HasMoreBy took old new → (output : ℕ) (became : OutputState) → IsToldBy new output became → IsHeardBy took IsRefused old output became
-told_by_before took IsRefused old new more output state.Written is = go (more output is.write is.has)
+told_by_before took IsRefused old new more output state.Written is = go (more.each output is.write is.has)
   where
     go : Has old output is.write ⊎ (took output ≡ Some is.write) → IsHeardBy took IsRefused old output state.Written
     go (inl before) = inl (record { write = is.write; has = before })
@@ -227,11 +272,8 @@ told_by_before took IsRefused old new more output (state.Unwritten unwritten.Una
 told_by_before took IsRefused old new more output (state.Unwritten (unwritten.Refused code)) is = inl is
 told_by_before took IsRefused old new more output (state.Unwritten (unwritten.NoSetPoint cause)) is = inl is
 
-within_own : (held : HeldWrites) → IsWithin held held
-within_own held = record { each = λ output write has. has }
-
 had_within : (first held : HeldWrites) → IsWithin first held → (output : ℕ) → IsHad held output → IsHad first output
-had_within first held within output is = record { write = is.write; has = within.each output is.write is.has }
+had_within first held within output is = record { write = is.write; has = (all_within first held within).each output is.write is.has }
 
 pub told_within : (first held : HeldWrites) → IsWithin first held → (output : ℕ) (became : OutputState) → IsToldBy held output became → IsToldBy first output became
 told_within first held within output state.Written is = had_within first held within output is
@@ -316,17 +358,27 @@ held_has : (held : HeldWrites) (output : ℕ) (own : Option HeldWrite) → known
 held_has held output None own_is device asked number within now is = absurd (cc)
 held_has held output (Some write) own_is device asked number within now is = record { write = write; has = record { is = own_is } }
 
-held_if : (b : Bool) (which output : ℕ) → (if b then Some which else None) ≡ Some output → (b ≡ true) × (which ≡ output)
-held_if true which output is = (refl, cc)
-held_if false which output is = absurd (cc)
+if_held : (b : Bool) (which output : ℕ) → (if b then Some (why.Held which) else None) ≡ Some (why.Held output) → (b ≡ true) × (which ≡ output)
+if_held true which output is = (refl, cc)
+if_held false which output is = absurd (cc)
+
+if_had : (b c : Bool) (which output : ℕ) → (if b then (if c then Some (why.Held which) else None) else Some (why.Alone which)) ≡ Some (why.Held output) → (c ≡ true) × (which ≡ output)
+if_had true c which output is = if_held c which output is
+if_had false c which output is = absurd (cc)
 
 -- what would be written once more the device has
-pub held_had : (held : HeldWrites) (device number within now : ℕ) (made_for : Aim) (asked : Request) (output : ℕ) → held_output held.writes.items device number within now made_for asked ≡ Some output → IsHad held output
+pub held_had : (held : HeldWrites) (device number within now : ℕ) (made_for : Aim) (asked : Request) (output : ℕ) → left_in held.companions.items held.writes.items device number within now made_for asked ≡ Some (why.Held output) → IsHad held output
 held_had held device number within now (aim.Block want) asked output is = absurd (cc)
 held_had held device number within now aim.Map asked output is = absurd (cc)
 held_had held device number within now (aim.Output which) asked output is =
-    let (has, same) = held_if (is_held held.writes.items which device asked number within now) which output is in
+    let (has, same) = if_had (is_had_if held.writes.items number (known_at held.companions.items which)) (is_held held.writes.items which device asked number within now) which output is in
     subst (λ k. IsHad held k) same (held_has held which _ refl device asked number within now has)
+
+-- what is told of a write that is left out
+pub told_left : (held : HeldWrites) (device number within now : ℕ) (made_for : Aim) (asked : Request) (cause : LeftOut) → left_in held.companions.items held.writes.items device number within now made_for asked ≡ Some cause
+    → (which : ℕ) (became : OutputState) → IsLeftOut cause which became → IsToldBy held which became
+told_left held device number within now made_for asked (why.Held output) is which became told = told_had held output which became (held_had held device number within now made_for asked output is) told
+told_left held device number within now made_for asked (why.Alone output) is which became told = subst (λ b. IsToldBy held which b) (sym told.1) refl
 
 -- ---- as a service stood before other calls
 
@@ -334,14 +386,34 @@ pub had_from : (o : Outcome) (asked : Asked) (now then_ : ℕ) (old first new : 
 had_from o asked now then_ old first new same_time same more = subst (λ n. HasMoreBy (taken_by o asked n) first new) same_time (subst (λ s. HasMoreBy (taken_by o asked now) s new) same more)
 
 pub had_then : (took : ℕ → Option HeldWrite) (old middle new : HeldWrites) → HasMoreBy took old middle → HasNoMore middle new → HasMoreBy took old new
-had_then took old middle new more then_none output write has = more output write (had middle new then_none output write has)
+had_then took old middle new more then_none = record {
+  each = λ output write has. more.each output write (had middle new then_none output write has);
+  companions = still_with middle new then_none ∙ more.companions;
+}
+
+-- where no output's write is answered
+pub had_same : (took : ℕ → Option HeldWrite) (old new : HeldWrites) → new.writes ≡ old.writes → new.companions.items ≡ old.companions.items → HasMoreBy took old new
+had_same took old new same companions = record { each = λ output write has. inl (same_had old new same output write has); companions = companions }
+
+-- what devices say, by an answer and then by nothing more
+pub says_then : (Says : ℕ → Said → Type 0) (old middle new : HeldWrites) → identity.SaysMoreBy Says old.identities middle.identities → HasNoMore middle new → identity.SaysMoreBy Says old.identities new.identities
+says_then Says old middle new says more = identity_proofs.says_within Says old.identities middle.identities new.identities says (said_within middle new more)
+
+pub says_since : (Says : ℕ → Said → Type 0) (first old new : HeldWrites) → HasNoMore first old → identity.SaysMoreBy Says old.identities new.identities → identity.SaysMoreBy Says first.identities new.identities
+says_since Says first old new more says = identity_proofs.says_after Says first.identities old.identities new.identities (said_within first old more) says
+
+pub says_none : (Says : ℕ → Said → Type 0) (old new : HeldWrites) → HasNoMore old new → identity.SaysMoreBy Says old.identities new.identities
+says_none Says old new more = identity_proofs.says_then_within Says old.identities new.identities (said_within old new more)
 
 pub none_more : (took : ℕ → Option HeldWrite) (old new : HeldWrites) → HasNoMore old new → HasMoreBy took old new
-none_more took old new more output write has = inl (had old new more output write has)
+none_more took old new more = record { each = λ output write has. inl (had old new more output write has); companions = still_with old new more }
 
 pub had_since : (took : ℕ → Option HeldWrite) (first old new : HeldWrites) → HasNoMore first old → HasMoreBy took old new → HasMoreBy took first new
-had_since took first old new none more output write has = go (more output write has)
+had_since took first old new none more = record {
+  each = λ output write has. go output write (more.each output write has);
+  companions = more.companions ∙ still_with first old none;
+}
   where
-    go : Has old output write ⊎ (took output ≡ Some write) → Has first output write ⊎ (took output ≡ Some write)
-    go (inl before) = inl (had first old none output write before)
-    go (inr taken) = inr taken
+    go : (output : ℕ) (write : HeldWrite) → HasOrTook took old output write → HasOrTook took first output write
+    go output write (inl before) = inl (had first old none output write before)
+    go output write (inr taken) = inr taken

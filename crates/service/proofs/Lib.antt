@@ -24,6 +24,9 @@ pub mod Forgetting
 pub mod LeftOut
 pub mod Timing
 pub mod Having
+pub mod Saying
 pub mod Waking
 pub mod Going
 pub mod ToldWrites
+pub mod Pairing
+pub mod Differing

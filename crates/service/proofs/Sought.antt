@@ -40,13 +40,9 @@ pub with_answer : (site : Site) (searches : List Sought) (i : ℕ) (old new : So
 with_answer site searches i old new before at same = same_bases searches i old new at same ∙ before
 
 pub with_new : (site : Site) (searches : List Sought) (i : ℕ) (old new : Sought) (own : SiteDevice) → AreOf site searches → slice_get searches i ≡ Some old → slice_get site.devices i ≡ Some own
-    → new ≡ record { base = own.base; answers = [] } → AreOf site (set searches i new)
+    → new.base ≡ own.base → AreOf site (set searches i new)
 with_new site searches i old new own before at stands is =
-    with_answer site searches i old new before at (ap base_sought is ∙ some_base (own_device site searches i old (Some own) before at stands))
+    with_answer site searches i old new before at (is ∙ some_base (own_device site searches i old (Some own) before at stands))
 
-pub all_new : (site : Site) (devices : List SiteDevice) (searches : List Sought) → devices ≡ site.devices → searches ≡ map (λ (own : SiteDevice). record { base = own.base; answers = [] }) devices → AreOf site searches
-all_new site devices searches same are = ap (map base_sought) are ∙ (go devices ∙ ap (map base_stated) same)
-  where
-    go : (l : List SiteDevice) → map base_sought (map (λ (own : SiteDevice). record { base = own.base; answers = [] }) l) ≡ map base_stated l
-    go [] = refl
-    go (d ∷ l) = ap (λ rest. d.base ∷ rest) (go l)
+pub all_new : (site : Site) (devices : List SiteDevice) (searches : List Sought) → devices ≡ site.devices → map base_sought searches ≡ map base_stated devices → AreOf site searches
+all_new site devices searches same are = are ∙ ap (map base_stated) same

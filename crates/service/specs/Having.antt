@@ -5,6 +5,7 @@ use Rattle.modbus_frame.specs.declared.message.Exception.{Exception}
 use Rattle.site_model.specs.Readings.{known_at}
 use Rattle.point_writer.specs.declared.write.Write.{Write}
 use Rattle.point_writer.specs.declared.write.NoWrite.{NoWrite}
+use Rattle.point_writer.specs.declared.write.NoWrite.TheVariants as refusal
 use Rattle.gateway.specs.declared.poller.outcome.Outcome.{Outcome}
 use Rattle.gateway.specs.declared.poller.outcome.Outcome.TheVariants as outcome
 use Rattle.gateway.specs.event_core.Control.{IsPlanned}
@@ -23,6 +24,7 @@ use Rattle.service.specs.declared.output.OutputState.TheVariants as state
 use Rattle.service.specs.declared.held_writes.HeldWrite.{HeldWrite}
 use Rattle.service.specs.declared.held_writes.HeldWrites.{HeldWrites}
 use Rattle.service.specs.Counting.{came_to}
+use Rattle.service.specs.Identity as identity
 use Rattle.service.specs.Rewriting.{had_without, write_of}
 use Rattle.service.specs.Telling.{exception_of}
 use Rattle.service.specs.Told.{BecomesBy, IsThis, RunsBy, ScansBy, TellsBy}
@@ -40,9 +42,16 @@ pub record IsHad (held : HeldWrites) (output : ℕ) : Type 0 where
 abbrev pub HasNothing : HeldWrites → Type 0
 HasNothing held = (output : ℕ) → known_at held.writes.items output ≡ None
 
--- All that devices have now they had then too.
-pub record IsWithin (first held : HeldWrites) : Type 0 where
+-- All that devices have now they had then too, and what is kept of what they said of themselves they said then; and outputs go with the
+-- same ones.
+pub record StillHas (first held : HeldWrites) : Type 0 where
   pub each : (output : ℕ) (write : HeldWrite) → Has held output write → Has first output write
+  pub said : identity.IsWithin first.identities held.identities
+  pub companions : held.companions.items ≡ first.companions.items
+
+-- the same as one fact, which a search for a proof doesn't enter
+pub data IsWithin (first held : HeldWrites) : Type 0 where
+  still : StillHas first held → IsWithin first held
 
 -- Devices have nothing more than they had, and so nothing more than at any time since which they had nothing more.
 abbrev pub HasNoMore : HeldWrites → HeldWrites → Type 0
@@ -74,9 +83,14 @@ taken_if None f now output = None
 taken_if (Some asked) None now output = None
 taken_if (Some asked) (Some f) now output = taken_at f asked now output
 
--- What devices have they had before; or it is just what this says that is taken.
-abbrev pub HasMoreBy : (ℕ → Option HeldWrite) → HeldWrites → HeldWrites → Type 0
-HasMoreBy took old new = (output : ℕ) (write : HeldWrite) → Has new output write → Has old output write ⊎ (took output ≡ Some write)
+-- This is had of an output, or it is just what this says that is taken.
+abbrev pub HasOrTook : (ℕ → Option HeldWrite) → HeldWrites → ℕ → HeldWrite → Type 0
+HasOrTook took held output write = Has held output write ⊎ (took output ≡ Some write)
+
+-- What devices have they had before; or it is just what this says that is taken. Outputs go with the same ones.
+pub record HasMoreBy (took : ℕ → Option HeldWrite) (old new : HeldWrites) : Type 0 where
+  pub each : (output : ℕ) (write : HeldWrite) → Has new output write → HasOrTook took old output write
+  pub companions : new.companions.items ≡ old.companions.items
 
 -- This says that something is taken.
 abbrev pub IsTaken : (ℕ → Option HeldWrite) → ℕ → Type 0
@@ -108,12 +122,12 @@ IsRefusedIf (Some asked) (Some f) code output = IsRefusedAt f asked code output
 -- ---- what is told of it
 
 -- While a service goes on by itself: an output is told as written where its device has it, and as not written where nothing came
--- of its write; for no other cause.
+-- of its write, or what it goes with isn't had; for no other cause.
 abbrev pub IsToldBy : HeldWrites → ℕ → OutputState → Type 0
 IsToldBy held output state.Written = IsHad held output
 IsToldBy held output (state.Unwritten unwritten.Unanswered) = ⊤
 IsToldBy held output (state.Unwritten (unwritten.Refused code)) = ⊥
-IsToldBy held output (state.Unwritten (unwritten.NoSetPoint cause)) = ⊥
+IsToldBy held output (state.Unwritten (unwritten.NoSetPoint cause)) = cause ≡ refusal.With
 
 -- An output is told as written where it is taken now, and as refused, by an exception or not, where it is so.
 abbrev pub IsAnsweredBy : (ℕ → Option HeldWrite) → (Option Exception → ℕ → Type 0) → ℕ → OutputState → Type 0

@@ -36,9 +36,13 @@ pub record Loses (device : ℕ) (loss : Loss) (own : PolledDevice) (old new : De
   pub stands : new.devices.items ≡ set old.devices.items device (lost_by loss own)
   pub tells : new.notes.items.items ≡ told_if (not own.is_lost) (note.Lost device loss) old.notes
 
--- Its map is found: it isn't lost any more, and is read at once. It is told, unless that was told before and it wasn't lost since.
+-- the right one is found: it isn't lost any more, and is read at once
+abbrev pub found_by : PolledDevice → PolledDevice
+found_by own = record own { is_lost = false; is_behind = true; is_told = true; is_another = false; is_another_told = false }
+
+-- Its map is found. It is told, unless that was told before and it wasn't lost since.
 pub record Finds (device : ℕ) (own : PolledDevice) (old new : DeviceSide) : Type 0 where
-  pub stands : new.devices.items ≡ set old.devices.items device (record own { is_lost = false; is_behind = true; is_told = true })
+  pub stands : new.devices.items ≡ set old.devices.items device (found_by own)
   pub tells : new.notes.items.items ≡ told_if (own.is_lost || not own.is_told) (note.Found device) old.notes
 
 -- it answered: one that has a map isn't lost any more, and is read at once where it was

@@ -59,12 +59,6 @@ is_held writes output device asked number within now =
 abbrev pub kept_for : List SiteDevice → (device : ℕ) → ℕ
 kept_for devices device = option_map_or (λ (d : SiteDevice). d.rewrite * 1000) (slice_get devices device) 0
 
--- the output whose set point a request would write once more
-abbrev pub held_output : List (Option HeldWrite) → (device number within now : ℕ) → Aim → Request → Option ℕ
-held_output writes device number within now (aim.Output output) asked = if is_held writes output device asked number within now then Some output else None
-held_output writes device number within now (aim.Block want) asked = None
-held_output writes device number within now aim.Map asked = None
-
 -- ---- what is known after an answer
 
 -- a device took what the request writes, or it refused it

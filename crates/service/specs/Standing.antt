@@ -25,6 +25,7 @@ refusals_at side device = option_map_or (λ (own : PolledDevice). own.refusals) 
 pub record IsStatus (core : Gateway) (told : List LastTold) (lines : Connections) (device : ℕ) (own : PolledDevice) (status : DeviceStatus) : Type 0 where
   pub up : status.is_up ≡ is_reached lines device
   pub mapped : status.is_mapped ≡ has_map core device
+  pub another : status.is_another ≡ own.is_another
   pub lost : status.is_lost ≡ own.is_lost
   pub last : status.last_loss ≡ own.last_loss
   pub replies : status.replies ≡ own.replies

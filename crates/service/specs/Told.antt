@@ -48,6 +48,7 @@ lost_then (note.Lost which cause) device was = if device == which then true else
 lost_then (note.Found which) device was = if device == which then false else was
 lost_then (note.Back which) device was = if device == which then false else was
 lost_then (note.NoMap which) device was = was
+lost_then (note.Another which) device was = was
 lost_then (note.Refused which refusal) device was = was
 lost_then (note.Scanned report) device was = was
 lost_then (note.Late by) device was = was
@@ -62,6 +63,7 @@ state_then (note.Unwritten which cause) output was = if output == which then Som
 state_then (note.Written which) output was = if output == which then Some state.Written else was
 state_then (note.Found which) output was = was
 state_then (note.NoMap which) output was = was
+state_then (note.Another which) output was = was
 state_then (note.Lost which cause) output was = was
 state_then (note.Back which) output was = was
 state_then (note.Refused which refusal) output was = was
@@ -76,6 +78,7 @@ awaited_then (note.Unwritten which cause) output was = if output == which then f
 awaited_then (note.Written which) output was = if output == which then false else was
 awaited_then (note.Found which) output was = was
 awaited_then (note.NoMap which) output was = was
+awaited_then (note.Another which) output was = was
 awaited_then (note.Lost which cause) output was = was
 awaited_then (note.Back which) output was = was
 awaited_then (note.Refused which refusal) output was = was
@@ -93,6 +96,7 @@ differs_then (note.Unwritten which cause) output was = if output == which then f
 differs_then (note.Written which) output was = if output == which then false else was
 differs_then (note.Found which) output was = was
 differs_then (note.NoMap which) output was = was
+differs_then (note.Another which) output was = was
 differs_then (note.Lost which cause) output was = was
 differs_then (note.Back which) output was = was
 differs_then (note.Refused which refusal) output was = was
@@ -107,6 +111,7 @@ is_turn (note.Unwritten which cause) output differed = true
 is_turn (note.Written which) output differed = true
 is_turn (note.Found which) output differed = true
 is_turn (note.NoMap which) output differed = true
+is_turn (note.Another which) output differed = true
 is_turn (note.Lost which cause) output differed = true
 is_turn (note.Back which) output differed = true
 is_turn (note.Refused which refusal) output differed = true
@@ -134,6 +139,7 @@ IsSo (note.Differs which difference) side = (compares_at side which ≡ true) ×
 IsSo (note.Agrees which) side = (compares_at side which ≡ true) × (differs_at side which ≡ true)
 IsSo (note.Found which) side = ⊤
 IsSo (note.NoMap which) side = ⊤
+IsSo (note.Another which) side = ⊤
 IsSo (note.Lost which cause) side = ⊤
 IsSo (note.Back which) side = ⊤
 IsSo (note.Refused which refusal) side = ⊤
@@ -199,6 +205,7 @@ allows may (note.Lost device why) = may.lost device why
 allows may (note.Found device) = true
 allows may (note.Back device) = true
 allows may (note.NoMap device) = true
+allows may (note.Another device) = true
 allows may (note.Refused device refusal) = true
 allows may (note.Scanned report) = true
 allows may (note.Late by) = true
@@ -295,6 +302,7 @@ is_unanswered output (note.Unwritten which (unwritten.NoSetPoint cause)) = false
 is_unanswered output (note.Written which) = false
 is_unanswered output (note.Found which) = false
 is_unanswered output (note.NoMap which) = false
+is_unanswered output (note.Another which) = false
 is_unanswered output (note.Lost which cause) = false
 is_unanswered output (note.Back which) = false
 is_unanswered output (note.Refused which refusal) = false
@@ -327,6 +335,7 @@ IsReported may old (note.Unwritten which cause) = ⊤
 IsReported may old (note.Written which) = ⊤
 IsReported may old (note.Found which) = ⊤
 IsReported may old (note.NoMap which) = ⊤
+IsReported may old (note.Another which) = ⊤
 IsReported may old (note.Lost which cause) = ⊤
 IsReported may old (note.Back which) = ⊤
 IsReported may old (note.Refused which refusal) = ⊤
@@ -342,6 +351,7 @@ IsCompared side (note.Unwritten which cause) = ⊤
 IsCompared side (note.Written which) = ⊤
 IsCompared side (note.Found which) = ⊤
 IsCompared side (note.NoMap which) = ⊤
+IsCompared side (note.Another which) = ⊤
 IsCompared side (note.Lost which cause) = ⊤
 IsCompared side (note.Back which) = ⊤
 IsCompared side (note.Refused which refusal) = ⊤

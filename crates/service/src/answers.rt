@@ -10,7 +10,7 @@ ghost use Rattle.service.specs.declared.notice.Unwritten.TheVariants.{Unanswered
 ghost use Rattle.service.specs.declared.output.OutputState.TheVariants.{Unwritten as unwritten_for};
 ghost use Rattle.service.specs.declared.polled_device.PolledDevice.{PolledDevice as DeviceValue};
 ghost use Rattle.service.specs.declared.refusals.ReadRefusal.{ReadRefusal as RefusalValue};
-ghost use Rattle.service.specs.Comparing.{WritesAnew};
+ghost use Rattle.service.specs.Comparing.{TellsOthers, WritesAnew};
 ghost use Rattle.service.specs.Counting.{CountsOneLossAtMost, KeepsLosses};
 ghost use Rattle.service.specs.Noting.{Refuses};
 ghost use Rattle.service.specs.ReadBack.{IsShownAt, IsShownBy, IsShownIf};
@@ -23,6 +23,7 @@ ghost use Rattle.service.specs.Telling.{state_by, told_at};
 ghost use Rattle.service.specs.Timing.{StaysAt};
 ghost use Rattle.service.specs.Going.{LinksGo};
 ghost use Rattle.service.specs.Having.{HasMoreBy, HasNoMore, IsAnsweredBy, IsHeardBy, IsRefusedAt, IsRefusedBy, IsRefusedIf, TellsHad, taken_at, taken_by, taken_if};
+ghost use Rattle.service.specs.Identity.{IsSaidAt, IsSaidBy, IsSaidIf, SaysMoreBy};
 ghost use Rattle.service.specs.Staying.{Stays};
 
 use crate::held_writes::write_of;
@@ -43,7 +44,9 @@ impl Service {
         ensures rest { Stays self.old self.new }
         ensures lines { LinksGo self.old self.new }
         ensures held { HasMoreBy (taken_if asked (Some fate) self.old.side.now) self.old.held self.new.held }
+        ensures says { SaysMoreBy (IsSaidIf asked (Some fate)) self.old.held.identities self.new.held.identities }
         ensures stands { TellsAllBy (LostByHearing self.old.lines.links.stations.items link asked (Some fate)) (IsHeardBy (taken_if asked (Some fate) self.old.side.now) (IsRefusedIf asked (Some fate)) self.old.held) (IsShownIf self.old.cycle.core.value.site.wants self.old.held asked (Some fate)) self.old.side self.new.side }
+        ensures differing { TellsOthers (IsShownIf self.old.cycle.core.value.site.wants self.old.held asked (Some fate)) self.old.side self.new.side }
         ensures anew { WritesAnew (IsShownIf self.old.cycle.core.value.site.wants self.old.held asked (Some fate)) self.old.side self.new.held }
     {
         match asked {
@@ -57,7 +60,9 @@ impl Service {
         ensures rest { Stays self.old self.new }
         ensures lines { LinksGo self.old self.new }
         ensures held { HasMoreBy (taken_at fate asked self.old.side.now) self.old.held self.new.held }
+        ensures says { SaysMoreBy (IsSaidAt fate asked) self.old.held.identities self.new.held.identities }
         ensures stands { TellsAllBy (LostByFate self.old.lines.links.stations.items link asked fate) (IsHeardBy (taken_at fate asked self.old.side.now) (IsRefusedAt fate asked) self.old.held) (IsShownAt self.old.cycle.core.value.site.wants self.old.held asked fate) self.old.side self.new.side }
+        ensures differing { TellsOthers (IsShownAt self.old.cycle.core.value.site.wants self.old.held asked fate) self.old.side self.new.side }
         ensures anew { WritesAnew (IsShownAt self.old.cycle.core.value.site.wants self.old.held asked fate) self.old.side self.new.held }
     {
         match fate {
@@ -67,6 +72,7 @@ impl Service {
     }
 
     /// What came over a connection is no frame.
+    #[tactic(auto, using(crate::proofs::Saying::right_noted))]
     fn lose_stream(&mut self, link: usize, aim: Aim)
         ensures rest { Stays self.old self.new }
         ensures lines { LinksGo self.old self.new }
@@ -85,7 +91,9 @@ impl Service {
         ensures rest { Stays self.old self.new }
         ensures lines { LinksGo self.old self.new }
         ensures held { HasMoreBy (taken_by outcome asked self.old.side.now) self.old.held self.new.held }
+        ensures says { SaysMoreBy (IsSaidBy outcome asked) self.old.held.identities self.new.held.identities }
         ensures stands { TellsAllBy (LostByFate self.old.lines.links.stations.items link asked (Told outcome)) (IsHeardBy (taken_by outcome asked self.old.side.now) (IsRefusedAt (Told outcome) asked) self.old.held) (IsShownBy self.old.cycle.core.value.site.wants self.old.held asked outcome) self.old.side self.new.side }
+        ensures differing { TellsOthers (IsShownBy self.old.cycle.core.value.site.wants self.old.held asked outcome) self.old.side self.new.side }
         ensures anew { WritesAnew (IsShownBy self.old.cycle.core.value.site.wants self.old.held asked outcome) self.old.side self.new.held }
     {
         if is_answer(&outcome) {
@@ -113,7 +121,9 @@ impl Service {
         ensures rest { Stays self.old self.new }
         ensures lines { LinksGo self.old self.new }
         ensures held { HasMoreBy (taken_by outcome asked self.old.side.now) self.old.held self.new.held }
+        ensures says { SaysMoreBy (IsSaidBy outcome asked) self.old.held.identities self.new.held.identities }
         ensures stands { AnswersBy (IsHeardBy (taken_by outcome asked self.old.side.now) (IsRefusedBy outcome asked) self.old.held) (IsShownBy self.old.cycle.core.value.site.wants self.old.held asked outcome) self.old.side self.new.side }
+        ensures differing { TellsOthers (IsShownBy self.old.cycle.core.value.site.wants self.old.held asked outcome) self.old.side self.new.side }
         ensures anew { WritesAnew (IsShownBy self.old.cycle.core.value.site.wants self.old.held asked outcome) self.old.side self.new.held }
     {
         let device = asked.device;
@@ -208,7 +218,9 @@ impl Service {
     {
         self.side.miss(device);
         self.lines.missed(link);
-        self.cycle.seek_anew(device, self.lines.number_for(device));
+        let number = self.lines.number_for(device);
+        self.cycle
+            .seek_anew(device, number, self.held.wants(device));
         if self.lines.is_bad(link) {
             self.lose_all(link, loss);
         } else {
@@ -217,17 +229,18 @@ impl Service {
     }
 
     /// The outcome ends the request; whether the words that came are no block of its model.
-    #[tactic(auto, using(crate::proofs::Having::had_by))]
+    #[tactic(auto, using(crate::proofs::Having::had_by, crate::proofs::Having::had_same, crate::proofs::Saying::says_same))]
     fn take(&mut self, asked: Asked, outcome: Outcome) -> bool
         ensures ends { EndsOwn asked.aim asked.device outcome (stage_of self.old.cycle) (stage_of self.new.cycle) }
         ensures rest { Stays self.old self.new }
         ensures lines { LinksGo self.old self.new }
         ensures held { HasMoreBy (taken_by outcome asked self.old.side.now) self.old.held self.new.held }
+        ensures says { SaysMoreBy (IsSaidBy outcome asked) self.old.held.identities self.new.held.identities }
         ensures stands { BecomesBy (IsAnsweredBy (taken_by outcome asked self.old.side.now) (IsRefusedBy outcome asked)) self.old.side self.new.side }
     {
         match asked.aim {
             Aim::Map => {
-                self.cycle.answered(asked.device, asked.number, &outcome);
+                self.take_of_search(&asked, &outcome);
                 false
             }
             Aim::Block(want) => self.cycle.close_block(asked.device, want, outcome),
@@ -238,8 +251,27 @@ impl Service {
         }
     }
 
+    /// The outcome of a read of a search: of its map, or of the common model.
+    #[tactic(auto, using(crate::proofs::Saying::right_heard))]
+    fn take_of_search(&mut self, asked: &Asked, outcome: &Outcome)
+        ensures same { stage_of self.new.cycle ≡ stage_of self.old.cycle }
+        ensures rest { Stays self.old self.new }
+        ensures lines { self.new.lines ≡ self.old.lines }
+        ensures writes { self.new.held.writes ≡ self.old.held.writes }
+        ensures companions { self.new.held.companions.items ≡ self.old.held.companions.items }
+        ensures says { SaysMoreBy (IsSaidBy outcome.now asked.now) self.old.held.identities self.new.held.identities }
+        ensures stands { Goes self.old.side self.new.side }
+    {
+        if self.cycle.answered(asked.device, asked.number, outcome) {
+            let is_new = self.held.hear(asked, outcome);
+            self.side.say_anew_if(is_new, asked.device);
+        }
+    }
+
     fn take_write(&mut self, asked: Asked, output: usize, outcome: Outcome)
         ensures taken { self.new.held.writes.items ≡ after_answer (state_by outcome) output (write_of asked self.old.side.now) self.old.held.writes.items }
+        ensures companions { self.new.held.companions.items ≡ self.old.held.companions.items }
+        ensures said { self.new.held.identities ≡ self.old.held.identities }
         ensures told { output < length self.old.side.outputs.items → told_at self.new.side.outputs.items output ≡ Some (state_by outcome) }
         ensures ends { EndsOwn (OutputAim output) asked.device outcome (stage_of self.old.cycle) (stage_of self.new.cycle) }
         ensures rest { Stays self.old self.new }
@@ -255,9 +287,15 @@ impl Service {
     }
 
     /// What the device has of an output, by its answer to the request that writes it.
+    #[tactic(auto, using(crate::proofs::Saying::right_held))]
     fn note_answer(&mut self, state: OutputState, output: usize, asked: Asked)
         ensures taken { self.new.held.writes.items ≡ after_answer state output (write_of asked self.old.side.now) self.old.held.writes.items }
-        ensures same { self.new ≡ record self.old { held = self.new.held } }
+        ensures companions { self.new.held.companions.items ≡ self.old.held.companions.items }
+        ensures said { self.new.held.identities ≡ self.old.held.identities }
+        ensures cycle { self.new.cycle ≡ self.old.cycle }
+        ensures lines { self.new.lines ≡ self.old.lines }
+        ensures side { self.new.side ≡ self.old.side }
+        ensures places { self.new.places ≡ self.old.places }
     {
         if state == OutputState::Written {
             self.held.take(output, write_of(asked, self.side.now));
@@ -278,6 +316,7 @@ impl Service {
         }
     }
 
+    #[tactic(auto, using(crate::proofs::Saying::right_noted))]
     fn end_wait(&mut self, link: usize)
         ensures rest { Stays self.old self.new }
         ensures lines { LinksGo self.old self.new }

@@ -34,6 +34,7 @@ impl Service {
     }
 
     /// Begins requests on a connection until one is under way, or none is left to begin.
+    #[tactic(auto, using(crate::proofs::Saying::right_noted))]
     fn ask(&mut self, link: usize)
         ensures rest { Stays self.old self.new }
         ensures lines { LinksGo self.old self.new }
@@ -61,9 +62,10 @@ impl Service {
         ensures held { HasNoMore self.old.held self.new.held }
         ensures stands { WritesHad self.old.held self.old.side self.new.side }
     {
-        self.ask_before_reads(link)
-            || self.ask_for(link, Purpose::Read)
-            || self.ask_in_spare_time(link)
+        if self.ask_before_reads(link) {
+            return true;
+        }
+        self.ask_for(link, Purpose::Read) || self.ask_in_spare_time(link)
     }
 
     /// The same of what is asked in the time that reads leave: searches, then devices that didn't answer.
@@ -86,7 +88,10 @@ impl Service {
         ensures held { HasNoMore self.old.held self.new.held }
         ensures stands { WritesHad self.old.held self.old.side self.new.side }
     {
-        self.ask_sign(link) || self.ask_for(link, Purpose::Write) || self.ask_search_first(link)
+        if self.ask_sign(link) {
+            return true;
+        }
+        self.ask_for(link, Purpose::Write) || self.ask_search_first(link)
     }
 
     /// The same of searches that come before reads: of a device that is in doubt, or one that goes on.
@@ -114,9 +119,21 @@ impl Service {
         if !self.is_served(link, device) {
             return self.side.answers(device) && self.ask_device(link, device, Purpose::Sign);
         }
-        self.ask_device(link, device, Purpose::Write)
-            || self.ask_device(link, device, Purpose::Read)
-            || self.ask_again(link, device)
+        self.ask_served(link, device)
+    }
+
+    /// Asks a device that is read and written for what comes next, or for the first registers of its map.
+    fn ask_served(&mut self, link: usize, device: usize) -> bool
+        ensures rest { Stays self.old self.new }
+        ensures lines { LinksGo self.old self.new }
+        ensures goes { LeadsOn self.old.cycle self.new.cycle }
+        ensures held { HasNoMore self.old.held self.new.held }
+        ensures stands { WritesHad self.old.held self.old.side self.new.side }
+    {
+        if self.ask_device(link, device, Purpose::Write) {
+            return true;
+        }
+        self.ask_device(link, device, Purpose::Read) || self.ask_again(link, device)
     }
 
     /// Asks a device for the first registers of its map, whatever is known of it.
@@ -186,15 +203,41 @@ impl Service {
         ensures stands { WritesHad self.old.held self.old.side self.new.side }
     {
         for i in first..end.min(self.lines.devices_on(link)) {
-            if let Some(device) = self.lines.device_at(link, i) {
-                if self.ask_device(link, device, purpose) {
-                    let place = self.side.place_after(device, purpose, i);
-                    self.side.turned(link, purpose, place);
-                    return true;
-                }
+            if self.ask_at(link, purpose, i) {
+                return true;
             }
         }
         false
+    }
+
+    /// Asks the device at this place of a connection; whether there is something.
+    fn ask_at(&mut self, link: usize, purpose: Purpose, i: usize) -> bool
+        ensures rest { Stays self.old self.new }
+        ensures lines { LinksGo self.old self.new }
+        ensures goes { LeadsOn self.old.cycle self.new.cycle }
+        ensures held { HasNoMore self.old.held self.new.held }
+        ensures stands { WritesHad self.old.held self.old.side self.new.side }
+    {
+        match self.lines.device_at(link, i) {
+            Some(device) => self.ask_in_turn(link, device, purpose, i),
+            None => false,
+        }
+    }
+
+    /// Asks the device at this place; where there is something, it or the next one has the turn then.
+    fn ask_in_turn(&mut self, link: usize, device: usize, purpose: Purpose, i: usize) -> bool
+        ensures rest { Stays self.old self.new }
+        ensures lines { LinksGo self.old self.new }
+        ensures goes { LeadsOn self.old.cycle self.new.cycle }
+        ensures held { HasNoMore self.old.held self.new.held }
+        ensures stands { WritesHad self.old.held self.old.side self.new.side }
+    {
+        if !self.ask_device(link, device, purpose) {
+            return false;
+        }
+        let place = self.side.place_after(device, purpose, i);
+        self.side.turned(link, purpose, place);
+        true
     }
 
     fn ask_device(&mut self, link: usize, device: usize, purpose: Purpose) -> bool
@@ -213,7 +256,7 @@ impl Service {
         }
     }
 
-    #[tactic(auto, using(service_parts::proofs::Frames::not_begun, crate::proofs::Timing::timed))]
+    #[tactic(auto, using(service_parts::proofs::Frames::not_begun, crate::proofs::Timing::timed, crate::proofs::Saying::right_held))]
     fn begin(&mut self, link: usize, device: usize, wish: Wish)
         requires quantity { HasQuantity wish.request }
         requires asked { MayGoOver self.old.cycle.core.value self.old.lines.links.numbers.items self.old.lines.found_on.items link wish.aim device wish.request }

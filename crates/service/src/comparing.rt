@@ -90,6 +90,7 @@ impl Service {
     }
 
     /// The device of an output shows this of it.
+    #[tactic(auto, using(crate::proofs::Saying::right_held))]
     fn take_shown(&mut self, output: usize, shown: Shown)
         ensures compared { ComparesOne (Some shown) output self.old self.new }
         ensures lines { self.new.lines ≡ self.old.lines }

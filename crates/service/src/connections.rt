@@ -14,6 +14,7 @@ ghost use Rattle.service.specs.Cycle.{DevicesLeadOn, LeadsOn};
 ghost use Rattle.service.specs.Timing.{TurnsTo};
 ghost use Rattle.service.specs.Going.{LinksGo, OtherLinksGo};
 ghost use Rattle.service.specs.Having.{Forgets, HasNoMore, TellsHad, WritesHad};
+ghost use Rattle.service.specs.Identity.{AreRight};
 ghost use Rattle.service.specs.Staying.{Stays};
 
 use crate::notice::Loss;
@@ -30,6 +31,7 @@ impl Service {
 
     /// A dial began. It may take as long as a device may take to answer; then it is to be given up, and told as down. A connection
     /// that is up stays as it is.
+    #[tactic(auto, using(crate::proofs::Saying::right_noted))]
     pub fn dial_began(&mut self, link: usize, now: u64)
         ensures links { self.new.lines.links ≡ self.old.lines.links }
         ensures dials { (line : LineValue) → slice_get self.old.lines.lines.items link ≡ Some line
@@ -47,6 +49,7 @@ impl Service {
     }
 
     /// A connection is up: its devices have no map, until a search finds one. It has the next number of its link.
+    #[tactic(auto, using(crate::proofs::Saying::right_noted))]
     pub fn link_up(&mut self, link: usize, now: u64)
         ensures stations { self.new.lines.links.stations ≡ self.old.lines.links.stations }
         ensures goes { LeadsOn self.old.cycle self.new.cycle }
@@ -88,14 +91,27 @@ impl Service {
         ensures stands { Goes self.old.side self.new.side }
     {
         for device in 0..self.cycle.devices() {
-            if self.lines.is_at(device, link) {
-                self.forget(device);
-            }
+            self.forget_if_at(link, device);
+        }
+    }
+
+    /// A device is forgotten where it is reached over this link.
+    fn forget_if_at(&mut self, link: usize, device: usize)
+        ensures noted { self.new.lines.found_on ≡ self.old.lines.found_on }
+        ensures rest { Stays self.old self.new }
+        ensures lines { LinksGo self.old self.new }
+        ensures goes { LeadsOn self.old.cycle self.new.cycle }
+        ensures held { HasNoMore self.old.held self.new.held }
+        ensures stands { Goes self.old.side self.new.side }
+    {
+        if self.lines.is_at(device, link) {
+            self.forget(device);
         }
     }
 
     /// A connection is down: a dial failed, the peer ended it, or there was an error. Where nothing was under way its devices
     /// aren't lost: it is made again at once.
+    #[tactic(auto, using(crate::proofs::Saying::right_noted))]
     pub fn link_down(&mut self, link: usize, now: u64)
         ensures links { self.new.lines.links ≡ self.old.lines.links }
         ensures others { OtherLinksGo link self.old self.new }
@@ -151,6 +167,7 @@ impl Service {
         self.hear(link, bytes)
     }
 
+    #[tactic(auto, using(crate::proofs::Saying::right_noted))]
     fn hear(&mut self, link: usize, bytes: &[u8]) -> usize
         ensures used { result ≤ length bytes.now }
         ensures hears { (line : LineValue) → slice_get self.old.lines.lines.items link ≡ Some line → Hears link line bytes.now (drop result bytes.now) self.old self.new }
@@ -169,9 +186,10 @@ impl Service {
 
     /// What is to be written to a connection: the rest of the frame of a request that a device may be asked whose station
     /// is there, for its unit, by a state that this service's core came through. A round asks and writes by a map that was
-    /// found over this very connection.
+    /// found over this very connection, of a device that said over it that it is the one that it has to be.
     pub fn to_link(&self, link: usize) -> &[u8]
         ensures rightful { IsRightfulOn self.entry.now.cycle.core.value self.entry.now.lines link result.now }
+        ensures right { AreRight self.entry.now.held.identities self.entry.now.lines.found_on.items }
         ensures waits { (line : LineValue) → slice_get self.entry.now.lines.lines.items link ≡ Some line → result.now ≡ line.out.items }
     {
         self.lines.to_send(link)
@@ -179,6 +197,7 @@ impl Service {
 
     /// So many bytes are written to a connection, and the rest of them waits. Once a request is written, bytes that came before it
     /// are to be given again.
+    #[tactic(auto, using(crate::proofs::Saying::right_noted))]
     pub fn sent_to_link(&mut self, link: usize, n: usize)
         ensures sends { (line : LineValue) → slice_get self.old.lines.lines.items link ≡ Some line → GoesFrom (Sends n line) link self.old self.new }
         ensures rest { Stays self.old self.new }
@@ -206,7 +225,9 @@ impl Service {
     {
         self.cycle.forget(device);
         self.cycle.skip_writes(device);
-        self.cycle.seek_anew(device, self.lines.number_for(device));
+        let number = self.lines.number_for(device);
+        self.cycle
+            .seek_anew(device, number, self.held.wants(device));
         self.side.seek(device);
         self.held.forget(device);
     }

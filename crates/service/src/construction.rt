@@ -1,13 +1,15 @@
 //! A service is made.
-ghost use Rattle.std.specs.Prelude.{◌≡◌, ◌<◌, ◌^◌, All, length, [], map, replicate, IfErr, IfOk, OnOk};
+ghost use Rattle.std.specs.Prelude.{◌≡◌, ◌<◌, ◌^◌, All, length, [], map, replicate, IfErr, IfOk, None, OnOk};
 ghost use Rattle.verifier.specs.Verified.{HasLinks};
 ghost use Rattle.gateway.specs.declared.event_core.fault.CoreFault.TheVariants.{Foreign};
 ghost use Rattle.gateway.specs.event_core.Core.{Gateway, gateway_of};
 ghost use Rattle.gateway.specs.event_core.SiteRun.{none_of};
 ghost use Rattle.service_parts.specs.Requests.{AreRightfulBy};
-ghost use Rattle.service_parts.specs.Seeking.{AreOf};
+ghost use Rattle.service_parts.specs.Seeking.{AreOf, base_sought, base_stated};
 ghost use Rattle.service.specs.Cycle.{stage_of};
 ghost use Rattle.service.specs.Having.{HasNothing};
+ghost use Rattle.service.specs.Pairing.{companions_of};
+ghost use Rattle.service.specs.Identity.{AreRight, SaysNothing};
 ghost use Rattle.service.specs.Rounds.{IsRoundFor, IsUntold};
 ghost use Rattle.service.specs.Stages.{IsFirst};
 ghost use Rattle.service.specs.Timing.{Starts, most_notes};
@@ -16,6 +18,7 @@ ghost use Rattle.service.specs.Turning.{output_for, outputs_for};
 use crate::cycle::Cycle;
 use crate::device_side::DeviceSide;
 use crate::held_writes::HeldWrites;
+use crate::identities::Identities;
 use crate::last_scan::LastScan;
 use crate::link_pace::LinkPace;
 use crate::notices::Notices;
@@ -27,7 +30,7 @@ use gateway::{Core, CoreFault, DEPTH};
 use register_map::Map;
 use scan_vm::Machine;
 use service_parts::{ClientPlace, Connections, Limits, Station};
-use service_requests::Search;
+use service_requests::{Identity, Search};
 use site_model::{Site, SiteDevice};
 use std::alloc::{AllocError, Global};
 
@@ -35,7 +38,8 @@ impl Service {
     /// A service for a site and the program that runs, over so many connections, all of them down; no device has a map
     /// yet. All memory is taken here. `stations` has an entry for each of the site's devices; one without is never asked.
     /// The first scan is a period from now. `read_back` says of each of the site's tags whether what its device shows of it is compared
-    /// with what it took; of those without an entry it is. Foreign: the program was accepted for tags that the site doesn't have so;
+    /// with what it took; of those without an entry it is. `identities` says of each device which one it has to be; one without an entry
+    /// isn't asked. Foreign: the program was accepted for tags that the site doesn't have so;
     /// OutOfMemory: memory is refused.
     pub fn new(
         alloc: Global,
@@ -44,6 +48,7 @@ impl Service {
         links: usize,
         stations: &[Station],
         read_back: &[bool],
+        identities: &[Option<Identity>],
         limits: Limits,
         now: u64,
     ) -> Result<Service, CoreFault>
@@ -54,11 +59,16 @@ impl Service {
         ensures numbers { IfOk result (λ service. service.lines.links.numbers.items ≡ replicate links 0) }
         ensures starts { IfOk result (λ service. Starts now limits service.side) }
         ensures nothing { IfOk result (λ service. HasNothing service.held) }
+        ensures companions { IfOk result (λ service. service.held.companions.items ≡ companions_of site) }
+        ensures identities { IfOk result (λ service. service.held.identities.wanted.items ≡ identities.now) }
+        ensures unsaid { IfOk result (λ service. SaysNothing service.held.identities) }
         ensures outputs { IfOk result (λ service. service.side.outputs.items ≡ outputs_for read_back.now site.outs) }
         ensures places { IfOk result (λ service. length service.places.items ≡ limits.clients) }
         ensures foreign { IfErr result (λ e. e ≡ Foreign → HasLinks site.tags machine.accepted.links → ⊥) }
     {
-        let parts = parts_of(alloc, &site, links, stations, read_back, limits, now)?;
+        let parts = parts_of(
+            alloc, &site, links, stations, read_back, identities, limits, now,
+        )?;
         let core = Core::new(alloc, site, machine, parts.maps)?;
         let cycle = Cycle::new(alloc, core, parts.round, parts.searches, parts.over)?;
         Ok(Service {
@@ -82,12 +92,14 @@ struct Parts {
     peers: Peers,
 }
 
+#[tactic(auto, using(crate::proofs::Saying::right_none))]
 fn parts_of(
     alloc: Global,
     site: &Site,
     links: usize,
     stations: &[Station],
     read_back: &[bool],
+    identities: &[Option<Identity>],
     limits: Limits,
     now: u64,
 ) -> Result<Parts, AllocError>
@@ -100,14 +112,19 @@ fn parts_of(
     ensures numbers { IfOk result (λ parts. parts.peers.lines.links.numbers.items ≡ replicate links 0) }
     ensures starts { IfOk result (λ parts. Starts now limits parts.peers.side) }
     ensures nothing { IfOk result (λ parts. HasNothing parts.held) }
+    ensures companions { IfOk result (λ parts. parts.held.companions.items ≡ companions_of site.now) }
+    ensures identities { IfOk result (λ parts. parts.held.identities.wanted.items ≡ identities.now) }
+    ensures unsaid { IfOk result (λ parts. SaysNothing parts.held.identities) }
+    ensures right { IfOk result (λ parts. AreRight parts.held.identities parts.peers.lines.found_on.items) }
     ensures outputs { IfOk result (λ parts. parts.peers.side.outputs.items ≡ outputs_for read_back.now site.now.outs) }
     ensures places { IfOk result (λ parts. length parts.peers.places.items ≡ limits.clients) }
 {
     let maps = no_maps(alloc, site.devices())?;
     let round = Round::new(alloc, site)?;
-    let searches = searches_for(alloc, site.devices())?;
+    let searches = searches_for(alloc, site.devices(), identities)?;
     let over = vec![in alloc; 0; site.devices().len()]?;
-    let held = HeldWrites::new(alloc, site.outs().len())?;
+    let identities = Identities::new(alloc, identities, site.devices().len())?;
+    let held = HeldWrites::new(alloc, site, identities)?;
     let peers = peers_of(alloc, site, links, stations, read_back, limits, now)?;
     Ok(Parts {
         maps,
@@ -140,6 +157,7 @@ fn peers_of(
     ensures rightful { IfOk result (λ peers. (now : Gateway) → AreRightfulBy now peers.lines) }
     ensures stations { IfOk result (λ peers. peers.lines.links.stations.items ≡ stations.now) }
     ensures numbers { IfOk result (λ peers. peers.lines.links.numbers.items ≡ replicate links 0) }
+    ensures none { IfOk result (λ peers. peers.lines.found_on.items ≡ replicate (length stations.now) None) }
     ensures starts { IfOk result (λ peers. Starts now limits peers.side) }
     ensures outputs { IfOk result (λ peers. peers.side.outputs.items ≡ outputs_for read_back.now site.now.outs) }
     ensures places { IfOk result (λ peers. length peers.places.items ≡ limits.clients) }
@@ -187,13 +205,27 @@ fn device_side(
 }
 
 /// A search for each device's map.
-fn searches_for(alloc: Global, devices: &[SiteDevice]) -> Result<Vec<Search>, AllocError>
-    ensures { IfOk result (λ searches. searches.items ≡ map (λ own. record { base = own.base; answers = [] }) devices.now) }
+fn searches_for(
+    alloc: Global,
+    devices: &[SiteDevice],
+    identities: &[Option<Identity>],
+) -> Result<Vec<Search>, AllocError>
+    ensures { IfOk result (λ searches. map base_sought searches.items ≡ map base_stated devices.now) }
 {
-    devices
-        .iter()
-        .map(|own| Search::new(own.base))
-        .collect(alloc)
+    let mut searches = Vec::new(alloc);
+    for own in devices {
+        let is_to_say = is_to_say(identities, searches.len());
+        searches.push(Search::new(own.base, is_to_say))?;
+    }
+    Ok(searches)
+}
+
+/// Whether a device has to say which one it is.
+fn is_to_say(identities: &[Option<Identity>], device: usize) -> bool {
+    match identities.get(device) {
+        Some(Some(_)) => true,
+        _ => false,
+    }
 }
 
 /// No map for each device.

@@ -159,6 +159,48 @@ impl DeviceSide {
         self.tell(Notice::NoMap(device));
     }
 
+    /// A search found another device: the next one begins later.
+    pub(crate) fn find_another(&mut self, device: usize)
+        ensures time { KeepsTime self.old self.new }
+        ensures stands { Goes self.old self.new }
+    {
+        let again = self.now.saturating_add(self.limits.search_again);
+        self.seek_at(device, again);
+        if self.is_new_another(device) {
+            self.tell(Notice::Another(device));
+        }
+    }
+
+    /// Another device answers in place of this one; whether that is to be told.
+    fn is_new_another(&mut self, device: usize) -> bool
+        ensures time { KeepsTime self.old self.new }
+        ensures stands { Goes self.old self.new }
+    {
+        match self.devices.get_mut(device) {
+            Some(found) => found.be_another(),
+            None => false,
+        }
+    }
+
+    /// A device says something else of itself than before, where this is so.
+    pub(crate) fn say_anew_if(&mut self, is_new: bool, device: usize)
+        ensures time { KeepsTime self.old self.new }
+        ensures stands { Goes self.old self.new }
+    {
+        if is_new {
+            self.say_anew(device);
+        }
+    }
+
+    fn say_anew(&mut self, device: usize)
+        ensures time { KeepsTime self.old self.new }
+        ensures stands { Goes self.old self.new }
+    {
+        if let Some(found) = self.devices.get_mut(device) {
+            found.say_anew();
+        }
+    }
+
     /// A request to a device is counted.
     pub(crate) fn count_request(&mut self, device: usize)
         ensures counts { (own : DeviceValue) → slice_get self.old.devices.items device ≡ Some own → counts_at self.new device ≡ Some (asked_once_more own.counts) }

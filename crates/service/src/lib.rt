@@ -8,6 +8,7 @@ mod asking;
 mod client_frames;
 mod client_side;
 mod client_writes;
+mod companions;
 mod comparing;
 mod connections;
 mod construction;
@@ -16,6 +17,7 @@ mod cycle;
 mod device_side;
 mod held_back;
 mod held_writes;
+mod identities;
 mod last_scan;
 mod last_told;
 pub mod laws;
@@ -23,6 +25,7 @@ mod link_pace;
 mod notice;
 mod notices;
 mod output;
+mod own_words;
 mod pacing;
 mod polled_device;
 mod read_back;
@@ -40,6 +43,7 @@ mod wishes;
 
 // a service, and what is asked of it
 pub use service_parts::{Limits, Station};
+pub use service_requests::Identity;
 pub use service_state::Service;
 // what it tells
 pub use client_writes::{ClientWrite, WriteOutcome};

@@ -12,6 +12,9 @@ pub enum Notice {
     Found(usize),
     /// A device has no map.
     NoMap(usize),
+    /// A device answered that isn't the one that it has to be. It isn't told again before it says something else, or the right one
+    /// is found.
+    Another(usize),
     /// A device is lost. It isn't told again before it is found or back.
     Lost(usize, Loss),
     /// A lost device that kept its map answered.

@@ -1,7 +1,7 @@
 //! What is known of a device, apart from its map.
 ghost use Rattle.std.specs.Prelude.{◌≡◌, ◌&&◌, ◌||◌, false, not, true};
 ghost use Rattle.service.specs.Counting.{after_reply, scanned_by};
-ghost use Rattle.service.specs.Noting.{heard_by, lost_by, refusing};
+ghost use Rattle.service.specs.Noting.{found_by, heard_by, lost_by, refusing};
 ghost use Rattle.service.specs.Refusing.{is_more};
 
 use crate::counts::Counts;
@@ -37,6 +37,10 @@ pub struct PolledDevice {
     is_told: bool,
     /// What it refused.
     refusals: Refusals,
+    /// Whether it was told that another device answers in its place.
+    is_another_told: bool,
+    /// Whether another device answers in its place.
+    pub is_another: bool,
     pub is_lost: bool,
     /// Why it was lost last.
     pub last_loss: Option<Loss>,
@@ -60,6 +64,8 @@ impl PolledDevice {
             is_write_missed: false,
             is_told: false,
             refusals: Refusals::new(),
+            is_another_told: false,
+            is_another: false,
             is_lost: false,
             last_loss: None,
             counts: Counts::new(),
@@ -233,13 +239,34 @@ impl PolledDevice {
 
     /// Its map is found; whether that is to be told: it was lost, or nothing was told of it yet.
     pub fn found(&mut self) -> bool
-        ensures found { self.new ≡ record self.old { is_lost = false; is_behind = true; is_told = true } }
+        ensures found { self.new ≡ found_by self.old }
         ensures told { result ≡ (self.old.is_lost || not self.old.is_told) }
     {
         let is_new = self.is_lost || !self.is_told;
         self.is_lost = false;
         self.is_behind = true;
         self.is_told = true;
+        self.is_another = false;
+        self.is_another_told = false;
         is_new
+    }
+
+    /// What answers in its place is another device; whether that is to be told. Its next map is told of.
+    pub fn be_another(&mut self) -> bool
+        ensures another { self.new ≡ record self.old { is_another = true; is_another_told = true; is_told = false } }
+        ensures told { result ≡ not self.old.is_another_told }
+    {
+        let is_new = !self.is_another_told;
+        self.is_another = true;
+        self.is_another_told = true;
+        self.is_told = false;
+        is_new
+    }
+
+    /// What answers says something else of itself than before: where it is another device that is told.
+    pub fn say_anew(&mut self)
+        ensures { self.new ≡ record self.old { is_another_told = false } }
+    {
+        self.is_another_told = false;
     }
 }

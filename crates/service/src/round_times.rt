@@ -86,6 +86,7 @@ impl Service {
     }
 
     /// Runs the program, whatever was read, and goes on. A block that was told too many scans ago isn't known any more.
+    #[tactic(auto, using(crate::proofs::Saying::right_noted))]
     fn scan(&mut self)
         ensures links { self.new.lines.links ≡ self.old.lines.links }
         ensures runs { RunsOnce (λ scanned. WritesAt scanned.core self.old.held self.old.side self.new.side × LinksGoByScan scanned.round.writes self.old self.new × (self.new.side.last_scan ≡ came_to scanned.core.standing.last)) self.old.side.now (stage_of self.old.cycle) (stage_of self.new.cycle) }

@@ -1,6 +1,7 @@
 //! A service of a gateway.
 ghost use Rattle.std.specs.Prelude.{◌≡◌};
 ghost use Rattle.service.specs.Cycle.{stage_of};
+ghost use Rattle.service.specs.Identity.{AreRight};
 ghost use Rattle.service.specs.Stages.{IsReached};
 ghost use Rattle.service_parts.specs.Requests.{AreRightfulBy};
 
@@ -20,6 +21,7 @@ pub struct Service {
     pub(crate) held: HeldWrites,
     pub(crate) places: Vec<ClientPlace>,
     ghost rightful: { AreRightfulBy cycle.core.value lines },
+    ghost right: { AreRight held.identities lines.found_on.items },
 }
 
 impl Service {

@@ -1,6 +1,7 @@
 //! How a service stands, for whoever looks after it.
 ghost use Rattle.std.specs.Prelude.{◌≡◌, ◌≤◌, ◌<◌, IfNone, IfSome, Some, length, slice_get};
 ghost use Rattle.service.specs.declared.polled_device.PolledDevice.{PolledDevice as Own};
+ghost use Rattle.service.specs.Identity.{words_of};
 ghost use Rattle.service.specs.Noting.{TakesOldest};
 ghost use Rattle.service.specs.Rounds.{is_ready};
 ghost use Rattle.service.specs.Standing.{IsStatus, is_reached, refusals_at};
@@ -22,6 +23,8 @@ pub struct DeviceStatus {
     pub is_up: bool,
     /// Whether it has a map; [`Service::core`] has the map itself.
     pub is_mapped: bool,
+    /// Whether another device answers in its place: one that doesn't say what it has to.
+    pub is_another: bool,
     /// Whether it is lost now.
     pub is_lost: bool,
     /// Why it was lost last.
@@ -56,6 +59,7 @@ impl Service {
         Some(DeviceStatus {
             is_up: self.is_reached(device),
             is_mapped: self.cycle.is_mapped(device),
+            is_another: found.is_another,
             is_lost: found.is_lost,
             last_loss: found.last_loss,
             replies: found.replies(),
@@ -63,6 +67,15 @@ impl Service {
             age: self.cycle.round().scans_since(device),
             counts: found.counts,
         })
+    }
+
+    /// What a device said last of itself, in a search for its map: the 64 registers of its common model from the maker on (Mn, Md, Opt,
+    /// Vr, SN); None before, where it has to say nothing, and where it has no such model or refuses to read it.
+    pub fn said(&self, device: usize) -> Option<&[u16]>
+        ensures some { IfSome result (λ words. words_of self.now.held.identities device ≡ Some words.now) }
+        ensures none { IfNone result (words_of self.now.held.identities device ≡ None) }
+    {
+        self.held.said(device)
     }
 
     /// What a device refused to be read, in the order in which that was told; nothing where the site has no such device.

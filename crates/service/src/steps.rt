@@ -9,7 +9,7 @@ ghost use Rattle.gateway.specs.event_core.Control.{after_wait};
 ghost use Rattle.gateway.specs.event_core.Restoring.{NothingSets, SetsAlone};
 ghost use Rattle.gateway.specs.event_core.SiteRun.{with_block};
 ghost use Rattle.service_requests.specs.declared.request_end.RequestEnd.TheVariants.{Told as ToldFate};
-ghost use Rattle.service_requests.specs.Searches.{HasStepQuantity, Sought as SoughtValue};
+ghost use Rattle.service_requests.specs.Searches.{HasStepQuantity, Sought as SoughtValue, common_by};
 ghost use Rattle.service_parts.specs.declared.asked.Aim.{Aim as AimValue};
 ghost use Rattle.service_parts.specs.declared.asked.Aim.TheVariants.{Block as BlockAim, Output as OutputAim};
 ghost use Rattle.service_parts.specs.Calls.{IsCallFor};
@@ -161,40 +161,42 @@ impl Cycle {
         Some(search.next())
     }
 
-    /// Takes what came of a read of a device's search over the connection with this number. A search over another one stays
-    /// as it is.
-    pub fn answered(&mut self, device: usize, number: u64, outcome: &Outcome)
+    /// Takes what came of a read of a device's search over the connection with this number; whether that was the read of its common
+    /// model. A search over another one stays as it is.
+    pub fn answered(&mut self, device: usize, number: u64, outcome: &Outcome) -> bool
         ensures same { stage_of self.new ≡ stage_of self.old }
         ensures over { self.new.over ≡ self.old.over }
         ensures other { (slice_get self.old.over.items device ≡ Some number → ⊥) → self.new ≡ self.old }
     {
         if !self.is_sought_over(device, number) {
-            return;
+            return false;
         }
-        if let Some(search) = self.searches.get_mut(device) {
-            take(search, outcome);
+        match self.searches.get_mut(device) {
+            Some(search) => take(search, outcome),
+            None => false,
         }
     }
 
-    /// From now on the device's map is searched from the start, over the connection with this number.
-    pub fn seek_anew(&mut self, device: usize, number: u64)
+    /// From now on the device's map is searched from the start, over the connection with this number; then its common model is read,
+    /// where it has to say which device it is.
+    pub fn seek_anew(&mut self, device: usize, number: u64, is_to_say: bool)
         ensures at { self.new.round.at ≡ self.old.round.at }
         ensures writes { self.new.round.writes ≡ self.old.round.writes }
         ensures goes { LeadsOn self.old self.new }
         ensures begins { (own : DeviceValue) (search : SoughtValue) → slice_get self.old.core.value.site.devices device ≡ Some own → slice_get self.old.searches.items device ≡ Some search
-            → slice_get self.new.searches.items device ≡ Some (record { base = own.base; answers = [] }) }
+            → slice_get self.new.searches.items device ≡ Some (record { base = own.base; answers = []; common = common_by is_to_say }) }
         ensures over { (other : ℕ) → slice_get self.old.over.items device ≡ Some other → slice_get self.new.over.items device ≡ Some number }
     {
-        self.begin_search(device);
+        self.begin_search(device, is_to_say);
         self.search_over(device, number);
     }
 
-    fn begin_search(&mut self, device: usize)
+    fn begin_search(&mut self, device: usize, is_to_say: bool)
         ensures at { self.new.round.at ≡ self.old.round.at }
         ensures writes { self.new.round.writes ≡ self.old.round.writes }
         ensures goes { LeadsOn self.old self.new }
         ensures begins { (own : DeviceValue) (search : SoughtValue) → slice_get self.old.core.value.site.devices device ≡ Some own → slice_get self.old.searches.items device ≡ Some search
-            → slice_get self.new.searches.items device ≡ Some (record { base = own.base; answers = [] }) }
+            → slice_get self.new.searches.items device ≡ Some (record { base = own.base; answers = []; common = common_by is_to_say }) }
         ensures same { self.new.over ≡ self.old.over }
     {
         let base = match self.core.site().devices().get(device) {
@@ -202,7 +204,7 @@ impl Cycle {
             None => return,
         };
         if let Some(search) = self.searches.get_mut(device) {
-            *search = Search::new(base);
+            *search = Search::new(base, is_to_say);
         }
     }
 
@@ -428,13 +430,18 @@ impl Cycle {
     }
 }
 
-/// Takes the outcome of a search's read, where it takes more.
-fn take(search: &mut Search, outcome: &Outcome)
+/// Takes the outcome of a search's read, where it takes more; whether that was the read of the common model.
+fn take(search: &mut Search, outcome: &Outcome) -> bool
     ensures { search.new.base ≡ search.old.base }
 {
+    if search.is_common_next() {
+        search.end_common();
+        return true;
+    }
     if !search.is_full() {
         search.take(outcome);
     }
+    false
 }
 
 /// The core takes an event.

@@ -1,5 +1,5 @@
 //! What a device may be asked next, for each purpose.
-ghost use Rattle.std.specs.Prelude.{◌≡◌, ◌≤◌, ◌<◌, ℕ, IfSome, Some, [], length, set, slice_get};
+ghost use Rattle.std.specs.Prelude.{◌≡◌, ◌≤◌, ◌<◌, ℕ, IfSome, Some, [], length, set, slice_get, true};
 ghost use Rattle.modbus_frame.specs.Message.{HasQuantity};
 ghost use Rattle.service_requests.specs.declared.search.SearchStep.TheVariants.{Found};
 ghost use Rattle.service.specs.Told.{Goes};
@@ -10,6 +10,7 @@ ghost use Rattle.service_parts.specs.Seeking.{IsSought};
 ghost use Rattle.service.specs.Staying.{Stays};
 ghost use Rattle.service.specs.Going.{LinksGo, WishGoes};
 ghost use Rattle.service.specs.Having.{HasNoMore, WritesHad};
+ghost use Rattle.service.specs.Identity.{is_right};
 ghost use Rattle.service.specs.Cycle.{LeadsOn};
 
 use crate::link_pace::Purpose;
@@ -231,7 +232,9 @@ impl Service {
         ensures held { HasNoMore self.old.held self.new.held }
         ensures stands { Goes self.old.side self.new.side }
     {
-        self.cycle.seek_anew(device, self.lines.number_for(device));
+        let number = self.lines.number_for(device);
+        self.cycle
+            .seek_anew(device, number, self.held.wants(device));
     }
 
     /// Whether a search of a device may go on now: no device that answers is kept waiting by it, or none was lately.
@@ -320,6 +323,11 @@ impl Service {
                 self.side.owe(link, false);
                 None
             }
+            SearchStep::Unnamed => {
+                self.find_unnamed(device);
+                self.side.owe(link, false);
+                None
+            }
             SearchStep::NoMap => {
                 self.find_none(device);
                 self.side.owe(link, false);
@@ -329,7 +337,7 @@ impl Service {
     }
 
     /// A search found the device's map. It is learned where all of its answers came over the connection that the link has
-    /// now; else it is searched again over this one.
+    /// now, and the device said over it that it is the right one; else it is searched again over this one.
     fn find_over(&mut self, link: usize, device: usize, map: Map)
         requires { ∥ IsSought self.old.cycle.core.value.site device (Found map) ∥₁ }
         ensures rest { Stays self.old self.new }
@@ -341,10 +349,13 @@ impl Service {
         let Some(number) = self.lines.number_of(link) else {
             return;
         };
-        if self.cycle.is_sought_over(device, number) {
+        if !self.cycle.is_sought_over(device, number) {
+            self.cycle
+                .seek_anew(device, number, self.held.wants(device));
+        } else if self.held.is_right(device, number) {
             self.find(link, device, number, map);
         } else {
-            self.cycle.seek_anew(device, number);
+            self.find_another(device);
         }
     }
 
@@ -352,6 +363,7 @@ impl Service {
         requires sought { ∥ IsSought self.old.cycle.core.value.site device (Found map) ∥₁ }
         requires number { slice_get self.old.lines.links.numbers.items link ≡ Some number }
         requires over { slice_get self.old.cycle.over.items device ≡ Some number }
+        requires right { is_right self.old.held.identities device number ≡ true }
         ensures learned { device < length self.old.cycle.core.value.site.devices → self.new.cycle.core.value.maps ≡ set self.old.cycle.core.value.maps device (Some map) }
         ensures found { (unit : ℕ) → slice_get self.old.lines.links.stations.items device ≡ Some (record { link = link; unit = unit })
             → device < length self.old.lines.found_on.items → self.new.lines.found_on.items ≡ set self.old.lines.found_on.items device (Some number) }
@@ -362,8 +374,35 @@ impl Service {
         ensures stands { Goes self.old.side self.new.side }
     {
         self.cycle.learn(device, Some(map));
-        self.lines.find(link, device, number);
+        let is_found = self.lines.find(link, device, number);
+        self.held.find_if(is_found, device);
         self.side.find(device);
+    }
+
+    /// A search found a map of a device that doesn't say what it has to.
+    fn find_another(&mut self, device: usize)
+        ensures rest { Stays self.old self.new }
+        ensures lines { LinksGo self.old self.new }
+        ensures goes { LeadsOn self.old.cycle self.new.cycle }
+        ensures held { HasNoMore self.old.held self.new.held }
+        ensures stands { Goes self.old.side self.new.side }
+    {
+        self.seek_anew(device);
+        self.side.find_another(device);
+    }
+
+    /// A search found a map of a device that says nothing of itself, though it has to.
+    #[tactic(auto, using(crate::proofs::Saying::right_heard))]
+    fn find_unnamed(&mut self, device: usize)
+        ensures rest { Stays self.old self.new }
+        ensures lines { LinksGo self.old self.new }
+        ensures goes { LeadsOn self.old.cycle self.new.cycle }
+        ensures held { HasNoMore self.old.held self.new.held }
+        ensures stands { Goes self.old.side self.new.side }
+    {
+        let is_new = self.held.hear_nothing(device);
+        self.side.say_anew_if(is_new, device);
+        self.find_another(device);
     }
 
     fn find_none(&mut self, device: usize)
@@ -373,7 +412,9 @@ impl Service {
         ensures held { HasNoMore self.old.held self.new.held }
         ensures stands { Goes self.old.side self.new.side }
     {
-        self.cycle.seek_anew(device, self.lines.number_for(device));
+        let number = self.lines.number_for(device);
+        self.cycle
+            .seek_anew(device, number, self.held.wants(device));
         self.side.find_none(device);
     }
 }

@@ -1,5 +1,5 @@
 -- All that is wrong at a site, one alarm each. No standard says what is told; it is this project's.
-use Rattle.std.specs.Prelude.{◌≡◌, ℕ, ◌+◌, Bool, true, false, List, [], ◌∷◌, ◌++◌, length, Option, Some, None, slice_get, if◌then◌else◌}
+use Rattle.std.specs.Prelude.{◌≡◌, ℕ, ◌+◌, Bool, true, false, not, ◌&&◌, ◌||◌, List, [], ◌∷◌, ◌++◌, length, Option, Some, None, slice_get, if◌then◌else◌}
 use Rattle.std.specs.List.{flat_map}
 use Rattle.point_types.specs.declared.reading.Reading.{Reading}
 use Rattle.point_types.specs.declared.reading.Reading.TheVariants as reading
@@ -29,14 +29,24 @@ of_each f i (x ∷ xs) = f i x ++ of_each f (i + 1) xs
 abbrev pub one_if : Bool → Alarm → List Alarm
 one_if holds a = if holds then a ∷ [] else []
 
--- ---- devices: one that is lost, or else has no map
+-- ---- devices: one that is lost, or else is another one than the site file says, or else has no map
+
+-- whether it is lost, and no other one has answered in its place over a connection that is up
+abbrev pub is_missing : DeviceStatus → Bool
+is_missing d = d.is_lost && not (d.is_another && d.is_up)
 
 abbrev pub of_device : ℕ → DeviceStatus → List Alarm
-of_device i d = if d.is_lost then alarm.DeviceLost i d.last_loss ∷ [] else (if d.is_mapped then [] else alarm.DeviceUnmapped i ∷ [])
+of_device i d =
+    if is_missing d then alarm.DeviceLost i d.last_loss ∷ []
+    else (if d.is_another then alarm.DeviceAnother i ∷ [] else (if d.is_mapped then [] else alarm.DeviceUnmapped i ∷ []))
 
 -- whether it has one of these
 abbrev pub is_amiss : DeviceStatus → Bool
-is_amiss d = if d.is_lost then true else (if d.is_mapped then false else true)
+is_amiss d = d.is_lost || d.is_another || not d.is_mapped
+
+-- whether it is gone, as one that sleeps is: another one answers
+abbrev pub is_gone : DeviceStatus → Bool
+is_gone d = is_missing d || (not d.is_another && not d.is_mapped)
 
 abbrev pub devices_amiss : List DeviceStatus → List Alarm
 devices_amiss devices = of_each of_device 0 devices

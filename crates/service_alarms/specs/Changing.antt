@@ -11,6 +11,7 @@ use Rattle.service_alarms.specs.declared.standing.StandingAlarm.{StandingAlarm}
 abbrev pub subject_of : Alarm → AlarmSubject
 subject_of (alarm.DeviceLost i why) = subject.Device i
 subject_of (alarm.DeviceUnmapped i) = subject.Device i
+subject_of (alarm.DeviceAnother i) = subject.Device i
 subject_of (alarm.ModelMissing w) = subject.Model w
 subject_of (alarm.InputMissing i why) = subject.Input i
 subject_of (alarm.OutputUnwritten i why) = subject.Output i

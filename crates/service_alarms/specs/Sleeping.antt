@@ -60,10 +60,11 @@ device_hidden site hidden.BadScale = None
 device_hidden site hidden.Inexact = None
 device_hidden site hidden.OutOfType = None
 
--- the device that is gone, where an alarm is of it or of what it gives and takes
+-- the device that is gone, where an alarm is of it or of what it gives and takes; another device isn't gone
 abbrev pub device_of : Site → Alarm → Option ℕ
 device_of site (alarm.DeviceLost i why) = Some i
 device_of site (alarm.DeviceUnmapped i) = Some i
+device_of site (alarm.DeviceAnother i) = None
 device_of site (alarm.ModelMissing w) = None
 device_of site (alarm.InputMissing i why) = device_of_tag site i
 device_of site (alarm.OutputUnwritten o why) = device_of_output site o

@@ -26,8 +26,10 @@ pub enum Hidden {
 pub enum Alarm {
     /// A device is lost, and why.
     DeviceLost(usize, Option<Loss>),
-    /// A device that isn't lost has no map.
+    /// A device that isn't lost has no map, or it isn't known so far whether it is the right one.
     DeviceUnmapped(usize),
+    /// A device that answers is another one than the site file says.
+    DeviceAnother(usize),
     /// The map of a device lacks a model that the site wants of it.
     ModelMissing(Want),
     /// An `in` tag had no value of its own in the last scan, and why.
@@ -85,9 +87,9 @@ impl Alarm {
         ensures { result ≡ subject_of self }
     {
         match self {
-            Alarm::DeviceLost(device, _) | Alarm::DeviceUnmapped(device) => AlarmSubject::Device(
-                device,
-            ),
+            Alarm::DeviceLost(device, _)
+            | Alarm::DeviceUnmapped(device)
+            | Alarm::DeviceAnother(device) => AlarmSubject::Device(device),
             Alarm::ModelMissing(want) => AlarmSubject::Model(want),
             Alarm::InputMissing(tag, _) => AlarmSubject::Input(tag),
             Alarm::OutputUnwritten(output, _) => AlarmSubject::Output(output),

@@ -8,6 +8,7 @@ mod devices;
 mod exceptions;
 mod fitted;
 mod inputs;
+mod labels;
 mod lapses;
 mod lines;
 mod mending;
@@ -16,6 +17,7 @@ mod names;
 mod outputs;
 mod places;
 mod points;
+mod said;
 mod sentences;
 mod served;
 mod shown_numbers;
@@ -26,7 +28,7 @@ mod wrong;
 
 // what is wrong
 pub use alarm::{Alarm, AlarmSubject, Hidden};
-pub use devices::{is_amiss, is_lacking};
+pub use devices::{is_amiss, is_gone, is_lacking};
 pub use fitted::fitted_number;
 pub use met::{MetNumber, met_at, met_of};
 pub use wrong::{Seen, missing_now, wrong_now};
@@ -36,6 +38,9 @@ pub use sleeping::{Sleep, Slept, leave_out_sleepers};
 pub use standing::{StandingAlarm, Watch};
 // what changed
 pub use changes::Changes;
+// what devices say of themselves
+pub use labels::{label_text, push_inside_quotes, push_label};
+pub use said::{Said, another_text, is_said};
 // in words
 pub use lines::{begun_line, lacks_text, missing_text, over_line, refuses_text, unwritten_text};
 pub use mending::mend;

@@ -24,6 +24,7 @@ pub fn sentence(alloc: Global, core: &Core<DEPTH>, alarm: Alarm) -> Result<Strin
     match alarm {
         Alarm::DeviceLost(device, loss) => lost_text(alloc, device_name(site, device), loss),
         Alarm::DeviceUnmapped(device) => unmapped_text(alloc, device_name(site, device)),
+        Alarm::DeviceAnother(device) => another_text(alloc, device_name(site, device)),
         Alarm::ModelMissing(want) => lacking_text(alloc, core, want),
         Alarm::InputMissing(tag, cause) => input_text(alloc, core, tag, cause),
         Alarm::OutputUnwritten(output, cause) => {
@@ -70,6 +71,14 @@ fn lost_text(alloc: Global, name: &str, loss: Option<Loss>) -> Result<String, Al
 fn unmapped_text(alloc: Global, name: &str) -> Result<String, AllocError> {
     let name = escaped(alloc, name)?;
     let text = format!(in alloc; "no SunSpec map was found in {name} so far")?;
+    Ok(text)
+}
+
+fn another_text(alloc: Global, name: &str) -> Result<String, AllocError> {
+    let name = escaped(alloc, name)?;
+    let text = format!(in alloc;
+        "what answers for {name} is another device than the site file says: nothing is written to it"
+    )?;
     Ok(text)
 }
 

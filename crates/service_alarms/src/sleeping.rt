@@ -36,7 +36,7 @@ impl Sleep {
         }
     }
 
-    /// Now it is gone, which is that it is lost or has no map, or it isn't; what there is to tell.
+    /// Now it is gone, as [`crate::is_gone`] has it, or it isn't; what there is to tell.
     pub fn see(&mut self, is_gone: bool, now: u64) -> Option<Slept>
         ensures seen { self.new ≡ seen is_gone now self.old }
         ensures told { result ≡ news is_gone self.old.is_asleep self.new.is_asleep }
@@ -158,7 +158,8 @@ fn device_of(alarm: Alarm, site: &Site) -> Option<usize>
         Alarm::OutputUnwritten(output, _) => device_of_output(site, output),
         Alarm::OutputDiffers(output, _) => device_of_output(site, output),
         Alarm::SumHidden(_, why) => device_hidden(site, why),
-        Alarm::ModelMissing(_)
+        Alarm::DeviceAnother(_)
+        | Alarm::ModelMissing(_)
         | Alarm::SetLapsed(_)
         | Alarm::NeverSet(_)
         | Alarm::StoredHidden(_, _)

@@ -13,6 +13,7 @@ pub fn kind_word(alarm: Alarm) -> &'static str {
     match alarm {
         Alarm::DeviceLost(..) => "device_lost",
         Alarm::DeviceUnmapped(_) => "device_unmapped",
+        Alarm::DeviceAnother(_) => "another",
         Alarm::ModelMissing(_) => "model_missing",
         Alarm::InputMissing(..) => "input_missing",
         Alarm::OutputUnwritten(..) => "output_unwritten",
@@ -29,7 +30,9 @@ pub fn kind_word(alarm: Alarm) -> &'static str {
 /// The name of what an alarm is of.
 pub fn name_text(alloc: Global, site: &Site, alarm: Alarm) -> Result<String, AllocError> {
     let name = match alarm {
-        Alarm::DeviceLost(device, _) | Alarm::DeviceUnmapped(device) => device_name(site, device),
+        Alarm::DeviceLost(device, _)
+        | Alarm::DeviceUnmapped(device)
+        | Alarm::DeviceAnother(device) => device_name(site, device),
         Alarm::ModelMissing(want) => device_name(site, want.device),
         Alarm::InputMissing(tag, _) | Alarm::SetLapsed(tag) | Alarm::NeverSet(tag) => {
             tag_name(site, tag)
@@ -61,6 +64,7 @@ pub fn cause_text(alloc: Global, site: &Site, alarm: Alarm) -> Result<String, Al
         Alarm::DeviceLost(_, Some(loss)) => loss_word(loss),
         Alarm::DeviceLost(_, None) => "Lost",
         Alarm::DeviceUnmapped(_) => "NoMap",
+        Alarm::DeviceAnother(_) => "Another",
         Alarm::ModelMissing(want) => return model_text(alloc, want.model),
         Alarm::InputMissing(_, cause) => missing_word(cause),
         Alarm::OutputUnwritten(_, cause) => unwritten_word(cause),

@@ -1,6 +1,6 @@
 //! Which devices sleep at night.
 use service::DeviceStatus;
-use service_alarms::{Sleep, Slept, is_amiss};
+use service_alarms::{Sleep, Slept, is_gone};
 use std::alloc::{AllocError, Global};
 
 /// Which devices sleep, by the hours that the site file gives them.
@@ -41,7 +41,7 @@ impl Nights {
     /// So the devices stand now, in seconds since the start.
     pub(crate) fn see(&mut self, devices: &[DeviceStatus], now: u64) {
         for (device, status) in devices.iter().enumerate() {
-            self.see_one(device, is_amiss(status), now);
+            self.see_one(device, is_gone(status), now);
         }
     }
 

@@ -269,7 +269,7 @@ impl<'a, W: Write> ServeLoop<'a, W> {
                 false
             }
             _ => {
-                tell(self.alloc, note, service.core(), &mut self.line_writer);
+                tell(self.alloc, note, serving, service, &mut self.line_writer);
                 false
             }
         }
@@ -286,21 +286,27 @@ impl<'a, W: Write> ServeLoop<'a, W> {
     ) {
         if files.wants_status() {
             let text = match program.taken() {
-                Some(start) => self.status(start, service),
-                None => self.status(serving.start, service),
+                Some(start) => self.status(start, serving, service),
+                None => self.status(serving.start, serving, service),
             };
             files.keep_status(rt, text, &mut self.line_writer);
         }
     }
 
     // How the service stands, with what is told of the program that runs.
-    fn status(&self, start: &Start, service: &Service) -> Result<String, AllocError> {
+    fn status(
+        &self,
+        start: &Start,
+        serving: &Serving<'_>,
+        service: &Service,
+    ) -> Result<String, AllocError> {
         status_text(
             self.alloc,
             start,
             self.line_writer.time_of_day(),
             self.line_writer.now() / 1000,
             self.late,
+            serving,
             service,
             self.addresses,
             self.sockets.clients(),

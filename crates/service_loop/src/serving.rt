@@ -1,5 +1,6 @@
 //! What a service is to do, and how it ends.
 use crate::state_fault::StateFault;
+use service::Identity;
 use service_texts::{Start, Times, Writer};
 use std::io;
 use std::io::ErrorKind;
@@ -20,6 +21,8 @@ pub struct Serving<'a> {
     pub clients: usize,
     /// For how many hours each device may be gone in its sleep, in their order.
     pub sleeps: &'a [Option<u8>],
+    /// What each device must say of itself, in their order.
+    pub identities: &'a [Option<Identity>],
     /// The clients that may write.
     pub writers: &'a [Writer],
     /// How many scans; none for ever.
@@ -68,6 +71,14 @@ impl End {
 }
 
 impl Serving<'_> {
+    /// What a device must say of itself.
+    pub(crate) fn identity(&self, device: usize) -> Option<Identity> {
+        match self.identities.get(device) {
+            Some(identity) => *identity,
+            None => None,
+        }
+    }
+
     /// Whether so many scans are all that were asked for.
     pub(crate) fn is_done(&self, scans: u64) -> bool {
         match self.scans {

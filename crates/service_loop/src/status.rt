@@ -2,6 +2,7 @@
 use crate::alarm_watch::AlarmWatch;
 use crate::clients::Clients;
 use crate::members::{put_list, put_number, put_text};
+use crate::serving::Serving;
 use crate::status_alarms::alarms_value;
 use crate::status_devices::devices_value;
 use crate::status_tags::{outputs_value, set_value, tags_value, variables_value};
@@ -17,6 +18,7 @@ pub(crate) fn status_text(
     time: Result<String, AllocError>,
     seconds: u64,
     late: u64,
+    serving: &Serving<'_>,
     service: &Service,
     addresses: &Addresses,
     clients: &Clients,
@@ -35,7 +37,7 @@ pub(crate) fn status_text(
     put_number(&mut status, alloc, "seconds", seconds)?;
     put_number(&mut status, alloc, "scans", service.scans())?;
     put_number(&mut status, alloc, "late", late)?;
-    put_site(&mut status, alloc, service, addresses, alarm_watch)?;
+    put_site(&mut status, alloc, serving, service, addresses, alarm_watch)?;
     put_list(
         &mut status,
         alloc,
@@ -61,6 +63,7 @@ fn started_value(alloc: Global, start: &Start) -> Result<Value, AllocError> {
 fn put_site(
     status: &mut Map<String, Value>,
     alloc: Global,
+    serving: &Serving<'_>,
     service: &Service,
     addresses: &Addresses,
     alarm_watch: &AlarmWatch,
@@ -70,7 +73,7 @@ fn put_site(
         status,
         alloc,
         "devices",
-        devices_value(alloc, service, addresses, alarm_watch)?,
+        devices_value(alloc, serving, service, addresses, alarm_watch)?,
     )?;
     put(status, alloc, "tags", tags_value(alloc, core)?)?;
     put(status, alloc, "outputs", outputs_value(alloc, service)?)?;

@@ -1,23 +1,29 @@
 //! How the devices of a service stand, as JSON.
 use crate::alarm_watch::AlarmWatch;
 use crate::members::{put_list, put_number, put_text, put_truth};
+use crate::serving::Serving;
 use gateway::{Core, DEPTH};
 use serde_json::{Map, Value, put};
 use service::{Counts, DeviceStatus, Loss, ReadRefusal, Service};
-use service_alarms::{device_name, is_amiss, loss_word};
+use service_alarms::{Said, device_name, is_amiss, label_text, loss_word};
 use service_texts::Addresses;
 use std::alloc::{AllocError, Global};
 
 /// Each device, in the order of the site file.
 pub(crate) fn devices_value(
     alloc: Global,
+    serving: &Serving<'_>,
     service: &Service,
     addresses: &Addresses,
     alarm_watch: &AlarmWatch,
 ) -> Result<Vec<Value>, AllocError> {
     let mut values = Vec::new(alloc);
     for device in 0..service.core().site().devices().len() {
-        values.push(device_value(alloc, service, addresses, alarm_watch, device)?)?;
+        let mut value = device_value(alloc, service, addresses, alarm_watch, device)?;
+        if serving.identity(device).is_some() {
+            put_identity(&mut value, alloc, service, device)?;
+        }
+        values.push(Value::Object(value))?;
     }
     Ok(values)
 }
@@ -28,7 +34,7 @@ fn device_value(
     addresses: &Addresses,
     alarm_watch: &AlarmWatch,
     device: usize,
-) -> Result<Value, AllocError> {
+) -> Result<Map<String, Value>, AllocError> {
     let mut value = Map::new(alloc);
     put_text(
         &mut value,
@@ -55,6 +61,47 @@ fn device_value(
     if let Some(is_asleep) = alarm_watch.is_asleep(device) {
         put_truth(&mut value, alloc, "asleep", is_asleep)?;
     }
+    Ok(value)
+}
+
+/// Puts whether a device that must say something of itself is another one, and what it said last.
+fn put_identity(
+    value: &mut Map<String, Value>,
+    alloc: Global,
+    service: &Service,
+    device: usize,
+) -> Result<(), AllocError> {
+    if let Some(status) = service.device_status(device) {
+        put_truth(value, alloc, "another", status.is_another)?;
+    }
+    match service.said(device) {
+        Some(registers) => put(value, alloc, "said", said_value(alloc, registers)?),
+        None => put(value, alloc, "said", Value::Null),
+    }
+}
+
+/// What a device said of itself, by the keys of the site file.
+fn said_value(alloc: Global, registers: &[u16]) -> Result<Value, AllocError> {
+    let said = Said::of(registers);
+    let mut value = Map::new(alloc);
+    put_text(
+        &mut value,
+        alloc,
+        "maker",
+        label_text(alloc, said.maker)?.as_str(),
+    )?;
+    put_text(
+        &mut value,
+        alloc,
+        "type",
+        label_text(alloc, said.model)?.as_str(),
+    )?;
+    put_text(
+        &mut value,
+        alloc,
+        "serial",
+        label_text(alloc, said.serial)?.as_str(),
+    )?;
     Ok(Value::Object(value))
 }
 

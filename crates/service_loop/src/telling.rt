@@ -1,12 +1,13 @@
 //! What a service tells, as lines.
 use crate::line_writer::LineWriter;
+use crate::serving::Serving;
 use gateway::{Core, DEPTH, Report};
 use note_text::escaped;
 use register_map::Map;
-use service::{Difference, Notice, ReadRefusal, Unwritten};
+use service::{Difference, Identity, Notice, ReadRefusal, Service, Unwritten};
 use service_alarms::{
-    Changes, Slept, begun_line, device_name, is_lacking, lacks_text, loss_word, output_name,
-    over_line, push_models, refuses_text, shown_number, unwritten_text,
+    Changes, Said, Slept, another_text, begun_line, device_name, is_lacking, lacks_text, loss_word,
+    output_name, over_line, push_models, refuses_text, shown_number, unwritten_text,
 };
 use service_texts::{
     Start, agrees_line, device_line, differs_line, lost_line, program_taken_line, unwritten_line,
@@ -23,9 +24,15 @@ const NO_MAP: &str = "NoMap";
 pub(crate) fn tell<W: Write>(
     alloc: Global,
     note: &Notice,
-    core: &Core<DEPTH>,
+    serving: &Serving<'_>,
+    service: &Service,
     line_writer: &mut LineWriter<'_, W>,
 ) {
+    let core = service.core();
+    if let Notice::Another(device) = note {
+        let identity = serving.identity(*device);
+        line_writer.tell(another_line(alloc, service, identity, *device));
+    }
     if let Some(line) = line_of(alloc, note, core) {
         line_writer.tell(line);
     }
@@ -86,8 +93,20 @@ fn line_of(alloc: Global, note: &Notice, core: &Core<DEPTH>) -> Option<Result<St
         Notice::Written(output) => Some(written_line(alloc, output_name(site, *output))),
         Notice::Differs(output, difference) => Some(differs(alloc, core, *output, *difference)),
         Notice::Agrees(output) => Some(agrees_line(alloc, output_name(site, *output))),
-        Notice::Late(_) | Notice::Scanned(_) => None,
+        Notice::Another(_) | Notice::Late(_) | Notice::Scanned(_) => None,
     }
+}
+
+// `device NAME is another SN TEXT`.
+fn another_line(
+    alloc: Global,
+    service: &Service,
+    identity: Option<Identity>,
+    device: usize,
+) -> Result<String, AllocError> {
+    let said = Said::of(service.said(device).unwrap_or(&[]));
+    let what = another_text(alloc, identity, said)?;
+    told(alloc, service.core().site(), device, what.as_str())
 }
 
 // `device NAME found MODELS`.

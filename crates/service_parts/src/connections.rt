@@ -1,5 +1,5 @@
 //! Links to devices.
-ghost use Rattle.std.specs.Prelude.{◌≡◌, ◌+◌, ◌<◌, ◌^◌, ℕ, All, slice_get, length, replicate, set, IfNone, IfOk, IfSome, IsTrue, Some};
+ghost use Rattle.std.specs.Prelude.{◌≡◌, ◌+◌, ◌<◌, ◌^◌, ℕ, All, slice_get, length, replicate, set, IfNone, IfOk, IfSome, IsTrue, None, Some, false};
 ghost use Rattle.service_parts.specs.declared.device_connection.DeviceConnection.{DeviceConnection as LineValue};
 ghost use Rattle.gateway.specs.event_core.Core.{Gateway};
 ghost use Rattle.service_parts.specs.Frames.{ComesUp, GoesDown, IsCut, OthersGo};
@@ -35,10 +35,11 @@ impl Connections {
         ensures rightful { IfOk result (λ lines. (now : Gateway) → AreRightfulBy now lines) }
         ensures stations { IfOk result (λ lines. lines.links.stations.items ≡ stations.now) }
         ensures numbers { IfOk result (λ lines. lines.links.numbers.items ≡ replicate links 0) }
+        ensures none { IfOk result (λ lines. lines.found_on.items ≡ replicate (length stations.now) None) }
     {
         let lines = lines_to(alloc, links, stations, devices)?;
         let numbers = vec![in alloc; 0; links]?;
-        let found_on = nothing_found(alloc, stations.len())?;
+        let found_on = vec![in alloc; None; stations.len()]?;
         let stations = Vec::from_slice(alloc, stations)?;
         Ok(Connections {
             links: Stations { stations, numbers },
@@ -105,38 +106,46 @@ impl Connections {
         }
     }
 
-    /// The map of a device on this link was found over the connection with this number, which is the one that the link has now.
-    pub fn find(&mut self, link: usize, device: usize, number: u64)
+    /// The map of a device was found over the connection with this number, which is the one that the link has now; whether the
+    /// device is one of this link.
+    pub fn find(&mut self, link: usize, device: usize, number: u64) -> bool
         requires { slice_get self.old.links.numbers.items link ≡ Some number }
         ensures rightful { StayRightful self.old self.new }
         ensures links { self.new.links ≡ self.old.links }
         ensures lines { self.new.lines ≡ self.old.lines }
+        ensures noted { IsTrue result → self.new.found_on.items ≡ set self.old.found_on.items device (Some number) }
+        ensures none { result ≡ false → self.new.found_on ≡ self.old.found_on }
         ensures found { (unit : ℕ) → slice_get self.old.links.stations.items device ≡ Some (record { link = link; unit = unit })
             → device < length self.old.found_on.items → self.new.found_on.items ≡ set self.old.found_on.items device (Some number) }
     {
-        let Some(unit) = self.unit_at(device, link) else {
-            return;
-        };
-        self.find_on(link, device, unit, number);
+        match self.unit_at(device, link) {
+            Some(unit) => self.find_on(link, device, unit, number),
+            None => false,
+        }
     }
 
     #[tactic(auto, using(crate::proofs::Rightful::with_found))]
-    fn find_on(&mut self, link: usize, device: usize, unit: u8, number: u64)
+    fn find_on(&mut self, link: usize, device: usize, unit: u8, number: u64) -> bool
         requires station { slice_get self.old.links.stations.items device ≡ Some (record { link = link; unit = unit }) }
         requires number { slice_get self.old.links.numbers.items link ≡ Some number }
         ensures rightful { StayRightful self.old self.new }
         ensures links { self.new.links ≡ self.old.links }
         ensures lines { self.new.lines ≡ self.old.lines }
         ensures found { device < length self.old.found_on.items → self.new.found_on.items ≡ set self.old.found_on.items device (Some number) }
+        ensures noted { IsTrue result → self.new.found_on.items ≡ set self.old.found_on.items device (Some number) }
+        ensures none { result ≡ false → self.new.found_on ≡ self.old.found_on }
     {
-        if device < self.found_on.len() {
-            self.found_on[device] = Some(number);
+        if device >= self.found_on.len() {
+            return false;
         }
+        self.found_on[device] = Some(number);
+        true
     }
 
     /// A link has a new connection, with the next number, on which nothing waits; whether there is a number for it.
     pub fn come_up(&mut self, link: usize) -> bool
         ensures rightful { StayRightful self.old self.new }
+        ensures found { self.new.found_on ≡ self.old.found_on }
         ensures stations { self.new.links.stations ≡ self.old.links.stations }
         ensures next { (number : ℕ) → slice_get self.old.links.numbers.items link ≡ Some number → number + 1 < 2 ^ 64
             → IsTrue result × (self.new.links.numbers.items ≡ set self.old.links.numbers.items link (number + 1)) }
@@ -156,6 +165,7 @@ impl Connections {
 
     fn begin_anew(&mut self, link: usize)
         ensures rightful { StayRightful self.old self.new }
+        ensures found { self.new.found_on ≡ self.old.found_on }
         ensures links { self.new.links ≡ self.old.links }
         ensures others { OthersGo link self.old.lines.items self.new.lines.items }
         ensures anew { (line : LineValue) → slice_get self.old.lines.items link ≡ Some line → (cut : LineValue) × (slice_get self.new.lines.items link ≡ Some cut) × ComesUp line cut }
@@ -170,6 +180,7 @@ impl Connections {
     fn renumber(&mut self, link: usize, number: u64)
         requires { (line : LineValue) → slice_get self.old.lines.items link ≡ Some line → IsCut line }
         ensures rightful { StayRightful self.old self.new }
+        ensures found { self.new.found_on ≡ self.old.found_on }
         ensures stations { self.new.links.stations ≡ self.old.links.stations }
         ensures lines { self.new.lines ≡ self.old.lines }
         ensures next { link < length self.old.links.numbers.items → self.new.links.numbers.items ≡ set self.old.links.numbers.items link number }
@@ -183,6 +194,7 @@ impl Connections {
     /// at once, any other after a while.
     pub fn go_down(&mut self, link: usize, now: u64, limits: &Limits)
         ensures rightful { StayRightful self.old self.new }
+        ensures found { self.new.found_on ≡ self.old.found_on }
         ensures links { self.new.links ≡ self.old.links }
         ensures others { OthersGo link self.old.lines.items self.new.lines.items }
         ensures ends { (line : LineValue) → slice_get self.old.lines.items link ≡ Some line → (cut : LineValue) × (slice_get self.new.lines.items link ≡ Some cut) × GoesDown now limits.now line cut }
@@ -201,15 +213,6 @@ fn is_number(found_on: &[Option<u64>], device: usize, number: u64) -> bool
         Some(Some(found)) => *found == number,
         _ => false,
     }
-}
-
-/// No map of so many devices.
-fn nothing_found(alloc: Global, devices: usize) -> Result<Vec<Option<u64>>, AllocError> {
-    let mut found = Vec::new(alloc);
-    for _ in 0..devices {
-        found.push(None)?;
-    }
-    Ok(found)
 }
 
 /// So many that are down, each to the devices whose station it is.

@@ -45,6 +45,7 @@ impl Connections {
         requires words { asked.words ≡ words_of request }
         ensures rightful { (now : Gateway) → ∥ Reached now ∥₁ → MayGoOver now self.old.links.numbers.items self.old.found_on.items link asked.aim asked.device request
             → AreRightfulBy now self.old → AreRightfulBy now self.new }
+        ensures found { self.new.found_on ≡ self.old.found_on }
         ensures links { self.new.links ≡ self.old.links }
         ensures lines { (now : ℕ) (limits : Limits) → IsTimed now limits asked → (before after : List Task) → TakesDue asked.aim before after
             → (at : ℕ) → LinkGoes now limits at before self.old.lines.items after self.new.lines.items }
@@ -60,6 +61,7 @@ impl Connections {
     /// So many bytes are written over a link.
     pub fn sent(&mut self, link: usize, n: usize)
         ensures rightful { StayRightful self.old self.new }
+        ensures found { self.new.found_on ≡ self.old.found_on }
         ensures links { self.new.links ≡ self.old.links }
         ensures sends { (line : LineValue) → slice_get self.old.lines.items link ≡ Some line → (rest : LineValue) × (slice_get self.new.lines.items link ≡ Some rest) × Sends n line rest }
         ensures others { OthersGo link self.old.lines.items self.new.lines.items }
@@ -74,6 +76,7 @@ impl Connections {
     /// then and given away.
     pub fn take(&mut self, link: usize, bytes: &[u8]) -> Intake
         ensures rightful { StayRightful self.old self.new }
+        ensures found { self.new.found_on ≡ self.old.found_on }
         ensures links { self.new.links ≡ self.old.links }
         ensures hears { (line : LineValue) → slice_get self.old.lines.items link ≡ Some line → (new : LineValue) × (slice_get self.new.lines.items link ≡ Some new) × Hears bytes.now (drop result.used bytes.now) result.fate line new }
         ensures used { result.used ≤ length bytes.now }
@@ -93,6 +96,7 @@ impl Connections {
     /// The request that is under way on a link is given up where its time is over, and given away then.
     pub fn give_up_overdue(&mut self, link: usize, now: u64) -> Option<Asked>
         ensures rightful { StayRightful self.old self.new }
+        ensures found { self.new.found_on ≡ self.old.found_on }
         ensures links { self.new.links ≡ self.old.links }
         ensures overdue { result ≡ overdue_at self.old.lines.items now link }
         ensures ended { is_over now (asked_at self.new.lines.items link) ≡ false }
@@ -122,6 +126,7 @@ impl Connections {
         ensures asked { result ≡ asked_at self.old.lines.items link }
         ensures ended { asked_at self.new.lines.items link ≡ None }
         ensures rightful { StayRightful self.old self.new }
+        ensures found { self.new.found_on ≡ self.old.found_on }
         ensures links { self.new.links ≡ self.old.links }
         ensures lines { LinesGoAt now self.old.lines.items self.new.lines.items }
         ensures others { (other : ℕ) → (other ≡ link → ⊥) → slice_get self.new.lines.items other ≡ slice_get self.old.lines.items other }

@@ -5,3 +5,4 @@ pub mod Cuts
 pub mod Waiting
 pub mod Talking
 pub mod Turning
+pub mod Texts

@@ -11,7 +11,9 @@ use Rattle.register_map.specs.Search.{LacksMark, IsSearch, all_registers}
 use Rattle.gateway.specs.poller.Finding.{bases_by}
 use Rattle.gateway.proofs.Searched.{AreSent, search_sent}
 use Rattle.service_requests.specs.declared.read_answer.ReadAnswer.{ReadAnswer}
-use Rattle.service_requests.specs.Searches.{answer_told, AreAnswered, EndsBy, GoesOn, IsNext, IsOver, Replaying, Replays, Sought, fitting, step_by}
+use Rattle.service_requests.specs.declared.search.CommonRead.{CommonRead}
+use Rattle.service_requests.specs.declared.search.CommonRead.TheVariants as common
+use Rattle.service_requests.specs.Searches.{answer_told, AreAnswered, EndsBy, GoesOn, IsNext, IsOver, Replaying, Replays, Sought, common_of, common_words, end_by, fitting, named_by, step_by}
 
 -- ---- how many reads
 
@@ -118,14 +120,30 @@ goes_on s result log at p search =
       few = omega (arith, few, bases_count s.base, answered_count p.0 s.answers p.2, length-append p.0 (record { address = at.0; count = at.1; answer = Err Failed } ∷ []));
     }
 
-next_by : (s : Sought) (wanted : Option (ℕ × ℕ)) (result : Result Layout MapFault) (log : List RegisterRead) → EndsBy s.answers wanted log result → IsSearch TakesNext all_registers log (bases_by s.base) [] result → IsNext s (step_by wanted result)
-next_by s None (Ok found) log ends search = is_over s (Ok found) log ends search
+named_next : (s : Sought) (found : Layout) (address : Option ℕ) → s.common ≡ common.Wanted → common_of found ≡ address → IsOver s (Ok found) → IsNext s (named_by address)
+named_next s found None wanted stands over = record { found = found; over = over; wanted = wanted; none = stands }
+named_next s found (Some address) wanted stands over = (address, common_words, refl, inr (record { found = found; over = over; wanted = wanted; stands = stands }, refl))
+
+found_next : (s : Sought) (found : Layout) (read : CommonRead) → s.common ≡ read → IsOver s (Ok found) → IsNext s (end_by read found)
+found_next s found common.Unwanted is over = record { over = over; read = λ wanted. absurd (cc) }
+found_next s found common.Done is over = record { over = over; read = λ wanted. absurd (cc) }
+found_next s found common.Wanted is over = named_next s found (common_of found) is refl over
+
+next_by : (s : Sought) (wanted : Option (ℕ × ℕ)) (result : Result Layout MapFault) (log : List RegisterRead) → EndsBy s.answers wanted log result → IsSearch TakesNext all_registers log (bases_by s.base) [] result → IsNext s (step_by s.common wanted result)
+next_by s None (Ok found) log ends search = found_next s found s.common refl (is_over s (Ok found) log ends search)
 next_by s None (Err fault) log ends search = (fault, is_over s (Err fault) log ends search)
-next_by s (Some at) result log ends search = (at.0, at.1, refl, goes_on s result log at ends search)
+next_by s (Some at) result log ends search = (at.0, at.1, refl, inl (goes_on s result log at ends search))
+
+-- a search over the answers so far that wants none is over
+pub over_replayed : (s : Sought) (t : Replaying) (result : Result Layout MapFault) (log : List RegisterRead) → Runs Replays (record { left = s.answers; wanted = None }) log t
+    → IsSearch TakesNext all_registers log (bases_by s.base) [] result → t.wanted ≡ None → IsOver s result
+over_replayed s t result log runs search none =
+    let P : Option (ℕ × ℕ) → Type 0 = λ w. EndsBy s.answers w log result in
+    is_over s result log (subst P none (replayed_from result log s.answers t runs (search_sent all_registers log (bases_by s.base) result search))) search
 
 -- what comes next, by a search over the answers so far
 pub next_replayed : (s : Sought) (t : Replaying) (result : Result Layout MapFault) (log : List RegisterRead) → Runs Replays (record { left = s.answers; wanted = None }) log t
-    → IsSearch TakesNext all_registers log (bases_by s.base) [] result → IsNext s (step_by t.wanted result)
+    → IsSearch TakesNext all_registers log (bases_by s.base) [] result → IsNext s (step_by s.common t.wanted result)
 next_replayed s t result log runs search =
     next_by s t.wanted result log (replayed_from result log s.answers t runs (search_sent all_registers log (bases_by s.base) result search)) search
 

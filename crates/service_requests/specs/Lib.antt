@@ -1,5 +1,6 @@
 pub mod Hearing
 pub mod Tasks
+pub mod Identity
 pub mod Searches
 pub mod Talk
 pub mod Sessions

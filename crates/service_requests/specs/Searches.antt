@@ -1,12 +1,13 @@
 -- The search for a device's map, one read at a time: what is read next, by the answers so far
 -- (SunSpec Device Information Model Specification, the layout of a device's Modbus registers).
-use Rattle.std.specs.Prelude.{◌≡◌, ℕ, ◌<◌, ◌==◌, List, [], ◌∷◌, ◌++◌, length, ⊤, Option, None, Some, Result, Ok, Err, if◌then◌else◌}
+use Rattle.std.specs.Prelude.{◌≡◌, ◌⊎◌, ℕ, ◌<◌, ◌==◌, nat_le, Bool, true, false, List, [], ◌∷◌, ◌++◌, length, ⊤, Option, None, Some, option_and_then, Result, Ok, Err, if◌then◌else◌}
 use Rattle.modbus_frame.specs.declared.message.Request.TheVariants.{Read}
 use Rattle.modbus_frame.specs.Message.{HasQuantity}
 use Rattle.register_map.specs.declared.access.ReadFault.TheVariants.{Refused, Failed}
 use Rattle.register_map.specs.declared.layout.MapFault.{MapFault}
 use Rattle.register_map.specs.declared.layout.MapFault.TheVariants as map
-use Rattle.register_map.specs.Layout.{Layout}
+use Rattle.register_map.specs.declared.layout.Block.{Block}
+use Rattle.register_map.specs.Layout.{Layout, block_of}
 use Rattle.register_map.specs.Reads.{Answer, RegisterRead, TakesNext}
 use Rattle.register_map.specs.Search.{IsSearch, all_registers}
 use Rattle.gateway.specs.declared.poller.outcome.Outcome.{Outcome}
@@ -14,6 +15,8 @@ use Rattle.gateway.specs.declared.poller.outcome.Outcome.TheVariants as outcome
 use Rattle.gateway.specs.poller.Finding.{bases_by}
 use Rattle.service_requests.specs.declared.read_answer.ReadAnswer.{ReadAnswer}
 use Rattle.service_requests.specs.declared.read_answer.ReadAnswer.TheVariants as told
+use Rattle.service_requests.specs.declared.search.CommonRead.{CommonRead}
+use Rattle.service_requests.specs.declared.search.CommonRead.TheVariants as common
 use Rattle.service_requests.specs.declared.search.SearchStep.{SearchStep}
 use Rattle.service_requests.specs.declared.search.SearchStep.TheVariants as step
 
@@ -54,10 +57,16 @@ AreAnswered (r ∷ reads) (a ∷ answers) = (r.answer ≡ fitting r.count a) × 
 
 -- ---- a search
 
--- the device's own base, where it has one, and the answers so far
+-- the device's own base, where it has one, the answers so far, and whether its common model is read too
 pub record Sought : Type 0 where
   pub base : Option ℕ
   pub answers : List Answer
+  pub common : CommonRead
+
+-- it is read of a device that has to say which one it is
+abbrev pub common_by : Bool → CommonRead
+common_by true = common.Wanted
+common_by false = common.Unwanted
 
 -- a search makes so many reads at most: three marks, ID and length of 64 models, and one ID more
 abbrev pub most_reads : ℕ
@@ -79,22 +88,64 @@ pub record IsOver (s : Sought) (result : Result Layout MapFault) : Type 0 where
   pub answered : AreAnswered reads used
   pub search : IsSearch TakesNext all_registers reads (bases_by s.base) [] result
 
+-- how many registers of the common model are read: its ID and length, and its texts
+abbrev pub common_words : ℕ
+common_words = 66
+
+-- where the common model of a map stands, if that is long enough
+abbrev pub common_of : Layout → Option ℕ
+common_of found = option_and_then (λ (b : Block). if nat_le 64 b.length then Some b.addr else None) (block_of found 1)
+
+-- The search found a map, whose common model stands at this address and is to be read now.
+pub record ReadsCommon (s : Sought) (address : ℕ) : Type 0 where
+  pub found : Layout
+  pub over : IsOver s (Ok found)
+  pub wanted : s.common ≡ common.Wanted
+  pub stands : common_of found ≡ Some address
+
+-- The search found this map, and no common model is left to be read.
+pub record Finds (s : Sought) (found : Layout) : Type 0 where
+  pub over : IsOver s (Ok found)
+  pub read : s.common ≡ common.Wanted → ⊥
+
+-- The search found a map, and there is no common model to be read.
+pub record LacksCommon (s : Sought) : Type 0 where
+  pub found : Layout
+  pub over : IsOver s (Ok found)
+  pub wanted : s.common ≡ common.Wanted
+  pub none : common_of found ≡ None
+
+-- the next read of the search, or that of the common model after it
+abbrev pub IsNextRead : Sought → ℕ → ℕ → Type 0
+IsNextRead s address count = GoesOn s address count ⊎ (ReadsCommon s address × (count ≡ common_words))
+
 abbrev pub IsNext : Sought → SearchStep → Type 0
-IsNext s (step.Ask request) = (address : ℕ) × (count : ℕ) × (request ≡ Read address count) × GoesOn s address count
-IsNext s (step.Found found) = IsOver s (Ok found)
+IsNext s (step.Ask request) = (address : ℕ) × (count : ℕ) × (request ≡ Read address count) × IsNextRead s address count
+IsNext s (step.Found found) = Finds s found
+IsNext s step.Unnamed = LacksCommon s
 IsNext s step.NoMap = (fault : MapFault) × IsOver s (Err fault)
 
 -- a request has a number of registers that may be asked for
 abbrev pub HasStepQuantity : SearchStep → Type 0
 HasStepQuantity (step.Ask request) = HasQuantity request
 HasStepQuantity (step.Found found) = ⊤
+HasStepQuantity step.Unnamed = ⊤
 HasStepQuantity step.NoMap = ⊤
 
 -- inner: the read that had no answer, or the result
-abbrev pub step_by : Option (ℕ × ℕ) → Result Layout MapFault → SearchStep
-step_by (Some at) found = step.Ask (Read at.0 at.1)
-step_by None (Ok found) = step.Found found
-step_by None (Err fault) = step.NoMap
+abbrev pub named_by : Option ℕ → SearchStep
+named_by None = step.Unnamed
+named_by (Some address) = step.Ask (Read address common_words)
+
+abbrev pub end_by : CommonRead → Layout → SearchStep
+end_by common.Unwanted found = step.Found found
+end_by common.Done found = step.Found found
+end_by common.Wanted found = named_by (common_of found)
+
+abbrev pub step_by : CommonRead → Option (ℕ × ℕ) → Result Layout MapFault → SearchStep
+step_by common (Some at) found = step.Ask (Read at.0 at.1)
+step_by common None (Ok found) = end_by common found
+step_by common None (Err fault) = step.NoMap
 
 -- ---- inner: registers that answer by what was told
 

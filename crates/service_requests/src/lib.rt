@@ -3,6 +3,7 @@
 #![tactic(auto)]
 
 mod guard;
+mod identity;
 pub mod laws;
 mod pending_request;
 mod read_answer;
@@ -16,8 +17,9 @@ mod turn;
 // one request on one connection
 pub use pending_request::{BytesTaken, PendingRequest};
 pub use request_end::RequestEnd;
-// the search for a device's map
-pub use search::{Search, SearchStep};
+// the search for a device's map, and which device it is
+pub use identity::{COMMON_WORDS, Identity};
+pub use search::{CommonRead, Search, SearchStep};
 // the requests of one scan, over all connections
 pub use task::{Task, TaskMark, Tasks};
 // clients

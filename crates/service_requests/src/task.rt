@@ -1,7 +1,7 @@
 //! Requests to devices that are still to be made, under way, or over.
-ghost use Rattle.std.specs.Prelude.{◌≡◌, ◌<◌, ◌↔◌, All, IfOk, IfSome, IsTrue, length, map, replicate, slice_get, slice_set, Some};
+ghost use Rattle.std.specs.Prelude.{◌≡◌, ◌<◌, ◌↔◌, All, IfOk, IfSome, IsTrue, length, map, replicate, slice_get, slice_set, None, Some};
 ghost use Rattle.std.specs.List.{position};
-ghost use Rattle.service_requests.specs.Tasks.{IsDone, given_up, is_asked, is_due, next_place, with_mark};
+ghost use Rattle.service_requests.specs.Tasks.{IsDone, given_up, is_asked, is_done, is_due, is_next, is_open_at, next_place, waits, with_mark};
 
 use std::alloc::{AllocError, Global};
 use std::marker::Model;
@@ -22,6 +22,8 @@ pub enum TaskMark {
 pub struct Task {
     pub device: usize,
     pub mark: TaskMark,
+    /// The place of the one after which it is made, if any.
+    pub after: Option<usize>,
 }
 
 impl Task {
@@ -61,7 +63,8 @@ impl Task {
 
     /// Whether it is over.
     fn is_done(&self) -> bool
-        ensures { IsTrue result ↔ IsDone self.now }
+        ensures done { IsTrue result ↔ IsDone self.now }
+        ensures value { result ≡ is_done self.now }
     {
         match self.mark {
             TaskMark::Done => true,
@@ -90,12 +93,13 @@ impl Model for Tasks {
 impl Tasks {
     /// So many, none of which is to be made. AllocError where memory is refused.
     pub fn new(alloc: Global, count: usize) -> Result<Tasks, AllocError>
-        ensures none { IfOk result (λ tasks. tasks ≡ replicate count (record { device = 0; mark = TaskMark.Done })) }
+        ensures none { IfOk result (λ tasks. tasks ≡ replicate count (record { device = 0; mark = TaskMark.Done; after = None })) }
         ensures len { IfOk result (λ tasks. length tasks ≡ count) }
     {
         let none = Task {
             device: 0,
             mark: TaskMark::Done,
+            after: None,
         };
         let items = vec![in alloc; none; count]?;
         Ok(Tasks { items })
@@ -116,14 +120,15 @@ impl Tasks {
         place_asked(&self.items, device)
     }
 
-    /// The place of the device's next request: none while one is under way.
+    /// The place of the device's next request: none while one is under way. One waits as long as that after which it is made is
+    /// still to be made or under way.
     pub fn next(&self, device: usize) -> Option<usize>
         ensures place { result ≡ next_place device self.now }
         ensures inside { IfSome result (λ i. i < length self.now) }
     {
         match place_asked(&self.items, device) {
             Some(_) => None,
-            None => place_due(&self.items, device),
+            None => place_next(&self.items, device),
         }
     }
 
@@ -140,8 +145,8 @@ impl Tasks {
         ensures marks { self.new ≡ with_mark i mark self.old }
         ensures len { length self.new ≡ length self.old }
     {
-        let device = self.at(i).device;
-        self.put(i, Task { device, mark });
+        let task = self.at(i);
+        self.put(i, Task { mark, ..task });
     }
 
     /// The one at a place.
@@ -168,11 +173,10 @@ impl Tasks {
     }
 
     /// Whether the one at a place is still to be made, or under way.
-    pub fn is_open(&self, i: usize) -> bool {
-        match self.items.get(i) {
-            Some(task) => !task.is_done(),
-            None => false,
-        }
+    pub fn is_open(&self, i: usize) -> bool
+        ensures { result ≡ is_open_at self.now i }
+    {
+        is_open_at(&self.items, i)
     }
 
     /// Puts one to a place.
@@ -201,9 +205,34 @@ fn place_asked(tasks: &[Task], device: usize) -> Option<usize>
     tasks.iter().position(|task| task.is_asked(device))
 }
 
-fn place_due(tasks: &[Task], device: usize) -> Option<usize>
-    ensures place { result ≡ position (is_due device) tasks.now }
+fn place_next(tasks: &[Task], device: usize) -> Option<usize>
+    ensures place { result ≡ position (is_next device tasks.now) tasks.now }
     ensures inside { IfSome result (λ i. i < length tasks.now) }
 {
-    tasks.iter().position(|task| task.is_due(device))
+    tasks.iter().position(|task| is_next(tasks, device, task))
+}
+
+fn is_next(tasks: &[Task], device: usize, task: &Task) -> bool
+    ensures { result ≡ is_next device tasks.now task.now }
+{
+    task.is_due(device) && !waits(tasks, task)
+}
+
+/// Whether that after which one is made is still to be made or under way.
+fn waits(tasks: &[Task], task: &Task) -> bool
+    ensures { result ≡ waits tasks.now task.now }
+{
+    match task.after {
+        Some(i) => is_open_at(tasks, i),
+        None => false,
+    }
+}
+
+fn is_open_at(tasks: &[Task], i: usize) -> bool
+    ensures { result ≡ is_open_at tasks.now i }
+{
+    match tasks.get(i) {
+        Some(task) => !task.is_done(),
+        None => false,
+    }
 }

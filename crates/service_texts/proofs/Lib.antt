@@ -5,3 +5,4 @@ pub mod StateLines
 pub mod Named
 pub mod Spelled
 pub mod Read
+pub mod Registers

@@ -1,3 +1,4 @@
+pub mod Identities
 pub mod Keeping
 pub mod Lapsing
 pub mod Lines

@@ -8,6 +8,7 @@ mod clock_times;
 mod device_places;
 mod digits;
 mod hit;
+mod identities;
 mod kept_program;
 mod lapsing_lines;
 mod lines;
@@ -34,6 +35,8 @@ pub use reaching::{DeviceSource, DevicesFault, addresses_of, devices_of, plant_a
 // which devices sleep
 pub use reading_back::{ReadBackFault, read_back_tags};
 pub use sleeping::{SleepFault, sleeping_hours};
+// what devices must say of themselves
+pub use identities::{IdentityFault, IdentityKey, identities_of};
 // which clients may write
 pub use writers::{Writer, WriterFault, may_write, writers_of};
 // how long is waited

@@ -53,7 +53,12 @@ fn device_text(
     Ok(text)
 }
 
-fn place_text(alloc: Global, survey: &Survey<'_>, device: usize) -> Result<String, AllocError> {
+/// `ADDRESS unit U`.
+pub(crate) fn place_text(
+    alloc: Global,
+    survey: &Survey<'_>,
+    device: usize,
+) -> Result<String, AllocError> {
     let mut text = String::new(alloc);
     let Some(station) = survey.addresses.stations.as_slice().get(device) else {
         return Ok(text);

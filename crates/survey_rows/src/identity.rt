@@ -2,16 +2,13 @@
 use crate::point_name::definition_of;
 use crate::survey::Survey;
 use model_defs::ModelDef;
-use note_text::push_letter;
+use service_alarms::{Said, push_label};
 use site_model::Want;
 use site_model::wants::place_of_want;
 use std::alloc::{AllocError, Global};
 
 /// The common model.
 const COMMON: u16 = 1;
-
-/// The points of it that are shown: the maker, the model and the serial number.
-const SHOWN: [&str; 3] = ["Mn", "Md", "SN"];
 
 /// Appends ` Mn TEXT Md TEXT SN TEXT` of a device, with `-` for a text that isn't known or is empty.
 pub(crate) fn push_identity(
@@ -20,15 +17,38 @@ pub(crate) fn push_identity(
     survey: &Survey<'_>,
     device: usize,
 ) -> Result<(), AllocError> {
-    let words = common_words(survey, device);
-    let model = definition_of(survey.models, COMMON);
-    for name in SHOWN {
+    let said = said_by(survey, device);
+    for (name, registers) in [("Mn", said.maker), ("Md", said.model), ("SN", said.serial)] {
         text.push_str(" ")?;
         text.push_str(name)?;
         text.push_str(" ")?;
-        push_text(alloc, text, text_words(model, name, words))?;
+        push_label(alloc, text, registers)?;
     }
     Ok(())
+}
+
+/// What a device says of itself, as far as it is known.
+pub(crate) fn said_by<'a>(survey: &Survey<'a>, device: usize) -> Said<'a> {
+    let words = common_words(survey, device);
+    let model = definition_of(survey.models, COMMON);
+    Said {
+        maker: text_words(model, "Mn", words),
+        model: text_words(model, "Md", words),
+        serial: text_words(model, "SN", words),
+    }
+}
+
+/// Whether a device has a map, and its common model was asked for where the map has that.
+pub(crate) fn is_asked(survey: &Survey<'_>, device: usize) -> bool {
+    let core = survey.service.core();
+    let want = Want {
+        device,
+        model: COMMON,
+    };
+    match core.maps().get(device) {
+        Some(Some(_)) => place_of_want(core.site().wants(), want).is_some(),
+        _ => false,
+    }
 }
 
 /// The words of a device's common model, as far as they are known.
@@ -61,70 +81,4 @@ fn text_words<'a>(model: Option<&ModelDef>, name: &str, words: &'a [u16]) -> &'a
     let start = usize::from(point.offset);
     let end = start.saturating_add(usize::from(point.size));
     words.get(start..end).unwrap_or(&[])
-}
-
-/// Appends a text in quotes, or `-` where it is empty.
-fn push_text(alloc: Global, text: &mut String, words: &[u16]) -> Result<(), AllocError> {
-    let bytes = bytes_of(alloc, words)?;
-    let shown = trimmed(bytes.as_slice());
-    if shown.is_empty() {
-        return text.push_str("-");
-    }
-    text.push_str("\"")?;
-    match str::from_utf8(shown) {
-        Ok(shown) => push_inside_quotes(text, shown)?,
-        Err(_) => push_bytes(text, shown)?,
-    }
-    text.push_str("\"")
-}
-
-/// The bytes of a text's registers, two a register, the high one first, up to the first zero.
-fn bytes_of(alloc: Global, words: &[u16]) -> Result<Vec<u8>, AllocError> {
-    let mut bytes = Vec::new(alloc);
-    for word in words {
-        let [high, low] = word.to_be_bytes();
-        if high == 0 {
-            return Ok(bytes);
-        }
-        bytes.extend_from_slice(&[high])?;
-        if low == 0 {
-            return Ok(bytes);
-        }
-        bytes.extend_from_slice(&[low])?;
-    }
-    Ok(bytes)
-}
-
-/// A text without the blanks at its end.
-fn trimmed(bytes: &[u8]) -> &[u8] {
-    let mut length = 0;
-    for (place, byte) in bytes.iter().enumerate() {
-        if *byte != b' ' {
-            length = place.saturating_add(1);
-        }
-    }
-    bytes.get(..length).unwrap_or(bytes)
-}
-
-/// Appends a text that stands in quotes; what can't be shown, and a quote, is escaped, so that it can't pass for something else.
-pub fn push_inside_quotes(text: &mut String, shown: &str) -> Result<(), AllocError> {
-    for letter in shown.chars() {
-        if letter == '"' || letter == '\\' {
-            text.push_str("\\")?;
-        }
-        push_letter(text, letter)?;
-    }
-    Ok(())
-}
-
-/// Appends bytes that are no UTF-8: those that are no ASCII are shown as `?`.
-fn push_bytes(text: &mut String, shown: &[u8]) -> Result<(), AllocError> {
-    for byte in shown {
-        let letter = if *byte < 128 { char::from(*byte) } else { '?' };
-        if letter == '"' || letter == '\\' {
-            text.push_str("\\")?;
-        }
-        push_letter(text, letter)?;
-    }
-    Ok(())
 }

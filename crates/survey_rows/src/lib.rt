@@ -11,6 +11,7 @@ mod fitted_text;
 mod handed_defs;
 mod helps;
 mod identity;
+mod identity_rows;
 mod input_rows;
 mod lapse_rows;
 mod output_rows;
@@ -32,7 +33,7 @@ pub use asked_text::{AskedFault, asked_site};
 pub use handed_defs::HandedDefs;
 pub use units::unit_of;
 // a text in quotes
-pub use identity::push_inside_quotes;
+pub use service_alarms::push_inside_quotes;
 // the table
 pub use survey::Survey;
 pub use table::{SurveyTable, table_of};

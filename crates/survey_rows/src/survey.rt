@@ -1,7 +1,7 @@
 //! What a survey is of.
 use crate::handed_defs::HandedDefs;
 use model_defs::ModelDef;
-use service::Service;
+use service::{Identity, Service};
 use service_texts::Addresses;
 use site_model::Site;
 
@@ -18,6 +18,8 @@ pub struct Survey<'a> {
     pub handed: &'a HandedDefs,
     /// Where the devices are.
     pub addresses: &'a Addresses,
+    /// What each device must say of itself by its file, in their order.
+    pub identities: &'a [Option<Identity>],
     /// The period of `serve` that the site is to have, in milliseconds.
     pub every: u32,
 }

@@ -1,5 +1,6 @@
 //! The whole table.
 use crate::device_rows::device_rows;
+use crate::identity_rows::identity_rows;
 use crate::input_rows::input_rows;
 use crate::lapse_rows::lapse_rows;
 use crate::output_rows::output_rows;
@@ -28,6 +29,7 @@ pub fn table_of(alloc: Global, survey: &Survey<'_>) -> Result<SurveyTable, Alloc
         wrong: 0,
     };
     table.push(&device_rows(alloc, survey, &wrongs)?)?;
+    table.push(&identity_rows(alloc, survey)?)?;
     table.push(&pace_rows(alloc, survey)?)?;
     table.push(&input_rows(alloc, survey, &wrongs)?)?;
     table.push(&output_rows(alloc, survey, &wrongs)?)?;

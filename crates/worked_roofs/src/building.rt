@@ -57,7 +57,7 @@ pub(crate) fn service(
     let machine = machine(alloc, &site, machine_text.as_str())?;
     let stations = texts.stations.as_slice();
     let links = roof.links.len();
-    fine(Service::new(alloc, site, machine, links, stations, &[], limits, 0).ok())
+    fine(Service::new(alloc, site, machine, links, stations, &[], &[], limits, 0).ok())
 }
 
 /// The plant at the other end of a link.

@@ -160,14 +160,16 @@ fn base_of(word: &str) -> Shown<u16> {
 
 /// The map that a search by single reads finds, and how many these were.
 fn searched(device: &mut MemRegisters, base: Option<u16>) -> Shown<(Option<Map>, usize)> {
-    let mut search = Search::new(base);
+    let mut search = Search::new(base, false);
     for reads in 0..133 {
         match search.next() {
-            SearchStep::Ask(Request::Read { addr, qty }) => {
+            SearchStep::Ask(Request::Read { addr, qty }) if !search.is_full() => {
                 search.take(&outcome_of(device, addr, qty)?)
             }
             SearchStep::Found(map) => return Ok((Some(map), reads)),
-            SearchStep::Ask(_) | SearchStep::NoMap => return Ok((None, reads)),
+            SearchStep::Ask(_) | SearchStep::Unnamed | SearchStep::NoMap => return Ok((
+                None, reads,
+            )),
         }
     }
     needed(None)

@@ -1,5 +1,5 @@
 //! A service, and the plants at the other ends of its links.
-use crate::bytes::{bytes_of, hex_of, needed, pdu_of};
+use crate::bytes::{bytes_of, hex_of, needed, number, pdu_of};
 use crate::course::Course;
 use crate::devices::Devices;
 use crate::fault::Shown;
@@ -9,7 +9,7 @@ use crate::sites::{machine, plant, site};
 use crate::texts::Texts;
 use file_keys::TomlFile;
 use gateway::{Core, DEPTH, Event};
-use service::Service;
+use service::{Identity, Service};
 use service_texts::{Addresses, limits, read_places};
 use std::alloc::Global;
 
@@ -17,6 +17,9 @@ use std::alloc::Global;
 const SITE: &str = "site.toml";
 
 const PROGRAM: &str = "program.il";
+
+/// Which device each has to be, in order: the first register of its serial number, or `-` for any.
+const SERIALS: &str = "serials.txt";
 
 /// From one scan to the next, and how long a device may take to answer, in milliseconds.
 const PERIOD: u64 = 1000;
@@ -60,6 +63,7 @@ impl ServiceBench {
         let site = site(alloc, texts, SITE)?;
         let machine = machine(alloc, &site, texts.get(PROGRAM)?)?;
         let limits = limits(PERIOD, TIMEOUT, clients);
+        let identities = identities(alloc, texts)?;
         let service = Service::new(
             alloc,
             site,
@@ -67,6 +71,7 @@ impl ServiceBench {
             plants.len(),
             &stations,
             &[],
+            &identities,
             limits,
             0,
         );
@@ -115,6 +120,7 @@ impl ServiceBench {
             ServiceStep::Adopts(program) => self.adopt(texts.get(program)?),
             ServiceStep::Link(link) => self.tell_link(page, link),
             ServiceStep::Device(device) => self.tell_device(page, device),
+            ServiceStep::Serial(device) => self.tell_serial(page, device),
             ServiceStep::Output(output) => self.tell_output(page, output),
             ServiceStep::Client(place) => self.tell_client(page, place),
             ServiceStep::Setting(tag) => self.tell_setting(page, tag),
@@ -388,6 +394,14 @@ impl ServiceBench {
         page.tell(format_args!("{status:?}"))
     }
 
+    fn tell_serial(&mut self, page: &mut Page, device: usize) -> Shown<()> {
+        let Some(words) = self.service.said(device) else {
+            return page.tell("no serial number");
+        };
+        let serial = words.get(48).copied();
+        page.tell(format_args!("serial number {serial:?}"))
+    }
+
     fn tell_output(&mut self, page: &mut Page, output: usize) -> Shown<()> {
         let state = self.service.output_state(output);
         page.tell(format_args!("{state:?}"))
@@ -414,4 +428,25 @@ impl ServiceBench {
         let at = self.service.wakes_at();
         page.tell(format_args!("{scans} scans, wakes at {at}"))
     }
+}
+
+/// Which device each has to be.
+fn identities(alloc: Global, texts: &Texts<'_>) -> Shown<Vec<Option<Identity>>> {
+    let mut identities = Vec::new(alloc);
+    if let Ok(text) = texts.get(SERIALS) {
+        for word in text.split_ascii_whitespace() {
+            identities.push(identity_of(word))?;
+        }
+    }
+    Ok(identities)
+}
+
+fn identity_of(word: &str) -> Option<Identity> {
+    let mut serial = [0; 16];
+    serial[0] = number(word)?;
+    Some(Identity {
+        maker: None,
+        model: None,
+        serial: Some(serial),
+    })
 }

@@ -56,6 +56,8 @@ pub(crate) enum ServiceStep<'a> {
     Link(usize),
     /// How a device stands.
     Device(usize),
+    /// The first register of the serial number that a device said last.
+    Serial(usize),
     /// What became of an output.
     Output(usize),
     /// What is to be sent to a client, how many frames were answered, and whether it is to be closed.
@@ -113,6 +115,7 @@ impl<'a> ServiceStep<'a> {
             ("elapses", [elapsed]) => Some(Self::Elapses(number(elapsed)?)),
             ("adopts", [program]) => Some(Self::Adopts(*program)),
             ("device", [device]) => Some(Self::Device(number(device)?)),
+            ("serial", [device]) => Some(Self::Serial(number(device)?)),
             ("output", [output]) => Some(Self::Output(number(output)?)),
             ("client", [place]) => Some(Self::Client(number(place)?)),
             ("setting", [tag]) => Some(Self::Setting(number(tag)?)),

@@ -1,10 +1,12 @@
-//! Why a site can't be served: it isn't known where a device is, how long one sleeps, which outputs are compared or which
-//! variables are kept, or there is no core.
+//! Why a site can't be served: it isn't known where a device is, how long one sleeps, what one must say of itself,
+//! which outputs are compared or which variables are kept, or there is no core.
 use crate::words::tell_misuse;
-use command_files::{device_fault, why_no_hours, why_no_read_back, why_unretained};
+use command_files::{
+    device_fault, why_no_hours, why_no_identities, why_no_read_back, why_unretained,
+};
 use commands::{no_core, tell_no_memory, write_lines};
 use gateway::CoreFault;
-use service_texts::{AddressFault, ReadBackFault, RetainFault, SleepFault};
+use service_texts::{AddressFault, IdentityFault, ReadBackFault, RetainFault, SleepFault};
 use site_model::Site;
 use std::alloc::{AllocError, Global};
 use std::io::Write;
@@ -53,6 +55,20 @@ pub(crate) fn tell_no_hours<R: Print + Eprint + AllocGlobal, W: Write>(
     out: &mut W,
 ) -> u8 {
     match why_no_hours(alloc, site, fault) {
+        Ok(why) => tell_misuse(rt, alloc, why.as_str(), out),
+        Err(AllocError) => tell_no_memory(out),
+    }
+}
+
+/// Tells that it isn't known what devices must say of themselves, and gives the status.
+pub(crate) fn tell_no_identities<R: Print + Eprint + AllocGlobal, W: Write>(
+    rt: &R,
+    alloc: Global,
+    site: &Site,
+    fault: IdentityFault,
+    out: &mut W,
+) -> u8 {
+    match why_no_identities(alloc, site, fault) {
         Ok(why) => tell_misuse(rt, alloc, why.as_str(), out),
         Err(AllocError) => tell_no_memory(out),
     }

@@ -2,10 +2,9 @@
 use crate::runtimes::LoopRuntime;
 use crate::serve::last_program::{ProgramFault, RefusedText};
 use crate::serve::program_file::ProgramFile;
-use crate::serve::refusing::{
-    tell_no_core, tell_no_hours, tell_no_read_back, tell_unreachable, tell_unretained,
-};
+use crate::serve::refusing::{tell_no_core, tell_unreachable, tell_unretained};
 use crate::serve::retained::Retained;
+use crate::serve::served_keys::ServedKeys;
 use crate::serve::unkept::tell_unkept;
 use crate::words::version;
 use command_files::{
@@ -19,9 +18,7 @@ use refusal_notes::{FileFault, Notes};
 use served_site::service_of;
 use service::{Limits, Service};
 use service_loop::{End, Keeping, OneProgram, Serving, seconds_of_day, serve_site};
-use service_texts::{
-    Addresses, DeviceSource, Start, addresses_of, plant_addresses, read_back_tags, sleeping_hours,
-};
+use service_texts::{Addresses, DeviceSource, Start, addresses_of, plant_addresses};
 use std::alloc::{AllocError, Global};
 use std::fs::File;
 use std::io::{Read, Write};
@@ -201,24 +198,22 @@ fn serve_accepted<R: LoopRuntime + Print + Files<File = File>, W: Write>(
         Ok(retained) => retained,
         Err(fault) => return tell_unretained(rt, alloc, fault, out),
     };
-    let hours = match sleeping_hours(alloc, run.notes.site) {
-        Ok(hours) => hours,
-        Err(fault) => return tell_no_hours(rt, alloc, &given.site, fault, out),
-    };
-    let read_back = match read_back_tags(alloc, run.notes.site) {
-        Ok(read_back) => read_back,
-        Err(fault) => return tell_no_read_back(rt, alloc, &given.site, fault, out),
+    let keys = match ServedKeys::of(rt, alloc, run.notes.site, &given.site, out) {
+        Ok(keys) => keys,
+        Err(status) => return status,
     };
     match prepared(rt, alloc, run, &given, &retained, out) {
         Ok(addresses) => {
+            let keeping = retained.keeping(&run.keeping, run.notes.program);
             let run = ServiceRun {
                 serving: Serving {
-                    sleeps: hours.as_slice(),
+                    sleeps: keys.hours.as_slice(),
+                    identities: keys.identities_over(run.devices),
                     ..run.serving
                 },
-                keeping: retained.keeping(&run.keeping, run.notes.program),
+                keeping,
                 names: retained.names.as_slice(),
-                read_back: read_back.as_slice(),
+                read_back: keys.read_back.as_slice(),
                 ..*run
             };
             serve_made(rt, alloc, &run, given, &retained, &addresses, out)
@@ -244,6 +239,7 @@ fn serve_made<R: LoopRuntime + Files<File = File>, W: Write>(
         addresses.links.len(),
         addresses.stations.as_slice(),
         run.read_back,
+        run.serving.identities,
         run.limits,
     ) {
         Ok(mut service) => serve_begun(rt, alloc, run, addresses, &mut service, out),

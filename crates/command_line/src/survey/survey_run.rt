@@ -1,6 +1,6 @@
 //! The command `survey`: how the devices of a site stand, before its first start.
 use crate::runtimes::LoopRuntime;
-use crate::serve::{tell_no_core, tell_unreachable};
+use crate::serve::{tell_no_core, tell_no_identities, tell_unreachable};
 use crate::survey::survey_service::{NO_PROGRAM, asked, service_for};
 use command_files::{tell_lost, warn_on_site};
 use commands::definitions::definitions;
@@ -8,9 +8,9 @@ use commands::{CommandOutcome, accept, tell_no_memory, write_lines};
 use modbus_frame::LinkFault;
 use refusal_notes::Notes;
 use served_site::NoSurvey;
-use service::Service;
+use service::{Identity, Service};
 use service_loop::{End, survey_site};
-use service_texts::{Addresses, DeviceSource, addresses_of};
+use service_texts::{Addresses, DeviceSource, addresses_of, identities_of};
 use site_model::Site;
 use std::alloc::{AllocError, Global};
 use std::io::Write;
@@ -76,15 +76,13 @@ fn survey_accepted<R: LoopRuntime + Print, W: Write>(
     out: &mut W,
 ) -> u8 {
     match addresses_of(alloc, run.devices, run.notes.site, site.devices()) {
-        Ok(addresses) => {
-            warn_on_site(rt, &run.notes, site);
-            survey_at(rt, alloc, run, site, &addresses, out)
-        }
+        Ok(addresses) => survey_told(rt, alloc, run, site, &addresses, out),
         Err(fault) => tell_unreachable(rt, alloc, site, fault, out),
     }
 }
 
-fn survey_at<R: LoopRuntime + Print, W: Write>(
+/// Surveys a site of which it is known where its devices are.
+fn survey_told<R: LoopRuntime + Print, W: Write>(
     rt: &R,
     alloc: Global,
     run: &SurveyRun<'_, '_>,
@@ -92,9 +90,38 @@ fn survey_at<R: LoopRuntime + Print, W: Write>(
     addresses: &Addresses,
     out: &mut W,
 ) -> u8 {
+    match identities_of(alloc, run.notes.site) {
+        Ok(identities) => {
+            warn_on_site(rt, &run.notes, site);
+            let plan = SurveyPlan {
+                site,
+                addresses,
+                identities: identities.as_slice(),
+            };
+            survey_at(rt, alloc, run, &plan, out)
+        }
+        Err(fault) => tell_no_identities(rt, alloc, site, fault, out),
+    }
+}
+
+/// What the site file says of the devices that are looked at.
+#[derive(Clone, Copy)]
+struct SurveyPlan<'a> {
+    site: &'a Site,
+    addresses: &'a Addresses,
+    identities: &'a [Option<Identity>],
+}
+
+fn survey_at<R: LoopRuntime + Print, W: Write>(
+    rt: &R,
+    alloc: Global,
+    run: &SurveyRun<'_, '_>,
+    plan: &SurveyPlan<'_>,
+    out: &mut W,
+) -> u8 {
     match asked(alloc, &run.notes) {
-        Ok(Ok(given)) => match service_for(alloc, run, given, addresses) {
-            Ok(mut service) => survey_by(rt, alloc, run, site, addresses, &mut service, out),
+        Ok(Ok(given)) => match service_for(alloc, run, given, plan.addresses) {
+            Ok(mut service) => survey_by(rt, alloc, run, plan, &mut service, out),
             Err(fault) => tell_none(alloc, fault, out),
         },
         Ok(Err(outcome)) => tell_refused(rt, &run.notes, &outcome, out),
@@ -114,13 +141,12 @@ fn survey_by<R: LoopRuntime, W: Write>(
     rt: &R,
     alloc: Global,
     run: &SurveyRun<'_, '_>,
-    site: &Site,
-    addresses: &Addresses,
+    plan: &SurveyPlan<'_>,
     service: &mut Service,
     out: &mut W,
 ) -> u8 {
-    match survey_site(rt, alloc, addresses.links.as_slice(), service) {
-        Ok(()) => tell_table(alloc, run, site, addresses, service, out),
+    match survey_site(rt, alloc, plan.addresses.links.as_slice(), service) {
+        Ok(()) => tell_table(alloc, run, plan, service, out),
         Err(End::OutOfMemory) => tell_no_memory(out),
         Err(_) => tell_lost(rt, alloc, &run.notes, LinkFault::Read, out),
     }
@@ -129,8 +155,7 @@ fn survey_by<R: LoopRuntime, W: Write>(
 fn tell_table<W: Write>(
     alloc: Global,
     run: &SurveyRun<'_, '_>,
-    site: &Site,
-    addresses: &Addresses,
+    plan: &SurveyPlan<'_>,
     service: &Service,
     out: &mut W,
 ) -> u8 {
@@ -142,10 +167,11 @@ fn tell_table<W: Write>(
     };
     let survey = Survey {
         service,
-        site,
+        site: plan.site,
         models: models.as_slice(),
         handed: &handed,
-        addresses,
+        addresses: plan.addresses,
+        identities: plan.identities,
         every: run.every,
     };
     match table_of(alloc, &survey) {

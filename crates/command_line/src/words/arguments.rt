@@ -188,7 +188,7 @@ fn report_option<'a>(alloc: Global) -> Arg<'a> {
         alloc,
         "report",
         "FILE",
-        "the file (HTML) into which a page with a chart of each tag and variable is written",
+        "the file (HTML) into which a page is written: charts of what changed, a table of what happened",
     )
 }
 

@@ -293,7 +293,7 @@ fn most_clients(matches: &ArgMatches<'_>) -> usize {
     matches.get_one("clients").unwrap_or(32)
 }
 
-/// What the service is to do after this start, by these words; no device sleeps.
+/// What the service is to do after this start, by these words; no device sleeps, or must say anything of itself.
 pub(crate) fn serving_of<'a>(
     matches: &ArgMatches<'_>,
     words: &'a ServiceWords<'_>,
@@ -306,6 +306,7 @@ pub(crate) fn serving_of<'a>(
         listen: words.listen,
         clients: most_clients(matches),
         sleeps: &[],
+        identities: &[],
         writers: words.writers.as_slice(),
         scans: matches.get_one("scans"),
         is_verbose: matches.get_flag("verbose"),

@@ -47,7 +47,7 @@ fn accepted(alloc: Global, program: &str) -> Option<Accepted> {
 
 fn begun(alloc: Global) -> Option<Service> {
     let limits = limits(1000, 500, 1);
-    service_of(alloc, accepted(alloc, OLD)?, &[], 0, &[], &[], limits).ok()
+    service_of(alloc, accepted(alloc, OLD)?, &[], 0, &[], &[], &[], limits).ok()
 }
 
 /// The new program has the number of the old one's variable and its own start value; or there was no memory, and the old one

@@ -1,6 +1,7 @@
 use Rattle.std.proofs.Common.{rules, ◌≡◌, ◌∙◌, ◌<◌, Some, ap, length, refl, slice_get, sym}
 use Rattle.std.proofs.lemmas.Bool.{ltb-true}
 use Rattle.std.proofs.lemmas.Option.{slice_get_read}
+use Rattle.service_parts.specs.Seeking.{base_sought}
 use Rattle.service.proofs.Sought.{with_new}
 use Rattle.service.proofs.cycle.Cycle.begin_search.Goals as goal
 
@@ -15,5 +16,5 @@ invariant_of-self c =
     record {
       reached = c.args.self.now.reached;
       fits = c.args.self.now.fits;
-      sought = with_new c.args.self.now.core.value.site _ c.args.device c.in-Some-get_mut.search.now _ c.in-Some.own.now c.args.self.now.sought at stands c.new.ensures;
+      sought = with_new c.args.self.now.core.value.site _ c.args.device c.in-Some-get_mut.search.now _ c.in-Some.own.now c.args.self.now.sought at stands (ap base_sought c.new.ensures);
     }

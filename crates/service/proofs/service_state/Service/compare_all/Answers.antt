@@ -13,7 +13,7 @@ loop-output-preserved c =
       search rules,
       search rules,
       search rules,
-      search rules,
+      (λ first within. c.compare_output.ensures.held first (so_far.5 first within)),
       shows_on c.args.asked.now c.args.block.now c.loop-output.output c.args.self.now c.loop-output.self c.compare_output.new.self so_far.0 so_far.6 c.compare_output.ensures.stands,
     )
 

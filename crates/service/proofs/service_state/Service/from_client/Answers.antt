@@ -44,7 +44,7 @@ pub invariant_of-self : goal.invariant_of-self
 invariant_of-self c =
     let led = clients_chain _ (λ s. stage_of s) (λ s frame bytes goes_on t answers. clients_guarded s.may_write (stage_of s) (stage_of t) frame bytes goes_on answers.1 answers.2) _ _ _ (c.take.ensures.chain).1 in
     let goes : ClientsLeadOn c.args.self.now.cycle c.take.new.responder = subst (λ s. ClientsLeadOn s c.take.new.responder) c.turn_to-in-Some.ensures led in
-    record { rightful = right_clients _ _ c.args.self.now.lines goes c.args.self.now.rightful }
+    record { rightful = right_clients _ _ c.args.self.now.lines goes c.args.self.now.rightful; right = c.args.self.now.right }
 
 pub returns-in-Some-clause-deaf : goal.returns-in-Some-clause-deaf
 returns-in-Some-clause-deaf c =

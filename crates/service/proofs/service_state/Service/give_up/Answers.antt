@@ -16,3 +16,6 @@ returns-else-is_silent-clause-counts c =
     keeps_on c.args.self.now.side c.miss_link.new.self c.note_write.new.self (same_devices c.args.self.now.side c.miss_link.new.self c.miss_link.ensures.devices)
     (keeps_on c.miss_link.new.self c.lose_write.new.self c.note_write.new.self (same_devices c.miss_link.new.self c.lose_write.new.self c.lose_write.ensures.devices) c.note_write.ensures.counts) in
     once_after loss.Silent c.args.self.now.side c.doubt.new.self.side c.lose_if_bad.new.self.side (keeps_on c.args.self.now.side c.note_write.new.self c.doubt.new.self.side before c.doubt.ensures.counts) c.lose_if_bad.ensures.counts
+
+pub returns-else-is_silent-clause-held : goal.returns-else-is_silent-clause-held
+returns-else-is_silent-clause-held c = λ first within. c.lose_if_bad.ensures.held first (c.doubt.ensures.held first within)

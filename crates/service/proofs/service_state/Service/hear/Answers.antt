@@ -18,7 +18,7 @@ returns-in-Some-clause-hears c line at =
     (subst (λ (l : Stations). TellsAllBy (LostByHearing l.stations.items c.args.link c.take-used.result.asked (Some c.in-Some.fate)) (IsHeardBy (taken_if c.take-used.result.asked (Some c.in-Some.fate) c.args.self.now.side.now) (IsRefusedIf c.take-used.result.asked (Some c.in-Some.fate)) c.args.self.now.held) (IsShownIf c.args.self.now.cycle.core.value.site.wants c.args.self.now.held c.take-used.result.asked (Some c.in-Some.fate)) c.args.self.now.side c.settle.new.self.side) c.take-used.ensures.links c.settle.ensures.stands) in
     let has = subst (λ t. HasMoreBy (taken_if c.take-used.result.asked (Some c.in-Some.fate) t) c.args.self.now.held c.settle.new.self.held) (sym now) c.settle.ensures.held in
     heard_so _ c.args.link line _ _ _ _ c.in-Some.fate _ _ _ _ _ _ _ c.take-used.new.self.lines.items _ c.in-Some.is (asked_own c.take-used.result.fate c.in-Some.fate _ _ c.in-Some.is c.take-used.ensures.ended ∙ ap (option_and_then (λ (l : DeviceConnection). l.asked)) at) (c.take-used.ensures.hears line at)
-    (c.settle.ensures.lines c.args.link) c.settle.ensures.settles has tells c.settle.ensures.anew
+    (c.settle.ensures.lines c.args.link) c.settle.ensures.settles has c.settle.ensures.says tells c.settle.ensures.differing c.settle.ensures.anew
 
 pub returns-in_default-clause-hears : goal.returns-in_default-clause-hears
 returns-in_default-clause-hears c line at = heard_nothing _ c.args.link line _ _ _ _ c.args.self.now.cycle _ _ c.take-used.new.self.lines.items c.in_default.is (c.take-used.ensures.hears line at)
@@ -30,4 +30,4 @@ returns-in-Some-clause-stands c none first within may has =
     (λ output this is. absurd (shown_of_none c.args.self.now.cycle.core.value.site.wants c.args.self.now.held c.take-used.result.asked (Some c.in-Some.fate) output this (asked_own c.take-used.result.fate c.in-Some.fate _ _ c.in-Some.is c.take-used.ensures.ended ∙ ap (option_and_then (λ (l : DeviceConnection). l.asked)) none) is))
 
 pub returns-in-Some-clause-held : goal.returns-in-Some-clause-held
-returns-in-Some-clause-held c none = unasked _ _ _ _ _ (asked_own c.take-used.result.fate c.in-Some.fate _ _ c.in-Some.is c.take-used.ensures.ended ∙ ap (option_and_then (λ (l : DeviceConnection). l.asked)) none) c.settle.ensures.held
+returns-in-Some-clause-held c none = unasked _ _ _ _ _ (asked_own c.take-used.result.fate c.in-Some.fate _ _ c.in-Some.is c.take-used.ensures.ended ∙ ap (option_and_then (λ (l : DeviceConnection). l.asked)) none) c.settle.ensures.held c.settle.ensures.says

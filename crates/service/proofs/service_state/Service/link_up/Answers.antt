@@ -8,3 +8,6 @@ returns-then-come_up-clause-anew c number line numbered within at =
 
 pub returns-else-come_up-clause-anew : goal.returns-else-come_up-clause-anew
 returns-else-come_up-clause-anew c number line numbered within at = not_both (c.come_up.ensures.next number numbered within).0 c.if-come_up.false
+
+pub returns-then-come_up-clause-stands : goal.returns-then-come_up-clause-stands
+returns-then-come_up-clause-stands c = λ first within may has from before. c.begin_anew.ensures.stands first within may has from (c.turn_to.ensures.stands may from before)

@@ -1,5 +1,7 @@
+use Rattle.std.proofs.Common.{refl}
+use Rattle.service.proofs.Saying.{right_same}
 use Rattle.service.proofs.Courses.{right_rounds}
 use Rattle.service.proofs.service_state.Service.lose.Goals as goal
 
 pub invariant_of-self : goal.invariant_of-self
-invariant_of-self c = record { rightful = right_rounds _ _ c.args.self.now.lines c.give_up.ensures.goes c.args.self.now.rightful }
+invariant_of-self c = record { rightful = right_rounds _ _ c.args.self.now.lines c.give_up.ensures.goes c.args.self.now.rightful; right = right_same _ _ _ _ c.forget.ensures.identities refl c.args.self.now.right }

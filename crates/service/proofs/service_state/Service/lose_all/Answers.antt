@@ -19,7 +19,7 @@ loop-device-preserved c =
       search rules,
       search rules,
       search rules,
-      search rules,
+      (λ first within. c.lose_if_at.ensures.held first (so_far.5 first within)),
       one_more_lost c.args.loss c.loop-device.device c.args.self.now.side c.loop-device.self.side c.lose_if_at.new.self.side so_far.6 so_far.7 c.lose_if_at.ensures.counts c.lose_if_at.ensures.others,
       (λ k after. let below : c.loop-device.device < k = search rules in c.lose_if_at.ensures.others k (below_other k c.loop-device.device below) ∙ so_far.7 k (search rules)),
     )

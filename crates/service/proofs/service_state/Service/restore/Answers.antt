@@ -6,7 +6,7 @@ use Rattle.service.proofs.Courses.{right_clients}
 use Rattle.service.proofs.service_state.Service.restore.Goals as goal
 
 pub invariant_of-self : goal.invariant_of-self
-invariant_of-self c = record { rightful = right_clients _ _ c.args.self.now.lines c.restore.ensures.goes c.args.self.now.rightful }
+invariant_of-self c = record { rightful = right_clients _ _ c.args.self.now.lines c.restore.ensures.goes c.args.self.now.rightful; right = c.args.self.now.right }
 
 pub returns-clause-refused : goal.returns-clause-refused
 returns-clause-refused c refused =

@@ -34,3 +34,7 @@ returns-clause-runs c =
     c.go_on.ensures.lines link _ from (c.stir_all.ensures.lines end.now end.limits link _ _ from scanned) in
     runs_once (λ (scanned : Stage). WritesAt scanned.core c.args.self.now.held c.args.self.now.side c.go_on.new.self.side × LinksGoByScan scanned.round.writes c.args.self.now c.go_on.new.self × (c.go_on.new.self.side.last_scan ≡ came_to scanned.core.standing.last)) c.args.self.now.side.now _ _ _ _ (λ from before. c.expire.ensures.goes from (c.note_devices.ensures.goes from (c.finish.ensures.goes from before)))
     (subst (λ n. Scans n (stage_of c.expire.new.self.cycle) (stage_of c.run.new.self.cycle)) now c.run.ensures.scans) (after, lines, c.go_on.ensures.rest.time.side.last ∙ c.run.ensures.time.side.last) c.go_on.ensures.goes
+
+pub returns-clause-held : goal.returns-clause-held
+returns-clause-held c = λ first within.
+    c.go_on.ensures.held first (c.run.ensures.held first (c.expire.ensures.held first (c.note_devices.ensures.held first (c.finish.ensures.held first within))))

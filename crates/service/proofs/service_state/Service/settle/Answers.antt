@@ -2,7 +2,7 @@ use Rattle.std.proofs.Common.{Some}
 use Rattle.service.specs.declared.read_back.Shown.TheVariants as shown
 use Rattle.service.proofs.Compared.{shown_of_none}
 use Rattle.service.proofs.Courses.{own_of_rounds, own_of_settles}
-use Rattle.service.proofs.Having.{none_more, writes_by}
+use Rattle.service.proofs.Having.{none_more, says_none, writes_by}
 use Rattle.service.proofs.service_state.Service.settle.Goals as goal
 
 pub returns-in-Some-clause-goes : goal.returns-in-Some-clause-goes
@@ -19,3 +19,9 @@ returns-in-None-clause-stands c may lost has shows = writes_by _ _ _ _ _ c.go_on
 
 pub returns-in-None-clause-anew : goal.returns-in-None-clause-anew
 returns-in-None-clause-anew c output difference shows compares is = shown_of_none c.args.self.now.cycle.core.value.site.wants c.args.self.now.held c.args.asked (Some c.args.fate) output (shown.Other difference) c.in-None.is shows
+
+pub returns-in-None-clause-says : goal.returns-in-None-clause-says
+returns-in-None-clause-says c = says_none _ _ _ c.go_on.ensures.held
+
+pub returns-in-None-clause-differing : goal.returns-in-None-clause-differing
+returns-in-None-clause-differing c output difference shows compares = absurd (shown_of_none c.args.self.now.cycle.core.value.site.wants c.args.self.now.held c.args.asked (Some c.args.fate) output (shown.Other difference) c.in-None.is shows)

@@ -2,7 +2,8 @@ use Rattle.std.proofs.Common.{subst, sym}
 use Rattle.service.specs.Losing.{LostByFate}
 use Rattle.service.specs.ReadBack.{IsShownAt}
 use Rattle.service.specs.declared.read_back.Shown.TheVariants as shown
-use Rattle.service.proofs.Having.{none_more, tells_by}
+use Rattle.service.proofs.Having.{none_more, says_none, tells_by}
+use Rattle.service.specs.Identity.{IsSaidAt, SaysMoreBy}
 use Rattle.service.proofs.service_state.Service.settle_asked.Goals as goal
 
 pub returns-in-Lost-clause-held : goal.returns-in-Lost-clause-held
@@ -15,3 +16,12 @@ returns-in-Lost-clause-stands c may lost has shows =
 
 pub returns-in-Lost-clause-anew : goal.returns-in-Lost-clause-anew
 returns-in-Lost-clause-anew c output difference shows compares is = subst (λ f. IsShownAt c.args.self.now.cycle.core.value.site.wants c.args.self.now.held c.args.asked f output (shown.Other difference)) c.in-Lost.is shows
+
+pub returns-in-Lost-clause-says : goal.returns-in-Lost-clause-says
+returns-in-Lost-clause-says c = says_none _ _ _ c.lose_stream.ensures.held
+
+pub returns-in-Lost-clause-differing : goal.returns-in-Lost-clause-differing
+returns-in-Lost-clause-differing c output difference shows compares = absurd (subst (λ f. IsShownAt c.args.self.now.cycle.core.value.site.wants c.args.self.now.held c.args.asked f output (shown.Other difference)) c.in-Lost.is shows)
+
+pub returns-in-Told-clause-says : goal.returns-in-Told-clause-says
+returns-in-Told-clause-says c = subst (λ f. SaysMoreBy (IsSaidAt f c.args.asked) c.args.self.now.held.identities c.settle_told.new.self.held.identities) (sym c.in-Told.is) c.settle_told.ensures.says

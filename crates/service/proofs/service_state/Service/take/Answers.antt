@@ -4,10 +4,10 @@ use Rattle.service.proofs.Courses.{own_of_ends, right_own}
 use Rattle.service.proofs.Having.{takes_written}
 use Rattle.service.proofs.service_state.Service.take.Goals as goal
 
-pub invariant_of-self-in-Block : goal.invariant_of-self-in-Block
-invariant_of-self-in-Block c =
+pub invariant_of-self : goal.invariant_of-self
+invariant_of-self c =
     let led = own_of_ends (aim.Block c.in-Block.want) c.args.asked.device c.args.outcome (stage_of c.args.self.now.cycle) (stage_of c.close_block.new.self) c.close_block.ensures.ends in
-    record { rightful = right_own _ _ c.args.self.now.lines led c.args.self.now.rightful }
+    record { rightful = right_own _ _ c.args.self.now.lines led c.args.self.now.rightful; right = c.args.self.now.right }
 
 pub returns-in-Output-clause-stands : goal.returns-in-Output-clause-stands
 returns-in-Output-clause-stands c =

@@ -1,14 +1,16 @@
 use Rattle.std.proofs.Common.{refl, subst, sym, ◌∙◌}
 use Rattle.service.specs.declared.cycle.Cycle.{Cycle}
 use Rattle.service.specs.declared.held_writes.HeldWrites.{HeldWrites}
-use Rattle.service.specs.Comparing.{WritesAnew}
+use Rattle.service.specs.Comparing.{TellsOthers, WritesAnew}
 use Rattle.service.specs.Cycle.{EndsOwn, LeadsOn, stage_of}
 use Rattle.service.specs.Having.{HasNoMore, IsAnsweredBy, IsRefusedBy, taken_by}
+use Rattle.service.specs.Identity.{IsSaidBy}
 use Rattle.service.specs.ReadBack.{IsShownBy}
 use Rattle.service.specs.Told.{BecomesBy, ShowsBy}
 use Rattle.service.proofs.ByNotes.{goes_compare}
 use Rattle.service.proofs.Compared.{anew_since, writes_anew}
-use Rattle.service.proofs.Having.{had_from, had_since, had_then, takes_on}
+use Rattle.service.proofs.Differing.{others_since, tells_others}
+use Rattle.service.proofs.Having.{had_from, had_since, had_then, says_since, says_then, takes_on}
 use Rattle.service.proofs.service_state.Service.take_answer.Goals as goal
 
 pub returns-clause-answers : goal.returns-clause-answers
@@ -44,3 +46,23 @@ returns-clause-anew c =
     let of_site = subst (λ (x : Cycle). WritesAnew (IsShownBy x.core.value.site.wants c.args.self.now.held c.args.asked c.args.outcome) c.note_refusal.new.self.side c.go_on.new.self.held) (c.note_refusal.ensures.cycle ∙ c.note_reply.ensures.cycle)
     (subst (λ (h : HeldWrites). WritesAnew (IsShownBy c.note_refusal.new.self.cycle.core.value.site.wants h c.args.asked c.args.outcome) c.note_refusal.new.self.side c.go_on.new.self.held) (c.note_refusal.ensures.held ∙ c.note_reply.ensures.held) anew) in
     anew_since (IsShownBy c.args.self.now.cycle.core.value.site.wants c.args.self.now.held c.args.asked c.args.outcome) c.args.self.now.side c.note_refusal.new.self.side c.go_on.new.self.held (goes_compare c.args.self.now.side c.note_refusal.new.self.side (λ may from before. c.note_refusal.ensures.stands may from (c.note_reply.ensures.stands may from (c.hear.ensures.stands may from before)))) of_site
+
+pub returns-clause-says : goal.returns-clause-says
+returns-clause-says c =
+    let compared : HasNoMore c.args.self.now.held c.compare.new.self.held = subst (λ s. HasNoMore s c.compare.new.self.held) (c.note_refusal.ensures.held ∙ c.note_reply.ensures.held) c.compare.ensures.held in
+    let more = says_since (IsSaidBy c.args.outcome c.args.asked) c.args.self.now.held c.compare.new.self.held c.take-foreign.new.self.held compared c.take-foreign.ensures.says in
+    says_then (IsSaidBy c.args.outcome c.args.asked) c.args.self.now.held c.take-foreign.new.self.held c.go_on.new.self.held more (λ first within. subst (λ s. HasNoMore s c.go_on.new.self.held) c.leave_turn.ensures.held c.go_on.ensures.held first (c.forget_if.ensures.held first within))
+
+pub returns-clause-differing : goal.returns-clause-differing
+returns-clause-differing c =
+    let noted = c.note_refusal.new.self in
+    let end = c.go_on.new.self.side in
+    let left = c.leave_turn.new.self.held in
+    let then_none : HasNoMore c.take-foreign.new.self.held left = subst (λ s. HasNoMore c.take-foreign.new.self.held s) (sym c.leave_turn.ensures.held) c.forget_if.ensures.held in
+    let anew = writes_anew noted.cycle.core.value.site.wants c.args.asked c.args.outcome _ noted c.compare.new.self c.take-foreign.new.self.held left c.compare.ensures.compared c.take-foreign.ensures.held then_none in
+    let told = tells_others noted.cycle.core.value.site.wants c.args.asked c.args.outcome _ noted c.compare.new.self c.take-foreign.new.self.side c.forget_if.new.self.side c.leave_turn.new.self.side end left c.compare.ensures.compared
+    c.take-foreign.ensures.stands c.forget_if.ensures.stands c.leave_turn.ensures.stands anew c.go_on.ensures.stands in
+    let of_site = subst (λ (x : Cycle). TellsOthers (IsShownBy x.core.value.site.wants c.args.self.now.held c.args.asked c.args.outcome) noted.side end) (c.note_refusal.ensures.cycle ∙ c.note_reply.ensures.cycle)
+    (subst (λ (h : HeldWrites). TellsOthers (IsShownBy noted.cycle.core.value.site.wants h c.args.asked c.args.outcome) noted.side end) (c.note_refusal.ensures.held ∙ c.note_reply.ensures.held) told) in
+    others_since (IsShownBy c.args.self.now.cycle.core.value.site.wants c.args.self.now.held c.args.asked c.args.outcome) c.args.self.now.side noted.side end
+    (goes_compare c.args.self.now.side noted.side (λ may from before. c.note_refusal.ensures.stands may from (c.note_reply.ensures.stands may from (c.hear.ensures.stands may from before)))) of_site

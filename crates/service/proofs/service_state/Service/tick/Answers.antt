@@ -37,3 +37,14 @@ returns-else-is_due-clause-ended c =
     let turned = ap (λ (x : DeviceSide). x.now) c.turn_to.ensures.now in
     none_left _ (λ most. most) c.args.self.now c.end_waits.new.self c.go_on.new.self c.go_on.ensures.rest.time.side.now c.go_on.ensures.rest.time.side.limits (c.end_waits.ensures.rest.time.side.now ∙ turned)
     (subst (λ n. NoneIsLeft n c.args.self.now.lines.lines.items c.end_waits.new.self.lines.lines.items) turned c.end_waits.ensures.ended) c.end_waits.ensures.lines c.go_on.ensures.lines
+
+pub returns-then-is_due-clause-held : goal.returns-then-is_due-clause-held
+returns-then-is_due-clause-held c = λ first within. c.scan.ensures.held first (c.end_waits.ensures.held first within)
+
+pub returns-else-is_due-clause-held : goal.returns-else-is_due-clause-held
+returns-else-is_due-clause-held c = λ first within. c.go_on.ensures.held first (c.end_waits.ensures.held first within)
+
+pub returns-else-is_due-clause-stands : goal.returns-else-is_due-clause-stands
+returns-else-is_due-clause-stands c =
+    let lost = subst (λ n. LosesBy (LostByWait c.args.self.now.lines.links.stations.items c.args.self.now.lines.lines.items n) c.turn_to.new.self c.end_waits.new.self.side) (ap (λ (x : DeviceSide). x.now) c.turn_to.ensures.now) c.end_waits.ensures.stands in
+    λ rested first within may why has from before. c.go_on.ensures.stands first (c.end_waits.ensures.held first within) may has from (lost may why from (c.turn_to.ensures.stands may from before))

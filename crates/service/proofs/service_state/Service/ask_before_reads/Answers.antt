@@ -1,0 +1,15 @@
+use Rattle.service.proofs.service_state.Service.ask_before_reads.Goals as goal
+
+pub returns-then-ask_for-clause-held : goal.returns-then-ask_for-clause-held
+returns-then-ask_for-clause-held c = λ first within. c.ask_for.ensures.held first (c.ask_sign.ensures.held first within)
+
+pub returns-then-ask_for-clause-stands : goal.returns-then-ask_for-clause-stands
+returns-then-ask_for-clause-stands c = λ first within may has from before. c.ask_for.ensures.stands first (c.ask_sign.ensures.held first within) may has from (c.ask_sign.ensures.stands first within may has from before)
+
+pub returns-else-ask_for-clause-held : goal.returns-else-ask_for-clause-held
+returns-else-ask_for-clause-held c = λ first within. c.ask_search_first.ensures.held first (c.ask_for.ensures.held first (c.ask_sign.ensures.held first within))
+
+pub returns-else-ask_for-clause-stands : goal.returns-else-ask_for-clause-stands
+returns-else-ask_for-clause-stands c = λ first within may has from before.
+    c.ask_search_first.ensures.stands first (c.ask_for.ensures.held first (c.ask_sign.ensures.held first within)) may has from
+    (c.ask_for.ensures.stands first (c.ask_sign.ensures.held first within) may has from (c.ask_sign.ensures.stands first within may has from before))

@@ -1,0 +1,4 @@
+use Rattle.service.proofs.service_state.Service.find_unnamed.Goals as goal
+
+pub returns-clause-held : goal.returns-clause-held
+returns-clause-held c first within = c.find_another.ensures.held first (c.hear_nothing-is_new.ensures.no_more first within)

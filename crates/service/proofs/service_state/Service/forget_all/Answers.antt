@@ -1,0 +1,13 @@
+use Rattle.std.proofs.Common.{rules}
+use Rattle.service.proofs.service_state.Service.forget_all.Goals as goal
+
+pub loop-device-preserved : goal.loop-device-preserved
+loop-device-preserved c =
+    let so_far = c.loop-device.invariant in (
+      search rules,
+      (λ may from before. c.forget_if_at.ensures.stands may from (so_far.1 may from before)),
+      search rules,
+      search rules,
+      search rules,
+      (λ first within. c.forget_if_at.ensures.held first (so_far.5 first within)),
+    )

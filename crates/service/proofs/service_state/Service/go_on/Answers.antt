@@ -1,0 +1,7 @@
+use Rattle.service.proofs.service_state.Service.go_on.Goals as goal
+
+pub returns-then-is_complete-clause-held : goal.returns-then-is_complete-clause-held
+returns-then-is_complete-clause-held c = λ first within. c.finish.ensures.held first (c.ask_all.ensures.held first within)
+
+pub returns-then-is_complete-clause-stands : goal.returns-then-is_complete-clause-stands
+returns-then-is_complete-clause-stands c = λ first within may has from before. c.finish.ensures.stands first (c.ask_all.ensures.held first within) may has from (c.ask_all.ensures.stands first within may has from before)

@@ -1,5 +1,0 @@
-use Rattle.service.proofs.Courses.{right_rounds}
-use Rattle.service.proofs.service_state.Service.hold_back.Goals as goal
-
-pub invariant_of-self : goal.invariant_of-self
-invariant_of-self c = record { rightful = right_rounds _ _ c.args.self.now.lines c.drop_write.ensures.goes c.args.self.now.rightful }

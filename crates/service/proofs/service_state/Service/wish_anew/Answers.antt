@@ -1,0 +1,4 @@
+use Rattle.service.proofs.service_state.Service.wish_anew.Goals as goal
+
+pub returns-clause-held : goal.returns-clause-held
+returns-clause-held c = λ first within. c.wish_of_search.ensures.held first (c.seek_anew.ensures.held first within)
