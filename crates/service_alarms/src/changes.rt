@@ -45,6 +45,11 @@ impl Changes {
         self.places.note_alarms(alarms)?;
         fill_over(&mut self.over, stood, &self.places)
     }
+
+    /// The place of the first alarm of a subject, of those that were seen last.
+    pub(crate) fn place_of(&self, subject: AlarmSubject) -> Option<usize> {
+        self.places.first(subject)
+    }
 }
 
 fn fill_begun(

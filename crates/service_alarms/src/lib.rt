@@ -14,6 +14,7 @@ mod lines;
 mod mending;
 mod met;
 mod names;
+mod origins;
 mod outputs;
 mod places;
 mod points;
@@ -23,6 +24,7 @@ mod served;
 mod shown_numbers;
 mod sleeping;
 mod standing;
+mod what_to_do;
 mod words;
 mod wrong;
 
@@ -45,8 +47,10 @@ pub use said::{Said, another_text, is_said};
 pub use lines::{begun_line, lacks_text, missing_text, over_line, refuses_text, unwritten_text};
 pub use mending::mend;
 pub use names::{device_name, output_name, tag_name};
+pub use points::shown_point;
 pub use sentences::{push_models, sentence, why_hidden, why_missing};
 pub use shown_numbers::shown_number;
+pub use what_to_do::advice;
 pub use words::{
     cause_text, kind_word, loss_word, missing_word, name_text, subject_text, unwritten_word,
 };

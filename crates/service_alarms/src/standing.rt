@@ -5,8 +5,10 @@ ghost use Rattle.service_alarms.specs.Finding.{TellOfStood, from_first};
 
 use crate::alarm::{Alarm, AlarmSubject, is_same};
 use crate::changes::Changes;
+use crate::origins::Origins;
 use crate::places::AlarmPlaces;
 use point_types::Items;
+use site_model::Site;
 use std::alloc::{AllocError, Global};
 
 /// An alarm, and since when something is wrong with what it is of, in seconds of whoever looks; the cause may be a later one.
@@ -53,6 +55,22 @@ impl Watch {
         ensures { result.now ≡ self.now.changes }
     {
         &self.changes
+    }
+
+    /// The place, in that order, of the alarm that one of them follows from; None where it follows from none.
+    pub fn origin(&self, site: &Site, alarm: Alarm) -> Option<usize> {
+        let origins = Origins::of(site, alarm);
+        match self.place_of(origins.first) {
+            Some(place) => Some(place),
+            None => self.place_of(origins.second),
+        }
+    }
+
+    fn place_of(&self, subject: Option<AlarmSubject>) -> Option<usize> {
+        match subject {
+            Some(subject) => self.changes.place_of(subject),
+            None => None,
+        }
     }
 
     /// From now on these are the alarms, and this changed; where memory is refused, what stands stays.
