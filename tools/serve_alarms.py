@@ -73,6 +73,12 @@ def alarms_of(status, *keys):
     return [tuple(it[key] for key in keys) for it in json.loads(text_of(status) or '{"alarms": []}')["alarms"]]
 
 
+def by_of(status):
+    """By the name of what each alarm is of the name of what the alarm is of that it follows from, or None."""
+    alarms = json.loads(text_of(status) or '{"alarms": []}')["alarms"]
+    return {it["name"]: alarms[it["by"]]["name"] if "by" in it else None for it in alarms}
+
+
 def told(counts, what, service, device, words, line):
     """The device's registers become these words: then this line comes."""
     behind = len(service.lines)
@@ -91,6 +97,9 @@ def play_inputs(counts, program, folder):
         ("model_missing", "inv2", "103"), ("input_missing", "w2", "NoBlock"), ("served_missing", "103 PPVphBC", "NotStored")], text_of(status))
     counts.note("what the program stores nothing in isn't shown", service.has(r"\S+ served 103 PPVphBC missing NotStored"), service.lines)
     counts.note("in words", "inv2 has no model 103, it has 1 101 123" in (it[0] for it in alarms_of(status, "text")), text_of(status))
+    counts.note("an input follows from it", by_of(status) == {"inv2": None, "w2": "inv2", "103 PPVphBC": None}, text_of(status))
+    counts.note("what to do stands with each", all(it[0].endswith(".") for it in alarms_of(status, "todo")), text_of(status))
+    counts.note("whose device it is", [it["number"] for it in json.loads(text_of(status))["alarms"] if "number" in it] == [1], text_of(status))
     told(counts, "a finer reading", service, devices[0], {WATTS: 15003, FACTOR: 0xFFFF}, "input w1 missing Inexact raw 15003 factor -1")
     behind = len(service.lines)
     devices[0].units[1].update({WATTS: 15004})
@@ -123,6 +132,11 @@ def play_alarms(counts, program, folder):
         ("output_unwritten", "lim1"), ("served_missing", "103 PPVphAB", "NotStored"), ("served_missing", "103 PPVphCA", "NotStored")]
     named = lambda: [(kind, name, cause) if kind != "output_unwritten" else (kind, name) for kind, name, cause in alarms_of(status, "kind", "name", "cause")]
     counts.note("what is lost", until(named, lost, 8) == lost, (named(), service.lines[-8:]))
+    follows = {"inv1": None, "inv3": None, "w1": "inv1", "w3": "inv3", "lim1": "inv1", "103 PPVphAB": None, "103 PPVphCA": None}
+    counts.note("what follows from what", until(lambda: by_of(status), follows) == follows, text_of(status))
+    began = [it for name, it in alarms_of(status, "name", "began") if name == "inv1"]
+    time.sleep(1.2)
+    counts.note("when it began stays", began == [it for name, it in alarms_of(status, "name", "began") if name == "inv1"], (began, text_of(status)))
     since = [it for name, it in alarms_of(status, "name", "since") if name in ("inv1", "w1", "lim1", "103 PPVphAB")]
     counts.note("since when", len(since) == 4 and max(since) - min(since) <= 1, since)
     devices[0].silent = False

@@ -110,6 +110,8 @@ def play_alarm(counts, site, service, client):
     told = len(service.lines)
     counts.note("it is written again", client.write(LIMIT, 30)[0] == 6 and service.has(r"\S+ set target 30 was unset by 127.0.0.1:\d+", behind=told), service.lines)
     counts.note("its alarm is over", until(site.alarms, []) == [], site.alarms())
+    tag = json.loads(text_of(site.status))["tags"]["target"]
+    counts.note("when it lapses", tag.get("age") in (0, 1) and tag.get("left") == 2 - tag["age"], tag)
     counts.note("the output has it again", until(site.limit, 30) == 30, site.limit())
 
 

@@ -289,9 +289,9 @@ def play_refused(counts, service, status, told, keys, meaning):
 
 
 def refused_in(told):
-    """What a status file says of the output, and of its alarm except since when it stands."""
+    """What a status file says of the output, and of its alarm except since when it stands and what to do."""
     alarms = [it for it in told["alarms"] if it["kind"] == "output_unwritten"]
-    return told["outputs"]["lim1"], [{key: it[key] for key in it if key != "since"} for it in alarms]
+    return told["outputs"]["lim1"], [{key: it[key] for key in it if key not in ("since", "began", "todo")} for it in alarms]
 
 
 def play_unreached(counts, program, folder):

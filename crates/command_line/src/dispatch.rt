@@ -24,6 +24,7 @@ use std::fs::File;
 use std::io::Write;
 use std::net::Net;
 use std::process::{Processes, SystemProcess};
+use std::random::RandomSource;
 use std::rt::{Env, Files};
 use std::time::Clock;
 use std::{env, io};
@@ -45,6 +46,7 @@ pub fn obey_command_line(
         + Env
         + Files<File = File>
         + Clock
+        + RandomSource
         + Net
         + Processes<Started = SystemProcess>),
 ) -> u8 {

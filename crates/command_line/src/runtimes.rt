@@ -2,14 +2,21 @@
 use std::fs::File;
 use std::net::Net;
 use std::process::{Processes, SystemProcess};
+use std::random::RandomSource;
 use std::rt::Files;
 use std::time::Clock;
 
-/// What the loop of a service or a survey wants: also the clock, and second processes that it may wait for.
-pub trait LoopRuntime: Net + Clock + Processes<Started = SystemProcess> + Eprint + AllocGlobal {}
+/// What the loop of a service or a survey wants: also the clock, random numbers, and second processes that it may wait for.
+pub trait LoopRuntime: Net
+    + Clock
+    + RandomSource
+    + Processes<Started = SystemProcess>
+    + Eprint
+    + AllocGlobal {}
 
-impl<R: Net + Clock + Processes<Started = SystemProcess> + Eprint + AllocGlobal> LoopRuntime
-    for R {}
+impl<
+    R: Net + Clock + RandomSource + Processes<Started = SystemProcess> + Eprint + AllocGlobal,
+> LoopRuntime for R {}
 
 /// What the commands want together: also files, standard input and standard output.
 pub trait CommandRuntime: LoopRuntime + Files<File = File> + Input + Print {}

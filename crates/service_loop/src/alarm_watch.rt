@@ -8,6 +8,7 @@ use service::{DeviceStatus, Difference, OutputState, Service};
 use service_alarms::{
     Alarm, Changes, Seen, Slept, StandingAlarm, Watch, leave_out_sleepers, wrong_now,
 };
+use site_model::Site;
 use std::alloc::{AllocError, Global};
 
 /// How long a round that began late is an alarm, in milliseconds.
@@ -160,6 +161,11 @@ impl AlarmWatch {
     pub(crate) fn news_of_pace(&mut self, device: usize) -> Option<u64> {
         let status = self.devices.as_slice().get(device).copied();
         self.paces.see(device, status)
+    }
+
+    /// The place, in what was wrong after the last scan, of the alarm that one of them follows from; None where there is none.
+    pub(crate) fn origin(&self, site: &Site, alarm: Alarm) -> Option<usize> {
+        self.watch.origin(site, alarm)
     }
 
     /// What was wrong after the last scan; AllocError where memory for it was refused.

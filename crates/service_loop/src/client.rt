@@ -2,6 +2,7 @@
 ghost use Rattle.std.specs.Prelude.{◌<◌};
 ghost use Rattle.service_parts.specs.Clients.{DoesAt, Sends};
 
+use crate::client_record::ClientRecord;
 use mio::net::TcpStream;
 use mio::{Interest, Registry, Token};
 use service::Service;
@@ -16,6 +17,7 @@ const LEAST_WRITE: usize = 12;
 #[derive(Drop)]
 pub(crate) struct Client {
     pub(crate) address: SocketAddr,
+    pub(crate) record: ClientRecord,
     connection: Connection<TcpStream>,
 }
 
@@ -26,6 +28,7 @@ impl Client {
         token: Token,
         stream: TcpStream,
         address: SocketAddr,
+        record: ClientRecord,
     ) -> Option<Client> {
         let mut stream = stream;
         let _ = stream.set_nodelay(true);
@@ -33,6 +36,7 @@ impl Client {
         registry.register(&mut stream, token, interests).ok()?;
         Some(Client {
             address,
+            record,
             connection: Connection::new(stream),
         })
     }

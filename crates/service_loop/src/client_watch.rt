@@ -40,6 +40,8 @@ pub(crate) struct ClientWatch {
     left: Ration,
     refused: Ration,
     known: KnownSettings,
+    /// Who set each tag to what it is set to; None where it isn't set, or was at the start.
+    setters: Vec<Option<SocketAddr>>,
     /// How many times the program had run when it was told last what lapsed: nothing lapses beside its scans.
     scans: u64,
 }
@@ -54,6 +56,7 @@ impl ClientWatch {
             left: Ration::new(MOST_MOVES, HOUR),
             refused: Ration::new(MOST_REFUSED, MINUTE),
             known: KnownSettings::new(alloc, &[])?,
+            setters: Vec::new(alloc),
             scans: 0,
         })
     }
@@ -61,7 +64,23 @@ impl ClientWatch {
     /// This is set at the start, and needn't be told.
     pub(crate) fn begin(&mut self, settings: &[Option<i64>]) -> Result<(), AllocError> {
         self.known = KnownSettings::new(self.alloc, settings)?;
+        self.setters = nobody(self.alloc, settings.len())?;
         Ok(())
+    }
+
+    /// Who set a tag to what it is set to; None where it isn't set, or was at the start.
+    pub(crate) fn setter(&self, tag: usize) -> Option<SocketAddr> {
+        match self.setters.get(tag) {
+            Some(setter) => *setter,
+            None => None,
+        }
+    }
+
+    // Notes who set a tag, or that nobody did.
+    fn note_setter(&mut self, tag: usize, setter: Option<SocketAddr>) {
+        if let Some(noted) = self.setters.get_mut(tag) {
+            *noted = setter;
+        }
     }
 
     /// A client came.
@@ -114,8 +133,14 @@ impl ClientWatch {
                 return;
             };
             let line = match change.after {
-                Some(_) => change_line(self.alloc, core.site(), change, address),
-                None => lapsed_line(self.alloc, tag_name(core.site(), change.tag)),
+                Some(_) => {
+                    self.note_setter(change.tag, Some(address));
+                    change_line(self.alloc, core.site(), change, address)
+                }
+                None => {
+                    self.note_setter(change.tag, None);
+                    lapsed_line(self.alloc, tag_name(core.site(), change.tag))
+                }
             };
             line_writer.tell(line);
         }
@@ -143,6 +168,7 @@ impl ClientWatch {
             let Some(change) = self.known.next_change(core.settings()) else {
                 return;
             };
+            self.note_setter(change.tag, None);
             let name = tag_name(core.site(), change.tag);
             line_writer.tell(lapsed_line(self.alloc, name));
         }
@@ -176,6 +202,15 @@ impl ClientWatch {
             }
         }
     }
+}
+
+/// Nobody, so many times.
+fn nobody(alloc: Global, count: usize) -> Result<Vec<Option<SocketAddr>>, AllocError> {
+    let mut setters = Vec::new(alloc);
+    for _ in 0..count {
+        setters.push(None)?;
+    }
+    Ok(setters)
 }
 
 fn forget_over(ration: &mut Ration, now: u64) {

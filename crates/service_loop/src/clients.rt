@@ -3,6 +3,7 @@ ghost use Rattle.std.specs.Prelude.{IfSome};
 ghost use Rattle.service_loop.specs.Admitting.{HasRight};
 
 use crate::client::Client;
+use crate::client_record::ClientRecord;
 use crate::client_watch::ClientWatch;
 use crate::door::Door;
 use crate::line_writer::LineWriter;
@@ -110,7 +111,9 @@ impl Clients {
                 // the first who was silent for over half a minute, where there was no free place
                 self.leave(place, line_writer);
                 let token = Token(self.tokens.of_client(place));
-                let client = Client::new(registry, token, stream, address);
+                let right = may_write(writers, address.ip());
+                let record = ClientRecord::new(right, line_writer.now());
+                let client = Client::new(registry, token, stream, address, record);
                 self.put(place, client, service, line_writer);
             }
             None => line_writer.tell_client(address, "refused"),
@@ -146,9 +149,33 @@ impl Clients {
         }
     }
 
+    /// How many clients there are.
+    pub(crate) fn count(&self) -> u64 {
+        let mut count: u64 = 0;
+        for client in self.places.iter() {
+            if client.is_some() {
+                count = count.saturating_add(1);
+            }
+        }
+        count
+    }
+
     /// How many places there are.
     pub(crate) fn places(&self) -> usize {
         self.places.len()
+    }
+
+    /// The client at a place, where there is one.
+    pub(crate) fn at(&self, place: usize) -> Option<&Client> {
+        match self.places.get(place) {
+            Some(Some(client)) => Some(client),
+            _ => None,
+        }
+    }
+
+    /// Who set a tag to what it is set to; None where it isn't set, or was at the start.
+    pub(crate) fn setter(&self, tag: usize) -> Option<SocketAddr> {
+        self.watch.setter(tag)
     }
 
     /// The address of the client at a place, where there is one.
@@ -223,6 +250,9 @@ fn receive_at<W: Write>(
     let answered = service.client_requests(place);
     client.receive(service, place, line_writer.now());
     if service.client_requests(place) > answered {
+        client
+            .record
+            .note(service.client_writes(), line_writer.now());
         watch.tell_writes(client.address, service, line_writer);
     }
 }

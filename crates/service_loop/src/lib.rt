@@ -5,6 +5,7 @@
 
 mod alarm_watch;
 mod client;
+mod client_record;
 mod client_watch;
 mod clients;
 mod device_socket;
@@ -17,6 +18,8 @@ mod link_bytes;
 mod members;
 mod nights;
 mod paces;
+mod page_sockets;
+mod page_texts;
 mod plant_client;
 mod plant_door;
 mod program_copy;
@@ -24,6 +27,7 @@ mod program_watch;
 mod replacing;
 mod restoring;
 mod room;
+mod scan_steps;
 mod serve_loop;
 mod serving;
 mod socket_state;
@@ -47,7 +51,7 @@ pub use keeping::{Keeping, KeptState};
 // another program in place of the one that runs
 pub use program_watch::{Looked, OneProgram, ProgramRefusal, ProgramWatch};
 // the service itself
-pub use serving::{End, Serving};
+pub use serving::{End, PageWindow, Serving};
 pub use state_fault::StateFault;
 pub use turns::serve_site;
 pub use wall_clock::seconds_of_day;

@@ -21,8 +21,12 @@ pub(crate) struct LineWriter<'a, W: Write> {
     now: u64,
     /// The seconds since 1970-01-01T00:00:00Z, where they are known.
     seconds: Option<u64>,
+    /// The same at the start.
+    began_at: Option<u64>,
     /// How many lines were left out since one was written.
     left_out: u64,
+    /// How many lines were written.
+    told: u64,
 }
 
 impl<'a, W: Write> LineWriter<'a, W> {
@@ -41,7 +45,9 @@ impl<'a, W: Write> LineWriter<'a, W> {
             times,
             now: 0,
             seconds,
+            began_at: seconds,
             left_out: 0,
+            told: 0,
         }
     }
 
@@ -59,6 +65,26 @@ impl<'a, W: Write> LineWriter<'a, W> {
     /// The time of day of its lines.
     pub(crate) fn time_of_day(&self) -> Result<String, AllocError> {
         time_of_day(self.alloc, self.seconds)
+    }
+
+    /// The time of day so many seconds after the start, by the clock of the start.
+    pub(crate) fn time_after_start(&self, since: u64) -> Result<String, AllocError> {
+        time_of_day(self.alloc, time_after(self.began_at, since))
+    }
+
+    /// The seconds since 1970-01-01T00:00:00Z at the start, where they are known.
+    pub(crate) fn began_at(&self) -> Option<u64> {
+        self.began_at
+    }
+
+    /// The same of its lines.
+    pub(crate) fn seconds(&self) -> Option<u64> {
+        self.seconds
+    }
+
+    /// How many lines were written.
+    pub(crate) fn told(&self) -> u64 {
+        self.told
     }
 
     /// Writes a line, after the time.
@@ -120,7 +146,18 @@ impl<'a, W: Write> LineWriter<'a, W> {
     }
 
     fn write(&mut self, line: &str) -> bool {
-        self.room.is_there() && self.out.write_all(line.as_bytes()).is_ok()
+        let written = self.room.is_there() && self.out.write_all(line.as_bytes()).is_ok();
+        if written {
+            self.told = self.told.saturating_add(1);
+        }
+        written
+    }
+}
+
+fn time_after(began_at: Option<u64>, since: u64) -> Option<u64> {
+    match began_at {
+        Some(seconds) => Some(seconds.saturating_add(since)),
+        None => None,
     }
 }
 

@@ -198,7 +198,7 @@ impl PlantDoor {
         for event in self.events.iter() {
             match self.tokens.owner(event.token().0) {
                 Owner::Door => self.door.wake(),
-                Owner::Link(_) => {}
+                Owner::Link(_) | Owner::PageDoor | Owner::Page(_) => {}
                 Owner::Client(place) => {
                     if let Some(Some(client)) = self.clients.get_mut(place) {
                         client.wake();

@@ -3,14 +3,17 @@ use crate::alarm_watch::AlarmWatch;
 use crate::keeping::Keeping;
 use crate::kept_files::KeptFiles;
 use crate::line_writer::LineWriter;
+use crate::page_texts::{ScanTexts, page_line};
 use crate::program_watch::{Looked, ProgramRefusal, ProgramWatch};
 use crate::room::{Room, STANDARD_ERROR, STANDARD_OUTPUT};
+use crate::scan_steps::ScanSteps;
 use crate::serving::{End, Serving};
 use crate::sockets::Sockets;
 use crate::state_lock::StateLock;
-use crate::status::status_text;
+use crate::status::{ServiceCounts, status_text};
 use crate::telling::{pace_line, sleep_line, tell, tell_changes, tell_scan, tell_taken};
 use crate::wall_clock::seconds_of_day;
+use metrics::{Metrics, metrics_text};
 use service::{Notice, Service};
 use service_texts::{
     Addresses, Start, late_line, listening_line, program_kept_line, program_refused_line,
@@ -21,6 +24,7 @@ use std::io;
 use std::io::Write;
 use std::net::Net;
 use std::process::{Processes, SystemProcess};
+use std::random::RandomSource;
 use std::rt::Files;
 use std::time::{Clock, Duration, Instant};
 
@@ -35,6 +39,12 @@ pub(crate) struct ServeLoop<'a, W: Write> {
     start: Instant,
     /// How many rounds began late.
     late: u64,
+    /// How many instructions the program's scans take.
+    steps: ScanSteps,
+    /// When the last scan was told, in seconds since 1970-01-01T00:00:00Z, where that is known.
+    scanned_at: Option<u64>,
+    /// What those who look are shown.
+    texts: ScanTexts,
     /// What is wrong.
     alarm_watch: AlarmWatch,
     /// Whether standard error takes a note on another program; None where there are none.
@@ -43,7 +53,7 @@ pub(crate) struct ServeLoop<'a, W: Write> {
 
 impl<'a, W: Write> ServeLoop<'a, W> {
     /// `is_noting` is so where notes on other programs may come.
-    pub(crate) fn new<R: Net + Clock>(
+    pub(crate) fn new<R: Net + Clock + RandomSource>(
         rt: &R,
         alloc: Global,
         serving: &Serving<'_>,
@@ -76,16 +86,22 @@ impl<'a, W: Write> ServeLoop<'a, W> {
             line_writer,
             start: Instant::now(rt)?,
             late: 0,
+            steps: ScanSteps::new(),
+            scanned_at: None,
+            texts: ScanTexts::none(alloc),
             alarm_watch: AlarmWatch::new(alloc, addresses.stations.len(), serving.sleeps)?,
             notes: noting(rt, alloc, is_noting),
         })
     }
 
-    /// Tells where clients come to.
+    /// Tells where clients come to, and those who look.
     pub(crate) fn tell_address(&mut self) {
         if let Ok(address) = self.sockets.address() {
             self.line_writer
                 .tell_plain(listening_line(self.alloc, address));
+        }
+        if let Some(address) = self.sockets.page_address() {
+            self.line_writer.tell_plain(page_line(self.alloc, address));
         }
     }
 
@@ -151,6 +167,7 @@ impl<'a, W: Write> ServeLoop<'a, W> {
         self.sockets.give(kept, service, &mut self.line_writer);
         let is_done = self.tell(serving, service, files);
         self.keep_status(rt, serving, &*program, service, files);
+        self.show(serving, &*program, service);
         Ok(is_done)
     }
 
@@ -191,6 +208,7 @@ impl<'a, W: Write> ServeLoop<'a, W> {
             }
             Looked::Taken(budget) => {
                 self.alarm_watch.settle();
+                self.steps = ScanSteps::new();
                 files.take_program();
                 tell_taken(self.alloc, program.taken(), budget, &mut self.line_writer);
                 true
@@ -257,6 +275,8 @@ impl<'a, W: Write> ServeLoop<'a, W> {
         match note {
             Notice::Scanned(report) => {
                 let scans = service.scans();
+                self.steps.add(report.steps);
+                self.scanned_at = self.line_writer.seconds();
                 if serving.is_verbose {
                     tell_scan(self.alloc, scans, report, &mut self.line_writer);
                 }
@@ -293,6 +313,57 @@ impl<'a, W: Write> ServeLoop<'a, W> {
         }
     }
 
+    // Shows those who look how the service stands.
+    fn show<P: ProgramWatch>(&mut self, serving: &Serving<'_>, program: &P, service: &Service) {
+        let Some(window) = serving.page else {
+            return;
+        };
+        if self.sockets.has_lookers() && !self.texts.is_of(service.scans()) {
+            self.make_texts(serving, program, service);
+        }
+        let now = self.line_writer.now();
+        self.sockets.show(window, self.texts.texts(), now);
+    }
+
+    // Makes the texts of the last scan; where memory is refused, those of before stay.
+    fn make_texts<P: ProgramWatch>(
+        &mut self,
+        serving: &Serving<'_>,
+        program: &P,
+        service: &Service,
+    ) {
+        let start = match program.taken() {
+            Some(start) => start,
+            None => serving.start,
+        };
+        match self.texts_of(start, serving, service) {
+            Ok(texts) => self.texts = texts,
+            Err(AllocError) => self.line_writer.tell(Err(AllocError)),
+        }
+    }
+
+    fn texts_of(
+        &self,
+        start: &Start,
+        serving: &Serving<'_>,
+        service: &Service,
+    ) -> Result<ScanTexts, AllocError> {
+        let status = self.status(start, serving, service)?;
+        let metrics = Metrics {
+            start,
+            service,
+            standing: self.alarm_watch.standing()?,
+            began_at: self.line_writer.began_at(),
+            scanned_at: self.scanned_at,
+            period: serving.period,
+            late: self.late,
+            steps: self.steps.last(),
+            clients: self.sockets.clients().count(),
+        };
+        let metrics = metrics_text(self.alloc, &metrics)?;
+        Ok(ScanTexts::new(status, metrics, service.scans()))
+    }
+
     // How the service stands, with what is told of the program that runs.
     fn status(
         &self,
@@ -303,15 +374,23 @@ impl<'a, W: Write> ServeLoop<'a, W> {
         status_text(
             self.alloc,
             start,
-            self.line_writer.time_of_day(),
-            self.line_writer.now() / 1000,
-            self.late,
+            &self.line_writer,
+            self.counts(),
             serving,
             service,
             self.addresses,
             self.sockets.clients(),
             &self.alarm_watch,
         )
+    }
+
+    fn counts(&self) -> ServiceCounts {
+        ServiceCounts {
+            seconds: self.line_writer.now() / 1000,
+            late: self.late,
+            lines: self.line_writer.told(),
+            steps: self.steps,
+        }
     }
 
     /// Waits until there is something to do: at the latest when the next look is due, where there is one.

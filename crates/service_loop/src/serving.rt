@@ -6,6 +6,15 @@ use std::io;
 use std::io::ErrorKind;
 use std::net::SocketAddr;
 
+/// Where browsers and monitors look.
+#[derive(Clone, Copy)]
+pub struct PageWindow<'a> {
+    /// Where they come to.
+    pub listen: SocketAddr,
+    /// By which names this machine is asked there, beside its addresses.
+    pub names: &'a [String],
+}
+
 /// What a service is to do.
 #[derive(Clone, Copy)]
 pub struct Serving<'a> {
@@ -17,6 +26,10 @@ pub struct Serving<'a> {
     pub times: Times,
     /// Where clients come to.
     pub listen: SocketAddr,
+    /// Where browsers and monitors look; none where they can't.
+    pub page: Option<PageWindow<'a>>,
+    /// From one scan to the next, in milliseconds.
+    pub period: u64,
     /// The most clients at once.
     pub clients: usize,
     /// For how many hours each device may be gone in its sleep, in their order.
@@ -36,6 +49,8 @@ pub struct Serving<'a> {
 pub enum End {
     /// Nothing can be served at the address, for this cause.
     Listen(ErrorKind),
+    /// Browsers and monitors can't look at the address for them, for this cause.
+    Page(ErrorKind),
     /// Set values can't be kept, for this cause.
     State(StateFault),
     /// The clock, or the wait for sockets, failed.
@@ -58,6 +73,14 @@ impl End {
         match fault.kind() {
             ErrorKind::OutOfMemory => End::OutOfMemory,
             kind => End::Listen(kind),
+        }
+    }
+
+    /// The end that a fault of the socket for those who look is.
+    pub(crate) fn at_page(fault: &io::Error) -> End {
+        match fault.kind() {
+            ErrorKind::OutOfMemory => End::OutOfMemory,
+            kind => End::Page(kind),
         }
     }
 

@@ -4,9 +4,11 @@ use crate::device_sockets::DeviceSockets;
 use crate::door::Door;
 use crate::kept_files::Kept;
 use crate::line_writer::LineWriter;
-use crate::serving::{End, Serving};
+use crate::page_sockets::{PLACES, PageSockets};
+use crate::serving::{End, PageWindow, Serving};
 use crate::tokens::{DOOR, Owner, SocketTokens};
 use mio::{Events, Poll, Token};
+use page_server::PageTexts;
 use service::Service;
 use site_model::Text;
 use std::alloc::{AllocError, Global};
@@ -14,6 +16,7 @@ use std::io;
 use std::io::Write;
 use std::net::{Net, SocketAddr};
 use std::process::{Processes, SystemProcess};
+use std::random::RandomSource;
 use std::time::Duration;
 
 /// The longest wait while one at the door couldn't be taken in, in milliseconds.
@@ -27,6 +30,8 @@ pub(crate) struct Sockets {
     door: Door,
     links: DeviceSockets,
     clients: Clients,
+    /// Those who look; None where nobody can.
+    pages: Option<PageSockets>,
     tokens: SocketTokens,
 }
 
@@ -38,7 +43,7 @@ pub(crate) struct TurnTaken {
 
 impl Sockets {
     /// The socket that clients come to, and no connection yet.
-    pub(crate) fn new<R: Net>(
+    pub(crate) fn new<R: Net + RandomSource>(
         rt: &R,
         alloc: Global,
         serving: &Serving<'_>,
@@ -46,7 +51,11 @@ impl Sockets {
     ) -> Result<Sockets, End> {
         let poll = poll_of(rt)?;
         let door = door_of(rt, &poll, serving.listen)?;
-        match Sockets::over(alloc, poll, door, serving, links) {
+        let pages = match serving.page {
+            Some(window) => Some(pages_of(rt, alloc, &poll, window, links.len())?),
+            None => None,
+        };
+        match Sockets::over(alloc, poll, door, pages, serving, links) {
             Ok(sockets) => Ok(sockets),
             Err(fault) => Err(End::by(&fault)),
         }
@@ -56,11 +65,12 @@ impl Sockets {
         alloc: Global,
         poll: Poll,
         door: Door,
+        pages: Option<PageSockets>,
         serving: &Serving<'_>,
         links: &[Text],
     ) -> io::Result<Sockets> {
         let tokens = SocketTokens::new(links.len());
-        let most = tokens.of_client(serving.clients);
+        let most = tokens.of_client(serving.clients).saturating_add(PLACES);
         let links = DeviceSockets::new(alloc, tokens, links)?;
         let clients = Clients::new(alloc, tokens, serving.clients, serving.is_verbose)?;
         Ok(Sockets {
@@ -69,6 +79,7 @@ impl Sockets {
             door,
             links,
             clients,
+            pages,
             tokens,
         })
     }
@@ -76,6 +87,29 @@ impl Sockets {
     /// The address that clients come to.
     pub(crate) fn address(&self) -> io::Result<SocketAddr> {
         self.door.address()
+    }
+
+    /// The address that those who look come to, where they can.
+    pub(crate) fn page_address(&self) -> Option<SocketAddr> {
+        match &self.pages {
+            Some(pages) => pages.address().ok(),
+            None => None,
+        }
+    }
+
+    /// Whether somebody who looks is to be answered.
+    pub(crate) fn has_lookers(&self) -> bool {
+        match &self.pages {
+            Some(pages) => pages.is_busy(),
+            None => false,
+        }
+    }
+
+    /// Answers those who look, by these texts; closes those who are silent.
+    pub(crate) fn show(&mut self, window: PageWindow<'_>, texts: PageTexts<'_>, now: u64) {
+        if let Some(pages) = &mut self.pages {
+            pages.turn(self.poll.registry(), texts, window.names, now);
+        }
     }
 
     /// This is set at the start.
@@ -137,7 +171,10 @@ impl Sockets {
         if self.door.is_busy() || self.links.is_busy(service) || self.clients.is_busy(service) {
             return 0;
         }
-        if self.door.is_stuck() {
+        if self.has_lookers() {
+            return 0;
+        }
+        if self.door.is_stuck() || self.has_stuck_lookers() {
             most.min(TRY_AGAIN)
         } else {
             most
@@ -157,6 +194,13 @@ impl Sockets {
         self.links.end();
     }
 
+    fn has_stuck_lookers(&self) -> bool {
+        match &self.pages {
+            Some(pages) => pages.is_stuck(),
+            None => false,
+        }
+    }
+
     // Marks those of whom the system says that there is something to do. It says so once.
     fn wake(&mut self) {
         for event in self.events.iter() {
@@ -164,8 +208,36 @@ impl Sockets {
                 Owner::Door => self.door.wake(),
                 Owner::Link(number) => self.links.wake(number),
                 Owner::Client(place) => self.clients.wake(place),
+                Owner::PageDoor => wake_page_door(&mut self.pages),
+                Owner::Page(place) => wake_page(&mut self.pages, place),
             }
         }
+    }
+}
+
+fn wake_page_door(pages: &mut Option<PageSockets>) {
+    if let Some(pages) = pages {
+        pages.wake_door();
+    }
+}
+
+fn wake_page(pages: &mut Option<PageSockets>, place: usize) {
+    if let Some(pages) = pages {
+        pages.wake(place);
+    }
+}
+
+fn pages_of<R: Net + RandomSource>(
+    rt: &R,
+    alloc: Global,
+    poll: &Poll,
+    window: PageWindow<'_>,
+    links: usize,
+) -> Result<PageSockets, End> {
+    let tokens = SocketTokens::new(links);
+    match PageSockets::new(rt, alloc, poll.registry(), tokens, window.listen) {
+        Ok(pages) => Ok(pages),
+        Err(fault) => Err(End::at_page(&fault)),
     }
 }
 

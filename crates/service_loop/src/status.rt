@@ -1,7 +1,10 @@
 //! How a service stands, as JSON.
 use crate::alarm_watch::AlarmWatch;
+use crate::client::Client;
 use crate::clients::Clients;
-use crate::members::{put_list, put_number, put_text};
+use crate::line_writer::LineWriter;
+use crate::members::{put_list, put_number, put_text, put_truth};
+use crate::scan_steps::ScanSteps;
 use crate::serving::Serving;
 use crate::status_alarms::alarms_value;
 use crate::status_devices::devices_value;
@@ -10,14 +13,26 @@ use serde_json::{Map, Value, put};
 use service::Service;
 use service_texts::{Addresses, Start};
 use std::alloc::{AllocError, Global};
+use std::io::Write;
 
-/// The text of how a service stands at a time of day, so many seconds after its start, with so many rounds that began late.
-pub(crate) fn status_text(
+/// What a service has counted.
+#[derive(Clone, Copy)]
+pub(crate) struct ServiceCounts {
+    /// The whole seconds since its start.
+    pub seconds: u64,
+    /// The rounds that began late.
+    pub late: u64,
+    /// The lines that were written.
+    pub lines: u64,
+    pub steps: ScanSteps,
+}
+
+/// The text of how a service stands at the time of its lines.
+pub(crate) fn status_text<W: Write>(
     alloc: Global,
     start: &Start,
-    time: Result<String, AllocError>,
-    seconds: u64,
-    late: u64,
+    line_writer: &LineWriter<'_, W>,
+    counts: ServiceCounts,
     serving: &Serving<'_>,
     service: &Service,
     addresses: &Addresses,
@@ -25,28 +40,64 @@ pub(crate) fn status_text(
     alarm_watch: &AlarmWatch,
 ) -> Result<String, AllocError> {
     let mut status = Map::new(alloc);
-    let standing = alarm_watch.standing()?;
     put_list(
         &mut status,
         alloc,
         "alarms",
-        alarms_value(alloc, service.core(), standing, alarm_watch.refused_for())?,
+        alarms_value(alloc, service.core(), alarm_watch, line_writer)?,
     )?;
     put(&mut status, alloc, "started", started_value(alloc, start)?)?;
-    put_text(&mut status, alloc, "time", time?.as_str())?;
-    put_number(&mut status, alloc, "seconds", seconds)?;
+    put_text(
+        &mut status,
+        alloc,
+        "time",
+        line_writer.time_of_day()?.as_str(),
+    )?;
     put_number(&mut status, alloc, "scans", service.scans())?;
-    put_number(&mut status, alloc, "late", late)?;
-    put_site(&mut status, alloc, serving, service, addresses, alarm_watch)?;
+    put_counts(&mut status, alloc, counts)?;
+    put_site(
+        &mut status,
+        alloc,
+        serving,
+        service,
+        addresses,
+        clients,
+        alarm_watch,
+    )?;
     put_list(
         &mut status,
         alloc,
         "clients",
-        clients_value(alloc, service, clients)?,
+        clients_value(alloc, service, clients, line_writer.now())?,
     )?;
     let mut text = Value::Object(status).to_string(alloc)?;
     text.push_str("\n")?;
     Ok(text)
+}
+
+fn put_counts(
+    status: &mut Map<String, Value>,
+    alloc: Global,
+    counts: ServiceCounts,
+) -> Result<(), AllocError> {
+    put_number(status, alloc, "seconds", counts.seconds)?;
+    put_number(status, alloc, "late", counts.late)?;
+    put_steps(status, alloc, "steps", counts.steps.last())?;
+    put_steps(status, alloc, "steps_most", counts.steps.most())?;
+    put_number(status, alloc, "events", counts.lines)
+}
+
+/// Puts how many instructions a scan took, or null before the first one.
+fn put_steps(
+    status: &mut Map<String, Value>,
+    alloc: Global,
+    key: &str,
+    steps: Option<u32>,
+) -> Result<(), AllocError> {
+    match steps {
+        Some(steps) => put_number(status, alloc, key, u64::from(steps)),
+        None => put(status, alloc, key, Value::Null),
+    }
 }
 
 /// What runs since when.
@@ -66,6 +117,7 @@ fn put_site(
     serving: &Serving<'_>,
     service: &Service,
     addresses: &Addresses,
+    clients: &Clients,
     alarm_watch: &AlarmWatch,
 ) -> Result<(), AllocError> {
     let core = service.core();
@@ -75,31 +127,43 @@ fn put_site(
         "devices",
         devices_value(alloc, serving, service, addresses, alarm_watch)?,
     )?;
-    put(status, alloc, "tags", tags_value(alloc, core)?)?;
+    put(status, alloc, "tags", tags_value(alloc, core, clients)?)?;
     put(status, alloc, "outputs", outputs_value(alloc, service)?)?;
     put(status, alloc, "set", set_value(alloc, core)?)?;
     put(status, alloc, "variables", variables_value(alloc, core)?)
 }
 
+/// Each client, so many milliseconds after the start.
 fn clients_value(
     alloc: Global,
     service: &Service,
     clients: &Clients,
+    now: u64,
 ) -> Result<Vec<Value>, AllocError> {
     let mut values = Vec::new(alloc);
     for place in 0..clients.places() {
-        if let Some(address) = clients.address_at(place) {
-            let address = address.to_string(alloc)?;
+        if let Some(client) = clients.at(place) {
             let requests = service.client_requests(place);
-            values.push(client_value(alloc, address.as_str(), requests)?)?;
+            values.push(client_value(alloc, client, requests, now)?)?;
         }
     }
     Ok(values)
 }
 
-fn client_value(alloc: Global, address: &str, requests: u64) -> Result<Value, AllocError> {
-    let mut client = Map::new(alloc);
-    put_text(&mut client, alloc, "address", address)?;
-    put_number(&mut client, alloc, "requests", requests)?;
-    Ok(Value::Object(client))
+fn client_value(
+    alloc: Global,
+    client: &Client,
+    requests: u64,
+    now: u64,
+) -> Result<Value, AllocError> {
+    let (mut value, record) = (Map::new(alloc), client.record);
+    let address = client.address.to_string(alloc)?;
+    put_text(&mut value, alloc, "address", address.as_str())?;
+    put_truth(&mut value, alloc, "may_write", record.may_write)?;
+    put_number(&mut value, alloc, "requests", requests)?;
+    put_number(&mut value, alloc, "writes", record.writes)?;
+    put_number(&mut value, alloc, "refused", record.refused)?;
+    put_number(&mut value, alloc, "age", record.age(now))?;
+    put_number(&mut value, alloc, "idle", record.idle(now))?;
+    Ok(Value::Object(value))
 }

@@ -1,4 +1,5 @@
 //! The numbers of a service, as JSON.
+use crate::clients::Clients;
 use crate::members::{put_number, put_signed, put_text};
 use gateway::{Core, DEPTH};
 use point_types::{Cause, Reading};
@@ -7,30 +8,130 @@ use service::{Difference, OutputState, Service, Unwritten};
 use service_alarms::{fitted_number, missing_word, shown_number, unwritten_word};
 use site_model::{Access, SiteTag};
 use std::alloc::{AllocError, Global};
+use std::net::SocketAddr;
 
 /// What each tag was in the last scan, by its name.
-pub(crate) fn tags_value(alloc: Global, core: &Core<DEPTH>) -> Result<Value, AllocError> {
+pub(crate) fn tags_value(
+    alloc: Global,
+    core: &Core<DEPTH>,
+    clients: &Clients,
+) -> Result<Value, AllocError> {
     let mut values = Map::new(alloc);
-    for (tag, reading) in core.site().tags().iter().zip(core.readings()) {
-        let value = tag_value(alloc, tag, *reading)?;
-        put(&mut values, alloc, tag.name.as_str(), value)?;
+    for (place, tag) in core.site().tags().iter().enumerate() {
+        let mut value = Map::new(alloc);
+        put_text(&mut value, alloc, "access", access_word(tag.access))?;
+        put_signed(&mut value, alloc, "exponent", Some(i64::from(tag.exponent)))?;
+        put_numbers(&mut value, alloc, core, tag, place)?;
+        put_setter(&mut value, alloc, clients.setter(place))?;
+        put(&mut values, alloc, tag.name.as_str(), Value::Object(value))?;
     }
     Ok(Value::Object(values))
 }
 
-fn tag_value(alloc: Global, tag: &SiteTag, reading: Reading) -> Result<Value, AllocError> {
-    let mut value = Map::new(alloc);
-    put_text(&mut value, alloc, "access", access_word(tag.access))?;
-    put_signed(&mut value, alloc, "exponent", Some(i64::from(tag.exponent)))?;
-    match reading {
-        Reading::Value(number) => put_signed(&mut value, alloc, "value", Some(number))?,
-        Reading::Default(number, cause) => {
-            put_signed(&mut value, alloc, "default", Some(number))?;
-            put_cause(&mut value, alloc, tag.access, cause)?;
+/// Puts what a tag is: what the program stored where it writes it, else what it was to the program.
+fn put_numbers(
+    value: &mut Map<String, Value>,
+    alloc: Global,
+    core: &Core<DEPTH>,
+    tag: &SiteTag,
+    place: usize,
+) -> Result<(), AllocError> {
+    match tag.access {
+        Access::Output | Access::Shown => {
+            put_known(value, alloc, "value", number_at(core.outputs(), place))
         }
-        Reading::Absent(cause) => put_cause(&mut value, alloc, tag.access, cause)?,
+        Access::Input | Access::Setting | Access::Time => {
+            if let Some(reading) = core.readings().get(place) {
+                put_reading(value, alloc, tag.access, *reading)?;
+            }
+            put_age(value, alloc, core, tag, place)
+        }
     }
-    Ok(Value::Object(value))
+}
+
+fn put_reading(
+    value: &mut Map<String, Value>,
+    alloc: Global,
+    access: Access,
+    reading: Reading,
+) -> Result<(), AllocError> {
+    match reading {
+        Reading::Value(number) => put_signed(value, alloc, "value", Some(number)),
+        Reading::Default(number, cause) => {
+            put_signed(value, alloc, "default", Some(number))?;
+            put_cause(value, alloc, access, cause)
+        }
+        Reading::Absent(cause) => put_cause(value, alloc, access, cause),
+    }
+}
+
+/// Puts who set a tag, where somebody did.
+fn put_setter(
+    value: &mut Map<String, Value>,
+    alloc: Global,
+    setter: Option<SocketAddr>,
+) -> Result<(), AllocError> {
+    match setter {
+        Some(address) => {
+            let by = address.to_string(alloc)?;
+            put_text(value, alloc, "by", by.as_str())
+        }
+        None => Ok(()),
+    }
+}
+
+/// Puts a number, where there is one.
+fn put_known(
+    value: &mut Map<String, Value>,
+    alloc: Global,
+    key: &str,
+    number: Option<i64>,
+) -> Result<(), AllocError> {
+    match number {
+        Some(_) => put_signed(value, alloc, key, number),
+        None => Ok(()),
+    }
+}
+
+/// Puts since when a tag that clients set was set, and when it lapses; nothing where it isn't set.
+fn put_age(
+    value: &mut Map<String, Value>,
+    alloc: Global,
+    core: &Core<DEPTH>,
+    tag: &SiteTag,
+    place: usize,
+) -> Result<(), AllocError> {
+    if number_at(core.settings(), place).is_none() {
+        return Ok(());
+    }
+    match age_at(core.ages(), place) {
+        Some(age) => put_seconds(value, alloc, tag.lapse, age / 1000),
+        None => Ok(()),
+    }
+}
+
+/// Puts for how many seconds a tag is set, and for how many more it is.
+fn put_seconds(
+    value: &mut Map<String, Value>,
+    alloc: Global,
+    lapse: Option<u32>,
+    age: u32,
+) -> Result<(), AllocError> {
+    put_number(value, alloc, "age", u64::from(age))?;
+    match lapse {
+        Some(lapse) => {
+            let left = lapse.saturating_sub(age);
+            put_number(value, alloc, "left", u64::from(left))
+        }
+        None => Ok(()),
+    }
+}
+
+fn age_at(ages: &[Option<u32>], place: usize) -> Option<u32> {
+    match ages.get(place) {
+        Some(age) => *age,
+        None => None,
+    }
 }
 
 /// Puts why a tag has no value of its own, where one is wanted: of an `in` tag.

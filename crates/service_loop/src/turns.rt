@@ -12,16 +12,24 @@ use std::fs::File;
 use std::io::Write;
 use std::net::Net;
 use std::process::{Processes, SystemProcess};
+use std::random::RandomSource;
 use std::rt::Files;
 use std::time::Clock;
 
 /// Serves a site, of which nothing was asked yet, until the scans that were asked for are done. `addresses` are
 /// those of the service's connections, whose time begins at 0. `program` looks whether another program is to run. Nothing that
 /// a peer does ends it, and no file once it began.
-/// State: the file of set values can't be kept; Listen: nothing can be served at the address for clients; System: the clock or
+/// State: the file of set values can't be kept; Listen: nothing can be served at the address for clients; Page: at that for those
+/// who look; System: the clock or
 /// the wait for sockets failed; OutOfMemory: memory was refused at the start.
 pub fn serve_site<
-    R: Net + Clock + Files<File = File> + Processes<Started = SystemProcess> + Eprint + AllocGlobal,
+    R: Net
+        + Clock
+        + RandomSource
+        + Files<File = File>
+        + Processes<Started = SystemProcess>
+        + Eprint
+        + AllocGlobal,
     P: ProgramWatch,
     W: Write,
 >(

@@ -22,6 +22,7 @@ use service_texts::{Addresses, DeviceSource, Start, addresses_of, plant_addresse
 use std::alloc::{AllocError, Global};
 use std::fs::File;
 use std::io::{Read, Write};
+use std::net::SocketAddr;
 use std::rt::Files;
 
 /// What is told at the start where set values aren't kept.
@@ -336,6 +337,9 @@ fn serve_over<R: LoopRuntime + Files<File = File>, W: Write>(
         Err(End::Listen(kind)) => {
             tell_unserved(rt, alloc, &run.notes, run.serving.listen, kind, out)
         },
+        Err(End::Page(kind)) => {
+            tell_unserved(rt, alloc, &run.notes, page_address(&run.serving), kind, out)
+        },
         Err(End::State(fault)) => {
             tell_unkept(rt, alloc, &run.notes, state_path(&run.keeping), fault, out)
         },
@@ -370,6 +374,14 @@ fn serve_programs<R: LoopRuntime + Files<File = File>, W: Write>(
             service,
             out,
         )
+    }
+}
+
+/// The address at which nobody can look.
+fn page_address(serving: &Serving<'_>) -> SocketAddr {
+    match serving.page {
+        Some(window) => window.listen,
+        None => serving.listen,
     }
 }
 

@@ -7,7 +7,7 @@ use clap::builder::ValueParser;
 use clap::{Arg, ArgAction, ArgMatches, Command};
 use point_types::Items;
 use service::Limits;
-use service_loop::{Keeping, KeptState, Serving};
+use service_loop::{Keeping, KeptState, PageWindow, Serving};
 use service_texts::{
     DeviceSource, DevicesFault, Start, Times, Writer, WriterFault, devices_of, limits,
     program_path, times_of, writers_of,
@@ -32,6 +32,9 @@ const KEPT_OVER: Misuse = Misuse::Words(
 /// What is wrong with the address of all devices.
 pub(crate) const NO_PORT: &str = "'--devices' is no HOST:PORT";
 
+/// What is wrong with the address for those who look.
+const UNKNOWN_PAGE: Misuse = Misuse::Words("'--page' is no HOST:PORT that is known");
+
 /// From one scan to the next, and the longest wait for a device's reply, where no other is asked for, in milliseconds.
 const USUAL: &str = "1000";
 
@@ -53,6 +56,13 @@ fn with_times<'a>(alloc: Global, command: Command<'a>) -> Result<Command<'a>, Al
         .arg(timeout_option(alloc))?
         .arg(clients_option(alloc))?
         .arg(writers_option(alloc))?;
+    with_window(alloc, command)
+}
+
+fn with_window<'a>(alloc: Global, command: Command<'a>) -> Result<Command<'a>, AllocError> {
+    let command = command
+        .arg(page_option(alloc))?
+        .arg(page_host_option(alloc))?;
     with_files(alloc, command)
 }
 
@@ -94,6 +104,25 @@ fn plant_option<'a>(alloc: Global) -> Arg<'a> {
 
 fn listen_option<'a>(alloc: Global) -> Arg<'a> {
     option(alloc, "listen", "HOST:PORT", "where clients come to").default_value(USUAL_DOOR)
+}
+
+fn page_option<'a>(alloc: Global) -> Arg<'a> {
+    option(
+        alloc,
+        "page",
+        "HOST:PORT",
+        "where monitors look, over HTTP: /metrics and /status.json",
+    )
+}
+
+fn page_host_option<'a>(alloc: Global) -> Arg<'a> {
+    option(
+        alloc,
+        "page-host",
+        "NAME",
+        "a name by which this machine is asked there, beside its addresses",
+    )
+    .action(ArgAction::Append)
 }
 
 fn clients_option<'a>(alloc: Global) -> Arg<'a> {
@@ -183,6 +212,10 @@ fn verbose_flag<'a>(alloc: Global) -> Arg<'a> {
 pub(crate) struct ServiceWords<'a> {
     /// The address that clients come to.
     pub listen: SocketAddr,
+    /// Where those come to who look; None where nobody can.
+    pub page: Option<SocketAddr>,
+    /// By which names this machine is asked there, beside its addresses.
+    pub page_hosts: Vec<String>,
     /// The clients that may write.
     pub writers: Items<Writer>,
     pub devices: DeviceSource<'a>,
@@ -229,15 +262,33 @@ pub(crate) fn service_words<'a, R: Net>(
         return Err(KEPT_OVER);
     }
     let listen = listen_address(rt, matches)?;
+    let page = page_address(rt, matches)?;
+    let page_hosts = texts_of(alloc, matches.get_strs("page-host").unwrap_or(&[]))?;
     let writers = writers_of(alloc, matches.get_strs("write-from").unwrap_or(&[]))?;
     let devices = devices_of(matches.get_str("devices"), matches.get_str("plant"))?;
     let times = times_in(matches)?;
     Ok(ServiceWords {
         listen,
+        page,
+        page_hosts,
         writers,
         devices,
         times,
     })
+}
+
+/// The same texts, owned.
+fn texts_of(alloc: Global, words: &[&str]) -> Result<Vec<String>, Misuse> {
+    let mut texts = Vec::new(alloc);
+    for word in words {
+        let Ok(text) = String::from_str(alloc, *word) else {
+            return Err(Misuse::OutOfMemory);
+        };
+        if texts.push(text).is_err() {
+            return Err(Misuse::OutOfMemory);
+        }
+    }
+    Ok(texts)
 }
 
 /// Whether the file in which the program is kept, beside that of set values, is another one of the command.
@@ -304,6 +355,8 @@ pub(crate) fn serving_of<'a>(
         refused: None,
         times: words.times,
         listen: words.listen,
+        page: window_of(words),
+        period: milliseconds(matches, "every"),
         clients: most_clients(matches),
         sleeps: &[],
         identities: &[],
@@ -313,15 +366,41 @@ pub(crate) fn serving_of<'a>(
     }
 }
 
+fn window_of<'a>(words: &'a ServiceWords<'_>) -> Option<PageWindow<'a>> {
+    match words.page {
+        Some(listen) => Some(PageWindow {
+            listen,
+            names: words.page_hosts.as_slice(),
+        }),
+        None => None,
+    }
+}
+
 /// The address that clients come to.
 fn listen_address<R: Net>(rt: &R, matches: &ArgMatches<'_>) -> Result<SocketAddr, Misuse> {
     let word = matches.get_str("listen").unwrap_or(USUAL_DOOR);
+    match found_address(rt, word) {
+        Some(address) => Ok(address),
+        None => Err(UNKNOWN_LISTEN),
+    }
+}
+
+/// The address that those come to who look, where there is one.
+fn page_address<R: Net>(rt: &R, matches: &ArgMatches<'_>) -> Result<Option<SocketAddr>, Misuse> {
+    let Some(word) = matches.get_str("page") else {
+        return Ok(None);
+    };
+    match found_address(rt, word) {
+        Some(address) => Ok(Some(address)),
+        None => Err(UNKNOWN_PAGE),
+    }
+}
+
+/// The first address of `HOST:PORT`.
+fn found_address<R: Net>(rt: &R, word: &str) -> Option<SocketAddr> {
     match word.to_socket_addrs(rt) {
-        Ok(mut found) => match found.next() {
-            Some(address) => Ok(address),
-            None => Err(UNKNOWN_LISTEN),
-        },
-        Err(_) => Err(UNKNOWN_LISTEN),
+        Ok(mut found) => found.next(),
+        Err(_) => None,
     }
 }
 

@@ -1,0 +1,137 @@
+//! What is answered to a request.
+use crate::hosts::is_known_host;
+use bytes::{BufMut, Bytes};
+use http::{HeaderValue, Method, Request, StatusCode, header};
+use http_server::{Response, Service};
+use std::alloc::AllocError;
+
+/// The texts that are shown, of now.
+#[derive(Clone, Copy)]
+pub struct PageTexts<'a> {
+    /// How the service stands, as JSON.
+    pub status: &'a str,
+    /// Its numbers, in Prometheus' text format 0.0.4.
+    pub metrics: &'a str,
+}
+
+/// Whoever answers requests by these texts.
+#[derive(Drop)]
+pub struct Pages<'a> {
+    texts: PageTexts<'a>,
+    /// By which names this machine is asked, beside its addresses.
+    names: &'a [String],
+    /// How many requests were answered.
+    answered: u64,
+}
+
+/// One of the texts.
+#[derive(Clone, Copy)]
+enum Page {
+    Status,
+    Metrics,
+}
+
+impl<'a> Pages<'a> {
+    pub fn new(texts: PageTexts<'a>, names: &'a [String]) -> Pages<'a> {
+        Pages {
+            texts,
+            names,
+            answered: 0,
+        }
+    }
+
+    /// How many requests were answered.
+    pub fn answered(&self) -> u64 {
+        self.answered
+    }
+
+    fn answer(&self, request: &Request<Bytes>, response: &mut Response) -> Result<(), AllocError> {
+        keep_private(response)?;
+        match self.page_of(request) {
+            Ok(page) => self.show(page, response),
+            Err(status) => refuse(status, response),
+        }
+    }
+
+    /// The text that is asked for, or why there is none: the method isn't GET or HEAD, the request is for another host, or there is
+    /// no such path.
+    fn page_of(&self, request: &Request<Bytes>) -> Result<Page, StatusCode> {
+        if *request.method() != Method::GET && *request.method() != Method::HEAD {
+            return Err(StatusCode::METHOD_NOT_ALLOWED);
+        }
+        if !self.is_for_us(request) {
+            return Err(StatusCode::MISDIRECTED_REQUEST);
+        }
+        match request.uri().path() {
+            "/status.json" => Ok(Page::Status),
+            "/metrics" => Ok(Page::Metrics),
+            _ => Err(StatusCode::NOT_FOUND),
+        }
+    }
+
+    /// Whether a request is for this machine: by its target, where that says so, else by its field Host.
+    fn is_for_us(&self, request: &Request<Bytes>) -> bool {
+        if let Some(host) = request.uri().host() {
+            return is_known_host(host, self.names);
+        }
+        match request.headers().get(header::HOST) {
+            Some(host) => match host.to_str() {
+                Ok(host) => is_known_host(host, self.names),
+                Err(_) => false,
+            },
+            None => false,
+        }
+    }
+
+    fn show(&self, page: Page, response: &mut Response) -> Result<(), AllocError> {
+        let (kind, text) = match page {
+            Page::Status => ("application/json", self.texts.status),
+            Page::Metrics => (
+                "text/plain; version=0.0.4; charset=utf-8",
+                self.texts.metrics,
+            ),
+        };
+        response.status = StatusCode::OK;
+        response.add_header(header::CONTENT_TYPE, HeaderValue::from_static(kind))?;
+        response.body.put_slice(text.as_bytes())
+    }
+}
+
+impl Service for Pages<'_> {
+    ghost answers = { λ old request response new. Unit {0} };
+
+    fn call(
+        &mut self,
+        request: &Request<Bytes>,
+        response: &mut Response,
+    ) -> Result<(), AllocError> {
+        self.answer(request, response)?;
+        self.answered = self.answered.saturating_add(1);
+        Ok(())
+    }
+}
+
+/// Nothing between here and there keeps an answer, and no page of another place shows it.
+fn keep_private(response: &mut Response) -> Result<(), AllocError> {
+    response.add_header(header::CACHE_CONTROL, HeaderValue::from_static("no-store"))?;
+    response.add_header(
+        header::X_CONTENT_TYPE_OPTIONS,
+        HeaderValue::from_static("nosniff"),
+    )?;
+    response.add_header(
+        header::REFERRER_POLICY,
+        HeaderValue::from_static("no-referrer"),
+    )?;
+    response.add_header(
+        header::CONTENT_SECURITY_POLICY,
+        HeaderValue::from_static("default-src 'none'; frame-ancestors 'none'"),
+    )
+}
+
+fn refuse(status: StatusCode, response: &mut Response) -> Result<(), AllocError> {
+    response.status = status;
+    if status == StatusCode::METHOD_NOT_ALLOWED {
+        response.add_header(header::ALLOW, HeaderValue::from_static("GET, HEAD"))?;
+    }
+    Ok(())
+}

@@ -1,0 +1,204 @@
+"""Plays of tools/try-serve on the window for monitors: what is asked and answered over HTTP, and what isn't."""
+
+import json
+import re
+import socket
+import time
+
+from serve_parts import Client, Service, text_of, until, within
+from serve_plays import DEVICE, GATEWAY, LIMIT, OwnDevice, inverter, put
+
+# a name with letters that end a label or a line
+HOSTILE = 'in\\"v\\\\1'
+SITE = """[[tag]]
+name = "w1"
+access = "in"
+device = "{device}"
+model = 103
+point = "W"
+type = "DINT"
+low = -400
+high = 65534
+exponent = 0
+
+[[tag]]
+name = "lim1"
+access = "out"
+device = "{device}"
+model = 123
+point = "WMaxLimPct"
+type = "INT"
+low = 0
+high = 100
+exponent = 0
+
+[[tag]]
+name = "target"
+access = "set"
+model = 123
+point = "WMaxLimPct"
+type = "INT"
+low = 0
+high = 100
+exponent = 0
+default = 50
+lapse = 60
+
+[[served]]
+model = 123
+point = "WMaxLimPct_SF"
+value = 0
+"""
+PROGRAM = """PROGRAM page
+VAR_EXTERNAL
+  lim1, target : INT;
+END_VAR
+  LD target
+  ST lim1
+END_PROGRAM
+"""
+
+
+
+class Window:
+    """A service with a window, its device, and a socket of one who looks."""
+
+    def __init__(self, program, folder, name, *more):
+        self.device = OwnDevice({1: inverter(1500)})
+        text = GATEWAY + DEVICE.format(n=1).replace('"inv1"', f'"{HOSTILE}"') + f'remote_unit = 1\naddress = "{self.device.address()}"\n'
+        site = put(folder, f"{name}.toml", text + SITE.format(device=HOSTILE))
+        words = [site, put(folder, f"{name}.il", PROGRAM), "--listen", "127.0.0.1:0", "--every", "100", "--page", "127.0.0.1:0", *more]
+        self.service = Service(program, words)
+        self.service.has(r"page .*")
+        line = [it for it in self.service.lines if it.startswith("page ")][0]
+        self.port = int(line.rsplit(":", 1)[1])
+
+    def connect(self):
+        return socket.create_connection(("127.0.0.1", self.port), within(5))
+
+    def ask(self, request, stream=None):
+        """The status, the fields and the body of the answer to a request; None where none came."""
+        with stream or self.connect() as it:
+            it.settimeout(within(5))
+            it.sendall(request)
+            return answer_of(it)
+
+    def get(self, path, method="GET", host="127.0.0.1", more=""):
+        return self.ask(f"{method} {path} HTTP/1.1\r\nHost: {host}\r\nConnection: close\r\n{more}\r\n".encode())
+
+    def numbers(self):
+        """The lines of /metrics that are numbers."""
+        status, fields, body = self.get("/metrics")
+        return [line for line in body.decode().split("\n") if line and not line.startswith("#")]
+
+    def end(self):
+        self.service.end()
+        self.device.gone()
+
+
+def answer_of(stream):
+    text = b""
+    try:
+        while piece := stream.recv(65536):
+            text += piece
+    except OSError:
+        pass
+    if not text:
+        return None
+    head, _, body = text.partition(b"\r\n\r\n")
+    lines = head.decode().split("\r\n")
+    return int(lines[0].split()[1]), dict(line.lower().split(": ", 1) for line in lines[1:]), body
+
+
+def play_numbers(counts, program, folder):
+    """The numbers of a service, and its status, as they are by now."""
+    window = Window(program, folder, "numbers")
+    client = Client(window.service.port())
+    counts.note("a client writes", client.write(LIMIT, 30)[0] == 6)
+    wanted = 'sunsite_tag_value{tag="lim1"} 30'
+    counts.note("what the program stored", until(lambda: wanted in window.numbers(), True), window.numbers())
+    numbers = window.numbers()
+    value = lambda name: [line.rsplit(" ", 1)[1] for line in numbers if line.startswith(name)]
+    counts.note("scans", int(value("sunsite_scans_total")[0]) > 0, numbers)
+    counts.note("the period", value("sunsite_period_seconds") == ["0.100"], numbers)
+    counts.note("the budget", value("sunsite_program_steps") <= value("sunsite_program_budget_steps") == ["3"], numbers)
+    counts.note("a device by its name, letter by letter", 'sunsite_device_up{device="in\\"v\\\\1",number="0"} 1' in numbers, numbers)
+    counts.note("an input", 'sunsite_tag_value{tag="w1"} 1500' in numbers, numbers)
+    counts.note("for how long a tag is set", value('sunsite_set_age_seconds{tag="target"}')[0] in ("0", "1", "2"), numbers)
+    counts.note("a client is there", value("sunsite_clients") == ["1"], numbers)
+    counts.note("no alarm", {line for line in numbers if line.startswith("sunsite_alarms") and not line.endswith(" 0")} == set() and len(value("sunsite_alarms")) == 13, numbers)
+    when = float(value("sunsite_last_scan_time_seconds")[0])
+    counts.note("when it scanned", abs(time.time() - when) < within(5), (when, time.time()))
+    counts.note("each line is a number", all(re.fullmatch(r'sunsite_\w+(\{(\w+="([^"\\\n]|\\["\\])*",?)+\})? -?[\d.]+', line) for line in numbers), numbers)
+    status, fields, body = window.get("/status.json")
+    counts.note("the status", (status, fields["content-type"]) == (200, "application/json") and json.loads(body)["tags"]["lim1"]["value"] == 30, body)
+    window.device.silent = True
+    lost = 'sunsite_device_up{device="in\\"v\\\\1",number="0"} 0'
+    counts.note("a lost device", until(lambda: lost in window.numbers(), True, 8), window.numbers())
+    counts.note("has no stale number", until(lambda: not any('value{tag="w1"}' in line for line in window.numbers()), True), window.numbers())
+    counts.note("but its cause", 'sunsite_tag_missing{tag="w1",cause="NoBlock"} 1' in window.numbers(), window.numbers())
+    counts.note("and an alarm", 'sunsite_alarms{kind="device_lost"} 1' in window.numbers(), window.numbers())
+    window.end()
+
+
+def play_requests(counts, program, folder):
+    """What is answered how."""
+    window = Window(program, folder, "requests", "--page-host", "plant.example")
+    for what, asked, wanted in (
+        ("a path that isn't there", {"path": "/nothing"}, 404),
+        ("a path above", {"path": "/../etc/passwd"}, 404),
+        ("another method", {"path": "/metrics", "method": "PUT"}, 405),
+        ("a body", {"path": "/metrics", "method": "POST", "more": "Content-Length: 3\r\n"}, 413),
+        ("another host", {"path": "/metrics", "host": "evil.example"}, 421),
+        ("no host", {"path": "/metrics", "host": ""}, 421),
+        ("a name that it has", {"path": "/metrics", "host": "PLANT.example:8080"}, 200),
+        ("another address", {"path": "/metrics", "host": "192.0.2.7:8080"}, 200),
+        ("an address of IPv6", {"path": "/metrics", "host": "[::1]:8080"}, 200),
+        ("a name that begins as an address", {"path": "/metrics", "host": "127.0.0.1.evil.example"}, 421),
+        ("a target of another host", {"path": "http://evil.example/metrics"}, 421),
+        ("a long head", {"path": "/metrics", "more": "X: " + "x" * 9000 + "\r\n"}, 431),
+        ("a long path", {"path": "/" + "x" * 9000}, 414),
+    ):
+        answer = window.get(**asked)
+        counts.note(what, answer is not None and answer[0] == wanted, answer)
+    counts.note("noise", window.ask(b"\x00\x01\x02\r\n\r\n")[0] == 400)
+    counts.note("which methods there are", window.get("/metrics", "DELETE")[1].get("allow") == "get, head")
+    status, fields, body = window.get("/status.json", "HEAD")
+    counts.note("the head alone", status == 200 and int(fields["content-length"]) > 500 and body == b"", (status, fields, body))
+    policy = ("no-store", "nosniff", "no-referrer", "default-src 'none'; frame-ancestors 'none'")
+    counts.note("nobody keeps or frames it", tuple(fields.get(it) for it in ("cache-control", "x-content-type-options", "referrer-policy", "content-security-policy")) == policy, fields)
+    window.end()
+
+
+def play_pieces(counts, program, folder):
+    """Requests in pieces and in a row, one who is slow, and more than there are places for."""
+    window = Window(program, folder, "pieces")
+    request = b"GET /metrics HTTP/1.1\r\nHost: 127.0.0.1\r\n\r\n"
+    last = request.replace(b"\r\n\r\n", b"\r\nConnection: close\r\n\r\n")
+    with window.connect() as stream:
+        for byte in last:
+            stream.sendall(bytes([byte]))
+            time.sleep(0.002)
+        answer = answer_of(stream)
+    counts.note("byte by byte", answer is not None and answer[0] == 200, answer)
+    with window.connect() as stream:
+        stream.sendall(request + request + last)
+        text = b""
+        while piece := stream.recv(65536):
+            text += piece
+    counts.note("three in a row", text.count(b"HTTP/1.1 200 OK") == 3, text[:200])
+    streams = [window.connect() for _ in range(16)]
+    counts.note("all places are taken", until(lambda: window.get("/metrics")[0], 503) == 503)
+    began = time.monotonic()
+    streams[0].sendall(b"GET /metrics")
+    streams[0].settimeout(within(15))
+    counts.note("one who doesn't end his request is closed", streams[0].recv(1) == b"" and 8 < time.monotonic() - began < within(14), time.monotonic() - began)
+    counts.note("his place is free", until(lambda: window.get("/metrics")[0], 200) == 200)
+    for it in streams:
+        it.close()
+    client = Client(window.service.port())
+    counts.note("clients are served as before", client.read(LIMIT) is not None)
+    window.end()
+
+
+PLAYS = (play_numbers, play_requests, play_pieces)
