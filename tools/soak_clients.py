@@ -1,7 +1,9 @@
-"""The clients of tools/soak: those that read, those that write, and hostile ones, with what they saw."""
+"""The clients of tools/soak: those that read, those that write, hostile ones, and those who look, with what they saw."""
 
 import collections
 import dataclasses
+import http.client
+import json
 import os
 import random
 import socket
@@ -166,6 +168,44 @@ def client_life(place, once, pause, own, until):
         if client:
             client.close()
             client = None
+    return seen
+
+
+def viewer_life(port, own, until):
+    """One who looks at the window for monitors each second, over one connection, by turns at the numbers and at the status."""
+    seen, link = Seen(), http.client.HTTPConnection("127.0.0.1", port, timeout=5)
+    while time.monotonic() < until:
+        try:
+            own += 1
+            link.request("GET", "/status.json" if own % 2 else "/metrics")
+            answer = link.getresponse()
+            text = answer.read().decode()
+            is_whole = json.loads(text)["scans"] > 0 if own % 2 else text.startswith("# HELP sunsite_info") and text.endswith("\n")
+            if answer.status != 200 or not is_whole:
+                seen.wrong.append(f"{answer.status}: {text[:80]}")
+            seen.requests += 1
+        except (OSError, ValueError, http.client.HTTPException) as fault:
+            seen.lost.append(repr(fault))
+            link.close()
+        time.sleep(1)
+    link.close()
+    return seen
+
+
+def slow_life(port, until):
+    """One who sends a request there a byte a second: it is closed before it is whole."""
+    seen = Seen()
+    while time.monotonic() < until:
+        with socket.create_connection(("127.0.0.1", port), 5) as link:
+            try:
+                for byte in b"GET /metrics HTTP/1.1\r\nHost: 127.0.0.1\r\n\r\n":
+                    link.sendall(bytes([byte]))
+                    time.sleep(1)
+                    if time.monotonic() >= until:
+                        break
+            except OSError:
+                pass
+        seen.requests += 1
     return seen
 
 
