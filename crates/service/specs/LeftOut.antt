@@ -68,7 +68,7 @@ IsLeftOut (why.Alone output) = IsThis output (state.Unwritten (unwritten.NoSetPo
 
 -- ---- without `rewrite`
 
--- Where the site says no `rewrite` of a device, or 0, no request to it is left out but for what it goes with.
+-- Where the site says no `rewrite` of a device, or 0, no request to it is left out except for what it goes with.
 abbrev pub NothingIsLeftOutWithoutRewrite : Type 0
 NothingIsLeftOutWithoutRewrite = (held : HeldWrites) (device number now : ℕ) (s : Stage) (own : SiteDevice) (made_for : Aim) (request : Request)
     → slice_get s.core.site.devices device ≡ Some own → own.rewrite ≡ 0 → IsPaired held.companions.items (Has held) number made_for → left_by held device number now s made_for request ≡ None
