@@ -1,11 +1,13 @@
-"""Plays of tools/try-serve on the window for monitors: what is asked and answered over HTTP, and what isn't."""
+"""Plays of tools/try-serve on the window for browsers and monitors: what is asked and answered over HTTP, and what isn't."""
 
+import base64
+import hashlib
 import json
 import re
 import socket
 import time
 
-from serve_parts import Client, Service, text_of, until, within
+from serve_parts import TOP, Client, Service, text_of, until, within
 from serve_plays import DEVICE, GATEWAY, LIMIT, OwnDevice, inverter, put
 
 # a name with letters that end a label or a line
@@ -170,6 +172,63 @@ def play_requests(counts, program, folder):
     window.end()
 
 
+def hash_of(body, tag):
+    """The hash of the text of the one element of this name, as a policy has it."""
+    (text,) = re.findall(rf"<{tag}>(.*?)</{tag}>".encode(), body, re.DOTALL)
+    return f"'sha256-{base64.b64encode(hashlib.sha256(text).digest()).decode()}'"
+
+
+def play_page(counts, program, folder):
+    """The page, and the policy by which a browser runs its own style and script alone."""
+    window = Window(program, folder, "page")
+    status, fields, body = window.get("/")
+    counts.note("the page", (status, fields.get("content-type")) == (200, "text/html; charset=utf-8"), (status, fields))
+    counts.note("is that of the repository", body.decode() == text_of(f"{TOP}/page/index.html"), len(body))
+    # (the fields are in small letters here)
+    policy = dict(it.split(" ", 1) for it in fields["content-security-policy"].split("; "))
+    for tag in ("style", "script"):
+        counts.note(f"the hash of its {tag}", policy.get(f"{tag}-src") == hash_of(body, tag).lower(), (policy, hash_of(body, tag)))
+    counts.note("nothing else runs", policy["default-src"] == "'none'" and policy["require-trusted-types-for"] == "'script'", policy)
+    wanted = ("no-store", "nosniff", "no-referrer", "same-origin", "same-origin")
+    names = ("cache-control", "x-content-type-options", "referrer-policy", "cross-origin-resource-policy", "cross-origin-opener-policy")
+    counts.note("nobody keeps it, or shows it elsewhere", tuple(fields.get(it) for it in names) == wanted, fields)
+    status, fields, none = window.get("/", "HEAD")
+    counts.note("its head alone", (status, int(fields["content-length"]), none) == (200, len(body), b""), (status, fields))
+    counts.note("no icon", window.get("/favicon.ico")[0] == 404)
+    counts.note("a query changes nothing", window.get("/?a=b")[2] == body)
+    window.end()
+
+
+def play_site(counts, program, folder):
+    """What doesn't change while a program runs, and another program by --reload."""
+    window = Window(program, folder, "site", "--reload", "--timeout", "40", "--write-from", "127.0.0.0/8")
+    status, fields, body = window.get("/site.json")
+    counts.note("the site", (status, fields["content-type"]) == (200, "application/json"), (status, fields))
+    site = json.loads(body)
+    counts.note("how it is served", (site["period"], site["timeout"], site["clients"], site["write_from"], site["unit"]) == (100, 40, 32, ["127.0.0.0/8"], 1), site)
+    counts.note("where", site["listen"] == f"127.0.0.1:{window.service.port()}", site["listen"])
+    counts.note("what is kept", (site["keeps"], site["reloads"]) == (False, True), site)
+    counts.note("its device, letter by letter", site["devices"][0]["name"] == 'in"v\\1', site["devices"])
+    lim1 = {"number": 1, "access": "out", "device": 0, "model": 123, "point": "WMaxLimPct", "unit": "% WMax", "type": "INT", "exponent": 0, "low": 0, "high": 100}
+    counts.note("a tag", site["tags"]["lim1"] == lim1, site["tags"])
+    target = site["tags"]["target"]
+    counts.note("a tag that clients set", (target["default"], target["lapse"], target["access"], "device" in target) == (50, 60, "set", False), target)
+    counts.note("what clients read", site["served"] == [{"model": 123, "point": "WMaxLimPct", "unit": "% WMax", "tag": "target"}], site["served"])
+    shown = site["program"]
+    counts.note("the program", (shown["file"], shown["budget"], shown["longest"], shown["variables"]) == ("site.il", 3, [5, 6, 7], {}), shown)
+    counts.note("its lines", [it["text"] for it in shown["lines"]] == PROGRAM.splitlines(), shown["lines"])
+    line = {"text": "  LD target", "code": [[0, "LDT", ""]], "uses": ["target"], "proved": ["INT", 0, 100]}
+    counts.note("what is known at a line", shown["lines"][4] == line, shown["lines"][4])
+    counts.note("the same once more", window.get("/site.json")[2] == body)
+    status, fields, none = window.get("/site.json", "HEAD")
+    counts.note("its head alone", (status, int(fields["content-length"]), none) == (200, len(body), b""), (status, fields))
+    put(folder, "site.il", PROGRAM.replace("  ST lim1", "  MIN 40\n  ST lim1"))
+    counts.note("another program is taken", window.service.has(r".*program taken budget 6", 10), window.service.lines[-3:])
+    shown = json.loads(window.get("/site.json")[2])["program"]
+    counts.note("and shown", (shown["budget"], shown["lines"][5]["text"], shown["lines"][5].get("proved")) == (6, "  MIN 40", ["INT", 0, 40]), shown)
+    window.end()
+
+
 def play_pieces(counts, program, folder):
     """Requests in pieces and in a row, one who is slow, and more than there are places for."""
     window = Window(program, folder, "pieces")
@@ -201,4 +260,4 @@ def play_pieces(counts, program, folder):
     window.end()
 
 
-PLAYS = (play_numbers, play_requests, play_pieces)
+PLAYS = (play_numbers, play_requests, play_page, play_site, play_pieces)

@@ -7,6 +7,7 @@ mod explain_table;
 mod failing;
 mod files;
 mod links;
+mod page_texts;
 mod processes;
 mod run;
 mod run_watch;
@@ -23,6 +24,7 @@ pub use files::{
 pub use links::{
     ProbeAddress, ProbeRun, WatchedLink, cause_of_link, link_over, loopback, probe_over,
 };
+pub use page_texts::{SitePart, program_text, site_text};
 pub use processes::{NoPort, start_plant, tell_no_port, told_port};
 pub use run::{PlantRun, RunPaths, run_into_files, run_plant, run_watched};
 pub use run_watch::{

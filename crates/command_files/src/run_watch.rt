@@ -16,6 +16,7 @@ pub use recorder::Recorder;
 pub use set_lines::{SetsFault, Setting, read_settings};
 pub use set_player::{SetPlayer, tell_late};
 use std::alloc::Global;
+pub(crate) use tag_points::TagPoints;
 pub use trace::Trace;
 pub use traced_spans::{TraceFault, TracedSpans};
 pub use unwritten::UnwrittenWatch;

@@ -4,6 +4,7 @@
 
 mod hosts;
 mod page_connection;
+mod page_text;
 mod pages;
 
 pub use hosts::is_known_host;

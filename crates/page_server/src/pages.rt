@@ -1,9 +1,13 @@
 //! What is answered to a request.
 use crate::hosts::is_known_host;
+use crate::page_text::{PAGE, POLICY};
 use bytes::{BufMut, Bytes};
-use http::{HeaderValue, Method, Request, StatusCode, header};
+use http::{HeaderName, HeaderValue, Method, Request, StatusCode, header};
 use http_server::{Response, Service};
 use std::alloc::AllocError;
+
+/// What a browser may do for every answer except the page: nothing.
+const NOTHING: &str = "default-src 'none'; frame-ancestors 'none'";
 
 /// The texts that are shown, of now.
 #[derive(Clone, Copy)]
@@ -12,6 +16,8 @@ pub struct PageTexts<'a> {
     pub status: &'a str,
     /// Its numbers, in Prometheus' text format 0.0.4.
     pub metrics: &'a str,
+    /// What doesn't change while its program runs, as JSON.
+    pub site: &'a str,
 }
 
 /// Whoever answers requests by these texts.
@@ -24,11 +30,13 @@ pub struct Pages<'a> {
     answered: u64,
 }
 
-/// One of the texts.
+/// One of the texts, or the page itself, which is a constant.
 #[derive(Clone, Copy)]
 enum Page {
+    Index,
     Status,
     Metrics,
+    Site,
 }
 
 impl<'a> Pages<'a> {
@@ -63,8 +71,10 @@ impl<'a> Pages<'a> {
             return Err(StatusCode::MISDIRECTED_REQUEST);
         }
         match request.uri().path() {
+            "/" => Ok(Page::Index),
             "/status.json" => Ok(Page::Status),
             "/metrics" => Ok(Page::Metrics),
+            "/site.json" => Ok(Page::Site),
             _ => Err(StatusCode::NOT_FOUND),
         }
     }
@@ -84,15 +94,22 @@ impl<'a> Pages<'a> {
     }
 
     fn show(&self, page: Page, response: &mut Response) -> Result<(), AllocError> {
-        let (kind, text) = match page {
-            Page::Status => ("application/json", self.texts.status),
+        let (kind, policy, text) = match page {
+            Page::Index => ("text/html; charset=utf-8", POLICY, PAGE),
+            Page::Status => ("application/json", NOTHING, self.texts.status),
             Page::Metrics => (
                 "text/plain; version=0.0.4; charset=utf-8",
+                NOTHING,
                 self.texts.metrics,
             ),
+            Page::Site => ("application/json", NOTHING, self.texts.site),
         };
         response.status = StatusCode::OK;
         response.add_header(header::CONTENT_TYPE, HeaderValue::from_static(kind))?;
+        response.add_header(
+            header::CONTENT_SECURITY_POLICY,
+            HeaderValue::from_static(policy),
+        )?;
         response.body.put_slice(text.as_bytes())
     }
 }
@@ -111,7 +128,7 @@ impl Service for Pages<'_> {
     }
 }
 
-/// Nothing between here and there keeps an answer, and no page of another place shows it.
+/// Nothing between here and there keeps an answer, no page of another place shows it, and none shares a window with it.
 fn keep_private(response: &mut Response) -> Result<(), AllocError> {
     response.add_header(header::CACHE_CONTROL, HeaderValue::from_static("no-store"))?;
     response.add_header(
@@ -123,13 +140,22 @@ fn keep_private(response: &mut Response) -> Result<(), AllocError> {
         HeaderValue::from_static("no-referrer"),
     )?;
     response.add_header(
-        header::CONTENT_SECURITY_POLICY,
-        HeaderValue::from_static("default-src 'none'; frame-ancestors 'none'"),
+        HeaderName::from_static("cross-origin-resource-policy"),
+        HeaderValue::from_static("same-origin"),
+    )?;
+    response.add_header(
+        HeaderName::from_static("cross-origin-opener-policy"),
+        HeaderValue::from_static("same-origin"),
     )
 }
 
+/// Answers without a text, by this status.
 fn refuse(status: StatusCode, response: &mut Response) -> Result<(), AllocError> {
     response.status = status;
+    response.add_header(
+        header::CONTENT_SECURITY_POLICY,
+        HeaderValue::from_static(NOTHING),
+    )?;
     if status == StatusCode::METHOD_NOT_ALLOWED {
         response.add_header(header::ALLOW, HeaderValue::from_static("GET, HEAD"))?;
     }

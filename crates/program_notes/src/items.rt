@@ -9,13 +9,15 @@ use verifier::told::{Shown, Standing, Told};
 /// The column from which what is known is written, and the one that it doesn't pass.
 const FROM: usize = 52;
 
-const TO: usize = 100;
+pub(crate) const TO: usize = 100;
 
 /// A line of the table as it grows.
 #[derive(Drop)]
 pub(crate) struct ItemLine {
     pub(crate) text: String,
     pub(crate) column: usize,
+    /// The column that it doesn't pass.
+    pub(crate) most: usize,
 }
 
 impl ItemLine {
@@ -47,7 +49,7 @@ impl ItemLine {
         let behind = self.column.saturating_add(item.chars().count());
         if self.column <= from {
             self.pad_to(from)?;
-        } else if behind.saturating_add(3) > TO {
+        } else if behind.saturating_add(3) > self.most {
             self.push(",")?;
             self.end()?;
             self.pad_to(from)?;
@@ -61,7 +63,7 @@ impl ItemLine {
     fn push_broken(&mut self, from: usize, item: &str) -> Result<(), AllocError> {
         let behind = self.column.saturating_add(item.chars().count());
         match item.rsplit_once(' ') {
-            Some((front, last)) if behind >= TO => {
+            Some((front, last)) if behind >= self.most => {
                 self.push(front)?;
                 self.end()?;
                 self.pad_to(from.saturating_add(2))?;
@@ -70,6 +72,21 @@ impl ItemLine {
             _ => self.push(item),
         }
     }
+}
+
+/// What is known before an instruction, in one line; nothing where it wasn't judged.
+pub(crate) fn known_words(
+    alloc: Global,
+    image: &Image,
+    known: &Option<Standing>,
+) -> Result<String, AllocError> {
+    let mut line = ItemLine {
+        text: String::new(alloc),
+        column: FROM,
+        most: usize::MAX,
+    };
+    push_known(alloc, &mut line, image, known)?;
+    Ok(line.text)
 }
 
 /// Appends what is known before an instruction; nothing where it wasn't judged.

@@ -1,7 +1,7 @@
 //! Programs in words. Why one isn't read ([`told_of_unread`]), has no code ([`told_of_unassembled`]) or isn't accepted
 //! ([`detail_of`]), by what is known there; where the carets stand; and what mends types that don't agree ([`mend_of`]).
-//! What is known before each instruction, line by line ([`table_of`], over [`rows_of`]); and which line and name an
-//! instruction has.
+//! What is known before each instruction, line by line, as a table ([`table_of`], over [`rows_of`]) or for another form
+//! ([`listing_of`]); and which line and name an instruction has.
 #![tactic(auto)]
 
 mod budget;
@@ -15,6 +15,7 @@ mod items;
 mod kinds;
 mod limits;
 mod line_index;
+mod listing;
 mod longest;
 mod marks;
 mod meeting;
@@ -43,6 +44,7 @@ pub use code_lines::{
 };
 pub use detail::{Detail, detail_of};
 pub use fault_words::{FaultWords, Hint};
+pub use listing::{ListedInstruction, ListedLine, Listing, listing_of};
 pub use marks::{
     ends_line, mark_of_bytes, mark_of_unassembled, mark_of_unread, mark_of_unverified,
 };

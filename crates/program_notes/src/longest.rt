@@ -19,13 +19,43 @@ pub(crate) fn push_longest(
 ) -> Result<(), AllocError>
     requires { length context.now.listing < 65536 }
 {
-    let reached = reached_flags(alloc, rows)?;
-    if reached.len() != context.size() {
+    let steps = longest_path(alloc, context, rows)?;
+    if steps.is_empty() {
         return Ok(());
     }
-    let lengths = path_lengths(alloc, context, &reached)?;
-    let steps = longest_steps(alloc, context, &lengths)?;
     push_steps(alloc, line, rows, &steps)
+}
+
+/// The lines that the longest path goes through; none where an instruction wasn't judged.
+pub(crate) fn longest_lines(
+    alloc: Global,
+    context: &Context,
+    rows: &[Row],
+) -> Result<Vec<u32>, AllocError>
+    requires { length context.now.listing < 65536 }
+{
+    let mut lines = Vec::new(alloc);
+    let mut last = 0;
+    for step in longest_path(alloc, context, rows)? {
+        let number = line_of(rows, step);
+        if number != last {
+            lines.push(number)?;
+        }
+        last = number;
+    }
+    Ok(lines)
+}
+
+/// The numbers of the instructions on the longest path; none where an instruction wasn't judged.
+fn longest_path(alloc: Global, context: &Context, rows: &[Row]) -> Result<Vec<usize>, AllocError>
+    requires { length context.now.listing < 65536 }
+{
+    let reached = reached_flags(alloc, rows)?;
+    if reached.len() != context.size() {
+        return Ok(Vec::new(alloc));
+    }
+    let lengths = path_lengths(alloc, context, &reached)?;
+    longest_steps(alloc, context, &lengths)
 }
 
 /// How many instructions a longest path has.

@@ -1,7 +1,7 @@
 //! What is known before each instruction, line by line.
 ghost use Rattle.std.specs.Prelude.{◌<◌, length};
 
-use crate::items::{ItemLine, push_known};
+use crate::items::{ItemLine, TO, push_known};
 use crate::line_index::LineIndex;
 use crate::longest::{line_of, push_longest};
 use crate::refusing::MOST_DEFERRED;
@@ -84,6 +84,7 @@ fn table_in(
     let mut line = ItemLine {
         text: String::new(alloc),
         column: 0,
+        most: TO,
     };
     match refused {
         Some(at) => table.push_to(alloc, &mut line, rows, at)?,

@@ -39,12 +39,32 @@ impl ScanTexts {
         }
     }
 
-    pub(crate) fn texts(&self) -> PageTexts<'_> {
+    /// Beside what is told of the site.
+    pub(crate) fn beside<'a>(&'a self, site: &'a str) -> PageTexts<'a> {
         PageTexts {
             status: self.status.as_str(),
             metrics: self.metrics.as_str(),
+            site,
         }
     }
+}
+
+/// What doesn't change while a program runs, as JSON: where clients come to, the program, and the members of the object of the site.
+pub(crate) fn site_text(
+    alloc: Global,
+    listen: SocketAddr,
+    site: &str,
+    program: &str,
+) -> Result<String, AllocError> {
+    let address = format!(in alloc; "{listen}")?;
+    let mut text = String::from_str(alloc, "{\"listen\":\"")?;
+    text.push_str(address.as_str())?;
+    text.push_str("\",\"program\":")?;
+    text.push_str(program)?;
+    text.push_str(",")?;
+    text.push_str(site.strip_prefix('{').unwrap_or("}"))?;
+    text.push_str("\n")?;
+    Ok(text)
 }
 
 /// `page ADDRESS`, a whole line.

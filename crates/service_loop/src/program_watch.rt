@@ -44,6 +44,9 @@ pub trait ProgramWatch {
     /// The text of the program that was taken last; None where none was since the start.
     fn taken_text(&self) -> Option<&str>;
 
+    /// What those who look are told of the program that was taken last, as JSON; None where none was since the start.
+    fn taken_listing(&self) -> Option<&str>;
+
     /// When it looks next, in milliseconds since the start; None where it never does.
     fn looks_at(&self) -> Option<u64>;
 
@@ -70,6 +73,10 @@ impl ProgramWatch for OneProgram {
     }
 
     fn taken_text(&self) -> Option<&str> {
+        None
+    }
+
+    fn taken_listing(&self) -> Option<&str> {
         None
     }
 

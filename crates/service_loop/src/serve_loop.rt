@@ -3,11 +3,11 @@ use crate::alarm_watch::AlarmWatch;
 use crate::keeping::Keeping;
 use crate::kept_files::KeptFiles;
 use crate::line_writer::LineWriter;
-use crate::page_texts::{ScanTexts, page_line};
+use crate::page_texts::{ScanTexts, page_line, site_text};
 use crate::program_watch::{Looked, ProgramRefusal, ProgramWatch};
 use crate::room::{Room, STANDARD_ERROR, STANDARD_OUTPUT};
 use crate::scan_steps::ScanSteps;
-use crate::serving::{End, Serving};
+use crate::serving::{End, PageWindow, Serving};
 use crate::sockets::Sockets;
 use crate::state_lock::StateLock;
 use crate::status::{ServiceCounts, status_text};
@@ -45,6 +45,8 @@ pub(crate) struct ServeLoop<'a, W: Write> {
     scanned_at: Option<u64>,
     /// What those who look are shown.
     texts: ScanTexts,
+    /// And what they are told once of the site and the program that runs; none before somebody looks.
+    site_text: Option<String>,
     /// What is wrong.
     alarm_watch: AlarmWatch,
     /// Whether standard error takes a note on another program; None where there are none.
@@ -89,6 +91,7 @@ impl<'a, W: Write> ServeLoop<'a, W> {
             steps: ScanSteps::new(),
             scanned_at: None,
             texts: ScanTexts::none(alloc),
+            site_text: None,
             alarm_watch: AlarmWatch::new(alloc, addresses.stations.len(), serving.sleeps)?,
             notes: noting(rt, alloc, is_noting),
         })
@@ -209,6 +212,7 @@ impl<'a, W: Write> ServeLoop<'a, W> {
             Looked::Taken(budget) => {
                 self.alarm_watch.settle();
                 self.steps = ScanSteps::new();
+                self.site_text = None;
                 files.take_program();
                 tell_taken(self.alloc, program.taken(), budget, &mut self.line_writer);
                 true
@@ -318,11 +322,35 @@ impl<'a, W: Write> ServeLoop<'a, W> {
         let Some(window) = serving.page else {
             return;
         };
-        if self.sockets.has_lookers() && !self.texts.is_of(service.scans()) {
-            self.make_texts(serving, program, service);
+        if self.sockets.has_lookers() {
+            if self.site_text.is_none() {
+                self.make_site_text(&window, program);
+            }
+            if !self.texts.is_of(service.scans()) {
+                self.make_texts(serving, program, service);
+            }
         }
         let now = self.line_writer.now();
-        self.sockets.show(window, self.texts.texts(), now);
+        let site = match &self.site_text {
+            Some(text) => text.as_str(),
+            None => "",
+        };
+        self.sockets.show(window, self.texts.beside(site), now);
+    }
+
+    // Makes the text of the site and the program; where memory is refused, there is none until the next turn.
+    fn make_site_text<P: ProgramWatch>(&mut self, window: &PageWindow<'_>, program: &P) {
+        let Ok(listen) = self.sockets.address() else {
+            return;
+        };
+        let listing = match program.taken_listing() {
+            Some(listing) => listing,
+            None => window.program,
+        };
+        match site_text(self.alloc, listen, window.site, listing) {
+            Ok(text) => self.site_text = Some(text),
+            Err(AllocError) => self.line_writer.tell(Err(AllocError)),
+        }
     }
 
     // Makes the texts of the last scan; where memory is refused, those of before stay.

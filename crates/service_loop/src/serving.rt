@@ -13,6 +13,10 @@ pub struct PageWindow<'a> {
     pub listen: SocketAddr,
     /// By which names this machine is asked there, beside its addresses.
     pub names: &'a [String],
+    /// What they are told once: what doesn't change while the service runs, as an object of JSON.
+    pub site: &'a str,
+    /// And such an object of the program of the start.
+    pub program: &'a str,
 }
 
 /// What a service is to do.

@@ -34,12 +34,18 @@ impl TagPoints {
         }
     }
 
-    fn unit_at(&self, tag: &SiteTag) -> Option<&str> {
+    /// The same as its definition has it; None where they have none.
+    pub fn unit_at(&self, tag: &SiteTag) -> Option<&str> {
         match (tag.access, tag.bit) {
             (Access::Time, _) => Some("ms"),
             (_, Some(_)) => None,
-            (_, None) => unit_of(&self.handed, tag.model, self.name_of(tag)),
+            (_, None) => self.unit_of_point(tag.model, self.name_of(tag)),
         }
+    }
+
+    /// The unit of a model's point; None where its number has none, or no definition says it.
+    pub fn unit_of_point(&self, model: u16, point: &str) -> Option<&str> {
+        unit_of(&self.handed, model, point)
     }
 
     /// What a tag measures: the power of an inverter or a meter (models 101 to 113, 201 to 299, 701), or the limit of a power (models 123,
@@ -54,7 +60,7 @@ impl TagPoints {
     }
 
     /// The name of a tag's point; empty where no definition has it.
-    fn name_of(&self, tag: &SiteTag) -> &str {
+    pub fn name_of(&self, tag: &SiteTag) -> &str {
         let models = self.models.as_slice();
         match models.iter().rev().find(|model| model.id == tag.model) {
             Some(model) => name_at(model.points.as_slice(), tag.offset),

@@ -2,7 +2,7 @@
 use crate::serve::last_program::RefusedText;
 use crate::serve::refused_words::{cause_words, file_words};
 use crate::words::version;
-use command_files::{SourceFault, read_again, warn_of_names};
+use command_files::{SourceFault, program_text, read_again, warn_of_names};
 use commands::{CommandOutcome, CommandRefusal, DEPTH, accept_program};
 use gateway::CoreFault;
 use point_types::Name;
@@ -41,6 +41,9 @@ pub(crate) struct ProgramFile<'n> {
     /// The text of the program that was taken last, and what is told of it; none where it is that of the start.
     runs: Option<Sight>,
     taken: Option<Start>,
+    /// Whether somebody may look, and what those are told of the program that was taken last.
+    shows: bool,
+    listing: Option<String>,
     /// What can be explained of the last judgement.
     known: KnownFile,
 }
@@ -80,6 +83,13 @@ impl ProgramWatch for ProgramFile<'_> {
         }
     }
 
+    fn taken_listing(&self) -> Option<&str> {
+        match &self.listing {
+            Some(listing) => Some(listing.as_str()),
+            None => None,
+        }
+    }
+
     fn looks_at(&self) -> Option<u64> {
         Some(self.looks_at)
     }
@@ -115,6 +125,7 @@ impl<'n> ProgramFile<'n> {
         notes: &Notes<'n>,
         names: &'n [Name],
         refused: Option<RefusedText<'_>>,
+        shows: bool,
     ) -> Result<ProgramFile<'n>, AllocError> {
         let refused = match refused {
             Some(found) => Some(refused_sight(alloc, found)?),
@@ -130,6 +141,8 @@ impl<'n> ProgramFile<'n> {
             lacked_memory: false,
             runs: None,
             taken: None,
+            shows,
+            listing: None,
             known: KnownFile::Nothing,
         })
     }
@@ -234,7 +247,7 @@ impl<'n> ProgramFile<'n> {
     /// Judges a text, for the site that is served, of which this is told where it is taken.
     fn judge_from(&mut self, text: &str, start: Start, service: &mut Service) -> Looked {
         match accept_program(self.alloc, service.core().site(), text) {
-            Ok(Ok(verified)) => self.take(verified, start, service),
+            Ok(Ok(verified)) => self.take(text, verified, start, service),
             Ok(Err(outcome)) => self.refuse(outcome),
             Err(AllocError) => Looked::Refused(ProgramRefusal::Memory),
         }
@@ -247,16 +260,41 @@ impl<'n> ProgramFile<'n> {
     }
 
     /// Puts an accepted program in.
-    fn take(&mut self, verified: Verified<DEPTH>, start: Start, service: &mut Service) -> Looked {
+    fn take(
+        &mut self,
+        text: &str,
+        verified: Verified<DEPTH>,
+        start: Start,
+        service: &mut Service,
+    ) -> Looked {
+        let Ok(listing) = self.listing_for(text, service.core().site(), &verified) else {
+            return Looked::Refused(ProgramRefusal::Memory);
+        };
         let budget = verified.budget();
         match replace_program(self.alloc, service, verified) {
             Ok(()) => {
                 self.taken = Some(start);
+                self.listing = listing;
                 self.known = KnownFile::Taken;
                 Looked::Taken(budget)
             }
             Err(fault) => Looked::Refused(refusal_by(self.alloc, fault)),
         }
+    }
+
+    /// What those who look are told of a program, where somebody may look.
+    fn listing_for(
+        &self,
+        text: &str,
+        site: &Site,
+        verified: &Verified<DEPTH>,
+    ) -> Result<Option<String>, AllocError> {
+        if !self.shows {
+            return Ok(None);
+        }
+        let path = self.notes.program_path;
+        let listing = program_text(self.alloc, path, text, site, verified)?;
+        Ok(Some(listing))
     }
 
     fn explain_cause<R: Eprint + AllocGlobal>(

@@ -1,6 +1,7 @@
 //! The command `serve`: a program on a site, scan by scan, by the clock.
 use crate::runtimes::LoopRuntime;
 use crate::serve::last_program::{ProgramFault, RefusedText};
+use crate::serve::page_parts::PageParts;
 use crate::serve::program_file::ProgramFile;
 use crate::serve::refusing::{tell_no_core, tell_unreachable, tell_unretained};
 use crate::serve::retained::Retained;
@@ -233,6 +234,17 @@ fn serve_made<R: LoopRuntime + Files<File = File>, W: Write>(
     addresses: &Addresses,
     out: &mut W,
 ) -> u8 {
+    let Ok(page) = PageParts::of(alloc, run, &given) else {
+        return tell_no_memory(out);
+    };
+    let window = page.window(run.serving.page);
+    let run = &ServiceRun {
+        serving: Serving {
+            page: window,
+            ..run.serving
+        },
+        ..*run
+    };
     match service_of(
         alloc,
         given,
@@ -357,7 +369,8 @@ fn serve_programs<R: LoopRuntime + Files<File = File>, W: Write>(
 ) -> Result<(), End> {
     let (serving, keeping) = (&run.serving, &run.keeping);
     if run.reloads {
-        let Ok(mut file) = ProgramFile::new(alloc, &run.notes, run.names, run.refused) else {
+        let shows = serving.page.is_some();
+        let Ok(mut file) = ProgramFile::new(alloc, &run.notes, run.names, run.refused, shows) else {
             return Err(End::OutOfMemory);
         };
         serve_site(

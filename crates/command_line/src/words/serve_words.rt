@@ -111,7 +111,7 @@ fn page_option<'a>(alloc: Global) -> Arg<'a> {
         alloc,
         "page",
         "HOST:PORT",
-        "where monitors look, over HTTP: /metrics and /status.json",
+        "where browsers and monitors look, over HTTP: the page, /metrics, /status.json",
     )
 }
 
@@ -371,6 +371,8 @@ fn window_of<'a>(words: &'a ServiceWords<'_>) -> Option<PageWindow<'a>> {
         Some(listen) => Some(PageWindow {
             listen,
             names: words.page_hosts.as_slice(),
+            site: "",
+            program: "",
         }),
         None => None,
     }
