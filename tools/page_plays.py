@@ -48,6 +48,8 @@ class Shown:
         return urllib.request.urlopen(self.address + path, timeout=within(5)).read()
 
     def end(self):
+        """The page ends before what it asks."""
+        self.browser.call("Page.navigate", url="about:blank")
         self.service.end()
 
 
@@ -139,6 +141,7 @@ def play_alarm(counts, browser, program, folder):
     window.device.silent = False
     counts.note("and its end", browser.until(f"/^All is well/.test({LINE})", 30), browser.js(LINE))
     quiet(counts, browser, "an alarm")
+    browser.call("Page.navigate", url="about:blank")
     window.end()
 
 
@@ -159,7 +162,7 @@ def play_gone(counts, browser, program, folder):
     counts.note("all is well", shown.open("/^All is well$/"), browser.js(LINE))
     quiet(counts, browser, "before it is gone")
     page = shown.address.split("/")[2]
-    shown.end()
+    shown.service.end()
     counts.note("no answer is told", browser.until(f"{LINE} == 'No answer from the gateway'", 20), browser.js(LINE))
     counts.note("and how old what is shown is", browser.until("/^What is shown is \\d+ s old/.test(document.getElementById('state-sub').textContent) && document.body.classList.contains('stale')"))
     browser.log.clear()
@@ -181,6 +184,7 @@ def play_hostile(counts, browser, program, folder):
         counts.note("the page is there", shown.open("/wrong|lost|map/", width=width, height=height), browser.js(LINE))
         browser.pause(2)
         fits(counts, browser, f"hostile names, {width} pixels")
+    counts.note("the site's name is text", browser.js("document.querySelector('#name').textContent") == page_sites.HOSTILE_NAME, browser.js("document.querySelector('#name').textContent"))
     counts.note("a device's name is text", browser.js("[...document.querySelectorAll('#devices .top')].some(it => it.textContent.includes('<script>alert(1)</script>'))"))
     counts.note("no name became an element", browser.js("document.querySelectorAll('script').length == 1 && document.querySelectorAll('img, iframe, [onerror]').length == 0"))
     counts.note("umlauts", browser.js("document.body.textContent.includes('Überlingen an der Straße nach Groß-Gerau')"))

@@ -12,6 +12,8 @@ from serve_plays import DEVICE, GATEWAY, LIMIT, OwnDevice, inverter, put
 
 # a name with letters that end a label or a line
 HOSTILE = 'in\\"v\\\\1'
+# what the site is called: marks that are text
+NAME = "Süd <b>'&"
 SITE = """[[tag]]
 name = "w1"
 access = "in"
@@ -67,7 +69,7 @@ class Window:
 
     def __init__(self, program, folder, name, *more):
         self.device = OwnDevice({1: inverter(1500)})
-        text = GATEWAY + DEVICE.format(n=1).replace('"inv1"', f'"{HOSTILE}"') + f'remote_unit = 1\naddress = "{self.device.address()}"\n'
+        text = GATEWAY + f'name = "{NAME}"\n' + DEVICE.format(n=1).replace('"inv1"', f'"{HOSTILE}"') + f'remote_unit = 1\nrated = 5000\naddress = "{self.device.address()}"\n'
         site = put(folder, f"{name}.toml", text + SITE.format(device=HOSTILE))
         words = [site, put(folder, f"{name}.il", PROGRAM), "--listen", "127.0.0.1:0", "--every", "100", "--page", "127.0.0.1:0", *more]
         self.service = Service(program, words)
@@ -121,6 +123,8 @@ def play_numbers(counts, program, folder):
     counts.note("what the program stored", until(lambda: wanted in window.numbers(), True), window.numbers())
     numbers = window.numbers()
     value = lambda name: [line.rsplit(" ", 1)[1] for line in numbers if line.startswith(name)]
+    named = [line for line in numbers if line.startswith("sunsite_info{") and line.endswith(f',name="{NAME}"}} 1')]
+    counts.note("what the site is called", len(named) == 1, numbers)
     counts.note("scans", int(value("sunsite_scans_total")[0]) > 0, numbers)
     counts.note("the period", value("sunsite_period_seconds") == ["0.100"], numbers)
     counts.note("the budget", value("sunsite_program_steps") <= value("sunsite_program_budget_steps") == ["3"], numbers)
@@ -208,7 +212,9 @@ def play_site(counts, program, folder):
     counts.note("how it is served", (site["period"], site["timeout"], site["clients"], site["write_from"], site["unit"]) == (100, 40, 32, ["127.0.0.0/8"], 1), site)
     counts.note("where", site["listen"] == f"127.0.0.1:{window.service.port()}", site["listen"])
     counts.note("what is kept", (site["keeps"], site["reloads"]) == (False, True), site)
-    counts.note("its device, letter by letter", site["devices"][0]["name"] == 'in"v\\1', site["devices"])
+    counts.note("its name", site["name"] == NAME, site["name"])
+    wanted = [{"name": "in\"v\\1", "unit": 1, "rated": 5000, "rewrite": 0}]
+    counts.note("its device, letter by letter", site["devices"] == wanted, site["devices"])
     lim1 = {"number": 1, "access": "out", "device": 0, "model": 123, "point": "WMaxLimPct", "unit": "% WMax", "type": "INT", "exponent": 0, "low": 0, "high": 100}
     counts.note("a tag", site["tags"]["lim1"] == lim1, site["tags"])
     target = site["tags"]["target"]

@@ -35,5 +35,6 @@ pub use runtimes::RunRuntime;
 pub use trial_input::trial_of;
 pub use warnings::{
     device_fault, variables_of, warn_beside, warn_of_names, warn_of_short_lapses, warn_of_site,
-    warn_on_site, why_no_hours, why_no_identities, why_no_read_back, why_unretained,
+    warn_on_site, why_no_hours, why_no_identities, why_no_name, why_no_powers, why_no_read_back,
+    why_unretained,
 };

@@ -350,6 +350,7 @@ fn served_with<W: Write>(
                 names: &[],
                 refused: None,
                 read_back: &[],
+                rated: &[],
             };
             match devices {
                 DeviceSource::Plant(_) => warn_of_site(rt, notes),

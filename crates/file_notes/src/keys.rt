@@ -109,6 +109,7 @@ pub(crate) const GATEWAY: Section = Section {
         UNIT,
         BASE,
         MODELS,
+        Key("name", ValueKind::Text, Need::Elsewhere),
         Key("retain", ValueKind::Texts, Need::Elsewhere),
     ],
     needs: Some("add it: the gateway needs unit and models"),
@@ -127,6 +128,7 @@ pub(crate) const DEVICE: Section = Section {
         Key("serial", ValueKind::Text, Need::Elsewhere),
         Key("maker", ValueKind::Text, Need::Elsewhere),
         Key("type", ValueKind::Text, Need::Elsewhere),
+        Key("rated", ValueKind::Number, Need::Elsewhere),
     ],
     needs: Some("add it: a device needs name and unit"),
 };

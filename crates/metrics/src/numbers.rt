@@ -14,6 +14,8 @@ use std::alloc::{AllocError, Global};
 pub struct Metrics<'a> {
     /// What runs.
     pub start: &'a Start,
+    /// What the site is called.
+    pub name: Option<&'a str>,
     pub service: &'a Service,
     /// What is wrong after the last scan.
     pub standing: &'a [StandingAlarm],

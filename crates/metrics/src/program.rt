@@ -15,12 +15,13 @@ fn push_info(sheet: &mut Sheet, metrics: &Metrics<'_>) -> Result<(), AllocError>
     let start = metrics.start;
     sheet.gauge(
         "sunsite_info",
-        "What runs: the version, and the first digits of the hashes of the site file and the program.",
+        "What runs: the version, the first digits of the hashes of the site file and the program, and what the site is called.",
     )?;
     let labels = [
         ("version", start.version),
         ("site", start.site.as_str()),
         ("program", start.program.as_str()),
+        ("name", metrics.name.unwrap_or("")),
     ];
     sheet.labelled("sunsite_info", &labels, 1)
 }

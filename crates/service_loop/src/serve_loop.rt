@@ -379,6 +379,7 @@ impl<'a, W: Write> ServeLoop<'a, W> {
         let status = self.status(start, serving, service)?;
         let metrics = Metrics {
             start,
+            name: serving.name,
             service,
             standing: self.alarm_watch.standing()?,
             began_at: self.line_writer.began_at(),

@@ -24,6 +24,8 @@ pub struct PageWindow<'a> {
 pub struct Serving<'a> {
     /// What is told of its start.
     pub start: &'a Start,
+    /// What the site is called.
+    pub name: Option<&'a str>,
     /// Why the program in its file is refused, where the one that was accepted last runs from the start in its place.
     pub refused: Option<&'a str>,
     /// By which time lines are told.

@@ -4,8 +4,10 @@ pub mod Lapsing
 pub mod Lines
 pub mod Places
 pub mod Reaching
+pub mod RatedPowers
 pub mod ReadingBack
 pub mod Retaining
+pub mod SiteName
 pub mod Sleeping
 pub mod State
 pub mod Stations

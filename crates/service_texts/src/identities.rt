@@ -176,7 +176,7 @@ fn is_label(text: &[u8]) -> bool
 }
 
 /// Whether a text has no control character, and no blank at either end.
-fn is_plain_text(text: &[u8]) -> bool
+pub(crate) fn is_plain_text(text: &[u8]) -> bool
     ensures { result ≡ is_plain_text text.now }
 {
     are_plain(text) && !has_outer_blank(text)

@@ -13,6 +13,7 @@ mod kept_program;
 mod lapsing_lines;
 mod lines;
 mod number;
+mod rated_powers;
 mod ration;
 mod reaching;
 mod reading_back;
@@ -20,6 +21,7 @@ mod retain_pace;
 mod retaining;
 mod settings;
 mod share;
+mod site_name;
 mod sleeping;
 mod start;
 mod state_lines;
@@ -37,6 +39,9 @@ pub use reading_back::{ReadBackFault, read_back_tags};
 pub use sleeping::{SleepFault, sleeping_hours};
 // what devices must say of themselves
 pub use identities::{IdentityFault, IdentityKey, identities_of};
+// what a site is called, and for which powers devices are made
+pub use rated_powers::{RatedFault, rated_powers};
+pub use site_name::{SiteNameFault, site_name};
 // which clients may write
 pub use writers::{Writer, WriterFault, may_write, writers_of};
 // how long is waited

@@ -11,6 +11,10 @@ use std::alloc::{AllocError, Global};
 #[derive(Clone, Copy)]
 pub struct SitePart<'a> {
     pub site: &'a Site,
+    /// What it is called.
+    pub name: Option<&'a str>,
+    /// The power for which each device is made, in watts and in their order.
+    pub rated: &'a [Option<u32>],
     /// The texts of the definitions that are handed in.
     pub defs: &'a [String],
     /// From one scan to the next, and the longest wait for a reply, in milliseconds.
@@ -30,7 +34,7 @@ pub struct SitePart<'a> {
 pub fn site_text(alloc: Global, part: &SitePart<'_>) -> Result<String, AllocError> {
     let points = TagPoints::read(alloc, part.defs)?;
     let mut members = Members::new(alloc);
-    members.value("name", Value::Null)?;
+    members.text_or_null("name", part.name)?;
     members.count("unit", u64::from(part.site.unit()))?;
     members.count("period", part.period)?;
     members.count("timeout", part.timeout)?;
@@ -38,7 +42,10 @@ pub fn site_text(alloc: Global, part: &SitePart<'_>) -> Result<String, AllocErro
     members.value("write_from", writers_value(alloc, part.writers)?)?;
     members.truth("keeps", part.keeps)?;
     members.truth("reloads", part.reloads)?;
-    members.value("devices", devices_value(alloc, part.site.devices())?)?;
+    members.value(
+        "devices",
+        devices_value(alloc, part.site.devices(), part.rated)?,
+    )?;
     members.value("tags", tags_value(alloc, part.site.tags(), &points)?)?;
     members.value("served", served_value(alloc, part.site, &points)?)?;
     members.into_value().to_string(alloc)
@@ -57,17 +64,29 @@ fn writers_value(alloc: Global, writers: &[Writer]) -> Result<Value, AllocError>
     Ok(Value::Array(values))
 }
 
-fn devices_value(alloc: Global, devices: &[SiteDevice]) -> Result<Value, AllocError> {
+fn devices_value(
+    alloc: Global,
+    devices: &[SiteDevice],
+    rated: &[Option<u32>],
+) -> Result<Value, AllocError> {
     let mut values = Vec::new(alloc);
-    for device in devices {
+    for (number, device) in devices.iter().enumerate() {
         let mut value = Members::new(alloc);
         value.text("name", device.name.as_str())?;
         value.count("unit", u64::from(device.unit))?;
-        value.value("rated", Value::Null)?;
+        value.value("rated", rated_value(rated, number))?;
         value.count("rewrite", u64::from(device.rewrite))?;
         values.push(value.into_value())?;
     }
     Ok(Value::Array(values))
+}
+
+/// The power for which a device is made, or null.
+fn rated_value(rated: &[Option<u32>], device: usize) -> Value {
+    match rated.get(device) {
+        Some(Some(watts)) => Value::from(*watts),
+        _ => Value::Null,
+    }
 }
 
 fn tags_value(alloc: Global, tags: &[SiteTag], points: &TagPoints) -> Result<Value, AllocError> {

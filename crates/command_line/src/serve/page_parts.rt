@@ -27,6 +27,8 @@ impl PageParts {
         }
         let part = SitePart {
             site: &given.site,
+            name: run.serving.name,
+            rated: run.rated,
             defs: run.notes.defs,
             period: run.limits.period,
             timeout: run.limits.timeout,

@@ -1,12 +1,15 @@
-//! Why a site can't be served: it isn't known where a device is, how long one sleeps, what one must say of itself,
-//! which outputs are compared or which variables are kept, or there is no core.
+//! Why a site can't be served: it isn't known what it is called, where a device is, for how much power one is made, how long one
+//! sleeps, what one must say of itself, which outputs are compared or which variables are kept, or there is no core.
 use crate::words::tell_misuse;
 use command_files::{
-    device_fault, why_no_hours, why_no_identities, why_no_read_back, why_unretained,
+    device_fault, why_no_hours, why_no_identities, why_no_name, why_no_powers, why_no_read_back,
+    why_unretained,
 };
 use commands::{no_core, tell_no_memory, write_lines};
 use gateway::CoreFault;
-use service_texts::{AddressFault, IdentityFault, ReadBackFault, RetainFault, SleepFault};
+use service_texts::{
+    AddressFault, IdentityFault, RatedFault, ReadBackFault, RetainFault, SiteNameFault, SleepFault,
+};
 use site_model::Site;
 use std::alloc::{AllocError, Global};
 use std::io::Write;
@@ -41,6 +44,33 @@ pub(crate) fn tell_unreachable<R: Print + Eprint + AllocGlobal, W: Write>(
         AddressFault::OutOfMemory => Err(AllocError),
     };
     match why {
+        Ok(why) => tell_misuse(rt, alloc, why.as_str(), out),
+        Err(AllocError) => tell_no_memory(out),
+    }
+}
+
+/// Tells that it isn't known what the site is called, and gives the status.
+pub(crate) fn tell_no_name<R: Print + Eprint + AllocGlobal, W: Write>(
+    rt: &R,
+    alloc: Global,
+    fault: SiteNameFault,
+    out: &mut W,
+) -> u8 {
+    match why_no_name(alloc, fault) {
+        Ok(why) => tell_misuse(rt, alloc, why.as_str(), out),
+        Err(AllocError) => tell_no_memory(out),
+    }
+}
+
+/// Tells that it isn't known for how much power devices are made, and gives the status.
+pub(crate) fn tell_no_powers<R: Print + Eprint + AllocGlobal, W: Write>(
+    rt: &R,
+    alloc: Global,
+    site: &Site,
+    fault: RatedFault,
+    out: &mut W,
+) -> u8 {
+    match why_no_powers(alloc, site, fault) {
         Ok(why) => tell_misuse(rt, alloc, why.as_str(), out),
         Err(AllocError) => tell_no_memory(out),
     }

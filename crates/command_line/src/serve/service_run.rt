@@ -5,7 +5,7 @@ use crate::serve::page_parts::PageParts;
 use crate::serve::program_file::ProgramFile;
 use crate::serve::refusing::{tell_no_core, tell_unreachable, tell_unretained};
 use crate::serve::retained::Retained;
-use crate::serve::served_keys::ServedKeys;
+use crate::serve::served_keys::{ServedKeys, name_in};
 use crate::serve::unkept::tell_unkept;
 use crate::words::version;
 use command_files::{
@@ -56,6 +56,8 @@ pub struct ServiceRun<'n, 'a, 's, 'k, 't> {
     pub refused: Option<RefusedText<'n>>,
     /// Of each tag, whether what its device shows is compared with what it took, once that is known.
     pub read_back: &'k [bool],
+    /// For how much power each device is made, in watts, once that is known.
+    pub rated: &'k [Option<u32>],
 }
 
 /// Serves a site, and gives the status: 0 after the last scan that was asked for, 1 for a refusal or a failed write, 2
@@ -200,6 +202,10 @@ fn serve_accepted<R: LoopRuntime + Print + Files<File = File>, W: Write>(
         Ok(retained) => retained,
         Err(fault) => return tell_unretained(rt, alloc, fault, out),
     };
+    let name = match name_in(rt, alloc, run.notes.site, out) {
+        Ok(name) => name,
+        Err(status) => return status,
+    };
     let keys = match ServedKeys::of(rt, alloc, run.notes.site, &given.site, out) {
         Ok(keys) => keys,
         Err(status) => return status,
@@ -209,6 +215,7 @@ fn serve_accepted<R: LoopRuntime + Print + Files<File = File>, W: Write>(
             let keeping = retained.keeping(&run.keeping, run.notes.program);
             let run = ServiceRun {
                 serving: Serving {
+                    name,
                     sleeps: keys.hours.as_slice(),
                     identities: keys.identities_over(run.devices),
                     ..run.serving
@@ -216,6 +223,7 @@ fn serve_accepted<R: LoopRuntime + Print + Files<File = File>, W: Write>(
                 keeping,
                 names: retained.names.as_slice(),
                 read_back: keys.read_back.as_slice(),
+                rated: keys.powers.as_slice(),
                 ..*run
             };
             serve_made(rt, alloc, &run, given, &retained, &addresses, out)

@@ -352,6 +352,7 @@ pub(crate) fn serving_of<'a>(
 ) -> Serving<'a> {
     Serving {
         start,
+        name: None,
         refused: None,
         times: words.times,
         listen: words.listen,
