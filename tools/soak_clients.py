@@ -171,17 +171,26 @@ def client_life(place, once, pause, own, until):
     return seen
 
 
+# what those who look ask for by turns, each with what tells that an answer is whole
+LOOKS = {
+    "/status.json": lambda text: json.loads(text)["scans"] > 0,
+    "/metrics": lambda text: text.startswith("# HELP sunsite_info") and text.endswith("\n"),
+    "/site.json": lambda text: len(json.loads(text)["program"]["lines"]) > 0,
+    "/": lambda text: text.startswith("<!doctype html>") and text.endswith("</html>\n"),
+}
+
+
 def viewer_life(port, own, until):
-    """One who looks at the window for monitors each second, over one connection, by turns at the numbers and at the status."""
+    """One who looks at the window for browsers and monitors each second, over one connection, by turns at all that it has."""
     seen, link = Seen(), http.client.HTTPConnection("127.0.0.1", port, timeout=5)
     while time.monotonic() < until:
         try:
             own += 1
-            link.request("GET", "/status.json" if own % 2 else "/metrics")
+            path, is_whole = list(LOOKS.items())[own % len(LOOKS)]
+            link.request("GET", path)
             answer = link.getresponse()
             text = answer.read().decode()
-            is_whole = json.loads(text)["scans"] > 0 if own % 2 else text.startswith("# HELP sunsite_info") and text.endswith("\n")
-            if answer.status != 200 or not is_whole:
+            if answer.status != 200 or not is_whole(text):
                 seen.wrong.append(f"{answer.status}: {text[:80]}")
             seen.requests += 1
         except (OSError, ValueError, http.client.HTTPException) as fault:

@@ -1,7 +1,7 @@
 //! What the page of a service is told once, as JSON: the site, and the program that runs.
+mod listed;
 mod members;
-mod program_text;
-mod site_text;
+mod site_part;
 
-pub use program_text::program_text;
-pub use site_text::{SitePart, site_text};
+pub use listed::program_text;
+pub use site_part::{SitePart, site_text};

@@ -2,7 +2,7 @@
 
 /// What a browser may do for it: run its style and its script, by their hashes, and ask where it came from.
 pub(crate) const POLICY: &str =
-    "default-src 'none'; style-src 'sha256-0frl/xNvEkDrVYvAUOSRcFZpI+6cywFgB1ZB5FCyLDM='; script-src 'sha256-qs7fG+iT8YX6sovmrsnhzAuWhs+F1MWYh5iFP86P9Kg='; connect-src 'self'; img-src data:; base-uri 'none'; form-action 'none'; frame-ancestors 'none'; require-trusted-types-for 'script'; trusted-types 'none'";
+    "default-src 'none'; style-src 'sha256-Wme/BkSH3vjJGQiKo+eX1uw2CRaPO17cbVGZvk3BwPc='; script-src 'sha256-kSO722wQN2pFc9EPGoFGcXm4Ek2QhbY+F8AKNdx7hSU='; connect-src 'self'; img-src data:; base-uri 'none'; form-action 'none'; frame-ancestors 'none'; require-trusted-types-for 'script'; trusted-types 'none'";
 
 /// Its text.
 pub(crate) const PAGE: &str = r##"<!doctype html>
@@ -38,7 +38,7 @@ header { position: sticky; top: 0; z-index: 5; background: var(--card); border-b
 header > div, main, footer { max-width: 1280px; margin: 0 auto; padding: 0 20px }
 .dot { width: .65rem; height: .65rem; border-radius: 50%; flex: none; background: var(--rim) } .good .dot { background: var(--good) } .warn .dot { background: var(--warn-edge) } .bad .dot { background: var(--bad) }
 nav { display: flex; margin-left: auto; font-size: .8125rem } nav a { padding: .25rem .55rem; text-decoration: none; white-space: nowrap } #when { margin: 0 .5rem; white-space: nowrap }
-main { display: grid; grid-template-columns: repeat(12, minmax(0, 1fr)); gap: 16px; padding-block: 16px }
+main { display: grid; grid: auto / repeat(12, minmax(0, 1fr)); gap: 16px; padding-block: 16px }
 section { grid-column: span 12; min-width: 0; padding: 16px 18px; border: 1px solid var(--edge); border-radius: 10px; background: var(--card) }
 .head { display: flex; flex-wrap: wrap; align-items: baseline; justify-content: space-between; gap: .25rem .75rem; margin-bottom: 12px } .more { margin-top: 10px } footer { padding-bottom: 32px }
 dd { font-weight: 600 } .rows > div { display: flex; justify-content: space-between; gap: .75rem } .rows dd { white-space: nowrap } #facts { display: flex; flex-wrap: wrap; gap: 6px 26px } #facts dt { font-size: .75rem }
@@ -47,7 +47,7 @@ dd { font-weight: 600 } .rows > div { display: flex; justify-content: space-betw
 #state .icon { width: 36px; height: 36px; color: var(--faint); stroke-width: 1.5 } #state-line { font-size: 1.375rem; line-height: 1.25; font-weight: 650 } .good #state .icon { color: var(--good) }
 .warn #state, .alarm { border-color: var(--warn-edge); background: var(--warn-back) } :is(.warn #state, .alarm) .icon, .warn #state-line { color: var(--warn) }
 .bad #state, .alarm.urgent { border-color: var(--bad-edge); background: var(--bad-back) } :is(.bad #state, .urgent) .icon, .bad #state-line { color: var(--bad) }
-.alarm { display: grid; grid-template-columns: auto minmax(0, 1fr) auto; gap: 2px 12px; margin-top: 10px; padding: 12px 14px; border: 1px solid var(--warn-edge); border-left-width: 5px; border-radius: 8px } .alarm.urgent { border-left-color: var(--bad) }
+.alarm { display: grid; grid: auto / auto minmax(0, 1fr) auto; gap: 2px 12px; margin-top: 10px; padding: 12px 14px; border: 1px solid var(--warn-edge); border-left-width: 5px; border-radius: 8px } .alarm.urgent { border-left-color: var(--bad) }
 .alarm .icon { margin-top: .15em } .alarm time { font-size: .8125rem } .alarm > :nth-child(n+4) { grid-column: 2 / -1; font-size: .875rem } .alarm summary { cursor: pointer } .alarm li::before { content: '↳ ' }
 
 .range { position: relative; height: 8px; min-width: 60px; border-radius: 4px; background: var(--track) } .range i { position: absolute; top: 0; bottom: 0; border-radius: 4px; background: var(--live) } .range .zero { width: 1px; background: var(--rim) } .range .mark { inset-block: -3px; width: 2px; background: var(--ink) }
@@ -58,13 +58,13 @@ dd { font-weight: 600 } .rows > div { display: flex; justify-content: space-betw
 
 #site { grid-column: span 8 } #power[hidden] + #site, main:has(.wide) :is(#site, #power) { grid-column: span 12 }
 #site { display: flex; flex-direction: column } #picture { margin-block: auto }
-#picture { position: relative; display: grid; grid-template-columns: minmax(0, 13fr) 70px minmax(0, 11fr) 70px minmax(0, 10fr); align-items: center } #picture.wide { grid-template-columns: minmax(0, 30fr) 40px minmax(0, 12fr) 40px minmax(0, 11fr) }
+#picture { position: relative; display: grid; grid: auto / minmax(0, 13fr) 70px minmax(0, 11fr) 70px minmax(0, 10fr); align-items: center } #picture.wide { grid: auto / minmax(0, 30fr) 40px minmax(0, 12fr) 40px minmax(0, 11fr) }
 #picture > svg { position: absolute; inset: 0; width: 100%; height: 100%; pointer-events: none } #devices { grid-column: 1 } #gateway { grid-column: 3 } #clients { grid-column: 5 } h3 { margin-bottom: 6px; font-size: .75rem; font-weight: 500 }
 .node { position: relative; padding: 8px 10px; border: 1px solid var(--edge); border-radius: 8px; background: var(--card) } li + .node { margin-top: 8px } .node .icon { color: var(--faint) } .node .range { height: 6px; margin: 6px 0 4px } .node small { display: block }
 .node .top { display: flex; align-items: center; gap: 8px; font-weight: 600 } .node .top > :nth-child(2) { flex: 1; min-width: 0; font-weight: 600 } .node .top > :nth-child(3) { white-space: nowrap }
 .node.lost { border: 1px dashed var(--bad); background: var(--bad-back) } .lost :is(.icon, small, .top > :last-child) { color: var(--bad) } .node.void { border-style: dashed; color: var(--faint) }
 #gateway .node { padding: 12px 14px; border: 1.5px solid var(--live) } #gateway .icon { color: var(--live) } #gateway dl { margin-top: 6px; font-size: .8125rem }
-.wide #devices ul { display: grid; grid-template-columns: repeat(auto-fill, minmax(72px, 1fr)); gap: 4px } .wide #devices .node { margin: 0; padding: 3px 7px; border-radius: 6px; font-size: .75rem } .wide #devices :is(.icon, small) { display: none } .wide #devices .top, .wide #devices .top > * { display: block; width: 100% } .wide #devices .range { height: 4px; margin: 2px 0 }
+.wide #devices ul { display: grid; grid: auto / repeat(auto-fill, minmax(72px, 1fr)); gap: 4px } .wide #devices .node { margin: 0; padding: 3px 7px; border-radius: 6px; font-size: .75rem } .wide #devices :is(.icon, small) { display: none } .wide #devices .top, .wide #devices .top > * { display: block; width: 100% } .wide #devices .range { height: 4px; margin: 2px 0 }
 .wire, .flow { fill: none; stroke: var(--live); stroke-linecap: round } .wire { stroke-opacity: .28 } .flow { stroke-width: 2; stroke-dasharray: 1 13 } .wire.lost { stroke: var(--bad); stroke-opacity: 1; stroke-dasharray: 4 5 } .cross { fill: var(--card); stroke: var(--bad); stroke-width: 1.8 }
 @keyframes flow { to { stroke-dashoffset: -28 } }
 @media (prefers-reduced-motion: no-preference) { body:not(.stale) .flow { animation: flow 1.6s linear infinite } body:not(.stale) .flow.back { animation-direction: reverse } }
@@ -76,21 +76,21 @@ table { width: 100%; border-collapse: collapse; font-size: .875rem } th, td { pa
 #outputs { grid-column: span 7 } #sets { grid-column: span 5; align-self: start } #outputs th small { display: inline; margin-left: .6em } #outputs table { table-layout: fixed } #outputs thead th:first-child { width: 42% } #outputs thead th:nth-child(2) { width: 14% } #outputs thead th:nth-child(3) { width: 20% }
 .spark { display: block; width: 132px; height: 26px } .line, .cap { fill: none; stroke: var(--live); stroke-width: 1.5; stroke-linejoin: round; vector-effect: non-scaling-stroke } .cap { stroke: var(--ink); stroke-dasharray: 4 3 } .band { stroke: var(--live); stroke-opacity: .3 } .gap { stroke: var(--track) } .in .gap { stroke: var(--warn-edge); stroke-opacity: .5 }
 
-.two { display: grid; grid-template-columns: minmax(0, 4fr) minmax(0, 8fr); gap: 28px } .two table { margin-top: 12px }
+.two { display: grid; grid: auto / minmax(0, 4fr) minmax(0, 8fr); gap: 28px } .two table { margin-top: 12px }
 #listing { max-height: 30rem; overflow: auto; border: 1px solid var(--edge); border-radius: 8px } #listing table { margin: 0; font-size: .8125rem } #listing :is(th, td) { padding: 1px 14px 1px 0; border: 0; line-height: 1.6; vertical-align: top } #listing thead th { position: sticky; top: 0; padding-block: 5px; background: var(--sunk); white-space: nowrap } #listing tr > :first-child { width: 3.4em; padding-left: 8px; text-align: right; color: var(--faint) }
 #listing :is(code, pre) { font: .8125rem/1.6 ui-monospace, Consolas, monospace; white-space: pre-wrap } #listing i { color: var(--faint); font-style: normal } #listing pre { padding-bottom: 8px; color: var(--faint); font-size: .75rem } #listing :is(.now, .known) { white-space: nowrap } #listing .now { font-weight: 600; color: var(--live) }
-#charts { display: grid; grid-template-columns: repeat(auto-fill, minmax(min(100%, 330px), 1fr)); gap: 20px 28px } figcaption { display: flex; gap: .75rem; align-items: baseline; margin-bottom: 6px } output { margin-left: auto; white-space: nowrap; font-weight: 600; font-size: .875rem }
+#charts { display: grid; grid: auto / repeat(auto-fill, minmax(min(100%, 330px), 1fr)); gap: 20px 28px } figcaption { display: flex; gap: .75rem; align-items: baseline; margin-bottom: 6px } output { margin-left: auto; white-space: nowrap; font-weight: 600; font-size: .875rem }
 .plot { position: relative; height: 92px; margin-left: 48px; border: solid var(--edge); border-width: 0 0 1px 1px } .plot svg { display: block; width: 100%; height: 100%; overflow: visible } .plot .cursor { position: absolute; inset-block: 0; width: 1px; background: var(--ink) } .plot > small { position: absolute; right: calc(100% + 6px); bottom: 0; font-size: .6875rem; line-height: 1; white-space: nowrap } .plot > .high { bottom: auto; top: 0 } .plot + .ends { margin-left: 48px }
-#event-list { max-height: 22rem; overflow: auto } #event-list li { display: grid; grid-template-columns: 5rem 1.2rem minmax(0, 1fr); gap: 8px; padding: 4px 0; border-bottom: 1px solid var(--edge); font-size: .875rem }
+#event-list { max-height: 22rem; overflow: auto } #event-list li { display: grid; grid: auto / 5rem 1.2rem minmax(0, 1fr); gap: 8px; padding: 4px 0; border-bottom: 1px solid var(--edge); font-size: .875rem }
 .stale main > section:not(#state, #events) { --ink: var(--faint); --live: var(--faint); --good: var(--faint); --card: var(--sunk); color: var(--faint); background: var(--sunk) }
 
-@media (max-width: 1080px) { #power, #site, #outputs, #sets { grid-column: span 12 } nav { display: none } #when { margin-left: auto } .two { grid-template-columns: minmax(0, 1fr) } }
+@media (max-width: 1080px) { #power, #site, #outputs, #sets { grid-column: span 12 } nav { display: none } #when { margin-left: auto } .two { grid: auto / minmax(0, 1fr) } }
 @media (max-width: 700px) {
   main { gap: 10px; padding: 10px } section { padding: 14px } header > div { padding: 0 14px }
-  #facts { display: grid; grid-template-columns: repeat(3, auto); width: 100%; justify-content: space-between } #state > div { flex-basis: 100% } .alarm { grid-template-columns: auto minmax(0, 1fr) } .alarm time { grid-column: 2 }
+  #facts { display: grid; grid: auto / repeat(3, auto); width: 100%; justify-content: space-between } #state > div { flex-basis: 100% } .alarm { grid: auto / auto minmax(0, 1fr) } .alarm time { grid-column: 2 }
   #picture { display: block !important } #picture > svg { display: none } #picture > div + div { margin-top: 10px; padding-top: 18px; background: linear-gradient(var(--live), var(--live)) 24px 0 / 2px 14px no-repeat }
-  .cards thead { position: absolute; clip-path: inset(50%) } .cards, .cards tbody { display: block } .cards tr { display: grid; grid-template-columns: minmax(0, 1fr) auto; gap: 3px 14px; padding: 9px 0; border-top: 1px solid var(--edge); align-items: center } .cards :is(th, td) { padding: 0; border: 0 } .cards .num { grid-column: 2; grid-row: 1 } .cards tr > [data-head] { grid-column: 1 / -1 } .cards [data-head]:not([data-head=''])::before { content: attr(data-head); margin-right: .5em; color: var(--faint); font-size: .75rem } .cards :is(.group, .detail) { display: block } .cards td:is(:empty, :has(> [hidden])) { display: none }
-  .spark { width: 110px } .tools input { flex: 1 1 100% } #listing .known { display: none } #event-list li { grid-template-columns: 4.2rem 1.2rem minmax(0, 1fr) }
+  .cards thead { position: absolute; clip-path: inset(50%) } .cards, .cards tbody { display: block } .cards tr { display: grid; grid: auto / minmax(0, 1fr) auto; gap: 3px 14px; padding: 9px 0; border-top: 1px solid var(--edge); align-items: center } .cards :is(th, td) { padding: 0; border: 0 } .cards .num { grid-column: 2; grid-row: 1 } .cards tr > [data-head] { grid-column: 1 / -1 } .cards [data-head]:not([data-head=''])::before { content: attr(data-head); margin-right: .5em; color: var(--faint); font-size: .75rem } .cards :is(.group, .detail) { display: block } .cards td:is(:empty, :has(> [hidden])) { display: none }
+  .spark { width: 110px } .tools input { flex: 1 1 100% } #listing .known { display: none } #event-list li { grid: auto / 4.2rem 1.2rem minmax(0, 1fr) }
 }
 </style>
 </head>
@@ -188,7 +188,13 @@ const deviceOf = tag => (status.devices[tag.device] || {}).name;
 /** The alarm of a tag by its name, or of a device by its number. */
 const alarmOf = (kinds, of) => status.alarms.find(alarm => kinds.split(' ').includes(alarm.kind) && (alarm.number ?? alarm.name) === of);
 /** The number that a device took last of an output; null where that isn't known. */
-const taken = name => { const own = status.outputs[name] || {}; return own.taken !== undefined ? own.taken : own.state === 'written' ? { value: own.fitted ?? own.value, age: 0 } : null; };
+const taken = name => { const own = status.outputs[name] || {}; return own.state === 'written' ? own.fitted ?? own.value : null; };
+const namesOf = served => served.sum || [served.tag];
+/** The number that clients read there, as of the last scan; null where there is none. */
+const reads = s => {
+  const names = namesOf(s), own = names.map(now).filter(tag => tag.value != null && !tag.cause);
+  return alarmOf('served_missing', `${s.model} ${s.point}`) || own.length < (s.partial || names.length) ? null : own.reduce((sum, tag) => sum + tag.value, 0);
+};
 const inverter = id => id >= 101 && id <= 113 || id === 701, meter = id => id >= 201 && id <= 214;
 const kindOf = ids => ids.some(id => id === 124 || id === 713 || id >= 801 && id <= 809) ? 'battery' : ids.some(inverter) ? 'inverter' : ids.some(meter) ? 'meter' : 'gate';
 /** The devices, each with its power, its limit and what is rated, as far as tags say so. */
@@ -200,7 +206,7 @@ const devices = () => status.devices.map((device, n) => {
   told.power = value(told.watts);
   told.cap = of(tag => tag.access === 'out' && tag.point === 'WMaxLimPct');
   const enable = of(tag => tag.access === 'out' && tag.point === 'WMaxLim_Ena');
-  told.limit = told.cap && taken(told.cap) && (!enable || (taken(enable) || {}).value) ? scaled(taken(told.cap).value, tags.get(told.cap).exponent) : null;
+  told.limit = told.cap && taken(told.cap) != null && (!enable || taken(enable)) ? scaled(taken(told.cap), tags.get(told.cap).exponent) : null;
   return told;
 });
 
@@ -325,9 +331,8 @@ function showPower(list) {
     ...list.filter(d => d.kind === 'meter' && d.watts).map(d => [d.name, d.power == null ? 'not known' : `${power(Math.abs(d.power))} ${d.power < 0 ? 'fed in' : 'drawn'}`])]);
   const total = site.served.find(s => s.point === 'W' && s.sum && inverter(s.model)), cap = [...tags].find(([, tag]) => tag.access === 'site' && tag.point === 'WMax');
   powerChart.hidden = !history.kept || !total || (hour(`served:${total.model} W`) || [0]).every(p => p == null);
-  if (total) powerChart.show({ key: `served:${total.model} W`, title: 'Last hour', small: cap ? `dashed: ${cap[0]}` : '', tag: { ...tags.get(total.sum[0]), low: 0 }, cap: cap && 'tag:' + cap[0], capTag: cap && cap[1], value: () => ((status.served || []).find(same(total)) || {}).value });
+  if (total) powerChart.show({ key: `served:${total.model} W`, title: 'Last hour', small: cap ? `dashed: ${cap[0]}` : '', tag: { ...tags.get(total.sum[0]), low: 0 }, cap: cap && 'tag:' + cap[0], capTag: cap && cap[1], value: () => reads(total) });
 }
-const same = a => b => a.model === b.model && a.point === b.point;
 
 // -- the site as a picture
 const wireBox = make('svg', { 'aria-hidden': 'true' }), column = (id, title, ...kids) => make('div', { id }, make('h3', title), ...kids);
@@ -361,7 +366,7 @@ function showSite(list) {
   put(clientList.previousSibling, status.clients.length > 8 ? `Clients: 8 of ${status.clients.length}` : 'Clients');
   put(gateName, site.program.file);
   define(gateList, [['At', site.listen], ['Period', span(site.period / 1000)], ['Last round', status.round_ms == null ? null : `${status.round_ms} ms`],
-    ...(status.served || []).slice(0, 5).map(v => [`${v.model} ${v.point}`, v.cause ? 'nothing' : v.value == null ? 'not set' : worded({ ...site.served.find(same(v)), exponent: v.exponent }, v.value)])]);
+    ...site.served.slice(0, 5).map(s => [`${s.model} ${s.point}`, worded(tags.get(namesOf(s)[0]), reads(s))])]);
   drawn = list; wires();
 }
 /** Draws the connections: as wide as the power is large, dots go its way; lost ones have a cross. */
@@ -454,7 +459,7 @@ function showOutputs() {
   put(outputPart.aside, bad ? `${bad} of ${list.length} not written` : `all ${list.length} written`);
   fill(outputTable, list.slice(0, view.outputs), ({ tag }) => `${deviceOf(tag)} · ${tag.point}`,
     ({ tag, value }) => [value == null ? 'nothing' : worded(tag, value)],
-    ({ name, tag, state, wrote }) => { const last = taken(name); return [last ? `${worded(tag, last.value)}${last.age > 1 ? `, ${span(last.age)} ago` : ''}` : wrote || (state == null ? 'nothing so far' : 'not known')]; },
+    ({ name, tag, state, wrote }) => [taken(name) != null ? worded(tag, taken(name)) : wrote || (state == null ? 'nothing so far' : 'not known')],
     ({ name, state }) => { const alarm = alarmOf('output_unwritten differs', name); return alarm ? [`${alarm.text.split(': ').pop()} (${alarm.cause})`, 'bad-text'] : [state ? state === 'written' ? 'nothing' : state : 'no scan yet', 'faint']; });
   more(outputPart, 'outputs', list.length, 'output');
   const isSet = name => Object.hasOwn(status.set, name);

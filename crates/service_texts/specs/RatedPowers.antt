@@ -6,8 +6,8 @@ use Rattle.toml.specs.Data.{Data, table, Items, no_items, item}
 use Rattle.toml.specs.Parse.{parse_document}
 use Rattle.point_types.specs.Value.{◌>>=◌}
 use Rattle.file_keys.specs.Keys.{optional_number_at, section_at, natural_within}
-use Rattle.service_texts.specs.declared.rated_powers.RatedFault.{RatedFault}
-use Rattle.service_texts.specs.declared.rated_powers.RatedFault.TheVariants as fault
+use Rattle.service_texts.specs.declared.rating.RatedFault.{RatedFault}
+use Rattle.service_texts.specs.declared.rating.RatedFault.TheVariants as fault
 
 abbrev pub power_of : ℕ → Option ℕ
 power_of n = if nat_le 1 n then Some n else None

@@ -5,8 +5,8 @@ use Rattle.toml.specs.Data.{Data, table, get, as_str}
 use Rattle.toml.specs.Parse.{parse_document}
 use Rattle.point_types.specs.Value.{◌>>=◌}
 use Rattle.service_texts.specs.Identities.{is_plain_text}
-use Rattle.service_texts.specs.declared.site_name.SiteNameFault.{SiteNameFault}
-use Rattle.service_texts.specs.declared.site_name.SiteNameFault.TheVariants as fault
+use Rattle.service_texts.specs.declared.naming.SiteNameFault.{SiteNameFault}
+use Rattle.service_texts.specs.declared.naming.SiteNameFault.TheVariants as fault
 
 -- 1 to 64 bytes, none of a control character, and none at the ends a blank
 abbrev pub is_name : List ℕ → Bool

@@ -12,8 +12,9 @@ mod identities;
 mod kept_program;
 mod lapsing_lines;
 mod lines;
+mod naming;
 mod number;
-mod rated_powers;
+mod rating;
 mod ration;
 mod reaching;
 mod reading_back;
@@ -21,7 +22,6 @@ mod retain_pace;
 mod retaining;
 mod settings;
 mod share;
-mod site_name;
 mod sleeping;
 mod start;
 mod state_lines;
@@ -40,8 +40,8 @@ pub use sleeping::{SleepFault, sleeping_hours};
 // what devices must say of themselves
 pub use identities::{IdentityFault, IdentityKey, identities_of};
 // what a site is called, and for which powers devices are made
-pub use rated_powers::{RatedFault, rated_powers};
-pub use site_name::{SiteNameFault, site_name};
+pub use naming::{SiteNameFault, site_name};
+pub use rating::{RatedFault, rated_powers};
 // which clients may write
 pub use writers::{Writer, WriterFault, may_write, writers_of};
 // how long is waited

@@ -3,7 +3,7 @@ ghost use Rattle.std.specs.Prelude.{◌≡◌, ◌≢◌, [], Ok, Err, IfOk, IfE
 ghost use Rattle.toml.specs.View.{view, items_view};
 ghost use Rattle.file_keys.specs.Keys.{natural_within};
 ghost use Rattle.service_texts.specs.RatedPowers.{power_at, power_from, power_of, powers_after, powers_in, powers_listed};
-ghost use Rattle.service_texts.specs.declared.rated_powers.RatedFault.TheVariants as fault;
+ghost use Rattle.service_texts.specs.declared.rating.RatedFault.TheVariants as fault;
 
 use file_keys::{TomlFile, optional_number_at, section_at};
 use point_types::Items;
@@ -23,7 +23,7 @@ pub enum RatedFault {
 
 impl From<AllocError> for RatedFault {
     ghost use Rattle.std.specs.Prelude.{◌≡◌};
-    ghost use Rattle.service_texts.specs.declared.rated_powers.RatedFault.TheVariants.{OutOfMemory};
+    ghost use Rattle.service_texts.specs.declared.rating.RatedFault.TheVariants.{OutOfMemory};
 
     ghost from_gives = { λ _ e. e ≡ OutOfMemory };
 

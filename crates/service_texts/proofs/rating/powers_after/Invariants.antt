@@ -1,7 +1,7 @@
 use Rattle.std.proofs.Common.{◌≡◌, drop, []}
 use Rattle.toml.specs.View.{items_view}
 use Rattle.service_texts.specs.RatedPowers.{powers_after}
-use Rattle.service_texts.proofs.rated_powers.powers_after.Given as goal
+use Rattle.service_texts.proofs.rating.powers_after.Given as goal
 
 -- what the entries that are left give after the powers so far
 abbrev pub invariant-loop-entry : goal.invariant-loop-entry
