@@ -6,6 +6,7 @@ import json
 import re
 import socket
 import time
+import urllib.parse
 
 from serve_parts import TOP, Client, Service, text_of, until, within
 from serve_plays import DEVICE, GATEWAY, LIMIT, OwnDevice, inverter, put
@@ -53,6 +54,31 @@ model = 123
 point = "WMaxLimPct_SF"
 value = 0
 """
+MORE_TAGS = "".join(
+    f"""[[tag]]
+name = "w{n}"
+access = "in"
+device = "{{device}}"
+model = 103
+point = "W"
+type = "DINT"
+low = -400
+high = 65534
+exponent = 0
+
+"""
+    for n in range(2, 21)
+)
+SUM = """[[served]]
+model = 103
+point = "W"
+sum = ["w1", "w2"]
+
+[[served]]
+model = 103
+point = "W_SF"
+value = 0
+"""
 PROGRAM = """PROGRAM page
 VAR_EXTERNAL
   lim1, target : INT;
@@ -67,10 +93,10 @@ END_PROGRAM
 class Window:
     """A service with a window, its device, and a socket of one who looks."""
 
-    def __init__(self, program, folder, name, *more):
+    def __init__(self, program, folder, name, *more, tags=""):
         self.device = OwnDevice({1: inverter(1500)})
         text = GATEWAY + f'name = "{NAME}"\n' + DEVICE.format(n=1).replace('"inv1"', f'"{HOSTILE}"') + f'remote_unit = 1\nrated = 5000\naddress = "{self.device.address()}"\n'
-        site = put(folder, f"{name}.toml", text + SITE.format(device=HOSTILE))
+        site = put(folder, f"{name}.toml", text + SITE.format(device=HOSTILE) + tags.format(device=HOSTILE))
         words = [site, put(folder, f"{name}.il", PROGRAM), "--listen", "127.0.0.1:0", "--every", "100", "--page", "127.0.0.1:0", *more]
         self.service = Service(program, words)
         self.service.has(r"page .*")
@@ -89,6 +115,12 @@ class Window:
 
     def get(self, path, method="GET", host="127.0.0.1", more=""):
         return self.ask(f"{method} {path} HTTP/1.1\r\nHost: {host}\r\nConnection: close\r\n{more}\r\n".encode())
+
+    def history(self, series=(), events=0):
+        """The last hour of some series, and the lines after a number."""
+        names = ",".join(urllib.parse.quote(it, safe="") for it in series)
+        status, _, body = self.get(f"/history.json?series={names}&events={events}")
+        return json.loads(body) if status == 200 else {"series": {}, "events": []}
 
     def numbers(self):
         """The lines of /metrics that are numbers."""
@@ -121,6 +153,7 @@ def play_numbers(counts, program, folder):
     counts.note("a client writes", client.write(LIMIT, 30)[0] == 6)
     wanted = 'sunsite_tag_value{tag="lim1"} 30'
     counts.note("what the program stored", until(lambda: wanted in window.numbers(), True), window.numbers())
+    until(lambda: {'sunsite_tag_value{tag="w1"} 1500', 'sunsite_alarms{kind="output_unwritten"} 0'} <= set(window.numbers()), True)
     numbers = window.numbers()
     value = lambda name: [line.rsplit(" ", 1)[1] for line in numbers if line.startswith(name)]
     named = [line for line in numbers if line.startswith("sunsite_info{") and line.endswith(f',name="{NAME}"}} 1')]
@@ -266,4 +299,72 @@ def play_pieces(counts, program, folder):
     window.end()
 
 
-PLAYS = (play_numbers, play_requests, play_page, play_site, play_pieces)
+def fresh_step(window):
+    """How many steps of ten seconds there are, once one has just begun."""
+    count = lambda: len(window.history(["steps"])["series"]["steps"])
+    before = count()
+    until(lambda: count() > before, True, 12)
+    return count()
+
+
+def play_hour(counts, program, folder):
+    """The last hour: what a tag was within ten seconds, where it had no value, and which lines were told."""
+    window = Window(program, folder, "hour", tags=MORE_TAGS + SUM)
+    client = Client(window.service.port())
+    wanted = ["tag:w1", "tag:target", "tag:lim1", "served:103 W", "steps"]
+    last = lambda: {name: points[-1] for name, points in window.history(wanted)["series"].items()}
+    counts.note("a default is no value", until(lambda: last()["tag:lim1"], 50) == 50 and last()["tag:target"] is None, last())
+    registers, status = window.device.units[1], lambda: json.loads(window.get("/status.json")[2])
+    place = [it for it, word in registers.items() if word == 1500][0]
+    client.write(LIMIT, 80)
+    until(lambda: status()["outputs"]["lim1"]["value"], 80)
+    steps = fresh_step(window)
+    for watts, percent in ((2000, 80), (700, 30), (1500, 60)):
+        registers[place] = watts
+        client.write(LIMIT, percent)
+        until(lambda: (status()["tags"]["w1"].get("value"), status()["outputs"]["lim1"]["value"]), (watts, percent))
+    now = last()
+    counts.note("one step has the least and the greatest", len(window.history(wanted)["series"]["steps"]) == steps and (now["tag:w1"], now["tag:target"]) == ([700, 2000], [30, 80]), now)
+    counts.note("what the program stored", now["tag:lim1"] == [30, 80], now)
+    counts.note("a sum", now["served:103 W"] == [1400, 4000], now)
+    counts.note("steps are one number", now["steps"] == 3, now)
+    answer = window.history(wanted)
+    counts.note("each series has a point for each step", {len(it) for it in answer["series"].values()} == {steps} and (answer["step"], answer["count"]) == (10, 360), answer)
+    counts.note("when it is", re.fullmatch(r"20\d\d-\d\d-\d\dT\d\d:\d\d:\d\dZ", answer["time"]) is not None, answer["time"])
+    texts = [it["text"] for it in answer["events"]]
+    counts.note("lines are told in order", [it["n"] for it in answer["events"]] == list(range(1, answer["told"] + 1)), answer["events"])
+    counts.note("without their time, letter by letter", 'device in"v\\1 found 1 103 123' in texts and any(it.startswith("set target 80 was unset by") for it in texts), texts)
+    counts.note("as the status counts them", status()["events"] == window.history()["told"])
+    later = window.history(events=answer["told"] - 2)
+    counts.note("those after a number", later["events"] == answer["events"][-2:] and later["series"] == {}, later)
+    window.device.silent = True
+    some = lambda it: (it["tag:w1"], it["served:103 W"], it["tag:lim1"])
+    counts.note("a step without a value", until(lambda: some(last()), (None, None, 60), 40) == (None, None, 60), last())
+    counts.note("what was before it stays", [700, 2000] in window.history(["tag:w1"])["series"]["tag:w1"])
+    window.end()
+
+
+def play_asked_hour(counts, program, folder):
+    """Which series are answered, and of how many there is a history."""
+    window = Window(program, folder, "asked", tags=MORE_TAGS + SUM)
+    names = [f"tag:w{n}" for n in range(1, 18)]
+    counts.note("sixteen at most", list(window.history(names)["series"]) == names[:16])
+    counts.note("unknown ones are left out", list(window.history(["nothing", "tag:w2", "tag:", "", "tag:w2"])["series"]) == ["tag:w2"])
+    plain = window.get("/history.json?other=1&events=many&series=steps,served:103+W")
+    counts.note("nothing else is looked at", plain[0] == 200 and set(json.loads(plain[2])["series"]) == {"steps", "served:103 W"}, plain)
+    counts.note("bytes that are no text", window.get("/history.json?series=%ff%00,%22")[0] == 200)
+    head = window.get("/history.json?series=steps", "HEAD")
+    counts.note("the head alone", head[0] == 200 and int(head[1]["content-length"]) > 50 and head[2] == b"", head)
+    counts.note("another host", window.get("/history.json", host="evil.example")[0] == 421)
+    window.end()
+    small = Window(program, folder, "small", "--page-memory", "200000", tags=MORE_TAGS + SUM)
+    every = [*names, "tag:lim1", "tag:target", "steps", "served:103 W"]
+    known = [it for it in every if small.history([it])["series"]]
+    counts.note("the first of the file have a history", known == [*names[:5], "tag:lim1", "tag:target", "steps"], known)
+    small.end()
+    said = small.service.process.stderr.read()
+    wanted = "'--page' shows no history of the last 16 of 23 tags and sums: '--page-memory 336000' has room for all"
+    counts.note("and it is said that others have none", wanted in said, said)
+
+
+PLAYS = (play_numbers, play_requests, play_page, play_site, play_pieces, play_hour, play_asked_hour)

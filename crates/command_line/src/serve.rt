@@ -7,6 +7,7 @@ mod refusing;
 mod retained;
 mod served_keys;
 mod service_run;
+mod short_history;
 mod unkept;
 
 pub use last_program::RefusedText;

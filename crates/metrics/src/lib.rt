@@ -11,3 +11,4 @@ mod tags;
 
 pub use labels::push_label;
 pub use numbers::{Metrics, metrics_text};
+pub use tags::tag_number;

@@ -38,7 +38,7 @@ fn push_value(
     tag: &SiteTag,
     place: usize,
 ) -> Result<(), AllocError> {
-    match number_of(core, tag.access, place) {
+    match tag_number(core, tag, place) {
         Some(number) => {
             let value = decimal(sheet.alloc, i128::from(number), tag.exponent)?;
             let labels = [("tag", tag.name.as_str())];
@@ -48,9 +48,9 @@ fn push_value(
     }
 }
 
-/// The number of a tag: what the program stored where it writes it, else what it was to the program by itself.
-fn number_of(core: &Core<DEPTH>, access: Access, place: usize) -> Option<i64> {
-    match access {
+/// The number of the tag of this place: what the program stored where it writes it, else what it was to the program by itself.
+pub fn tag_number(core: &Core<DEPTH>, tag: &SiteTag, place: usize) -> Option<i64> {
+    match tag.access {
         Access::Output | Access::Shown => number_at(core.outputs(), place),
         Access::Input | Access::Setting | Access::Time => match core.readings().get(place) {
             Some(Reading::Value(number)) => Some(*number),

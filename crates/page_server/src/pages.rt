@@ -2,9 +2,17 @@
 use crate::hosts::is_known_host;
 use crate::page_text::{PAGE, POLICY};
 use bytes::{BufMut, Bytes};
+use history::LastHour;
 use http::{HeaderName, HeaderValue, Method, Request, StatusCode, header};
 use http_server::{Response, Service};
 use std::alloc::AllocError;
+
+/// The kinds of texts.
+const HTML: &str = "text/html; charset=utf-8";
+
+const JSON: &str = "application/json";
+
+const METRICS: &str = "text/plain; version=0.0.4; charset=utf-8";
 
 /// What a browser may do for every answer except the page: nothing.
 const NOTHING: &str = "default-src 'none'; frame-ancestors 'none'";
@@ -18,6 +26,8 @@ pub struct PageTexts<'a> {
     pub metrics: &'a str,
     /// What doesn't change while its program runs, as JSON.
     pub site: &'a str,
+    /// The last hour.
+    pub hour: LastHour<'a>,
 }
 
 /// Whoever answers requests by these texts.
@@ -37,6 +47,7 @@ enum Page {
     Status,
     Metrics,
     Site,
+    History,
 }
 
 impl<'a> Pages<'a> {
@@ -56,7 +67,7 @@ impl<'a> Pages<'a> {
     fn answer(&self, request: &Request<Bytes>, response: &mut Response) -> Result<(), AllocError> {
         keep_private(response)?;
         match self.page_of(request) {
-            Ok(page) => self.show(page, response),
+            Ok(page) => self.show(page, request, response),
             Err(status) => refuse(status, response),
         }
     }
@@ -75,6 +86,7 @@ impl<'a> Pages<'a> {
             "/status.json" => Ok(Page::Status),
             "/metrics" => Ok(Page::Metrics),
             "/site.json" => Ok(Page::Site),
+            "/history.json" => Ok(Page::History),
             _ => Err(StatusCode::NOT_FOUND),
         }
     }
@@ -93,24 +105,23 @@ impl<'a> Pages<'a> {
         }
     }
 
-    fn show(&self, page: Page, response: &mut Response) -> Result<(), AllocError> {
-        let (kind, policy, text) = match page {
-            Page::Index => ("text/html; charset=utf-8", POLICY, PAGE),
-            Page::Status => ("application/json", NOTHING, self.texts.status),
-            Page::Metrics => (
-                "text/plain; version=0.0.4; charset=utf-8",
-                NOTHING,
-                self.texts.metrics,
-            ),
-            Page::Site => ("application/json", NOTHING, self.texts.site),
-        };
-        response.status = StatusCode::OK;
-        response.add_header(header::CONTENT_TYPE, HeaderValue::from_static(kind))?;
-        response.add_header(
-            header::CONTENT_SECURITY_POLICY,
-            HeaderValue::from_static(policy),
-        )?;
-        response.body.put_slice(text.as_bytes())
+    fn show(
+        &self,
+        page: Page,
+        request: &Request<Bytes>,
+        response: &mut Response,
+    ) -> Result<(), AllocError> {
+        match page {
+            Page::Index => put_text(response, HTML, POLICY, PAGE),
+            Page::Status => put_text(response, JSON, NOTHING, self.texts.status),
+            Page::Metrics => put_text(response, METRICS, NOTHING, self.texts.metrics),
+            Page::Site => put_text(response, JSON, NOTHING, self.texts.site),
+            Page::History => {
+                let query = request.uri().query().unwrap_or("");
+                let text = self.texts.hour.text(query)?;
+                put_text(response, JSON, NOTHING, text.as_str())
+            }
+        }
     }
 }
 
@@ -126,6 +137,26 @@ impl Service for Pages<'_> {
         self.answered = self.answered.saturating_add(1);
         Ok(())
     }
+}
+
+/// Puts a text of this kind into an answer, with what a browser may do for it. A text that isn't there, since memory was refused, is
+/// there later.
+fn put_text(
+    response: &mut Response,
+    kind: &'static str,
+    policy: &'static str,
+    text: &str,
+) -> Result<(), AllocError> {
+    if text.is_empty() {
+        return refuse(StatusCode::SERVICE_UNAVAILABLE, response);
+    }
+    response.status = StatusCode::OK;
+    response.add_header(header::CONTENT_TYPE, HeaderValue::from_static(kind))?;
+    response.add_header(
+        header::CONTENT_SECURITY_POLICY,
+        HeaderValue::from_static(policy),
+    )?;
+    response.body.put_slice(text.as_bytes())
 }
 
 /// Nothing between here and there keeps an answer, no page of another place shows it, and none shares a window with it.

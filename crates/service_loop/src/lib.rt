@@ -11,6 +11,7 @@ mod clients;
 mod device_socket;
 mod device_sockets;
 mod door;
+mod hour_record;
 mod keeping;
 mod kept_files;
 mod line_writer;
@@ -51,6 +52,7 @@ pub use keeping::{Keeping, KeptState};
 // another program in place of the one that runs
 pub use program_watch::{Looked, OneProgram, ProgramRefusal, ProgramWatch};
 // the service itself
+pub use hour_record::quantities_of;
 pub use serving::{End, PageWindow, Serving};
 pub use state_fault::StateFault;
 pub use turns::serve_site;

@@ -3,6 +3,7 @@ ghost use Rattle.std.specs.Prelude.{string_bytes, IfOk};
 ghost use Rattle.service_loop.specs.Timing.{IsLineAt};
 
 use crate::room::Room;
+use history::EventRing;
 use service_texts::{Times, client_line, left_out_line, stamped, time_of_day, timed_line};
 use std::alloc::{AllocError, Global};
 use std::io::Write;
@@ -25,8 +26,10 @@ pub(crate) struct LineWriter<'a, W: Write> {
     began_at: Option<u64>,
     /// How many lines were left out since one was written.
     left_out: u64,
-    /// How many lines were written.
+    /// How many lines were told after their time, also of those that were left out.
     told: u64,
+    /// The last of these; None where nobody looks at them.
+    events: Option<EventRing>,
 }
 
 impl<'a, W: Write> LineWriter<'a, W> {
@@ -37,6 +40,7 @@ impl<'a, W: Write> LineWriter<'a, W> {
         room: Room,
         times: Times,
         seconds: Option<u64>,
+        events: Option<EventRing>,
     ) -> LineWriter<'a, W> {
         LineWriter {
             out,
@@ -48,6 +52,7 @@ impl<'a, W: Write> LineWriter<'a, W> {
             began_at: seconds,
             left_out: 0,
             told: 0,
+            events,
         }
     }
 
@@ -82,19 +87,42 @@ impl<'a, W: Write> LineWriter<'a, W> {
         self.seconds
     }
 
-    /// How many lines were written.
+    /// How many lines were told after their time, also of those that were left out.
     pub(crate) fn told(&self) -> u64 {
         self.told
+    }
+
+    /// The last of these, where somebody may look at them.
+    pub(crate) fn events(&self) -> Option<&EventRing> {
+        self.events.as_ref()
     }
 
     /// Writes a line, after the time.
     pub(crate) fn tell(&mut self, line: Result<String, AllocError>) {
         self.tell_left_out();
         let written = match line {
-            Ok(line) => self.write_stamped(line.as_str()),
+            Ok(line) => {
+                self.note(line.as_str());
+                self.write_stamped(line.as_str())
+            }
             Err(AllocError) => false,
         };
         self.count(written);
+    }
+
+    /// Counts a line, and keeps it for those who look.
+    fn note(&mut self, line: &str) {
+        self.told = self.told.saturating_add(1);
+        if self.events.is_none() {
+            return;
+        }
+        let time = self.time_of_day();
+        if let Some(events) = &mut self.events {
+            match time {
+                Ok(time) => events.tell(self.told, time.as_str(), line),
+                Err(AllocError) => events.tell(self.told, "-", line),
+            }
+        }
     }
 
     /// Writes a line as it is.
@@ -146,11 +174,7 @@ impl<'a, W: Write> LineWriter<'a, W> {
     }
 
     fn write(&mut self, line: &str) -> bool {
-        let written = self.room.is_there() && self.out.write_all(line.as_bytes()).is_ok();
-        if written {
-            self.told = self.told.saturating_add(1);
-        }
-        written
+        self.room.is_there() && self.out.write_all(line.as_bytes()).is_ok()
     }
 }
 

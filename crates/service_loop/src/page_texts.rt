@@ -1,4 +1,5 @@
 //! What those who look are shown.
+use history::LastHour;
 use page_server::PageTexts;
 use std::alloc::{AllocError, Global};
 use std::net::SocketAddr;
@@ -39,12 +40,13 @@ impl ScanTexts {
         }
     }
 
-    /// Beside what is told of the site.
-    pub(crate) fn beside<'a>(&'a self, site: &'a str) -> PageTexts<'a> {
+    /// Beside what is told of the site, and the last hour.
+    pub(crate) fn beside<'a>(&'a self, site: &'a str, hour: LastHour<'a>) -> PageTexts<'a> {
         PageTexts {
             status: self.status.as_str(),
             metrics: self.metrics.as_str(),
             site,
+            hour,
         }
     }
 }

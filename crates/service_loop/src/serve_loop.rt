@@ -1,5 +1,6 @@
 //! All that a service has beside what decides.
 use crate::alarm_watch::AlarmWatch;
+use crate::hour_record::{HourRecord, events_of, hour_of};
 use crate::keeping::Keeping;
 use crate::kept_files::KeptFiles;
 use crate::line_writer::LineWriter;
@@ -47,6 +48,8 @@ pub(crate) struct ServeLoop<'a, W: Write> {
     texts: ScanTexts,
     /// And what they are told once of the site and the program that runs; none before somebody looks.
     site_text: Option<String>,
+    /// The last hour; None where nobody can look at it.
+    hour: Option<HourRecord>,
     /// What is wrong.
     alarm_watch: AlarmWatch,
     /// Whether standard error takes a note on another program; None where there are none.
@@ -60,11 +63,12 @@ impl<'a, W: Write> ServeLoop<'a, W> {
         alloc: Global,
         serving: &Serving<'_>,
         addresses: &'a Addresses,
+        site: &Site,
         is_noting: bool,
         out: &'a mut W,
     ) -> Result<ServeLoop<'a, W>, End> {
         let sockets = Sockets::new(rt, alloc, serving, addresses.links.as_slice())?;
-        match ServeLoop::over(rt, alloc, serving, addresses, is_noting, sockets, out) {
+        match ServeLoop::over(rt, alloc, serving, addresses, site, is_noting, sockets, out) {
             Ok(serve_loop) => Ok(serve_loop),
             Err(fault) => Err(End::by(&fault)),
         }
@@ -75,12 +79,15 @@ impl<'a, W: Write> ServeLoop<'a, W> {
         alloc: Global,
         serving: &Serving<'_>,
         addresses: &'a Addresses,
+        site: &Site,
         is_noting: bool,
         sockets: Sockets,
         out: &'a mut W,
     ) -> io::Result<ServeLoop<'a, W>> {
         let room = Room::new(rt, alloc, STANDARD_OUTPUT)?;
-        let line_writer = LineWriter::new(alloc, out, room, serving.times, seconds_of_day(rt));
+        let events = events_of(alloc, serving)?;
+        let seconds = seconds_of_day(rt);
+        let line_writer = LineWriter::new(alloc, out, room, serving.times, seconds, events);
         Ok(ServeLoop {
             alloc,
             addresses,
@@ -92,6 +99,7 @@ impl<'a, W: Write> ServeLoop<'a, W> {
             scanned_at: None,
             texts: ScanTexts::none(alloc),
             site_text: None,
+            hour: hour_of(alloc, serving, site)?,
             alarm_watch: AlarmWatch::new(alloc, addresses.stations.len(), serving.sleeps)?,
             notes: noting(rt, alloc, is_noting),
         })
@@ -243,12 +251,21 @@ impl<'a, W: Write> ServeLoop<'a, W> {
             if let Notice::Scanned(_) = note {
                 files.scanned();
                 self.look(service, files);
+                self.record(service);
             }
             if is_done {
                 return true;
             }
         }
         false
+    }
+
+    // Records a scan for those who look.
+    fn record(&mut self, service: &Service) {
+        let now = self.line_writer.now();
+        if let Some(hour) = &mut self.hour {
+            hour.scanned(now, self.steps.last(), service.core());
+        }
     }
 
     // Looks what is wrong after a scan, and tells what changed.
@@ -330,12 +347,34 @@ impl<'a, W: Write> ServeLoop<'a, W> {
                 self.make_texts(serving, program, service);
             }
         }
+        match self.time_shown() {
+            Ok(time) => self.answer(window, time.as_str()),
+            Err(AllocError) => self.line_writer.tell(Err(AllocError)),
+        }
+    }
+
+    // Answers those who look, at this time of day.
+    fn answer(&mut self, window: PageWindow<'_>, time: &str) {
         let now = self.line_writer.now();
+        let (Some(hour), Some(events)) = (&mut self.hour, self.line_writer.events()) else {
+            return;
+        };
+        hour.turn_to(now);
         let site = match &self.site_text {
             Some(text) => text.as_str(),
             None => "",
         };
-        self.sockets.show(window, self.texts.beside(site), now);
+        let hour = hour.last_hour(events, self.line_writer.told(), time);
+        self.sockets.show(window, self.texts.beside(site, hour), now);
+    }
+
+    // The time of day, where somebody is to be answered.
+    fn time_shown(&self) -> Result<String, AllocError> {
+        if self.sockets.has_lookers() {
+            self.line_writer.time_of_day()
+        } else {
+            Ok(String::new(self.alloc))
+        }
     }
 
     // Makes the text of the site and the program; where memory is refused, there is none until the next turn.

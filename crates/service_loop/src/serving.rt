@@ -17,6 +17,8 @@ pub struct PageWindow<'a> {
     pub site: &'a str,
     /// And such an object of the program of the start.
     pub program: &'a str,
+    /// The most bytes for the last hour.
+    pub memory: u64,
 }
 
 /// What a service is to do.

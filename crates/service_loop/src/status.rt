@@ -22,7 +22,7 @@ pub(crate) struct ServiceCounts {
     pub seconds: u64,
     /// The rounds that began late.
     pub late: u64,
-    /// The lines that were written.
+    /// The lines that were told after their time.
     pub lines: u64,
     pub steps: ScanSteps,
 }

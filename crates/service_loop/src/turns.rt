@@ -44,7 +44,8 @@ pub fn serve_site<
 ) -> Result<(), End> {
     let lock = lock_of(rt, alloc, keeping)?;
     let is_noting = program.looks_at().is_some();
-    let mut serve_loop = ServeLoop::new(rt, alloc, serving, addresses, is_noting, out)?;
+    let site = service.core().site();
+    let mut serve_loop = ServeLoop::new(rt, alloc, serving, addresses, site, is_noting, out)?;
     serve_loop.tell_address();
     serve_loop.tell_kept(serving)?;
     let mut files = serve_loop.restore(keeping, lock, service)?;

@@ -6,6 +6,7 @@ use crate::serve::program_file::ProgramFile;
 use crate::serve::refusing::{tell_no_core, tell_unreachable, tell_unretained};
 use crate::serve::retained::Retained;
 use crate::serve::served_keys::{ServedKeys, name_in};
+use crate::serve::short_history::warn_of_short_history;
 use crate::serve::unkept::tell_unkept;
 use crate::words::version;
 use command_files::{
@@ -20,6 +21,7 @@ use served_site::service_of;
 use service::{Limits, Service};
 use service_loop::{End, Keeping, OneProgram, Serving, seconds_of_day, serve_site};
 use service_texts::{Addresses, DeviceSource, Start, addresses_of, plant_addresses};
+use site_model::Site;
 use std::alloc::{AllocError, Global};
 use std::fs::File;
 use std::io::{Read, Write};
@@ -314,11 +316,25 @@ fn prepared<R: Print + Eprint + AllocGlobal, W: Write>(
                 );
                 warn_on_site(rt, &run.notes, &given.site);
                 warn_of_short_lapses(rt, &run.notes, &given.site, run.limits.period);
+                warn_of_history(rt, run, &given.site);
                 Ok(addresses)
             }
             status => Err(status),
         },
         Err(fault) => Err(tell_unreachable(rt, alloc, &given.site, fault, out)),
+    }
+}
+
+/// Says on standard error of how many tags and sums there is no history, where somebody can look at it.
+fn warn_of_history<R: Eprint + AllocGlobal>(
+    rt: &R,
+    run: &ServiceRun<'_, '_, '_, '_, '_>,
+    site: &Site,
+) {
+    if let Some(window) = run.serving.page {
+        if !run.notes.quiet {
+            warn_of_short_history(rt, window, site);
+        }
     }
 }
 

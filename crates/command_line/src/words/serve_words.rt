@@ -38,6 +38,9 @@ const UNKNOWN_PAGE: Misuse = Misuse::Words("'--page' is no HOST:PORT that is kno
 /// From one scan to the next, and the longest wait for a device's reply, where no other is asked for, in milliseconds.
 const USUAL: &str = "1000";
 
+/// The most bytes for the last hour, where no other number is asked for: room for a thousand tags.
+const USUAL_MEMORY: u64 = 10_000_000;
+
 pub(crate) fn serve_command<'a>(alloc: Global) -> Result<Command<'a>, AllocError> {
     let command = Command::new(alloc, "serve")
         .about("Runs a program on a site by the clock, over connections to its devices")
@@ -62,7 +65,8 @@ fn with_times<'a>(alloc: Global, command: Command<'a>) -> Result<Command<'a>, Al
 fn with_window<'a>(alloc: Global, command: Command<'a>) -> Result<Command<'a>, AllocError> {
     let command = command
         .arg(page_option(alloc))?
-        .arg(page_host_option(alloc))?;
+        .arg(page_host_option(alloc))?
+        .arg(page_memory_option(alloc))?;
     with_files(alloc, command)
 }
 
@@ -111,7 +115,7 @@ fn page_option<'a>(alloc: Global) -> Arg<'a> {
         alloc,
         "page",
         "HOST:PORT",
-        "where browsers and monitors look, over HTTP: the page, /metrics, /status.json",
+        "where browsers and monitors look, over HTTP: the page, /metrics, /status.json, /history.json",
     )
 }
 
@@ -123,6 +127,17 @@ fn page_host_option<'a>(alloc: Global) -> Arg<'a> {
         "a name by which this machine is asked there, beside its addresses",
     )
     .action(ArgAction::Append)
+}
+
+fn page_memory_option<'a>(alloc: Global) -> Arg<'a> {
+    option(
+        alloc,
+        "page-memory",
+        "BYTES",
+        "the most memory for what is shown there of the last hour",
+    )
+    .value_parser(ValueParser::unsigned(200_000, 1_000_000_000))
+    .default_value("10000000")
 }
 
 fn clients_option<'a>(alloc: Global) -> Arg<'a> {
@@ -356,7 +371,7 @@ pub(crate) fn serving_of<'a>(
         refused: None,
         times: words.times,
         listen: words.listen,
-        page: window_of(words),
+        page: window_of(matches, words),
         period: milliseconds(matches, "every"),
         clients: most_clients(matches),
         sleeps: &[],
@@ -367,13 +382,14 @@ pub(crate) fn serving_of<'a>(
     }
 }
 
-fn window_of<'a>(words: &'a ServiceWords<'_>) -> Option<PageWindow<'a>> {
+fn window_of<'a>(matches: &ArgMatches<'_>, words: &'a ServiceWords<'_>) -> Option<PageWindow<'a>> {
     match words.page {
         Some(listen) => Some(PageWindow {
             listen,
             names: words.page_hosts.as_slice(),
             site: "",
             program: "",
+            memory: matches.get_one("page-memory").unwrap_or(USUAL_MEMORY),
         }),
         None => None,
     }

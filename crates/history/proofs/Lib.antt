@@ -1,0 +1,4 @@
+pub mod MoreNumbers
+pub mod StepsOver
+pub mod LinesTold
+pub mod Places

@@ -1,0 +1,5 @@
+pub mod Bounds
+pub mod Steps
+pub mod Points
+pub mod Events
+pub mod Recorded
