@@ -30,3 +30,4 @@ pub mod Going
 pub mod ToldWrites
 pub mod Pairing
 pub mod Differing
+pub mod Together

@@ -22,9 +22,10 @@ ghost use Rattle.service.specs.Rewriting.{after_answer, write_of};
 ghost use Rattle.service.specs.Telling.{state_by, told_at};
 ghost use Rattle.service.specs.Timing.{StaysAt};
 ghost use Rattle.service.specs.Going.{LinksGo};
-ghost use Rattle.service.specs.Having.{HasMoreBy, HasNoMore, IsAnsweredBy, IsHeardBy, IsRefusedAt, IsRefusedBy, IsRefusedIf, TellsHad, taken_at, taken_by, taken_if};
+ghost use Rattle.service.specs.Having.{HasMoreBy, HasNoMore, HasOrTook, IsAnsweredBy, IsHeardBy, IsRefusedAt, IsRefusedBy, IsRefusedIf, TellsHad, taken_at, taken_by, taken_if};
 ghost use Rattle.service.specs.Identity.{IsSaidAt, IsSaidBy, IsSaidIf, SaysMoreBy};
 ghost use Rattle.service.specs.Staying.{Stays};
+ghost use Rattle.service.specs.Together.{AllGoWith, GoTogether};
 
 use crate::held_writes::write_of;
 use crate::link_pace::Purpose;
@@ -44,6 +45,7 @@ impl Service {
         ensures rest { Stays self.old self.new }
         ensures lines { LinksGo self.old self.new }
         ensures held { HasMoreBy (taken_if asked (Some fate) self.old.side.now) self.old.held self.new.held }
+        ensures together { AllGoWith self.old.held.companions.items (HasOrTook (taken_if asked (Some fate) self.old.side.now) self.old.held) self.old.lines.lines.items self.new.lines.links.numbers.items self.new.lines.lines.items }
         ensures says { SaysMoreBy (IsSaidIf asked (Some fate)) self.old.held.identities self.new.held.identities }
         ensures stands { TellsAllBy (LostByHearing self.old.lines.links.stations.items link asked (Some fate)) (IsHeardBy (taken_if asked (Some fate) self.old.side.now) (IsRefusedIf asked (Some fate)) self.old.held) (IsShownIf self.old.cycle.core.value.site.wants self.old.held asked (Some fate)) self.old.side self.new.side }
         ensures differing { TellsOthers (IsShownIf self.old.cycle.core.value.site.wants self.old.held asked (Some fate)) self.old.side self.new.side }
@@ -60,6 +62,7 @@ impl Service {
         ensures rest { Stays self.old self.new }
         ensures lines { LinksGo self.old self.new }
         ensures held { HasMoreBy (taken_at fate asked self.old.side.now) self.old.held self.new.held }
+        ensures together { AllGoWith self.old.held.companions.items (HasOrTook (taken_at fate asked self.old.side.now) self.old.held) self.old.lines.lines.items self.new.lines.links.numbers.items self.new.lines.lines.items }
         ensures says { SaysMoreBy (IsSaidAt fate asked) self.old.held.identities self.new.held.identities }
         ensures stands { TellsAllBy (LostByFate self.old.lines.links.stations.items link asked fate) (IsHeardBy (taken_at fate asked self.old.side.now) (IsRefusedAt fate asked) self.old.held) (IsShownAt self.old.cycle.core.value.site.wants self.old.held asked fate) self.old.side self.new.side }
         ensures differing { TellsOthers (IsShownAt self.old.cycle.core.value.site.wants self.old.held asked fate) self.old.side self.new.side }
@@ -78,6 +81,7 @@ impl Service {
         ensures lines { LinksGo self.old self.new }
         ensures goes { LeadsOn self.old.cycle self.new.cycle }
         ensures held { HasNoMore self.old.held self.new.held }
+        ensures together { GoTogether self.old self.new }
         ensures stands { TellsHad (AreLost self.old.lines.links.stations.items link frame) self.old.held self.old.side self.new.side }
     {
         self.side.lose_write(aim);
@@ -91,6 +95,7 @@ impl Service {
         ensures rest { Stays self.old self.new }
         ensures lines { LinksGo self.old self.new }
         ensures held { HasMoreBy (taken_by outcome asked self.old.side.now) self.old.held self.new.held }
+        ensures together { AllGoWith self.old.held.companions.items (HasOrTook (taken_by outcome asked self.old.side.now) self.old.held) self.old.lines.lines.items self.new.lines.links.numbers.items self.new.lines.lines.items }
         ensures says { SaysMoreBy (IsSaidBy outcome asked) self.old.held.identities self.new.held.identities }
         ensures stands { TellsAllBy (LostByFate self.old.lines.links.stations.items link asked (Told outcome)) (IsHeardBy (taken_by outcome asked self.old.side.now) (IsRefusedAt (Told outcome) asked) self.old.held) (IsShownBy self.old.cycle.core.value.site.wants self.old.held asked outcome) self.old.side self.new.side }
         ensures differing { TellsOthers (IsShownBy self.old.cycle.core.value.site.wants self.old.held asked outcome) self.old.side self.new.side }
@@ -109,6 +114,7 @@ impl Service {
         ensures lines { LinksGo self.old self.new }
         ensures goes { LeadsOn self.old.cycle self.new.cycle }
         ensures held { HasNoMore self.old.held self.new.held }
+        ensures together { GoTogether self.old self.new }
         ensures stands { TellsHad (AreLostWith self.old.lines.links.stations.items link asked.device loss) self.old.held self.old.side self.new.side }
     {
         self.side.lose_write(asked.aim);
@@ -121,6 +127,7 @@ impl Service {
         ensures rest { Stays self.old self.new }
         ensures lines { LinksGo self.old self.new }
         ensures held { HasMoreBy (taken_by outcome asked self.old.side.now) self.old.held self.new.held }
+        ensures together { AllGoWith self.old.held.companions.items (HasOrTook (taken_by outcome asked self.old.side.now) self.old.held) self.old.lines.lines.items self.new.lines.links.numbers.items self.new.lines.lines.items }
         ensures says { SaysMoreBy (IsSaidBy outcome asked) self.old.held.identities self.new.held.identities }
         ensures stands { AnswersBy (IsHeardBy (taken_by outcome asked self.old.side.now) (IsRefusedBy outcome asked) self.old.held) (IsShownBy self.old.cycle.core.value.site.wants self.old.held asked outcome) self.old.side self.new.side }
         ensures differing { TellsOthers (IsShownBy self.old.cycle.core.value.site.wants self.old.held asked outcome) self.old.side self.new.side }
@@ -194,10 +201,12 @@ impl Service {
 
     /// A device whose words are no block of the model that was asked for has other registers than its map says.
     fn forget_if(&mut self, foreign: bool, device: usize)
+        ensures same { self.new.lines ≡ self.old.lines }
         ensures rest { Stays self.old self.new }
         ensures lines { LinksGo self.old self.new }
         ensures goes { LeadsOn self.old.cycle self.new.cycle }
         ensures held { HasNoMore self.old.held self.new.held }
+        ensures together { GoTogether self.old self.new }
         ensures stands { Goes self.old.side self.new.side }
     {
         if foreign {
@@ -212,6 +221,7 @@ impl Service {
         ensures lines { LinksGo self.old self.new }
         ensures goes { LeadsOn self.old.cycle self.new.cycle }
         ensures held { HasNoMore self.old.held self.new.held }
+        ensures together { GoTogether self.old self.new }
         ensures others { (other : ℕ) → (other ≡ link → ⊥) → slice_get self.new.lines.lines.items other ≡ slice_get self.old.lines.lines.items other }
         ensures counts { CountsOneLossAtMost loss self.old.side self.new.side }
         ensures stands { LosesBy (AreLostWith self.old.lines.links.stations.items link device loss) self.old.side self.new.side }
@@ -232,6 +242,7 @@ impl Service {
     #[tactic(auto, using(crate::proofs::Having::had_by, crate::proofs::Having::had_same, crate::proofs::Saying::says_same))]
     fn take(&mut self, asked: Asked, outcome: Outcome) -> bool
         ensures ends { EndsOwn asked.aim asked.device outcome (stage_of self.old.cycle) (stage_of self.new.cycle) }
+        ensures same { self.new.lines ≡ self.old.lines }
         ensures rest { Stays self.old self.new }
         ensures lines { LinksGo self.old self.new }
         ensures held { HasMoreBy (taken_by outcome asked self.old.side.now) self.old.held self.new.held }
@@ -274,6 +285,7 @@ impl Service {
         ensures said { self.new.held.identities ≡ self.old.held.identities }
         ensures told { output < length self.old.side.outputs.items → told_at self.new.side.outputs.items output ≡ Some (state_by outcome) }
         ensures ends { EndsOwn (OutputAim output) asked.device outcome (stage_of self.old.cycle) (stage_of self.new.cycle) }
+        ensures same { self.new.lines ≡ self.old.lines }
         ensures rest { Stays self.old self.new }
         ensures lines { LinksGo self.old self.new }
         ensures stands { BecomesBy (IsThis output (state_by outcome)) self.old.side self.new.side }
@@ -308,6 +320,7 @@ impl Service {
         ensures lines { LinksGo self.old self.new }
         ensures goes { LeadsOn self.old.cycle self.new.cycle }
         ensures held { HasNoMore self.old.held self.new.held }
+        ensures together { GoTogether self.old self.new }
         ensures ended { NoneIsLeft self.old.side.now self.old.lines.lines.items self.new.lines.lines.items }
         ensures stands { LosesBy (LostByWait self.old.lines.links.stations.items self.old.lines.lines.items self.old.side.now) self.old.side self.new.side }
     {
@@ -322,6 +335,7 @@ impl Service {
         ensures lines { LinksGo self.old self.new }
         ensures goes { LeadsOn self.old.cycle self.new.cycle }
         ensures held { HasNoMore self.old.held self.new.held }
+        ensures together { GoTogether self.old self.new }
         ensures others { (other : ℕ) → (other ≡ link → ⊥) → slice_get self.new.lines.lines.items other ≡ slice_get self.old.lines.lines.items other }
         ensures ended { (line : LineValue) → slice_get self.old.lines.lines.items link ≡ Some line → is_left self.old.side.now (asked_at self.new.lines.lines.items link) ≡ false }
         ensures stands { LosesBy (LostByWaitAt self.old.lines.links.stations.items self.old.lines.lines.items self.old.side.now link) self.old.side self.new.side }
@@ -337,6 +351,7 @@ impl Service {
         ensures lines { LinksGo self.old self.new }
         ensures goes { LeadsOn self.old.cycle self.new.cycle }
         ensures held { HasNoMore self.old.held self.new.held }
+        ensures together { GoTogether self.old self.new }
         ensures others { (other : ℕ) → (other ≡ link → ⊥) → slice_get self.new.lines.lines.items other ≡ slice_get self.old.lines.lines.items other }
         ensures counts { CountsOneLossAtMost silent self.old.side self.new.side }
         ensures stands { LosesBy (AreLostWith self.old.lines.links.stations.items link asked.device silent) self.old.side self.new.side }
@@ -363,6 +378,7 @@ impl Service {
         ensures lines { LinksGo self.old self.new }
         ensures goes { LeadsOn self.old.cycle self.new.cycle }
         ensures held { HasNoMore self.old.held self.new.held }
+        ensures together { GoTogether self.old self.new }
         ensures same { self.new.lines ≡ self.old.lines }
         ensures counts { CountsOneLossAtMost silent self.old.side self.new.side }
         ensures stands { LosesBy (AreLost self.old.lines.links.stations.items link silent) self.old.side self.new.side }
@@ -378,6 +394,7 @@ impl Service {
         ensures lines { LinksGo self.old self.new }
         ensures goes { LeadsOn self.old.cycle self.new.cycle }
         ensures held { HasNoMore self.old.held self.new.held }
+        ensures together { GoTogether self.old self.new }
         ensures others { (other : ℕ) → (other ≡ link → ⊥) → slice_get self.new.lines.lines.items other ≡ slice_get self.old.lines.lines.items other }
         ensures counts { KeepsLosses self.old.side self.new.side }
         ensures stands { Goes self.old.side self.new.side }

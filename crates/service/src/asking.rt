@@ -8,6 +8,7 @@ ghost use Rattle.service.specs.Rewriting.{had_beside};
 ghost use Rattle.service_parts.specs.Overdue.{IsTimed};
 ghost use Rattle.service_parts.specs.Requests.{MayGoOver, words_of};
 ghost use Rattle.service.specs.Staying.{Stays};
+ghost use Rattle.service.specs.Together.{BeginsWith, GoTogether, MayBegin};
 ghost use Rattle.service.specs.Going.{BeginsOf, LinksGo};
 ghost use Rattle.service.specs.Having.{HasNoMore, WritesHad};
 ghost use Rattle.service.specs.Cycle.{LeadsOn};
@@ -26,6 +27,7 @@ impl Service {
         ensures lines { LinksGo self.old self.new }
         ensures goes { LeadsOn self.old.cycle self.new.cycle }
         ensures held { HasNoMore self.old.held self.new.held }
+        ensures together { GoTogether self.old self.new }
         ensures stands { WritesHad self.old.held self.old.side self.new.side }
     {
         for link in 0..self.lines.count() {
@@ -40,6 +42,7 @@ impl Service {
         ensures lines { LinksGo self.old self.new }
         ensures goes { LeadsOn self.old.cycle self.new.cycle }
         ensures held { HasNoMore self.old.held self.new.held }
+        ensures together { GoTogether self.old self.new }
         ensures stands { WritesHad self.old.held self.old.side self.new.side }
     {
         for _ in 0..self.cycle.devices().saturating_add(64) {
@@ -60,6 +63,7 @@ impl Service {
         ensures lines { LinksGo self.old self.new }
         ensures goes { LeadsOn self.old.cycle self.new.cycle }
         ensures held { HasNoMore self.old.held self.new.held }
+        ensures together { GoTogether self.old self.new }
         ensures stands { WritesHad self.old.held self.old.side self.new.side }
     {
         if self.ask_before_reads(link) {
@@ -74,6 +78,7 @@ impl Service {
         ensures lines { LinksGo self.old self.new }
         ensures goes { LeadsOn self.old.cycle self.new.cycle }
         ensures held { HasNoMore self.old.held self.new.held }
+        ensures together { GoTogether self.old self.new }
         ensures stands { WritesHad self.old.held self.old.side self.new.side }
     {
         self.ask_for(link, Purpose::Search) || self.ask_for(link, Purpose::Probe)
@@ -86,6 +91,7 @@ impl Service {
         ensures lines { LinksGo self.old self.new }
         ensures goes { LeadsOn self.old.cycle self.new.cycle }
         ensures held { HasNoMore self.old.held self.new.held }
+        ensures together { GoTogether self.old self.new }
         ensures stands { WritesHad self.old.held self.old.side self.new.side }
     {
         if self.ask_sign(link) {
@@ -100,6 +106,7 @@ impl Service {
         ensures lines { LinksGo self.old self.new }
         ensures goes { LeadsOn self.old.cycle self.new.cycle }
         ensures held { HasNoMore self.old.held self.new.held }
+        ensures together { GoTogether self.old self.new }
         ensures stands { WritesHad self.old.held self.old.side self.new.side }
     {
         self.ask_for(link, Purpose::Doubt) || self.ask_for(link, Purpose::GoOn)
@@ -111,6 +118,7 @@ impl Service {
         ensures lines { LinksGo self.old self.new }
         ensures goes { LeadsOn self.old.cycle self.new.cycle }
         ensures held { HasNoMore self.old.held self.new.held }
+        ensures together { GoTogether self.old self.new }
         ensures stands { WritesHad self.old.held self.old.side self.new.side }
     {
         let Some(device) = self.side.sign_of(link) else {
@@ -128,6 +136,7 @@ impl Service {
         ensures lines { LinksGo self.old self.new }
         ensures goes { LeadsOn self.old.cycle self.new.cycle }
         ensures held { HasNoMore self.old.held self.new.held }
+        ensures together { GoTogether self.old self.new }
         ensures stands { WritesHad self.old.held self.old.side self.new.side }
     {
         if self.ask_device(link, device, Purpose::Write) {
@@ -142,6 +151,7 @@ impl Service {
         ensures lines { LinksGo self.old self.new }
         ensures goes { LeadsOn self.old.cycle self.new.cycle }
         ensures held { HasNoMore self.old.held self.new.held }
+        ensures together { GoTogether self.old self.new }
         ensures stands { Goes self.old.side self.new.side }
     {
         match self.wish_anew(link, device) {
@@ -175,6 +185,7 @@ impl Service {
         ensures lines { LinksGo self.old self.new }
         ensures goes { LeadsOn self.old.cycle self.new.cycle }
         ensures held { HasNoMore self.old.held self.new.held }
+        ensures together { GoTogether self.old self.new }
         ensures stands { WritesHad self.old.held self.old.side self.new.side }
     {
         let turn = self.side.turn(link, purpose);
@@ -188,6 +199,7 @@ impl Service {
         ensures lines { LinksGo self.old self.new }
         ensures goes { LeadsOn self.old.cycle self.new.cycle }
         ensures held { HasNoMore self.old.held self.new.held }
+        ensures together { GoTogether self.old self.new }
         ensures stands { WritesHad self.old.held self.old.side self.new.side }
     {
         self.ask_between(link, purpose, turn, usize::MAX)
@@ -200,6 +212,7 @@ impl Service {
         ensures lines { LinksGo self.old self.new }
         ensures goes { LeadsOn self.old.cycle self.new.cycle }
         ensures held { HasNoMore self.old.held self.new.held }
+        ensures together { GoTogether self.old self.new }
         ensures stands { WritesHad self.old.held self.old.side self.new.side }
     {
         for i in first..end.min(self.lines.devices_on(link)) {
@@ -216,6 +229,7 @@ impl Service {
         ensures lines { LinksGo self.old self.new }
         ensures goes { LeadsOn self.old.cycle self.new.cycle }
         ensures held { HasNoMore self.old.held self.new.held }
+        ensures together { GoTogether self.old self.new }
         ensures stands { WritesHad self.old.held self.old.side self.new.side }
     {
         match self.lines.device_at(link, i) {
@@ -230,6 +244,7 @@ impl Service {
         ensures lines { LinksGo self.old self.new }
         ensures goes { LeadsOn self.old.cycle self.new.cycle }
         ensures held { HasNoMore self.old.held self.new.held }
+        ensures together { GoTogether self.old self.new }
         ensures stands { WritesHad self.old.held self.old.side self.new.side }
     {
         if !self.ask_device(link, device, purpose) {
@@ -245,6 +260,7 @@ impl Service {
         ensures lines { LinksGo self.old self.new }
         ensures goes { LeadsOn self.old.cycle self.new.cycle }
         ensures held { HasNoMore self.old.held self.new.held }
+        ensures together { GoTogether self.old self.new }
         ensures stands { WritesHad self.old.held self.old.side self.new.side }
     {
         match self.wish_of(link, device, purpose) {
@@ -260,11 +276,13 @@ impl Service {
     fn begin(&mut self, link: usize, device: usize, wish: Wish)
         requires quantity { HasQuantity wish.request }
         requires asked { MayGoOver self.old.cycle.core.value self.old.lines.links.numbers.items self.old.lines.found_on.items link wish.aim device wish.request }
+        requires paired { MayBegin link self.old wish.aim }
         ensures held { (number : ℕ) → slice_get self.old.lines.links.numbers.items link ≡ Some number → self.new.held.writes.items ≡ had_beside wish.aim self.old.held.writes.items }
         ensures rest { Stays self.old self.new }
         ensures lines { BeginsOf wish.aim self.old self.new }
         ensures goes { LeadsOn self.old.cycle self.new.cycle }
         ensures no_more { HasNoMore self.old.held self.new.held }
+        ensures together { GoTogether self.old self.new }
         ensures stands { Goes self.old.side self.new.side }
     {
         let Some(number) = self.lines.number_of(link) else {
@@ -301,6 +319,7 @@ impl Service {
         ensures lines { BeginsOf asked.aim self.old self.new }
         ensures goes { LeadsOn self.old.cycle self.new.cycle }
         ensures no_more { HasNoMore self.old.held self.new.held }
+        ensures together { BeginsWith link asked.aim self.old self.new }
         ensures stands { Goes self.old.side self.new.side }
     {
         self.lines.begin(link, asked, request);

@@ -16,6 +16,7 @@ ghost use Rattle.service.specs.Going.{LinksGo, OtherLinksGo};
 ghost use Rattle.service.specs.Having.{Forgets, HasNoMore, TellsHad, WritesHad};
 ghost use Rattle.service.specs.Identity.{AreRight};
 ghost use Rattle.service.specs.Staying.{Stays};
+ghost use Rattle.service.specs.Together.{GoTogether};
 
 use crate::notice::Loss;
 use crate::service_state::Service;
@@ -40,6 +41,7 @@ impl Service {
         ensures lines { LinksGo self.old self.new }
         ensures core { self.new.cycle.core.value ≡ self.old.cycle.core.value }
         ensures held { self.new.held ≡ self.old.held }
+        ensures together { GoTogether self.old self.new }
         ensures places { self.new.places.items ≡ self.old.places.items }
         ensures time { TurnsTo now self.old self.new }
         ensures stands { Goes self.old.side self.new.side }
@@ -59,6 +61,7 @@ impl Service {
         ensures next { (number : ℕ) → slice_get self.old.lines.links.numbers.items link ≡ Some number → number + 1 < 2 ^ 64
             → self.new.lines.links.numbers.items ≡ set self.old.lines.links.numbers.items link (number + 1) }
         ensures held { HasNoMore self.old.held self.new.held }
+        ensures together { GoTogether self.old self.new }
         ensures places { self.new.places.items ≡ self.old.places.items }
         ensures time { TurnsTo now self.old self.new }
         ensures stands { WritesHad self.old.held self.old.side self.new.side }
@@ -75,6 +78,7 @@ impl Service {
         ensures lines { LinksGo self.old self.new }
         ensures goes { LeadsOn self.old.cycle self.new.cycle }
         ensures held { HasNoMore self.old.held self.new.held }
+        ensures together { GoTogether self.old self.new }
         ensures stands { WritesHad self.old.held self.old.side self.new.side }
     {
         self.forget_all(link);
@@ -88,6 +92,7 @@ impl Service {
         ensures lines { LinksGo self.old self.new }
         ensures goes { LeadsOn self.old.cycle self.new.cycle }
         ensures held { HasNoMore self.old.held self.new.held }
+        ensures together { GoTogether self.old self.new }
         ensures stands { Goes self.old.side self.new.side }
     {
         for device in 0..self.cycle.devices() {
@@ -102,6 +107,7 @@ impl Service {
         ensures lines { LinksGo self.old self.new }
         ensures goes { LeadsOn self.old.cycle self.new.cycle }
         ensures held { HasNoMore self.old.held self.new.held }
+        ensures together { GoTogether self.old self.new }
         ensures stands { Goes self.old.side self.new.side }
     {
         if self.lines.is_at(device, link) {
@@ -118,6 +124,7 @@ impl Service {
         ensures ends { (line : LineValue) → slice_get self.old.lines.lines.items link ≡ Some line → GoesFrom (GoesDown (max self.old.side.now now) self.old.side.limits line) link self.old self.new }
         ensures goes { LeadsOn self.old.cycle self.new.cycle }
         ensures held { HasNoMore self.old.held self.new.held }
+        ensures together { GoTogether self.old self.new }
         ensures places { self.new.places.items ≡ self.old.places.items }
         ensures time { TurnsTo now self.old self.new }
         ensures stands { TellsHad (AreLost self.old.lines.links.stations.items link down) self.old.held self.old.side self.new.side }
@@ -135,6 +142,7 @@ impl Service {
         ensures lines { LinksGo self.old self.new }
         ensures goes { LeadsOn self.old.cycle self.new.cycle }
         ensures held { HasNoMore self.old.held self.new.held }
+        ensures together { GoTogether self.old self.new }
         ensures same { self.new.lines ≡ self.old.lines }
         ensures stands { LosesBy (AreLost self.old.lines.links.stations.items link down) self.old.side self.new.side }
     {
@@ -159,6 +167,7 @@ impl Service {
         ensures others { OtherLinksGo link self.old self.new }
         ensures goes { DevicesLeadOn self.old.cycle self.new.cycle }
         ensures held { slice_get self.old.lines.lines.items link ≡ None → HasNoMore self.old.held self.new.held }
+        ensures together { slice_get self.old.lines.lines.items link ≡ None → GoTogether self.old self.new }
         ensures places { self.new.places.items ≡ self.old.places.items }
         ensures time { TurnsTo now self.old self.new }
         ensures stands { slice_get self.old.lines.lines.items link ≡ None → WritesHad self.old.held self.old.side self.new.side }
@@ -175,6 +184,7 @@ impl Service {
         ensures others { OtherLinksGo link self.old self.new }
         ensures goes { DevicesLeadOn self.old.cycle self.new.cycle }
         ensures held { slice_get self.old.lines.lines.items link ≡ None → HasNoMore self.old.held self.new.held }
+        ensures together { slice_get self.old.lines.lines.items link ≡ None → GoTogether self.old self.new }
         ensures stands { slice_get self.old.lines.lines.items link ≡ None → WritesHad self.old.held self.old.side self.new.side }
     {
         let Intake { used, asked, fate } = self.lines.take(link, bytes);
@@ -204,6 +214,7 @@ impl Service {
         ensures others { OtherLinksGo link self.old self.new }
         ensures goes { LeadsOn self.old.cycle self.new.cycle }
         ensures held { HasNoMore self.old.held self.new.held }
+        ensures together { GoTogether self.old self.new }
         ensures stands { WritesHad self.old.held self.old.side self.new.side }
     {
         self.lines.sent(link, n);
@@ -216,10 +227,12 @@ impl Service {
     /// A device's map is forgotten, and it is searched from now on.
     pub(crate) fn forget(&mut self, device: usize)
         ensures noted { self.new.lines.found_on ≡ self.old.lines.found_on }
+        ensures same { self.new.lines ≡ self.old.lines }
         ensures rest { Stays self.old self.new }
         ensures lines { LinksGo self.old self.new }
         ensures goes { LeadsOn self.old.cycle self.new.cycle }
         ensures held { HasNoMore self.old.held self.new.held }
+        ensures together { GoTogether self.old self.new }
         ensures forgotten { Forgets device self.old.held self.new.held }
         ensures stands { Goes self.old.side self.new.side }
     {
@@ -238,6 +251,7 @@ impl Service {
         ensures lines { LinksGo self.old self.new }
         ensures goes { LeadsOn self.old.cycle self.new.cycle }
         ensures held { HasNoMore self.old.held self.new.held }
+        ensures together { GoTogether self.old self.new }
         ensures same { self.new.lines ≡ self.old.lines }
         ensures counts { CountsOneLossAtMost loss self.old.side self.new.side }
         ensures stands { LosesBy (AreLost self.old.lines.links.stations.items link loss) self.old.side self.new.side }
@@ -253,6 +267,7 @@ impl Service {
         ensures lines { LinksGo self.old self.new }
         ensures goes { LeadsOn self.old.cycle self.new.cycle }
         ensures held { HasNoMore self.old.held self.new.held }
+        ensures together { GoTogether self.old self.new }
         ensures same { self.new.lines ≡ self.old.lines }
         ensures counts { CountsOneLossAtMost loss self.old.side self.new.side }
         ensures others { (other : ℕ) → (other ≡ device → ⊥) → counts_at self.new.side other ≡ counts_at self.old.side other }
@@ -269,6 +284,7 @@ impl Service {
         ensures lines { LinksGo self.old self.new }
         ensures goes { LeadsOn self.old.cycle self.new.cycle }
         ensures held { HasNoMore self.old.held self.new.held }
+        ensures together { GoTogether self.old self.new }
         ensures same { self.new.lines ≡ self.old.lines }
         ensures forgotten { Forgets device self.old.held self.new.held }
         ensures counts { CountsLoss device loss self.old.side self.new.side }

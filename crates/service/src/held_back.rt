@@ -9,6 +9,7 @@ ghost use Rattle.service.specs.Stages.{Ends};
 ghost use Rattle.service.specs.Rewriting.{kept_for};
 ghost use Rattle.service_parts.specs.Requests.{IsOfRound};
 ghost use Rattle.service.specs.Staying.{Stays};
+ghost use Rattle.service.specs.Together.{GoTogether};
 ghost use Rattle.service.specs.Going.{LinksGo, WishGoes};
 ghost use Rattle.service.specs.Having.{Has, HasNoMore, WritesHad};
 ghost use Rattle.service.specs.Pairing.{IsPaired};
@@ -47,6 +48,7 @@ impl Service {
         ensures opens { WishGoes result self.old self.new }
         ensures goes { LeadsOn self.old.cycle self.new.cycle }
         ensures no_more { HasNoMore self.old.held self.new.held }
+        ensures together { GoTogether self.old self.new }
         ensures stands { WritesHad self.old.held self.old.side self.new.side }
     {
         for _ in 0..self.cycle.round().outputs() {
@@ -103,6 +105,7 @@ impl Service {
         ensures lines { LinksGo self.old self.new }
         ensures goes { LeadsOn self.old.cycle self.new.cycle }
         ensures no_more { HasNoMore self.old.held self.new.held }
+        ensures together { GoTogether self.old self.new }
         ensures stands { BecomesBy (IsLeftOut left) self.old.side self.new.side }
     {
         self.cycle.drop_write(device);

@@ -12,6 +12,7 @@ ghost use Rattle.service.specs.Stages.{RunsIf, RunsOnce, Scans};
 ghost use Rattle.service.specs.Going.{LinksGo, LinksGoByScan};
 ghost use Rattle.service.specs.Having.{HasNoMore, IsToWrite, IsUnplanned, TellsAt, TellsHad, WritesAt, WritesHad};
 ghost use Rattle.service.specs.Staying.{Stays};
+ghost use Rattle.service.specs.Together.{GoTogether};
 
 use crate::last_scan::LastScan;
 use crate::service_state::Service;
@@ -29,6 +30,7 @@ impl Service {
             (max self.old.side.now now) (stage_of self.old.cycle) (stage_of self.new.cycle) }
         ensures ended { NoneIsLeft (max self.old.side.now now) self.old.lines.lines.items self.new.lines.lines.items }
         ensures held { HasNoMore self.old.held self.new.held }
+        ensures together { GoTogether self.old self.new }
         ensures places { self.new.places.items ≡ map (closed_if_idle (max self.old.side.now now) self.old.side.limits.idle) self.old.places.items }
         ensures last { nat_le self.old.side.next_scan (max self.old.side.now now) ≡ false → self.new.side.last_scan ≡ self.old.side.last_scan }
         ensures time { Ticks now self.old self.new }
@@ -50,6 +52,7 @@ impl Service {
         ensures lines { LinksGo self.old self.new }
         ensures goes { LeadsOn self.old.cycle self.new.cycle }
         ensures held { HasNoMore self.old.held self.new.held }
+        ensures together { GoTogether self.old self.new }
         ensures stands { WritesHad self.old.held self.old.side self.new.side }
     {
         self.ask_all();
@@ -65,6 +68,7 @@ impl Service {
         ensures lines { LinksGo self.old self.new }
         ensures goes { LeadsOn self.old.cycle self.new.cycle }
         ensures held { HasNoMore self.old.held self.new.held }
+        ensures together { GoTogether self.old self.new }
         ensures stands { WritesHad self.old.held self.old.side self.new.side }
     {
         if self.side.is_writing {
@@ -91,6 +95,7 @@ impl Service {
         ensures links { self.new.lines.links ≡ self.old.lines.links }
         ensures runs { RunsOnce (λ scanned. WritesAt scanned.core self.old.held self.old.side self.new.side × LinksGoByScan scanned.round.writes self.old self.new × (self.new.side.last_scan ≡ came_to scanned.core.standing.last)) self.old.side.now (stage_of self.old.cycle) (stage_of self.new.cycle) }
         ensures held { HasNoMore self.old.held self.new.held }
+        ensures together { GoTogether self.old self.new }
         ensures places { self.new.places.items ≡ self.old.places.items }
         ensures time { ScansNow self.old self.new }
     {
@@ -110,6 +115,7 @@ impl Service {
         ensures lines { LinksGo self.old self.new }
         ensures goes { LeadsOn self.old.cycle self.new.cycle }
         ensures held { HasNoMore self.old.held self.new.held }
+        ensures together { GoTogether self.old self.new }
         ensures stands { Goes self.old.side self.new.side }
     {
         self.cycle.expire();
@@ -121,6 +127,7 @@ impl Service {
         ensures lines { self.new.lines ≡ self.old.lines }
         ensures scans { Scans self.old.side.now (stage_of self.old.cycle) (stage_of self.new.cycle) }
         ensures held { HasNoMore self.old.held self.new.held }
+        ensures together { GoTogether self.old self.new }
         ensures places { self.new.places.items ≡ self.old.places.items }
         ensures time { RunsNow self.old self.new }
         ensures stands { RunsBy (came_to self.new.cycle.core.value.standing.last) (IsUnplanned self.new.cycle.core.value) (IsToWrite self.new.cycle.core.value) self.old.side self.new.side }
@@ -136,6 +143,7 @@ impl Service {
         ensures lines { LinksGo self.old self.new }
         ensures goes { LeadsOn self.old.cycle self.new.cycle }
         ensures held { HasNoMore self.old.held self.new.held }
+        ensures together { GoTogether self.old self.new }
         ensures stands { Goes self.old.side self.new.side }
     {
         for device in 0..self.cycle.devices() {

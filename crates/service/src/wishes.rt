@@ -8,6 +8,7 @@ ghost use Rattle.service_parts.specs.Overdue.{least_wait};
 ghost use Rattle.service_parts.specs.Requests.{MayGoOver};
 ghost use Rattle.service_parts.specs.Seeking.{IsSought};
 ghost use Rattle.service.specs.Staying.{Stays};
+ghost use Rattle.service.specs.Together.{GoTogether, MayBegin};
 ghost use Rattle.service.specs.Going.{LinksGo, WishGoes};
 ghost use Rattle.service.specs.Having.{HasNoMore, WritesHad};
 ghost use Rattle.service.specs.Identity.{is_right};
@@ -21,14 +22,16 @@ use service_parts::Aim;
 use service_requests::SearchStep;
 
 impl Service {
-    #[tactic(auto, using(crate::proofs::Going::reads_go))]
+    #[tactic(auto, using(crate::proofs::Going::reads_go, crate::proofs::Together::reads_begin))]
     pub(crate) fn wish_of(&mut self, link: usize, device: usize, purpose: Purpose) -> Option<Wish>
         ensures quantity { IfSome result (λ wish. HasQuantity wish.request) }
         ensures asked { IfSome result (λ wish. MayGoOver self.new.cycle.core.value self.new.lines.links.numbers.items self.new.lines.found_on.items link wish.aim device wish.request) }
+        ensures paired { IfSome result (λ wish. MayBegin link self.new wish.aim) }
         ensures rest { Stays self.old self.new }
         ensures opens { WishGoes result self.old self.new }
         ensures goes { LeadsOn self.old.cycle self.new.cycle }
         ensures held { HasNoMore self.old.held self.new.held }
+        ensures together { GoTogether self.old self.new }
         ensures stands { WritesHad self.old.held self.old.side self.new.side }
     {
         match purpose {
@@ -51,14 +54,16 @@ impl Service {
     }
 
     /// A write to a device, by the map that was found over this very connection.
-    #[tactic(auto, using(service_parts::proofs::Rightful::round_over))]
+    #[tactic(auto, using(service_parts::proofs::Rightful::round_over, crate::proofs::Together::due_begins))]
     fn wish_to_write(&mut self, link: usize, device: usize) -> Option<Wish>
         ensures quantity { IfSome result (λ wish. HasQuantity wish.request) }
         ensures asked { IfSome result (λ wish. MayGoOver self.new.cycle.core.value self.new.lines.links.numbers.items self.new.lines.found_on.items link wish.aim device wish.request) }
+        ensures paired { IfSome result (λ wish. MayBegin link self.new wish.aim) }
         ensures rest { Stays self.old self.new }
         ensures opens { WishGoes result self.old self.new }
         ensures goes { LeadsOn self.old.cycle self.new.cycle }
         ensures held { HasNoMore self.old.held self.new.held }
+        ensures together { GoTogether self.old self.new }
         ensures stands { WritesHad self.old.held self.old.side self.new.side }
     {
         if !self.is_served(link, device) || !self.cycle.round().has_writes(device) {
@@ -81,6 +86,7 @@ impl Service {
         ensures lines { LinksGo self.old self.new }
         ensures goes { LeadsOn self.old.cycle self.new.cycle }
         ensures held { HasNoMore self.old.held self.new.held }
+        ensures together { GoTogether self.old self.new }
         ensures stands { Goes self.old.side self.new.side }
     {
         if !self.is_served(link, device) || !self.side.is_read_now(device) {
@@ -101,6 +107,7 @@ impl Service {
         ensures lines { LinksGo self.old self.new }
         ensures goes { LeadsOn self.old.cycle self.new.cycle }
         ensures held { HasNoMore self.old.held self.new.held }
+        ensures together { GoTogether self.old self.new }
         ensures stands { Goes self.old.side self.new.side }
     {
         if self.side.is_sought(device)
@@ -122,6 +129,7 @@ impl Service {
         ensures lines { LinksGo self.old self.new }
         ensures goes { LeadsOn self.old.cycle self.new.cycle }
         ensures held { HasNoMore self.old.held self.new.held }
+        ensures together { GoTogether self.old self.new }
         ensures stands { Goes self.old.side self.new.side }
     {
         if !self.side.is_sought(device) {
@@ -146,6 +154,7 @@ impl Service {
         ensures lines { LinksGo self.old self.new }
         ensures goes { LeadsOn self.old.cycle self.new.cycle }
         ensures held { HasNoMore self.old.held self.new.held }
+        ensures together { GoTogether self.old self.new }
         ensures stands { Goes self.old.side self.new.side }
     {
         if self.cycle.is_mapped(device) || !self.side.is_sought(device) {
@@ -175,6 +184,7 @@ impl Service {
         ensures lines { LinksGo self.old self.new }
         ensures goes { LeadsOn self.old.cycle self.new.cycle }
         ensures held { HasNoMore self.old.held self.new.held }
+        ensures together { GoTogether self.old self.new }
         ensures stands { Goes self.old.side self.new.side }
     {
         if self.side.is_good(device)
@@ -196,6 +206,7 @@ impl Service {
         ensures lines { LinksGo self.old self.new }
         ensures goes { LeadsOn self.old.cycle self.new.cycle }
         ensures held { HasNoMore self.old.held self.new.held }
+        ensures together { GoTogether self.old self.new }
         ensures stands { Goes self.old.side self.new.side }
     {
         if !self.side.is_good(device) && self.may_search(link, device) {
@@ -219,6 +230,7 @@ impl Service {
         ensures lines { LinksGo self.old self.new }
         ensures goes { LeadsOn self.old.cycle self.new.cycle }
         ensures held { HasNoMore self.old.held self.new.held }
+        ensures together { GoTogether self.old self.new }
         ensures stands { Goes self.old.side self.new.side }
     {
         self.seek_anew(device);
@@ -230,6 +242,7 @@ impl Service {
         ensures lines { LinksGo self.old self.new }
         ensures goes { LeadsOn self.old.cycle self.new.cycle }
         ensures held { HasNoMore self.old.held self.new.held }
+        ensures together { GoTogether self.old self.new }
         ensures stands { Goes self.old.side self.new.side }
     {
         let number = self.lines.number_for(device);
@@ -311,6 +324,7 @@ impl Service {
         ensures lines { LinksGo self.old self.new }
         ensures goes { LeadsOn self.old.cycle self.new.cycle }
         ensures held { HasNoMore self.old.held self.new.held }
+        ensures together { GoTogether self.old self.new }
         ensures stands { Goes self.old.side self.new.side }
     {
         match self.cycle.seek(device)? {
@@ -344,6 +358,7 @@ impl Service {
         ensures lines { LinksGo self.old self.new }
         ensures goes { LeadsOn self.old.cycle self.new.cycle }
         ensures held { HasNoMore self.old.held self.new.held }
+        ensures together { GoTogether self.old self.new }
         ensures stands { Goes self.old.side self.new.side }
     {
         let Some(number) = self.lines.number_of(link) else {
@@ -359,6 +374,7 @@ impl Service {
         }
     }
 
+    #[tactic(auto, using(crate::proofs::Together::same_together))]
     fn find(&mut self, link: usize, device: usize, number: u64, map: Map)
         requires sought { ∥ IsSought self.old.cycle.core.value.site device (Found map) ∥₁ }
         requires number { slice_get self.old.lines.links.numbers.items link ≡ Some number }
@@ -371,6 +387,7 @@ impl Service {
         ensures lines { LinksGo self.old self.new }
         ensures goes { LeadsOn self.old.cycle self.new.cycle }
         ensures held { HasNoMore self.old.held self.new.held }
+        ensures together { GoTogether self.old self.new }
         ensures stands { Goes self.old.side self.new.side }
     {
         self.cycle.learn(device, Some(map));
@@ -385,6 +402,7 @@ impl Service {
         ensures lines { LinksGo self.old self.new }
         ensures goes { LeadsOn self.old.cycle self.new.cycle }
         ensures held { HasNoMore self.old.held self.new.held }
+        ensures together { GoTogether self.old self.new }
         ensures stands { Goes self.old.side self.new.side }
     {
         self.seek_anew(device);
@@ -398,6 +416,7 @@ impl Service {
         ensures lines { LinksGo self.old self.new }
         ensures goes { LeadsOn self.old.cycle self.new.cycle }
         ensures held { HasNoMore self.old.held self.new.held }
+        ensures together { GoTogether self.old self.new }
         ensures stands { Goes self.old.side self.new.side }
     {
         let is_new = self.held.hear_nothing(device);
@@ -410,6 +429,7 @@ impl Service {
         ensures lines { LinksGo self.old self.new }
         ensures goes { LeadsOn self.old.cycle self.new.cycle }
         ensures held { HasNoMore self.old.held self.new.held }
+        ensures together { GoTogether self.old self.new }
         ensures stands { Goes self.old.side self.new.side }
     {
         let number = self.lines.number_for(device);

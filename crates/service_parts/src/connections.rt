@@ -149,6 +149,8 @@ impl Connections {
         ensures stations { self.new.links.stations ≡ self.old.links.stations }
         ensures next { (number : ℕ) → slice_get self.old.links.numbers.items link ≡ Some number → number + 1 < 2 ^ 64
             → IsTrue result × (self.new.links.numbers.items ≡ set self.old.links.numbers.items link (number + 1)) }
+        ensures numbers { (other : ℕ) → (other ≡ link → ⊥) → slice_get self.new.links.numbers.items other ≡ slice_get self.old.links.numbers.items other }
+        ensures none { result ≡ false → self.new ≡ self.old }
         ensures others { OthersGo link self.old.lines.items self.new.lines.items }
         ensures anew { IsTrue result → (line : LineValue) → slice_get self.old.lines.items link ≡ Some line → (cut : LineValue) × (slice_get self.new.lines.items link ≡ Some cut) × ComesUp line cut }
     {
@@ -176,7 +178,7 @@ impl Connections {
         }
     }
 
-    #[tactic(auto, using(crate::proofs::Rightful::with_next))]
+    #[tactic(auto, using(crate::proofs::Rightful::with_next, crate::proofs::Frames::set_other))]
     fn renumber(&mut self, link: usize, number: u64)
         requires { (line : LineValue) → slice_get self.old.lines.items link ≡ Some line → IsCut line }
         ensures rightful { StayRightful self.old self.new }
@@ -184,6 +186,7 @@ impl Connections {
         ensures stations { self.new.links.stations ≡ self.old.links.stations }
         ensures lines { self.new.lines ≡ self.old.lines }
         ensures next { link < length self.old.links.numbers.items → self.new.links.numbers.items ≡ set self.old.links.numbers.items link number }
+        ensures numbers { (other : ℕ) → (other ≡ link → ⊥) → slice_get self.new.links.numbers.items other ≡ slice_get self.old.links.numbers.items other }
     {
         if link < self.links.numbers.len() {
             self.links.numbers[link] = number;

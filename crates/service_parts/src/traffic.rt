@@ -49,6 +49,7 @@ impl Connections {
         ensures links { self.new.links ≡ self.old.links }
         ensures lines { (now : ℕ) (limits : Limits) → IsTimed now limits asked → (before after : List Task) → TakesDue asked.aim before after
             → (at : ℕ) → LinkGoes now limits at before self.old.lines.items after self.new.lines.items }
+        ensures others { (other : ℕ) → (other ≡ link → ⊥) → slice_get self.new.lines.items other ≡ slice_get self.old.lines.items other }
     {
         let Some(unit) = self.unit_at(asked.device, link) else {
             return;

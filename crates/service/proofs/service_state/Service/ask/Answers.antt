@@ -1,4 +1,5 @@
 use Rattle.std.proofs.Common.{rules}
+use Rattle.service.proofs.Together.{all_together}
 use Rattle.service.proofs.service_state.Service.ask.Goals as goal
 
 pub returns-then-not-ask_next-clause-held : goal.returns-then-not-ask_next-clause-held
@@ -15,4 +16,9 @@ loop-preserved c =
       search rules,
       search rules,
       (λ first within. c.ask_next.ensures.held first (so_far.4 first within)),
+      (λ held first within before. c.ask_next.ensures.together held first (so_far.4 held within) (so_far.5 held first within before)),
     )
+
+pub returns-then-not-ask_next-clause-together : goal.returns-then-not-ask_next-clause-together
+returns-then-not-ask_next-clause-together c = λ held first within before.
+    all_together held first c.ask_next.new.self.lines c.rest_until.new.self c.rest_until.ensures.links c.rest_until.ensures.lines (c.ask_next.ensures.together held first (c.loop.invariant.4 held within) (c.loop.invariant.5 held first within before))

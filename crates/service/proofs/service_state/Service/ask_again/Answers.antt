@@ -8,3 +8,6 @@ returns-in-Some-clause-lines c =
 
 pub returns-in-Some-clause-held : goal.returns-in-Some-clause-held
 returns-in-Some-clause-held c = λ first within. c.begin.ensures.no_more first (c.wish_anew.ensures.held first within)
+
+pub returns-in-Some-clause-together : goal.returns-in-Some-clause-together
+returns-in-Some-clause-together c = λ held first within before. c.begin.ensures.together held first (c.wish_anew.ensures.held held within) (c.wish_anew.ensures.together held first within before)

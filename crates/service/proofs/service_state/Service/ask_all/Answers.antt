@@ -9,4 +9,5 @@ loop-link-preserved c =
       search rules,
       search rules,
       (λ first within. c.ask.ensures.held first (so_far.4 first within)),
+      (λ held first within before. c.ask.ensures.together held first (so_far.4 held within) (so_far.5 held first within before)),
     )

@@ -13,3 +13,9 @@ pub returns-else-ask_for-clause-stands : goal.returns-else-ask_for-clause-stands
 returns-else-ask_for-clause-stands c = λ first within may has from before.
     c.ask_search_first.ensures.stands first (c.ask_for.ensures.held first (c.ask_sign.ensures.held first within)) may has from
     (c.ask_for.ensures.stands first (c.ask_sign.ensures.held first within) may has from (c.ask_sign.ensures.stands first within may has from before))
+
+pub returns-then-ask_for-clause-together : goal.returns-then-ask_for-clause-together
+returns-then-ask_for-clause-together c = λ held first within before. c.ask_for.ensures.together held first (c.ask_sign.ensures.held held within) (c.ask_sign.ensures.together held first within before)
+
+pub returns-else-ask_for-clause-together : goal.returns-else-ask_for-clause-together
+returns-else-ask_for-clause-together c = λ held first within before. c.ask_search_first.ensures.together held first (c.ask_for.ensures.held held (c.ask_sign.ensures.held held within)) (c.ask_for.ensures.together held first (c.ask_sign.ensures.held held within) (c.ask_sign.ensures.together held first within before))

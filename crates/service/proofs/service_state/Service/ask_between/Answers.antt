@@ -15,4 +15,8 @@ loop-i-preserved c =
       search rules,
       search rules,
       (λ first within. c.ask_at.ensures.held first (so_far.4 first within)),
+      (λ held first within before. c.ask_at.ensures.together held first (so_far.4 held within) (so_far.5 held first within before)),
     )
+
+pub returns-then-ask_at-clause-together : goal.returns-then-ask_at-clause-together
+returns-then-ask_at-clause-together c = λ held first within before. c.ask_at.ensures.together held first (c.loop-i.invariant.4 held within) (c.loop-i.invariant.5 held first within before)

@@ -9,3 +9,6 @@ returns-in-Some-clause-held c = λ first within. c.begin.ensures.no_more first (
 
 pub returns-in-Some-clause-stands : goal.returns-in-Some-clause-stands
 returns-in-Some-clause-stands c = λ first within may has from before. c.begin.ensures.stands may from (c.wish_of.ensures.stands first within may has from before)
+
+pub returns-in-Some-clause-together : goal.returns-in-Some-clause-together
+returns-in-Some-clause-together c = λ held first within before. c.begin.ensures.together held first (c.wish_of.ensures.held held within) (c.wish_of.ensures.together held first within before)

@@ -25,4 +25,5 @@ loop-link-preserved c =
       (λ first within. c.end_wait.ensures.held first (so_far.5 first within)),
       none_further c.args.self.now.side.now c.args.self.now.lines.lines.items c.loop-link.self.lines.lines.items c.end_wait.new.self.lines.lines.items c.loop-link.link so_far.2 so_far.6 c.end_wait.ensures.others
           (λ line there. subst (λ n. is_left n (asked_at c.end_wait.new.self.lines.lines.items c.loop-link.link) ≡ false) so_far.0.time.side.now (c.end_wait.ensures.ended line there)),
+      (λ held first within before. c.end_wait.ensures.together held first (so_far.5 held within) (so_far.7 held first within before)),
     )

@@ -10,4 +10,5 @@ loop-device-preserved c =
       search rules,
       search rules,
       (λ first within. c.forget_if_at.ensures.held first (so_far.5 first within)),
+      (λ held first within before. c.forget_if_at.ensures.together held first (so_far.5 held within) (so_far.6 held first within before)),
     )

@@ -19,3 +19,6 @@ returns-else-is_silent-clause-counts c =
 
 pub returns-else-is_silent-clause-held : goal.returns-else-is_silent-clause-held
 returns-else-is_silent-clause-held c = λ first within. c.lose_if_bad.ensures.held first (c.doubt.ensures.held first within)
+
+pub returns-else-is_silent-clause-together : goal.returns-else-is_silent-clause-together
+returns-else-is_silent-clause-together c = λ held first within before. c.lose_if_bad.ensures.together held first (c.doubt.ensures.held held within) (c.doubt.ensures.together held first within before)

@@ -27,6 +27,7 @@ loop-preserved c = (
       c.leave_out.ensures.lines link most from (not_begun _ _ _ _ _ _ (c.in-Some.ensures).due link most from (goes_then c.loop.self.side c.leave_out.new.self.side c.leave_out.ensures.rest.time.side.now c.leave_out.ensures.rest.time.side.limits link _ _ _ _ (c.loop.invariant.5 link) most from led))),
   search rules,
   search rules,
+  (λ held first within before. c.leave_out.ensures.together held first (c.loop.invariant.7 held within) (c.loop.invariant.8 held first within before)),
 )
 
 pub returns-clause-left_out : goal.returns-clause-left_out

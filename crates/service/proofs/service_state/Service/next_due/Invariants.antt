@@ -4,6 +4,7 @@ use Rattle.service.specs.Cycle.{LeadsOn, stage_of}
 use Rattle.service.specs.Having.{HasNoMore, WritesHad}
 use Rattle.service.specs.LeftOut.{LeavesOut, left_by}
 use Rattle.service.specs.Staying.{Stays}
+use Rattle.service.specs.Together.{GoTogether}
 use Rattle.service.proofs.service_state.Service.next_due.Given as goal
 
 abbrev pub invariant-loop : goal.invariant-loop
@@ -16,3 +17,4 @@ invariant-loop l =
     × LinksGo l.initial.self l.self
     × LeadsOn l.initial.self.cycle l.self.cycle
     × HasNoMore l.initial.self.held l.self.held
+    × GoTogether l.initial.self l.self

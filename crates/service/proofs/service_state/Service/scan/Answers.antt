@@ -9,6 +9,7 @@ use Rattle.service.specs.Stages.{Scans, Stage}
 use Rattle.service.proofs.Courses.{runs_once}
 use Rattle.service.proofs.Going.{goes_then, scanned_goes}
 use Rattle.service.proofs.Having.{writes_at}
+use Rattle.service.proofs.Together.{all_together}
 use Rattle.service.proofs.service_state.Service.scan.Goals as goal
 
 pub returns-clause-runs : goal.returns-clause-runs
@@ -38,3 +39,11 @@ returns-clause-runs c =
 pub returns-clause-held : goal.returns-clause-held
 returns-clause-held c = λ first within.
     c.go_on.ensures.held first (c.run.ensures.held first (c.expire.ensures.held first (c.note_devices.ensures.held first (c.finish.ensures.held first within))))
+
+pub returns-clause-together : goal.returns-clause-together
+returns-clause-together c = λ held first within before.
+    let finished = c.finish.ensures.held held within in
+    let noted = c.note_devices.ensures.held held finished in
+    let expired = c.expire.ensures.held held noted in
+    c.go_on.ensures.together held first (c.run.ensures.held held expired) (all_together held first c.run.new.self.lines c.stir_all.new.self c.stir_all.ensures.links c.stir_all.ensures.lines
+    (c.run.ensures.together held first expired (c.expire.ensures.together held first noted (c.note_devices.ensures.together held first finished (c.finish.ensures.together held first within before)))))

@@ -4,6 +4,9 @@ use Rattle.service.specs.ReadBack.{IsShownAt}
 use Rattle.service.specs.declared.read_back.Shown.TheVariants as shown
 use Rattle.service.proofs.Having.{none_more, says_none, tells_by}
 use Rattle.service.specs.Identity.{IsSaidAt, SaysMoreBy}
+use Rattle.service.proofs.Together.{none_taken}
+use Rattle.service.specs.Having.{HasOrTook, taken_at}
+use Rattle.service.specs.Together.{AllGoWith}
 use Rattle.service.proofs.service_state.Service.settle_asked.Goals as goal
 
 pub returns-in-Lost-clause-held : goal.returns-in-Lost-clause-held
@@ -25,3 +28,9 @@ returns-in-Lost-clause-differing c output difference shows compares = absurd (su
 
 pub returns-in-Told-clause-says : goal.returns-in-Told-clause-says
 returns-in-Told-clause-says c = subst (λ f. SaysMoreBy (IsSaidAt f c.args.asked) c.args.self.now.held.identities c.settle_told.new.self.held.identities) (sym c.in-Told.is) c.settle_told.ensures.says
+
+pub returns-in-Lost-clause-together : goal.returns-in-Lost-clause-together
+returns-in-Lost-clause-together c = none_taken _ c.args.self.now c.lose_stream.new.self c.lose_stream.ensures.together
+
+pub returns-in-Told-clause-together : goal.returns-in-Told-clause-together
+returns-in-Told-clause-together c = subst (λ f. AllGoWith c.args.self.now.held.companions.items (HasOrTook (taken_at f c.args.asked c.args.self.now.side.now) c.args.self.now.held) c.args.self.now.lines.lines.items c.settle_told.new.self.lines.links.numbers.items c.settle_told.new.self.lines.lines.items) (sym c.in-Told.is) c.settle_told.ensures.together

@@ -4,6 +4,7 @@ use Rattle.service.specs.declared.read_back.Shown.TheVariants as shown
 use Rattle.service.proofs.Carried.{not_both}
 use Rattle.service.proofs.Compared.{shown_answers}
 use Rattle.service.proofs.Having.{is_by_answer, none_more, says_none, tells_by}
+use Rattle.service.proofs.Together.{none_taken}
 use Rattle.service.proofs.service_state.Service.settle_told.Goals as goal
 
 pub returns-then-is_answer-clause-stands : goal.returns-then-is_answer-clause-stands
@@ -25,3 +26,6 @@ returns-else-is_answer-clause-says c = says_none _ _ _ c.lose_answer.ensures.hel
 
 pub returns-else-is_answer-clause-differing : goal.returns-else-is_answer-clause-differing
 returns-else-is_answer-clause-differing c output difference shows compares = not_both (shown_answers c.args.self.now.cycle.core.value.site.wants c.args.self.now.held c.args.asked c.args.outcome output (shown.Other difference) shows) (sym c.is_answer.ensures ∙ c.if-is_answer.false)
+
+pub returns-else-is_answer-clause-together : goal.returns-else-is_answer-clause-together
+returns-else-is_answer-clause-together c = none_taken _ c.args.self.now c.lose_answer.new.self c.lose_answer.ensures.together

@@ -11,6 +11,7 @@ use Rattle.service.proofs.ByNotes.{goes_compare}
 use Rattle.service.proofs.Compared.{anew_since, writes_anew}
 use Rattle.service.proofs.Differing.{others_since, tells_others}
 use Rattle.service.proofs.Having.{had_from, had_since, had_then, says_since, says_then, takes_on}
+use Rattle.service.proofs.Together.{taken_then}
 use Rattle.service.proofs.service_state.Service.take_answer.Goals as goal
 
 pub returns-clause-answers : goal.returns-clause-answers
@@ -66,3 +67,12 @@ returns-clause-differing c =
     (subst (λ (h : HeldWrites). TellsOthers (IsShownBy noted.cycle.core.value.site.wants h c.args.asked c.args.outcome) noted.side end) (c.note_refusal.ensures.held ∙ c.note_reply.ensures.held) told) in
     others_since (IsShownBy c.args.self.now.cycle.core.value.site.wants c.args.self.now.held c.args.asked c.args.outcome) c.args.self.now.side noted.side end
     (goes_compare c.args.self.now.side noted.side (λ may from before. c.note_refusal.ensures.stands may from (c.note_reply.ensures.stands may from (c.hear.ensures.stands may from before)))) of_site
+
+pub returns-clause-together : goal.returns-clause-together
+returns-clause-together c =
+    let now = c.compare.ensures.time.side.now ∙ (c.note_refusal.ensures.time.side.now ∙ (c.note_reply.ensures.time.side.now ∙ c.hear.ensures.time.now)) in
+    let compared : HasNoMore c.args.self.now.held c.compare.new.self.held = subst (λ s. HasNoMore s c.compare.new.self.held) (c.note_refusal.ensures.held ∙ c.note_reply.ensures.held) c.compare.ensures.held in
+    let more = had_since _ _ _ _ compared (had_from c.args.outcome c.args.asked _ _ _ _ _ now refl c.take-foreign.ensures.held) in
+    let left = had_then _ _ _ _ more (subst (λ s. HasNoMore c.take-foreign.new.self.held s) (sym c.leave_turn.ensures.held) c.forget_if.ensures.held) in
+    let lines = c.leave_turn.ensures.lines ∙ (c.forget_if.ensures.same ∙ (c.take-foreign.ensures.same ∙ (c.compare.ensures.lines ∙ (c.note_refusal.ensures.lines ∙ c.note_reply.ensures.lines)))) in
+    taken_then (taken_by c.args.outcome c.args.asked c.args.self.now.side.now) c.args.self.now c.leave_turn.new.self c.go_on.new.self left lines c.go_on.ensures.together

@@ -48,3 +48,9 @@ pub returns-else-is_due-clause-stands : goal.returns-else-is_due-clause-stands
 returns-else-is_due-clause-stands c =
     let lost = subst (λ n. LosesBy (LostByWait c.args.self.now.lines.links.stations.items c.args.self.now.lines.lines.items n) c.turn_to.new.self c.end_waits.new.self.side) (ap (λ (x : DeviceSide). x.now) c.turn_to.ensures.now) c.end_waits.ensures.stands in
     λ rested first within may why has from before. c.go_on.ensures.stands first (c.end_waits.ensures.held first within) may has from (lost may why from (c.turn_to.ensures.stands may from before))
+
+pub returns-then-is_due-clause-together : goal.returns-then-is_due-clause-together
+returns-then-is_due-clause-together c = λ held first within before. c.scan.ensures.together held first (c.end_waits.ensures.held held within) (c.end_waits.ensures.together held first within before)
+
+pub returns-else-is_due-clause-together : goal.returns-else-is_due-clause-together
+returns-else-is_due-clause-together c = λ held first within before. c.go_on.ensures.together held first (c.end_waits.ensures.held held within) (c.end_waits.ensures.together held first within before)
