@@ -10,7 +10,7 @@ import sys
 import time
 
 sys.dont_write_bytecode = True
-from serve_parts import Service, text_of, try_alone, until
+from serve_parts import Service, state_of, text_of, try_alone, until
 from serve_plays import DEVICE, GATEWAY, OwnDevice, inverter, put
 
 # registers of model 123 of the device: the limit, whether it counts, and its factor
@@ -65,7 +65,7 @@ def begin(program, folder, name, fit, companion=""):
 def output_in(status, name="lim1"):
     """What a status file says of an output, by default of the limit."""
     text = text_of(status)
-    return json.loads(text)["outputs"][name] if text else None
+    return state_of(json.loads(text), name) if text else None
 
 
 def play_fitted(counts, program, folder):

@@ -9,7 +9,7 @@ import sys
 import time
 
 sys.dont_write_bytecode = True
-from serve_parts import TOP, Client, Service, close, files_of, text_of, try_alone, until, within
+from serve_parts import TOP, Client, Service, close, files_of, state_of, text_of, try_alone, until, within
 from serve_plays import OwnDevice, inverter, put
 
 # registers of model 123 of the gateway, and the limit of a device at the same place
@@ -241,7 +241,7 @@ def play_rewrite(counts, program, folder):
     counts.note("what isn't sent counts as written", {2} <= planned <= {0, 2}, scans)
     counts.note("no line says it", not any("unwritten" in it for it in service.lines[told:]), service.lines)
     counts.note("but after a while", until(lambda: len(site.writes()), first + 1) == first + 1, site.writes())
-    counts.note("the status file has it as written", json.loads(text_of(site.status))["outputs"]["lim1"] == {"value": 50, "state": "written"}, text_of(site.status))
+    counts.note("the status file has it as written", state_of(json.loads(text_of(site.status))) == {"value": 50, "state": "written"}, text_of(site.status))
     client.write(LIMIT, 20)
     counts.note("another number is written at once", until(site.limit, 20, 1) == 20, site.writes())
     told = len(service.lines)

@@ -62,6 +62,11 @@ def within(seconds):
     return seconds * Patience.times
 
 
+def state_of(status, name="lim1"):
+    """What a status says of an output, except what its device took before."""
+    return {key: it for key, it in status["outputs"][name].items() if key != "taken"}
+
+
 class Trials:
     """The plays that were tried, each with what its last try counted."""
 

@@ -6,7 +6,7 @@ import struct
 import threading
 import time
 
-from serve_parts import Client, Service, close, text_of, until
+from serve_parts import Client, Service, close, state_of, text_of, until
 
 # the models of a device, from its base on: ID, number of registers, and what some of them hold
 SUNS = (0x5375, 0x6E53)
@@ -291,7 +291,7 @@ def play_refused(counts, service, status, told, keys, meaning):
 def refused_in(told):
     """What a status file says of the output, and of its alarm except since when it stands and what to do."""
     alarms = [it for it in told["alarms"] if it["kind"] == "output_unwritten"]
-    return told["outputs"]["lim1"], [{key: it[key] for key in it if key not in ("since", "began", "todo")} for it in alarms]
+    return state_of(told), [{key: it[key] for key in it if key not in ("since", "began", "todo")} for it in alarms]
 
 
 def play_unreached(counts, program, folder):

@@ -10,7 +10,7 @@ import sys
 import time
 
 sys.dont_write_bytecode = True
-from serve_parts import Service, text_of, try_alone, until
+from serve_parts import Service, state_of, text_of, try_alone, until
 from serve_plays import DEVICE, GATEWAY, OwnDevice, inverter, put
 
 # the limit, of model 123 of the device
@@ -96,7 +96,7 @@ class Site:
     def output(self):
         """What the status file says of the limit."""
         text = text_of(self.status)
-        return json.loads(text)["outputs"]["lim1"] if text else None
+        return state_of(json.loads(text)) if text else None
 
     def alarms(self):
         """The alarms, except for scans that came late: those are of the machine."""

@@ -24,6 +24,8 @@ pub struct Metrics<'a> {
     pub scanned_at: Option<u64>,
     /// From one scan to the next, in milliseconds.
     pub period: u64,
+    /// How many milliseconds the last round took that is over; none before.
+    pub round: Option<u64>,
     /// How many rounds began late.
     pub late: u64,
     /// How many instructions the last scan took; none before the first one.

@@ -8,6 +8,7 @@ pub(crate) fn push_program(sheet: &mut Sheet, metrics: &Metrics<'_>) -> Result<(
     push_info(sheet, metrics)?;
     push_times(sheet, metrics)?;
     push_counts(sheet, metrics)?;
+    push_rounds(sheet, metrics)?;
     push_steps(sheet, metrics)
 }
 
@@ -47,13 +48,26 @@ fn push_counts(sheet: &mut Sheet, metrics: &Metrics<'_>) -> Result<(), AllocErro
     let name = "sunsite_late_rounds_total";
     sheet.counter(name, "How many rounds began more than a period late.")?;
     sheet.number(name, metrics.late)?;
+    let name = "sunsite_clients";
+    sheet.gauge(name, "How many clients are connected.")?;
+    sheet.number(name, metrics.clients)
+}
+
+fn push_rounds(sheet: &mut Sheet, metrics: &Metrics<'_>) -> Result<(), AllocError> {
     let name = "sunsite_period_seconds";
     sheet.gauge(name, "From one scan to the next.")?;
     let period = decimal(sheet.alloc, i128::from(metrics.period), -3)?;
     sheet.number(name, period.as_str())?;
-    let name = "sunsite_clients";
-    sheet.gauge(name, "How many clients are connected.")?;
-    sheet.number(name, metrics.clients)
+    if let Some(took) = metrics.round {
+        let name = "sunsite_round_duration_seconds";
+        sheet.gauge(
+            name,
+            "From the last run of the program until nothing of it was left to be written.",
+        )?;
+        let took = decimal(sheet.alloc, i128::from(took), -3)?;
+        sheet.number(name, took.as_str())?;
+    }
+    Ok(())
 }
 
 fn push_steps(sheet: &mut Sheet, metrics: &Metrics<'_>) -> Result<(), AllocError> {

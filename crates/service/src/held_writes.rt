@@ -26,9 +26,9 @@ pub(crate) struct HeldWrites {
     identities: Identities,
 }
 
-/// What a device has of an output.
+/// What a device has of an output, by its acknowledgement.
 #[derive(Drop)]
-pub(crate) struct HeldWrite {
+pub struct HeldWrite {
     device: usize,
     /// The address of the first register.
     address: u16,
@@ -37,6 +37,22 @@ pub(crate) struct HeldWrite {
     number: u64,
     /// When the device's answer came, in milliseconds.
     at: u64,
+}
+
+impl HeldWrite {
+    /// The words that it took.
+    pub fn words(&self) -> &[u16]
+        ensures { result.now ≡ self.now.words }
+    {
+        self.words.as_slice()
+    }
+
+    /// When its acknowledgement came, in milliseconds of the service's time.
+    pub fn at(&self) -> u64
+        ensures { result ≡ self.now.at }
+    {
+        self.at
+    }
 }
 
 /// A write that may go out.
@@ -102,6 +118,17 @@ impl HeldWrites {
                     && is_recent(held, write.number, within, now)
             }
             _ => false,
+        }
+    }
+
+    /// What its device has of an output.
+    pub(crate) fn taken(&self, output: usize) -> Option<&HeldWrite>
+        ensures some { IfSome result (λ write. known_at self.now.writes.items output ≡ Some write.now) }
+        ensures none { IfNone result (known_at self.now.writes.items output ≡ None) }
+    {
+        match self.writes.get(output) {
+            Some(Some(write)) => Some(write),
+            _ => None,
         }
     }
 

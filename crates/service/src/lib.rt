@@ -50,6 +50,7 @@ pub use client_writes::{ClientWrite, WriteOutcome};
 pub use notice::{Loss, Notice, Unwritten};
 // how it stands
 pub use counts::Counts;
+pub use held_writes::HeldWrite;
 pub use output::OutputState;
 pub use read_back::{Difference, Registers};
 pub use refusals::ReadRefusal;

@@ -1,6 +1,8 @@
 //! How a service stands, for whoever looks after it.
 ghost use Rattle.std.specs.Prelude.{◌≡◌, ◌≤◌, ◌<◌, IfNone, IfSome, Some, length, slice_get};
 ghost use Rattle.service.specs.declared.polled_device.PolledDevice.{PolledDevice as Own};
+ghost use Rattle.site_model.specs.Readings.{known_at};
+ghost use Rattle.service.specs.Having.{Has};
 ghost use Rattle.service.specs.Identity.{words_of};
 ghost use Rattle.service.specs.Noting.{TakesOldest};
 ghost use Rattle.service.specs.Rounds.{is_ready};
@@ -9,6 +11,7 @@ ghost use Rattle.service.specs.Telling.{told_at};
 ghost use Rattle.service.specs.Turning.{difference_at};
 
 use crate::counts::Counts;
+use crate::held_writes::HeldWrite;
 use crate::notice::{Loss, Notice};
 use crate::output::OutputState;
 use crate::read_back::Difference;
@@ -110,6 +113,15 @@ impl Service {
         ensures { result ≡ told_at self.now.side.outputs.items output }
     {
         self.side.outputs.get(output)?.told()
+    }
+
+    /// What the device of an output took of it last, where it is known to have that still: not while another write of it is under way or
+    /// wasn't taken, and not once its connection ended, or it showed something else.
+    pub fn taken(&self, output: usize) -> Option<&HeldWrite>
+        ensures some { IfSome result (λ write. Has self.now.held output write.now) }
+        ensures none { IfNone result (known_at self.now.held.writes.items output ≡ None) }
+    {
+        self.held.taken(output)
     }
 
     /// What the device of an output shows of it otherwise than it took it, as it was shown last; None where that isn't so.

@@ -7,11 +7,13 @@ use crate::line_writer::LineWriter;
 use crate::page_texts::{ScanTexts, page_line, site_text};
 use crate::program_watch::{Looked, ProgramRefusal, ProgramWatch};
 use crate::room::{Room, STANDARD_ERROR, STANDARD_OUTPUT};
+use crate::round_time::RoundTime;
 use crate::scan_steps::ScanSteps;
 use crate::serving::{End, PageWindow, Serving};
 use crate::sockets::Sockets;
 use crate::state_lock::StateLock;
 use crate::status::{ServiceCounts, status_text};
+use crate::taken_outputs::TakenOutputs;
 use crate::telling::{pace_line, sleep_line, tell, tell_changes, tell_scan, tell_taken};
 use crate::wall_clock::seconds_of_day;
 use metrics::{Metrics, metrics_text};
@@ -42,6 +44,10 @@ pub(crate) struct ServeLoop<'a, W: Write> {
     late: u64,
     /// How many instructions the program's scans take.
     steps: ScanSteps,
+    /// How long its rounds take.
+    round: RoundTime,
+    /// What devices took last.
+    taken: TakenOutputs,
     /// When the last scan was told, in seconds since 1970-01-01T00:00:00Z, where that is known.
     scanned_at: Option<u64>,
     /// What those who look are shown.
@@ -96,6 +102,8 @@ impl<'a, W: Write> ServeLoop<'a, W> {
             start: Instant::now(rt)?,
             late: 0,
             steps: ScanSteps::new(),
+            round: RoundTime::new(),
+            taken: TakenOutputs::none(alloc),
             scanned_at: None,
             texts: ScanTexts::none(alloc),
             site_text: None,
@@ -140,6 +148,10 @@ impl<'a, W: Write> ServeLoop<'a, W> {
         lock: Option<StateLock>,
         service: &mut Service,
     ) -> Result<KeptFiles<'k>, End> {
+        match TakenOutputs::new(self.alloc, service.core().site().outs().len()) {
+            Ok(taken) => self.taken = taken,
+            Err(AllocError) => return Err(End::OutOfMemory),
+        }
         match KeptFiles::restored(self.alloc, keeping, lock, service, &mut self.line_writer) {
             Ok(files) => match self.sockets.begin(service.core().settings()) {
                 Ok(()) => Ok(files),
@@ -170,6 +182,7 @@ impl<'a, W: Write> ServeLoop<'a, W> {
         files.keep_program(rt, program.taken_text(), &mut self.line_writer);
         self.hear(service, now)?;
         service.tick(now);
+        self.round.turn(service.scans(), now);
         let taken = self
             .sockets
             .take(rt, serving, service, &mut self.line_writer);
@@ -297,6 +310,9 @@ impl<'a, W: Write> ServeLoop<'a, W> {
             Notice::Scanned(report) => {
                 let scans = service.scans();
                 self.steps.add(report.steps);
+                if self.round.end(self.line_writer.now()) {
+                    self.taken.note(service);
+                }
                 self.scanned_at = self.line_writer.seconds();
                 if serving.is_verbose {
                     tell_scan(self.alloc, scans, report, &mut self.line_writer);
@@ -424,6 +440,7 @@ impl<'a, W: Write> ServeLoop<'a, W> {
             began_at: self.line_writer.began_at(),
             scanned_at: self.scanned_at,
             period: serving.period,
+            round: self.round.took(),
             late: self.late,
             steps: self.steps.last(),
             clients: self.sockets.clients().count(),
@@ -449,6 +466,7 @@ impl<'a, W: Write> ServeLoop<'a, W> {
             self.addresses,
             self.sockets.clients(),
             &self.alarm_watch,
+            &self.taken,
         )
     }
 
@@ -458,6 +476,7 @@ impl<'a, W: Write> ServeLoop<'a, W> {
             late: self.late,
             lines: self.line_writer.told(),
             steps: self.steps,
+            round: self.round,
         }
     }
 

@@ -4,11 +4,13 @@ use crate::client::Client;
 use crate::clients::Clients;
 use crate::line_writer::LineWriter;
 use crate::members::{put_list, put_number, put_text, put_truth};
+use crate::round_time::RoundTime;
 use crate::scan_steps::ScanSteps;
 use crate::serving::Serving;
 use crate::status_alarms::alarms_value;
 use crate::status_devices::devices_value;
 use crate::status_tags::{outputs_value, set_value, tags_value, variables_value};
+use crate::taken_outputs::TakenOutputs;
 use serde_json::{Map, Value, put};
 use service::Service;
 use service_texts::{Addresses, Start};
@@ -25,6 +27,7 @@ pub(crate) struct ServiceCounts {
     /// The lines that were told after their time.
     pub lines: u64,
     pub steps: ScanSteps,
+    pub round: RoundTime,
 }
 
 /// The text of how a service stands at the time of its lines.
@@ -38,6 +41,7 @@ pub(crate) fn status_text<W: Write>(
     addresses: &Addresses,
     clients: &Clients,
     alarm_watch: &AlarmWatch,
+    taken: &TakenOutputs,
 ) -> Result<String, AllocError> {
     let mut status = Map::new(alloc);
     put_list(
@@ -64,6 +68,8 @@ pub(crate) fn status_text<W: Write>(
         clients,
         alarm_watch,
     )?;
+    let outputs = outputs_value(alloc, service, taken, line_writer.now())?;
+    put(&mut status, alloc, "outputs", outputs)?;
     put_list(
         &mut status,
         alloc,
@@ -84,7 +90,21 @@ fn put_counts(
     put_number(status, alloc, "late", counts.late)?;
     put_steps(status, alloc, "steps", counts.steps.last())?;
     put_steps(status, alloc, "steps_most", counts.steps.most())?;
+    put_milliseconds(status, alloc, "round_ms", counts.round.took())?;
     put_number(status, alloc, "events", counts.lines)
+}
+
+/// Puts how long something took, or null before it was over once.
+fn put_milliseconds(
+    status: &mut Map<String, Value>,
+    alloc: Global,
+    key: &str,
+    took: Option<u64>,
+) -> Result<(), AllocError> {
+    match took {
+        Some(took) => put_number(status, alloc, key, took),
+        None => put(status, alloc, key, Value::Null),
+    }
 }
 
 /// Puts how many instructions a scan took, or null before the first one.
@@ -128,7 +148,6 @@ fn put_site(
         devices_value(alloc, serving, service, addresses, alarm_watch)?,
     )?;
     put(status, alloc, "tags", tags_value(alloc, core, clients)?)?;
-    put(status, alloc, "outputs", outputs_value(alloc, service)?)?;
     put(status, alloc, "set", set_value(alloc, core)?)?;
     put(status, alloc, "variables", variables_value(alloc, core)?)
 }

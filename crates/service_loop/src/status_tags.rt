@@ -1,6 +1,7 @@
 //! The numbers of a service, as JSON.
 use crate::clients::Clients;
 use crate::members::{put_number, put_signed, put_text};
+use crate::taken_outputs::{TakenNumber, TakenOutputs};
 use gateway::{Core, DEPTH};
 use point_types::{Cause, Reading};
 use serde_json::{Map, Value, put};
@@ -158,14 +159,21 @@ fn access_word(access: Access) -> &'static str {
     }
 }
 
-/// What the program stored in each `out` tag, the number that goes out where it isn't that one, and whether its device took it and
-/// shows it so.
-pub(crate) fn outputs_value(alloc: Global, service: &Service) -> Result<Value, AllocError> {
+/// What the program stored in each `out` tag, the number that goes out where it isn't that one, whether its device took it and shows it
+/// so, and what it took last; so many milliseconds after the start.
+pub(crate) fn outputs_value(
+    alloc: Global,
+    service: &Service,
+    taken: &TakenOutputs,
+    now: u64,
+) -> Result<Value, AllocError> {
     let core = service.core();
     let mut values = Map::new(alloc);
     for (output, place) in core.site().outs().iter().enumerate() {
         if let Some(tag) = core.site().tags().get(*place) {
-            let value = output_value(alloc, service, output, *place)?;
+            let mut value = output_value(alloc, service, output, *place)?;
+            put_taken(&mut value, alloc, taken.at(output), now)?;
+            let value = Value::Object(value);
             put(&mut values, alloc, tag.name.as_str(), value)?;
         }
     }
@@ -184,7 +192,7 @@ fn output_value(
     service: &Service,
     output: usize,
     place: usize,
-) -> Result<Value, AllocError> {
+) -> Result<Map<String, Value>, AllocError> {
     let core = service.core();
     let mut value = Map::new(alloc);
     put_signed(&mut value, alloc, "value", number_at(core.outputs(), place))?;
@@ -199,7 +207,23 @@ fn output_value(
         }
         None => put_state(&mut value, alloc, service.output_state(output))?,
     }
-    Ok(Value::Object(value))
+    Ok(value)
+}
+
+/// Puts what the device of an output took last, and how many seconds ago; null before it took anything.
+fn put_taken(
+    value: &mut Map<String, Value>,
+    alloc: Global,
+    taken: Option<TakenNumber>,
+    now: u64,
+) -> Result<(), AllocError> {
+    let Some(taken) = taken else {
+        return put(value, alloc, "taken", Value::Null);
+    };
+    let mut number = Map::new(alloc);
+    put_signed(&mut number, alloc, "value", Some(taken.number))?;
+    put_number(&mut number, alloc, "age", taken.age(now))?;
+    put(value, alloc, "taken", Value::Object(number))
 }
 
 fn put_state(
