@@ -160,6 +160,7 @@ def play_numbers(counts, program, folder):
     counts.note("what the site is called", len(named) == 1, numbers)
     counts.note("scans", int(value("sunsite_scans_total")[0]) > 0, numbers)
     counts.note("the period", value("sunsite_period_seconds") == ["0.100"], numbers)
+    counts.note("no line was left out", value("sunsite_lines_left_out_total") == ["0"], numbers)
     counts.note("how long a round takes", 0 <= float(value("sunsite_round_duration_seconds")[0]) <= within(0.1), numbers)
     counts.note("the budget", value("sunsite_program_steps") <= value("sunsite_program_budget_steps") == ["3"], numbers)
     counts.note("a device by its name, letter by letter", 'sunsite_device_up{device="in\\"v\\\\1",number="0"} 1' in numbers, numbers)

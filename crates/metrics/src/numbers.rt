@@ -28,6 +28,8 @@ pub struct Metrics<'a> {
     pub round: Option<u64>,
     /// How many rounds began late.
     pub late: u64,
+    /// How many lines couldn't be written.
+    pub left_out: u64,
     /// How many instructions the last scan took; none before the first one.
     pub steps: Option<u32>,
     /// How many clients there are.

@@ -48,6 +48,9 @@ fn push_counts(sheet: &mut Sheet, metrics: &Metrics<'_>) -> Result<(), AllocErro
     let name = "sunsite_late_rounds_total";
     sheet.counter(name, "How many rounds began more than a period late.")?;
     sheet.number(name, metrics.late)?;
+    let name = "sunsite_lines_left_out_total";
+    sheet.counter(name, "How many lines could not be written.")?;
+    sheet.number(name, metrics.left_out)?;
     let name = "sunsite_clients";
     sheet.gauge(name, "How many clients are connected.")?;
     sheet.number(name, metrics.clients)

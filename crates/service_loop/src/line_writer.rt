@@ -26,6 +26,8 @@ pub(crate) struct LineWriter<'a, W: Write> {
     began_at: Option<u64>,
     /// How many lines were left out since one was written.
     left_out: u64,
+    /// How many were since the start.
+    all_left_out: u64,
     /// How many lines were told after their time, also of those that were left out.
     told: u64,
     /// The last of these; None where nobody looks at them.
@@ -51,6 +53,7 @@ impl<'a, W: Write> LineWriter<'a, W> {
             seconds,
             began_at: seconds,
             left_out: 0,
+            all_left_out: 0,
             told: 0,
             events,
         }
@@ -95,6 +98,11 @@ impl<'a, W: Write> LineWriter<'a, W> {
     /// The last of these, where somebody may look at them.
     pub(crate) fn events(&self) -> Option<&EventRing> {
         self.events.as_ref()
+    }
+
+    /// How many lines were left out since the start.
+    pub(crate) fn left_out(&self) -> u64 {
+        self.all_left_out
     }
 
     /// Writes a line, after the time.
@@ -163,6 +171,7 @@ impl<'a, W: Write> LineWriter<'a, W> {
     fn count(&mut self, written: bool) {
         if !written {
             self.left_out = self.left_out.saturating_add(1);
+            self.all_left_out = self.all_left_out.saturating_add(1);
         }
     }
 

@@ -442,6 +442,7 @@ impl<'a, W: Write> ServeLoop<'a, W> {
             period: serving.period,
             round: self.round.took(),
             late: self.late,
+            left_out: self.line_writer.left_out(),
             steps: self.steps.last(),
             clients: self.sockets.clients().count(),
         };
