@@ -41,6 +41,7 @@ mod status;
 mod status_alarms;
 mod status_devices;
 mod status_file;
+mod status_served;
 mod status_tags;
 mod survey_turns;
 mod taken_outputs;

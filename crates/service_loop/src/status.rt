@@ -9,6 +9,7 @@ use crate::scan_steps::ScanSteps;
 use crate::serving::Serving;
 use crate::status_alarms::alarms_value;
 use crate::status_devices::devices_value;
+use crate::status_served::served_value;
 use crate::status_tags::{outputs_value, set_value, tags_value, variables_value};
 use crate::taken_outputs::TakenOutputs;
 use serde_json::{Map, Value, put};
@@ -70,6 +71,12 @@ pub(crate) fn status_text<W: Write>(
     )?;
     let outputs = outputs_value(alloc, service, taken, line_writer.now())?;
     put(&mut status, alloc, "outputs", outputs)?;
+    put_list(
+        &mut status,
+        alloc,
+        "served",
+        served_value(alloc, service.core(), alarm_watch.standing()?)?,
+    )?;
     put_list(
         &mut status,
         alloc,
