@@ -2,7 +2,7 @@
 
 /// What a browser may do for it: run its style and its script, by their hashes, and ask where it came from.
 pub(crate) const POLICY: &str =
-    "default-src 'none'; style-src 'sha256-Wme/BkSH3vjJGQiKo+eX1uw2CRaPO17cbVGZvk3BwPc='; script-src 'sha256-kSO722wQN2pFc9EPGoFGcXm4Ek2QhbY+F8AKNdx7hSU='; connect-src 'self'; img-src data:; base-uri 'none'; form-action 'none'; frame-ancestors 'none'; require-trusted-types-for 'script'; trusted-types 'none'";
+    "default-src 'none'; style-src 'sha256-Wme/BkSH3vjJGQiKo+eX1uw2CRaPO17cbVGZvk3BwPc='; script-src 'sha256-+OGocIESjMORdGtRA9WxoO3WXVSaclZqRylWzmozOZI='; connect-src 'self'; img-src data:; base-uri 'none'; form-action 'none'; frame-ancestors 'none'; require-trusted-types-for 'script'; trusted-types 'none'";
 
 /// Its text.
 pub(crate) const PAGE: &str = r##"<!doctype html>
@@ -188,7 +188,7 @@ const deviceOf = tag => (status.devices[tag.device] || {}).name;
 /** The alarm of a tag by its name, or of a device by its number. */
 const alarmOf = (kinds, of) => status.alarms.find(alarm => kinds.split(' ').includes(alarm.kind) && (alarm.number ?? alarm.name) === of);
 /** The number that a device took last of an output; null where that isn't known. */
-const taken = name => { const own = status.outputs[name] || {}; return own.state === 'written' ? own.fitted ?? own.value : null; };
+const taken = name => { const own = status.outputs[name] || {}; return own.taken ? own.taken.value : null; };
 const namesOf = served => served.sum || [served.tag];
 /** The number that clients read there, as of the last scan; null where there is none. */
 const reads = s => {
