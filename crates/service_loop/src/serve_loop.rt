@@ -1,22 +1,23 @@
 //! All that a service has beside what decides.
+mod window;
+
 use crate::alarm_watch::AlarmWatch;
 use crate::hour_record::{HourRecord, events_of, hour_of};
 use crate::keeping::Keeping;
 use crate::kept_files::KeptFiles;
 use crate::line_writer::LineWriter;
-use crate::page_texts::{ScanTexts, page_line, site_text};
+use crate::page_texts::{ScanTexts, page_line};
 use crate::program_watch::{Looked, ProgramRefusal, ProgramWatch};
 use crate::room::{Room, STANDARD_ERROR, STANDARD_OUTPUT};
 use crate::round_time::RoundTime;
 use crate::scan_steps::ScanSteps;
-use crate::serving::{End, PageWindow, Serving};
+use crate::serving::{End, Serving};
 use crate::sockets::Sockets;
 use crate::state_lock::StateLock;
 use crate::status::{ServiceCounts, status_text};
 use crate::taken_outputs::TakenOutputs;
 use crate::telling::{pace_line, sleep_line, tell, tell_changes, tell_scan, tell_taken};
 use crate::wall_clock::seconds_of_day;
-use metrics::{Metrics, metrics_text};
 use service::{Notice, Service};
 use service_texts::{
     Addresses, Start, late_line, listening_line, program_kept_line, program_refused_line,
@@ -234,6 +235,7 @@ impl<'a, W: Write> ServeLoop<'a, W> {
                 self.alarm_watch.settle();
                 self.steps = ScanSteps::new();
                 self.site_text = None;
+                self.texts = ScanTexts::none(self.alloc);
                 files.take_program();
                 tell_taken(self.alloc, program.taken(), budget, &mut self.line_writer);
                 true
@@ -348,106 +350,6 @@ impl<'a, W: Write> ServeLoop<'a, W> {
             };
             files.keep_status(rt, text, &mut self.line_writer);
         }
-    }
-
-    // Shows those who look how the service stands.
-    fn show<P: ProgramWatch>(&mut self, serving: &Serving<'_>, program: &P, service: &Service) {
-        let Some(window) = serving.page else {
-            return;
-        };
-        if self.sockets.has_lookers() {
-            if self.site_text.is_none() {
-                self.make_site_text(&window, program);
-            }
-            if !self.texts.is_of(service.scans()) {
-                self.make_texts(serving, program, service);
-            }
-        }
-        match self.time_shown() {
-            Ok(time) => self.answer(window, time.as_str()),
-            Err(AllocError) => self.line_writer.tell(Err(AllocError)),
-        }
-    }
-
-    // Answers those who look, at this time of day.
-    fn answer(&mut self, window: PageWindow<'_>, time: &str) {
-        let now = self.line_writer.now();
-        let (Some(hour), Some(events)) = (&mut self.hour, self.line_writer.events()) else {
-            return;
-        };
-        hour.turn_to(now);
-        let site = match &self.site_text {
-            Some(text) => text.as_str(),
-            None => "",
-        };
-        let hour = hour.last_hour(events, self.line_writer.told(), time);
-        self.sockets.show(window, self.texts.beside(site, hour), now);
-    }
-
-    // The time of day, where somebody is to be answered.
-    fn time_shown(&self) -> Result<String, AllocError> {
-        if self.sockets.has_lookers() {
-            self.line_writer.time_of_day()
-        } else {
-            Ok(String::new(self.alloc))
-        }
-    }
-
-    // Makes the text of the site and the program; where memory is refused, there is none until the next turn.
-    fn make_site_text<P: ProgramWatch>(&mut self, window: &PageWindow<'_>, program: &P) {
-        let Ok(listen) = self.sockets.address() else {
-            return;
-        };
-        let listing = match program.taken_listing() {
-            Some(listing) => listing,
-            None => window.program,
-        };
-        match site_text(self.alloc, listen, window.site, listing) {
-            Ok(text) => self.site_text = Some(text),
-            Err(AllocError) => self.line_writer.tell(Err(AllocError)),
-        }
-    }
-
-    // Makes the texts of the last scan; where memory is refused, those of before stay.
-    fn make_texts<P: ProgramWatch>(
-        &mut self,
-        serving: &Serving<'_>,
-        program: &P,
-        service: &Service,
-    ) {
-        let start = match program.taken() {
-            Some(start) => start,
-            None => serving.start,
-        };
-        match self.texts_of(start, serving, service) {
-            Ok(texts) => self.texts = texts,
-            Err(AllocError) => self.line_writer.tell(Err(AllocError)),
-        }
-    }
-
-    fn texts_of(
-        &self,
-        start: &Start,
-        serving: &Serving<'_>,
-        service: &Service,
-    ) -> Result<ScanTexts, AllocError> {
-        let status = self.status(start, serving, service)?;
-        let metrics = Metrics {
-            start,
-            name: serving.name,
-            service,
-            standing: self.alarm_watch.standing()?,
-            began_at: self.line_writer.began_at(),
-            scanned_at: self.scanned_at,
-            period: serving.period,
-            round: self.round.took(),
-            late: self.late,
-            left_out: self.line_writer.left_out(),
-            steps: self.steps.last(),
-            clients: self.sockets.clients().count(),
-        };
-        let metrics = metrics_text(self.alloc, &metrics)?;
-        Ok(ScanTexts::new(status, metrics, service.scans()))
     }
 
     // How the service stands, with what is told of the program that runs.
