@@ -2,3 +2,4 @@ pub mod MoreNumbers
 pub mod StepsOver
 pub mod LinesTold
 pub mod Places
+pub mod LinesAfter

@@ -3,3 +3,4 @@ pub mod Steps
 pub mod Points
 pub mod Events
 pub mod Recorded
+pub mod Told

@@ -1,4 +1,9 @@
 //! What is answered of the last hour.
+ghost use Rattle.std.specs.Prelude.{◌≡◌, ◌++◌, false, map, string_bytes, IfOk, OnOk};
+ghost use Rattle.std.specs.Fmt.{decimal};
+ghost use Rattle.history.specs.Events.{line_of};
+ghost use Rattle.history.specs.Told.{comma_if, is_later, joined, line_text, quoted, texts_after};
+
 use crate::asked::Asked;
 use crate::event::Event;
 use crate::event_ring::EventRing;
@@ -48,43 +53,68 @@ impl LastHour<'_> {
     }
 
     /// Appends the lines after a number, the earliest first.
-    fn push_events(&self, text: &mut String, after: u64) -> Result<(), AllocError> {
+    fn push_events(&self, text: &mut String, after: u64) -> Result<(), AllocError>
+        ensures { OnOk result (string_bytes text.new ≡ string_bytes text.old ++ joined false (texts_after after self.now.events.now)) }
+    {
         let (earlier, later) = self.events.parts();
-        let comma = push_part(self.alloc, text, "", earlier, after)?;
-        push_part(self.alloc, text, comma, later, after)?;
+        let more = push_lines(self.alloc, text, false, earlier, after)?;
+        push_lines(self.alloc, text, more, later, after)?;
         Ok(())
     }
 }
 
-/// Appends those of some lines that come after a number; what stands before the next one.
-fn push_part(
+/// Appends those of some lines that come after a number, with commas between them, and before them where others stand there;
+/// whether others stand before the next ones.
+fn push_lines(
     alloc: Global,
     text: &mut String,
-    comma: &'static str,
+    later: bool,
     events: &[Event],
     after: u64,
-) -> Result<&'static str, AllocError> {
-    let mut comma = comma;
+) -> Result<bool, AllocError>
+    ensures text { OnOk result (string_bytes text.new ≡ string_bytes text.old ++ joined later (texts_after after (map line_of events.now))) }
+    ensures later { IfOk result (λ more. more ≡ is_later later (texts_after after (map line_of events.now))) }
+{
+    let mut later = later;
     for event in events {
-        if event.number > after {
-            text.push_str(comma)?;
-            push_event(alloc, text, event)?;
-            comma = ",";
+        if after < event.number {
+            push_comma(text, later)?;
+            push_line(alloc, text, event)?;
+            later = true;
         }
     }
-    Ok(comma)
+    Ok(later)
 }
 
-fn push_event(alloc: Global, text: &mut String, event: &Event) -> Result<(), AllocError> {
-    write!(text, "{{\"n\":{},\"time\":", event.number)?;
+fn push_comma(text: &mut String, later: bool) -> Result<(), AllocError>
+    ensures { OnOk result (string_bytes text.new ≡ string_bytes text.old ++ comma_if later) }
+{
+    if later { text.push_str(",") } else { Ok(()) }
+}
+
+fn push_line(alloc: Global, text: &mut String, event: &Event) -> Result<(), AllocError>
+    ensures { OnOk result (string_bytes text.new ≡ string_bytes text.old ++ line_text (line_of event.now)) }
+{
+    text.push_str("{\"n\":")?;
+    push_count(text, event.number)?;
+    text.push_str(",\"time\":")?;
     push_text(alloc, text, event.time.as_str())?;
     text.push_str(",\"text\":")?;
     push_text(alloc, text, event.text.as_str())?;
     text.push_str("}")
 }
 
+fn push_count(text: &mut String, count: u64) -> Result<(), AllocError>
+    ensures { OnOk result (string_bytes text.new ≡ string_bytes text.old ++ decimal count) }
+{
+    write!(text, "{count}")?;
+    Ok(())
+}
+
 /// Appends a text of JSON.
-fn push_text(alloc: Global, text: &mut String, value: &str) -> Result<(), AllocError> {
+fn push_text(alloc: Global, text: &mut String, value: &str) -> Result<(), AllocError>
+    ensures { OnOk result (string_bytes text.new ≡ string_bytes text.old ++ quoted value.now) }
+{
     let value = Value::try_from_str(alloc, value)?.to_string(alloc)?;
     text.push_str(value.as_str())
 }

@@ -1,5 +1,5 @@
 //! The last hour of several quantities.
-ghost use Rattle.std.specs.Prelude.{◌≡◌, ◌++◌, ◌/◌, List, [], ◌∷◌, map, max, slice_get, string_bytes, Some, OnOk, IfSome};
+ghost use Rattle.std.specs.Prelude.{◌≡◌, ◌≤◌, ◌<◌, ◌+◌, ◌*◌, ◌^◌, ◌++◌, ◌/◌, List, [], ◌∷◌, map, max, slice_get, string_bytes, Some, OnOk, IfSome};
 ghost use Rattle.history.specs.Recorded.{AreKeptOf, IsNamed, number_at, put_by};
 ghost use Rattle.history.specs.Steps.{Put, next_step, nothing_put};
 
@@ -126,12 +126,16 @@ fn put_at(series: &mut [Series], place: usize, number: i64)
 }
 
 /// How many quantities have room in so many bytes, beside the lines.
-pub fn quantities_in(bytes: u64) -> u64 {
+pub fn quantities_in(bytes: u64) -> u64
+    ensures { 120000 ≤ bytes → 9000 * result + 120000 ≤ bytes }
+{
     bytes.saturating_sub(LINES) / QUANTITY
 }
 
 /// How many bytes so many quantities take, with the lines.
-pub fn bytes_of(quantities: u64) -> u64 {
+pub fn bytes_of(quantities: u64) -> u64
+    ensures { quantities < 2 ^ 48 → result ≡ 9000 * quantities + 120000 }
+{
     quantities.saturating_mul(QUANTITY).saturating_add(LINES)
 }
 

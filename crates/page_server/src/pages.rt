@@ -7,13 +7,6 @@ use http::{HeaderName, HeaderValue, Method, Request, StatusCode, header};
 use http_server::{Response, Service};
 use std::alloc::AllocError;
 
-/// The kinds of texts.
-const HTML: &str = "text/html; charset=utf-8";
-
-const JSON: &str = "application/json";
-
-const METRICS: &str = "text/plain; version=0.0.4; charset=utf-8";
-
 /// What a browser may do for every answer except the page: nothing.
 const NOTHING: &str = "default-src 'none'; frame-ancestors 'none'";
 
@@ -111,15 +104,23 @@ impl<'a> Pages<'a> {
         request: &Request<Bytes>,
         response: &mut Response,
     ) -> Result<(), AllocError> {
+        let json = HeaderValue::from_static("application/json");
+        let nothing = HeaderValue::from_static(NOTHING);
         match page {
-            Page::Index => put_text(response, HTML, POLICY, PAGE),
-            Page::Status => put_text(response, JSON, NOTHING, self.texts.status),
-            Page::Metrics => put_text(response, METRICS, NOTHING, self.texts.metrics),
-            Page::Site => put_text(response, JSON, NOTHING, self.texts.site),
+            Page::Index => {
+                let kind = HeaderValue::from_static("text/html; charset=utf-8");
+                put_text(response, kind, HeaderValue::from_static(POLICY), PAGE)
+            }
+            Page::Metrics => {
+                let kind = HeaderValue::from_static("text/plain; version=0.0.4; charset=utf-8");
+                put_text(response, kind, nothing, self.texts.metrics)
+            }
+            Page::Status => put_text(response, json, nothing, self.texts.status),
+            Page::Site => put_text(response, json, nothing, self.texts.site),
             Page::History => {
                 let query = request.uri().query().unwrap_or("");
                 let text = self.texts.hour.text(query)?;
-                put_text(response, JSON, NOTHING, text.as_str())
+                put_text(response, json, nothing, text.as_str())
             }
         }
     }
@@ -143,19 +144,16 @@ impl Service for Pages<'_> {
 /// there later.
 fn put_text(
     response: &mut Response,
-    kind: &'static str,
-    policy: &'static str,
+    kind: HeaderValue,
+    policy: HeaderValue,
     text: &str,
 ) -> Result<(), AllocError> {
     if text.is_empty() {
         return refuse(StatusCode::SERVICE_UNAVAILABLE, response);
     }
     response.status = StatusCode::OK;
-    response.add_header(header::CONTENT_TYPE, HeaderValue::from_static(kind))?;
-    response.add_header(
-        header::CONTENT_SECURITY_POLICY,
-        HeaderValue::from_static(policy),
-    )?;
+    response.add_header(header::CONTENT_TYPE, kind)?;
+    response.add_header(header::CONTENT_SECURITY_POLICY, policy)?;
     response.body.put_slice(text.as_bytes())
 }
 
