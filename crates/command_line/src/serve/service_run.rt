@@ -193,10 +193,10 @@ fn serve_replaced<'x, R: LoopRuntime + Print + Files<File = File>, W: Write>(
     serve_accepted(rt, alloc, &run, given, out)
 }
 
-fn serve_accepted<R: LoopRuntime + Print + Files<File = File>, W: Write>(
+fn serve_accepted<'x, R: LoopRuntime + Print + Files<File = File>, W: Write>(
     rt: &R,
     alloc: Global,
-    run: &ServiceRun<'_, '_, '_, '_, '_>,
+    run: &ServiceRun<'x, 'x, 'x, 'x, 'x>,
     given: Accepted,
     out: &mut W,
 ) -> u8 {
