@@ -3,6 +3,7 @@
 It is the program `chromium` on the path, or the one that the environment names in CHROMIUM.
 """
 
+import base64
 import json
 import os
 import select
@@ -120,6 +121,12 @@ class Browser:
         self.call("Emulation.setDeviceMetricsOverride", width=width, height=height, deviceScaleFactor=1, mobile=width < 600)
         self.call("Emulation.setEmulatedMedia", features=features)
         self.call("Page.navigate", url=address)
+
+    def picture(self, path):
+        """Keeps what is seen as a picture (PNG)."""
+        seen = self.call("Page.captureScreenshot", format="png")["data"]
+        with open(path, "wb") as it:
+            it.write(base64.b64decode(seen))
 
     def key(self, key):
         for kind in ("keyDown", "keyUp"):

@@ -58,9 +58,8 @@ def example(name, *files):
 
 
 def quiet(counts, browser, what):
-    """Nothing is in the browser's log, except that there is no history yet."""
-    odd = [it for it in browser.log if not (it[1].split("?")[0].endswith("/history.json") and "404" in it[2])]
-    counts.note(f"{what}: nothing in the browser's log", not odd, odd[:3])
+    """Nothing is in the browser's log."""
+    counts.note(f"{what}: nothing in the browser's log", not browser.log, browser.log[:3])
     browser.log.clear()
 
 
@@ -245,3 +244,18 @@ def play_examples(counts, browser, program, folder):
 
 
 PLAYS = (play_well, play_alarm, play_gone, play_hostile, play_largest, play_examples)
+
+
+def take_pictures(browser, program):
+    """Keeps what README and SERVICE show: half a minute of the worked example, on a screen and on a phone."""
+    shown = Shown(browser, program, example("", "site.toml", "limiter.il", "--plant", "plant.toml"))
+    client = Client(shown.service.port())
+    for percent in (90, 60, 30, 45):
+        client.write(LIMIT, percent)
+        time.sleep(11)
+    for name, screen in (("page", {}), ("page-phone", {"width": 390, "height": 844, "dark": True})):
+        shown.open("/^All is well$/", **screen)
+        browser.until("document.querySelector('.spark').checkVisibility()")
+        browser.pause(3)
+        browser.picture(f"{TOP}/docs/{name}.png")
+    shown.end()
