@@ -46,10 +46,35 @@ pub fn serve_site<
     let is_noting = program.looks_at().is_some();
     let site = service.core().site();
     let mut serve_loop = ServeLoop::new(rt, alloc, serving, addresses, site, is_noting, out)?;
+    serve_over(
+        rt,
+        serving,
+        keeping,
+        lock,
+        program,
+        service,
+        &mut serve_loop,
+    )
+}
+
+// The same over sockets that are there. The lock is that of the file of set values.
+fn serve_over<
+    R: Net + Clock + Files<File = File> + Processes<Started = SystemProcess> + Eprint + AllocGlobal,
+    P: ProgramWatch,
+    W: Write,
+>(
+    rt: &R,
+    serving: &Serving<'_>,
+    keeping: &Keeping<'_, '_>,
+    lock: Option<StateLock>,
+    program: &mut P,
+    service: &mut Service,
+    serve_loop: &mut ServeLoop<'_, W>,
+) -> Result<(), End> {
     serve_loop.tell_address();
     serve_loop.tell_kept(serving)?;
     let mut files = serve_loop.restore(keeping, lock, service)?;
-    let ended = turns(rt, serving, program, service, &mut serve_loop, &mut files);
+    let ended = turns(rt, serving, program, service, serve_loop, &mut files);
     serve_loop.end();
     ended
 }
