@@ -1,25 +1,21 @@
--- One wanted block, one write more.
-use Rattle.std.proofs.Common.{◌≡◌, ℕ, suc, ◌+◌, ◌<◌, Bool, List, [], ◌∷◌, ◌++◌, length, map, take, drop, get_or, Option, None, Some, Result, refl, sym, ap, ◌∙◌, subst, arith, append_assoc, take-append-drop, length-append}
+-- One wanted block more.
+use Rattle.std.proofs.Common.{◌≡◌, ℕ, suc, ◌+◌, ◌<◌, Bool, List, [], ◌∷◌, ◌++◌, length, map, take, drop, get_or, Option, None, Some, refl, sym, ap, ◌∙◌, subst, append_assoc, take-append-drop}
 use Rattle.std.proofs.Math.Seq.{drop-cons, take-add}
-use Rattle.std.proofs.lemmas.List.{append-nil, length-map}
+use Rattle.std.proofs.lemmas.List.{append-nil}
 use Rattle.std.proofs.lemmas.List.Sums.{sum_by-append}
 use Rattle.std.specs.Prelude.{count_by, cond}
-use Rattle.std.specs.Option.{option_to_list}
 use Rattle.modbus_frame.specs.declared.link.LinkFault.{LinkFault}
 use Rattle.modbus_frame.specs.declared.message.Request.{Request}
 use Rattle.register_map.specs.Layout.{Layout}
-use Rattle.site_model.specs.declared.device.SiteDevice.{SiteDevice}
 use Rattle.site_model.specs.declared.site.Site.{Site}
 use Rattle.site_model.specs.declared.want.Want.{Want}
-use Rattle.point_writer.specs.declared.write.Write.{Write}
-use Rattle.point_writer.specs.declared.write.NoWrite.{NoWrite}
 use Rattle.gateway.specs.declared.event_core.event.Event.{Event}
 use Rattle.gateway.specs.declared.event_core.event.Answer.{Answer}
 use Rattle.gateway.specs.declared.poller.outcome.Outcome.{Outcome}
 use Rattle.gateway.specs.declared.poller.cycle.Call.{Call}
 use Rattle.gateway.specs.poller.LinkRun.{Exchange}
 use Rattle.gateway.specs.poller.Polling.{Polling, Decides, Talks}
-use Rattle.gateway.specs.poller.Cycle.{read_of, write_of, event_by, is_lost, is_refused, is_refusal, ReadsBlock, ReadsBlocks, TakesBlock, TakesBlocks, StopsAt, StopsTaking, WritesBy, WritesPoint, WritesPoints, WritesFirst, StopsWriting, RunsTo, ArePlans}
+use Rattle.gateway.specs.poller.Cycle.{read_of, event_by, is_lost, is_refused, is_refusal, ReadsBlock, ReadsBlocks, TakesBlock, TakesBlocks, StopsAt, StopsTaking, WritesPoint, RunsTo}
 use Rattle.gateway.proofs.Talking.{talks_none, talks_first, talks_behind, exchange_of}
 
 -- ---- one call
@@ -49,10 +45,10 @@ module _ {X : Type 0} where
   pub split_here : (xs : List X) (i : ℕ) (x : X) → i < length xs → x ≡ get_or xs i x → xs ≡ take i xs ++ x ∷ drop (suc i) xs
   split_here xs i x within is = sym (take-append-drop i xs) ∙ ap (λ l. take i xs ++ l) (from_place xs i x within is)
 
-  count_by-append : (p : X → Bool) (xs ys : List X) → count_by p (xs ++ ys) ≡ count_by p xs + count_by p ys
+  pub count_by-append : (p : X → Bool) (xs ys : List X) → count_by p (xs ++ ys) ≡ count_by p xs + count_by p ys
   count_by-append p xs ys = sum_by-append (λ x. cond (p x) 1 0) xs ys
 
-counted_by : (es : List Exchange) → count_by is_refusal (map (λ (e : Exchange). e.outcome) es) ≡ count_by is_refused es
+pub counted_by : (es : List Exchange) → count_by is_refusal (map (λ (e : Exchange). e.outcome) es) ≡ count_by is_refused es
 counted_by [] = refl
 counted_by (e ∷ es) =
     count_by-append is_refusal (e.outcome ∷ []) (map (λ (x : Exchange). x.outcome) es) ∙ ap (λ n. count_by is_refused (e ∷ []) + n) (counted_by es) ∙ sym (count_by-append is_refused (e ∷ []) es)
@@ -65,12 +61,6 @@ blocks_more site maps [] es events want own happens so_far one =
     (own, [], happens, [], ap (λ l. l ++ own) so_far.0 ∙ sym (append-nil own), ap (λ l. l ++ happens ∷ []) so_far.1, one, (refl, refl))
 blocks_more site maps (w ∷ ws) es events want own happens (first, others, this, more, all, each, is, rest) one =
     (first, others ++ own, this, more ++ happens ∷ [], ap (λ l. l ++ own) all ∙ append_assoc first others own, ap (λ l. l ++ happens ∷ []) each, is, blocks_more site maps ws others more want own happens rest one)
-
-points_more : (devices : List SiteDevice) (plans : List (Result Write NoWrite)) (es : List Exchange) (plan : Result Write NoWrite) (own : List Exchange)
-    → WritesPoints devices plans es → WritesBy (write_of devices plan) own → WritesPoints devices (plans ++ plan ∷ []) (es ++ own)
-points_more devices [] es plan own so_far one = (own, [], ap (λ l. l ++ own) so_far ∙ sym (append-nil own), one, refl)
-points_more devices (p ∷ ps) es plan own (first, others, all, is, rest) one =
-    (first, others ++ own, ap (λ l. l ++ own) all ∙ append_assoc first others own, is, points_more devices ps others plan own rest one)
 
 module _ {S : Type 0} (Steps : S → Event → Answer → S → Type 0) where
   runs_more : (s t u : S) (events : List Event) (happens : Event) (answer : Answer) → RunsTo Steps s events t → Steps t happens answer u → RunsTo Steps s (events ++ happens ∷ []) u
@@ -110,49 +100,5 @@ module _ {S : Type 0} (Steps : S → Event → Answer → S → Type 0) where
     middle = m;
     lost = lost;
     taken = so_far;
-    stops = stops;
-  }
-
--- ---- writes
-
-module _ {S : Type 0} (Plans : S → ℕ → Result Write NoWrite → Type 0) where
-  plans_more : (t : S) (i : ℕ) (plans : List (Result Write NoWrite)) (plan : Result Write NoWrite) (n : ℕ) → ArePlans Plans t i plans → i + length plans ≡ n → Plans t n plan → ArePlans Plans t i (plans ++ plan ∷ [])
-  plans_more t i [] plan n so_far here next =
-      let same : n ≡ i = omega (arith, here) in
-      (subst (λ k. Plans t k plan) same next, tt)
-  plans_more t i (p ∷ ps) plan n so_far here next = (so_far.0, plans_more t (i + 1) ps plan n so_far.1 (omega (arith, here)) next)
-
-  -- before the first write
-  pub writes_none : (site : Site) (t : S) (p : Polling) → p.fault ≡ None → WritesFirst Plans site 0 t p p 0 0
-  writes_none site t p works = record { plans = []; planned = tt; all = refl; es = []; points = refl; talks = talks_none p works; sent = refl; unacknowledged = refl }
-
-  -- one more
-  pub writes_more : (site : Site) (i : ℕ) (t : S) (p m q : Polling) (writes refused : ℕ) (plan : Result Write NoWrite) (o : Option Outcome) (sent unacknowledged : ℕ)
-      → WritesFirst Plans site i t p m writes refused → Plans t i plan → WritesPoint (write_of site.devices plan) m o q
-      → sent ≡ writes + length (option_to_list o) → unacknowledged ≡ refused + count_by is_refusal (option_to_list o)
-      → WritesFirst Plans site (i + 1) t p q sent unacknowledged
-  writes_more site i t p m q writes refused plan o sent unacknowledged so_far planned one are not = record {
-    plans = so_far.plans ++ plan ∷ [];
-    planned = plans_more t 0 so_far.plans plan i so_far.planned (omega (arith, so_far.all)) planned;
-    all = length-append so_far.plans (plan ∷ []) ∙ ap (λ n. n + 1) so_far.all;
-    es = so_far.es ++ one.0;
-    points = points_more site.devices so_far.plans so_far.es plan one.0 so_far.points one.1;
-    talks = talks_behind p m q so_far.es one.0 so_far.talks one.3;
-    sent = are ∙ ap (λ n. n + length (option_to_list o)) so_far.sent ∙ ap (λ n. length so_far.es + n) (sym (ap length one.2) ∙ length-map one.0 (λ (e : Exchange). e.outcome)) ∙ sym (length-append so_far.es one.0);
-    unacknowledged = not ∙ ap (λ n. n + count_by is_refusal (option_to_list o)) so_far.unacknowledged ∙ ap (λ n. count_by is_refused so_far.es + n) (sym (ap (count_by is_refusal) one.2) ∙ counted_by one.0) ∙ sym (count_by-append is_refused so_far.es one.0);
-  }
-
-  -- the link failed at one
-  pub stops_writing : (site : Site) (i : ℕ) (t : S) (p m q : Polling) (writes refused : ℕ) (plan : Result Write NoWrite) (fault : LinkFault)
-      → i < length site.outs → WritesFirst Plans site i t p m writes refused → Plans t i plan → StopsAt (write_of site.devices plan) m fault q → StopsWriting Plans site t p fault q
-  stops_writing site i t p m q writes refused plan fault within so_far planned stops = record {
-    n = i;
-    within = within;
-    middle = m;
-    writes = writes;
-    refused = refused;
-    written = so_far;
-    plan = plan;
-    planned = planned;
     stops = stops;
   }

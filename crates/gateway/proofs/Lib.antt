@@ -18,3 +18,5 @@ pub mod Reading
 pub mod Found
 pub mod Blocks
 pub mod SetAgain
+pub mod Turns
+mod Unpaired

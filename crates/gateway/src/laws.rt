@@ -1,6 +1,6 @@
 //! What is proved of the definitions that the contracts cite; the functions do nothing.
 
-ghost use Rattle.gateway.specs.Laws.{AtMostOneServedImage, ScansFollowTheSiteRun, SitesWithoutLapsesKeepWhatIsSet, WritesAreSetPoints};
+ghost use Rattle.gateway.specs.Laws.{AtMostOneServedImage, ScansFollowTheSiteRun, SitesWithoutCompanionsWriteInOrder, SitesWithoutLapsesKeepWhatIsSet, WritesAreSetPoints};
 
 /// A site, the last scan and what clients set have one served image at most.
 pub fn served_images_are_exact()
@@ -21,4 +21,9 @@ pub fn sites_without_lapses_keep_what_is_set()
 /// program stored, which lies in the tag's range.
 pub fn writes_are_set_points()
     ensures { WritesAreSetPoints }
+{}
+
+/// Where no output of a site goes with another one, a scan over a link gives each of them its turn, in the order of the site.
+pub fn sites_without_companions_write_in_order()
+    ensures { SitesWithoutCompanionsWriteInOrder }
 {}

@@ -10,8 +10,8 @@ mod served;
 pub use event_core::{Answer, Core, CoreFault, DEPTH, Event, MOST_ELAPSED, has_lapsed};
 // the devices: what is asked of them over a link, and whole scans
 pub use poller::{
-    Call, MOST_DROPPED, Outcome, Poller, Report, event_by, is_reply, read_of, request_frame,
-    run_scan, write_of,
+    Call, MOST_DROPPED, Outcome, Poller, Report, WriteOrder, event_by, is_reply, read_of,
+    request_frame, run_scan, write_of,
 };
 // the clients, and what is shown to them of readings
 pub use event_core::serve_client;

@@ -13,6 +13,7 @@ mod line;
 mod outcome;
 mod polled;
 mod telling;
+mod write_order;
 
 pub use cycle::{Call, Report, event_by, read_of, write_of};
 pub use exchange::{MOST_DROPPED, is_reply, request_frame};
@@ -24,6 +25,7 @@ use register_map::{Map, MapFault};
 use site_model::Site;
 use std::alloc::Global;
 use std::marker::Model;
+pub use write_order::WriteOrder;
 
 /// Asks the units on a link, one request at a time. Transactions rise by one with each request, and begin again at 0.
 ///

@@ -1,7 +1,7 @@
 -- One scan over a link: each wanted block is asked for, the program runs once, and what it set is written
 -- (Modbus Application Protocol V1.1b3, sections 6.3, 6.6 and 6.12).
-use Rattle.std.specs.Prelude.{◌≡◌, ◌⊎◌, ℕ, ◌+◌, ◌<◌, min, Bool, true, false, List, [], ◌∷◌, ◌++◌, ⊤, map, length, slice_get, count_by, Option, None, Some, option_map, option_and_then, Result, Ok, Err}
-use Rattle.std.specs.Option.{option_to_list}
+use Rattle.std.specs.Prelude.{◌≡◌, ◌⊎◌, ℕ, ◌+◌, ◌<◌, min, nat_eq, Bool, true, false, if◌then◌else◌, List, [], ◌∷◌, ◌++◌, ⊤, map, length, take, drop, slice_get, count_by, Option, None, Some, option_map, option_and_then, Result, Ok, Err}
+use Rattle.std.specs.Option.{option_map_or, option_to_list}
 use Rattle.modbus_frame.specs.declared.link.LinkFault.{LinkFault}
 use Rattle.modbus_frame.specs.declared.message.Request.{Request}
 use Rattle.modbus_frame.specs.declared.message.Request.TheVariants.{Read, WriteOne, WriteMany}
@@ -12,7 +12,9 @@ use Rattle.site_model.specs.declared.device.SiteDevice.{SiteDevice}
 use Rattle.site_model.specs.declared.device.WriteFunction.{WriteFunction}
 use Rattle.site_model.specs.declared.device.WriteFunction.TheVariants as function
 use Rattle.site_model.specs.declared.site.Site.{Site}
+use Rattle.site_model.specs.declared.tag.SiteTag.{SiteTag}
 use Rattle.site_model.specs.Readings.{known_at}
+use Rattle.site_model.specs.TagView.{companion_at}
 use Rattle.site_model.specs.declared.want.Want.{Want}
 use Rattle.site_model.specs.Wants.{length_of}
 use Rattle.point_writer.specs.declared.write.Write.{Write}
@@ -89,7 +91,7 @@ abbrev pub write_of : List SiteDevice → Result Write NoWrite → Option Call
 write_of devices (Ok w) = option_map (λ (device : SiteDevice). record { unit = device.unit; request = write_request device.write w.addr w.words }) (slice_get devices w.device)
 write_of devices (Err cause) = None
 
--- What is to be written goes out, in order, and nothing else.
+-- What is to be written goes out, and nothing else.
 abbrev pub WritesBy : Option Call → List Exchange → Type 0
 WritesBy None es = es ≡ []
 WritesBy (Some call) es = (e : Exchange) × (es ≡ e ∷ []) × IsCall call e
@@ -97,11 +99,6 @@ WritesBy (Some call) es = (e : Exchange) × (es ≡ e ∷ []) × IsCall call e
 -- What came of it, where there was one.
 abbrev pub WritesPoint : Option Call → Polling → Option Outcome → Polling → Type 0
 WritesPoint call p o q = (es : List Exchange) × WritesBy call es × (map (λ (e : Exchange). e.outcome) es ≡ option_to_list o) × Talks p es q
-
-abbrev pub WritesPoints : List SiteDevice → List (Result Write NoWrite) → List Exchange → Type 0
-WritesPoints devices [] es = es ≡ []
-WritesPoints devices (plan ∷ plans) es =
-    (own : List Exchange) × (others : List Exchange) × (es ≡ own ++ others) × WritesBy (write_of devices plan) own × WritesPoints devices plans others
 
 -- ---- what is counted
 
@@ -122,6 +119,66 @@ is_refusal outcome.Stale = true
 -- a write that is not acknowledged
 abbrev pub is_refused : Exchange → Bool
 is_refused e = is_refusal e.outcome
+
+-- ---- in which order
+
+-- as many as a site file may have
+abbrev pub most_outputs : ℕ
+most_outputs = 1024
+
+abbrev pub same_tag : Option ℕ → Option ℕ → Bool
+same_tag None None = true
+same_tag None (Some m) = false
+same_tag (Some n) None = false
+same_tag (Some n) (Some m) = nat_eq n m
+
+-- Of the outputs of these tags, numbered from i on, those whose tag goes with this one; where it is none, those that go with no other.
+abbrev pub going_with : List SiteTag → (leader : Option ℕ) → (i : ℕ) → List ℕ → List ℕ
+going_with tags leader i [] = []
+going_with tags leader i (number ∷ numbers) =
+    if same_tag leader (companion_at tags number) then i ∷ going_with tags leader (i + 1) numbers else going_with tags leader (i + 1) numbers
+
+abbrev pub outputs_with : Site → (leader : Option ℕ) → List ℕ
+outputs_with site leader = going_with site.tags leader 0 site.outs
+
+-- The order begins with the outputs that go with no other.
+abbrev pub first_order : Site → List ℕ
+first_order site = take most_outputs (outputs_with site None)
+
+-- Those that go with an output come at its end.
+abbrev pub followed : Site → List ℕ → (output : ℕ) → List ℕ
+followed site order output = option_map_or (λ number. take most_outputs (order ++ outputs_with site (Some number))) (slice_get site.outs output) order
+
+-- Once the write of an output was acknowledged, those that go with it are in order too.
+abbrev pub after_turn : Site → List ℕ → (output : ℕ) → (taken : Bool) → List ℕ
+after_turn site order output taken = if taken then followed site order output else order
+
+-- An output's turn: what was to be written for it, and what went out.
+pub record Turn : Type 0 where
+  pub output : ℕ
+  pub plan : Result Write NoWrite
+  pub calls : List Exchange
+
+abbrev pub is_taken : List Exchange → Bool
+is_taken [] = false
+is_taken (e ∷ es) = if is_refused e then false else true
+
+-- the same of what came of it
+abbrev pub is_taken_by : Option Outcome → Bool
+is_taken_by None = false
+is_taken_by (Some o) = if is_refusal o then false else true
+
+-- Turn by turn what is to be written for the next output in order goes out, and nothing else; k of these had theirs before.
+-- `left` are those that are in order then, and had none.
+abbrev pub TakesTurns : Site → (order : List ℕ) → (k : ℕ) → List Turn → List Exchange → (left : List ℕ) → Type 0
+TakesTurns site order k [] es left = (es ≡ []) × (left ≡ drop k order)
+TakesTurns site order k (turn ∷ turns) es left =
+    (others : List Exchange) × (es ≡ turn.calls ++ others) × (slice_get order k ≡ Some turn.output) × WritesBy (write_of site.devices turn.plan) turn.calls
+    × TakesTurns site (after_turn site order turn.output (is_taken turn.calls)) (k + 1) turns others left
+
+-- First come the outputs that go with no other, and after an output whose write was acknowledged those that go with it.
+abbrev pub WritesInTurn : Site → List Turn → List Exchange → (left : List ℕ) → Type 0
+WritesInTurn site turns es left = TakesTurns site (first_order site) 0 turns es left
 
 -- ---- the whole scan
 
@@ -154,32 +211,32 @@ module _ {S : Type 0} (Steps : S → Event → Answer → S → Type 0) where
 
 -- `Plans` says what is to be written after the last scan for each of the site's outputs.
 module _ {S : Type 0} (Plans : S → ℕ → Result Write NoWrite → Type 0) where
-  -- what is to be written for the outputs from a number on
-  abbrev pub ArePlans : S → ℕ → List (Result Write NoWrite) → Type 0
-  ArePlans t i [] = ⊤
-  ArePlans t i (plan ∷ plans) = Plans t i plan × ArePlans t (i + 1) plans
+  -- Each turn is one of the site's outputs, with what is to be written for it.
+  abbrev pub ArePlans : Site → S → List Turn → Type 0
+  ArePlans site t [] = ⊤
+  ArePlans site t (turn ∷ turns) = (turn.output < length site.outs) × Plans t turn.output turn.plan × ArePlans site t turns
 
-  -- What is to be written for so many outputs went out.
-  pub record WritesFirst (site : Site) (n : ℕ) (t : S) (p q : Polling) (writes refused : ℕ) : Type 0 where
-    pub plans : List (Result Write NoWrite)
-    pub planned : ArePlans t 0 plans
-    pub all : length plans ≡ n
+  -- What is to be written went out in turn, but for these outputs, whose turn it is then.
+  pub record WritesUpTo (site : Site) (left : List ℕ) (t : S) (p q : Polling) (writes refused : ℕ) : Type 0 where
+    pub turns : List Turn
+    pub planned : ArePlans site t turns
     pub es : List Exchange
-    pub points : WritesPoints site.devices plans es
+    pub in_turn : WritesInTurn site turns es left
     pub talks : Talks p es q
     pub sent : writes ≡ length es
     pub unacknowledged : refused ≡ count_by is_refused es
 
-  -- The link failed at the write for an output: those before it went out.
+  -- The link failed at the write for an output, whose turn it was: those before it went out.
   pub record StopsWriting (site : Site) (t : S) (p : Polling) (fault : LinkFault) (q : Polling) : Type 0 where
-    pub n : ℕ
-    pub within : n < length site.outs
+    pub output : ℕ
+    pub within : output < length site.outs
+    pub left : List ℕ
     pub middle : Polling
     pub writes : ℕ
     pub refused : ℕ
-    pub written : WritesFirst site n t p middle writes refused
+    pub written : WritesUpTo site (output ∷ left) t p middle writes refused
     pub plan : Result Write NoWrite
-    pub planned : Plans t n plan
+    pub planned : Plans t output plan
     pub stops : StopsAt (write_of site.devices plan) middle fault q
 
 module _ {S : Type 0} (Steps : S → Event → Answer → S → Type 0) (Plans : S → ℕ → Result Write NoWrite → Type 0) where
@@ -190,7 +247,7 @@ module _ {S : Type 0} (Steps : S → Event → Answer → S → Type 0) (Plans :
     pub taken : TakesBlocks Steps site maps site.wants p s middle before report.lost
     pub answer : Answer
     pub scan : Steps before event.Scan answer t
-    pub written : WritesFirst Plans site (length site.outs) t middle q report.writes report.refused
+    pub written : WritesUpTo Plans site [] t middle q report.writes report.refused
     pub steps : report.steps ≡ took t
 
   -- The link failed at a write: the wanted blocks and the scan stand.

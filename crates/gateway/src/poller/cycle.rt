@@ -7,14 +7,16 @@ ghost use Rattle.site_model.specs.Wants.{length_of};
 ghost use Rattle.gateway.specs.poller.Asking.{Turned};
 ghost use Rattle.gateway.specs.poller.LinkRun.{Suits};
 ghost use Rattle.gateway.specs.poller.Polling.{Asks};
-ghost use Rattle.gateway.specs.poller.Cycle.{read_of, block_request, event_by, write_of, write_request, is_lost, is_refusal, TakesBlock, StopsAt, WritesPoint, TakesBlocks, WritesFirst, StopsTaking, StopsWriting, Scans, StopsScan};
+ghost use Rattle.gateway.specs.poller.Cycle.{read_of, block_request, event_by, write_of, write_request, is_lost, is_refusal, is_taken_by, TakesBlock, StopsAt, WritesPoint, TakesBlocks, WritesUpTo, StopsTaking, StopsWriting, Scans, StopsScan};
 
 use crate::event_core::{Answer, Event};
 use crate::poller::line::Line;
 use crate::poller::outcome::Outcome;
+use crate::poller::write_order::WriteOrder;
 use modbus_frame::{Link, LinkFault, Request};
 use point_writer::{NoWrite, Write};
 use register_map::{Block, Map};
+use site_model::rules::MOST_TAGS;
 use site_model::{Site, SiteDevice, Want, Words, WriteFunction};
 
 /// A request to a unit.
@@ -79,10 +81,11 @@ pub(crate) trait ScanCore {
         ensures { result ≡ steps_of self.now };
 }
 
-/// Asks for the wanted blocks, runs the program once, and writes what it set.
+/// Asks for the wanted blocks, runs the program once, and writes what it set, in the order that is left in `order`.
 pub(crate) fn scan<C: ScanCore, L: Link>(
     core: &mut C,
     line: &mut Line<L>,
+    order: &mut WriteOrder,
 ) -> Result<Report, LinkFault>
     requires { line.old.polling.fault ≡ None }
     ensures scanned { IfOk result (λ report. Scans C.step_of C.plan_of C.steps_of (C.site_of core.old) (C.maps_of core.old)
@@ -96,7 +99,7 @@ pub(crate) fn scan<C: ScanCore, L: Link>(
         Err(fault) => return Err(fault),
     };
     core.step(Event::Scan);
-    match write_points(core, line) {
+    match write_points(core, line, order) {
         Ok((writes, refused)) => Ok(Report {
             steps: core.steps(),
             writes,
@@ -143,9 +146,10 @@ fn want_at(site: &Site, i: usize) -> Want
 fn write_points<C: ScanCore, L: Link>(
     core: &C,
     line: &mut Line<L>,
+    order: &mut WriteOrder,
 ) -> Result<(usize, usize), LinkFault>
     requires { line.old.polling.fault ≡ None }
-    ensures written { IfOk result (λ counts. WritesFirst C.plan_of (C.site_of core.now) (length (C.site_of core.now).outs) core.now
+    ensures written { IfOk result (λ counts. WritesUpTo C.plan_of (C.site_of core.now) [] core.now
         line.old.polling line.new.polling counts.0 counts.1) }
     ensures stopped { IfErr result (λ fault. StopsWriting C.plan_of (C.site_of core.now) core.now
         line.old.polling fault line.new.polling) }
@@ -153,12 +157,17 @@ fn write_points<C: ScanCore, L: Link>(
 {
     let mut writes = 0;
     let mut refused = 0;
-    for i in 0..core.site().outs().len() {
-        match line.write_point(core.site().devices(), &core.write(i)) {
+    order.begin(core.site());
+    for k in 0..MOST_TAGS {
+        let Some(output) = order.get(k) else {
+            break;
+        };
+        match line.write_point(core.site().devices(), &core.write(output)) {
             Ok(outcome) => {
                 let (sent, unacknowledged) = counts_by(&outcome);
                 writes += sent;
                 refused += unacknowledged;
+                order.follow(core.site(), output, is_taken(&outcome));
             }
             Err(fault) => return Err(fault),
         }
@@ -297,6 +306,16 @@ fn lost_by(event: &Event) -> usize
     match event {
         Event::Lost(_) => 1,
         _ => 0,
+    }
+}
+
+// Whether a write was acknowledged.
+fn is_taken(outcome: &Option<Outcome>) -> bool
+    ensures { result ≡ is_taken_by outcome.now }
+{
+    match outcome {
+        Some(Outcome::Wrote) => true,
+        _ => false,
     }
 }
 

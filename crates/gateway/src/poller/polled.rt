@@ -9,6 +9,7 @@ ghost use Rattle.gateway.specs.poller.Cycle.{Scans, StopsScan};
 use crate::event_core::{Answer, Core, Event};
 use crate::poller::Poller;
 use crate::poller::cycle::{Report, ScanCore, scan};
+use crate::poller::write_order::WriteOrder;
 use modbus_frame::{Link, LinkFault, MOST_CALLS};
 use point_writer::{NoWrite, Write};
 use register_map::Map;
@@ -50,14 +51,16 @@ impl<const DEPTH: usize> ScanCore for Core<DEPTH> {
 }
 
 /// One scan: each of the site's wanted blocks is asked for in one request, in order, the program runs once, and what it
-/// stored for each `out` tag goes out, in order, where it has words: by function 16, or by function 6 where the device
-/// wants that and the point has one register (Modbus Application Protocol V1.1b3, sections 6.3, 6.6 and 6.12). A block
-/// that isn't answered is lost; a write that isn't acknowledged is counted as refused. Takes no memory.
+/// stored for each `out` tag goes out, where it has words: by function 16, or by function 6 where the device wants that and
+/// the point has one register (Modbus Application Protocol V1.1b3, sections 6.3, 6.6 and 6.12). First come the outputs that
+/// go with no other, in order, and after each one whose write was acknowledged those that go with it; `order` has those that
+/// had their turn. A block that isn't answered is lost; a write that isn't acknowledged is counted as refused. Takes no memory.
 ///
 /// [`LinkFault`]: as for [`ask`](Poller::ask), over all requests of the scan; the events so far stand.
 pub fn run_scan<const DEPTH: usize, L: Link>(
     core: &mut Core<DEPTH>,
     poller: &mut Poller<L>,
+    order: &mut WriteOrder,
 ) -> Result<Report, LinkFault>
     // The requests are the reads of the wanted blocks, then the writes; the core took their events and the scan, by which
     // the machine ran once.
@@ -77,5 +80,5 @@ pub fn run_scan<const DEPTH: usize, L: Link>(
         return Err(fault);
     }
     poller.line.allow(MOST_CALLS);
-    scan(core, &mut poller.line)
+    scan(core, &mut poller.line, order)
 }
