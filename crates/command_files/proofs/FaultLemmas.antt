@@ -40,7 +40,7 @@ stops_at : (call : Option Call) (p : Polling) (fault : LinkFault) (q : Polling) 
 stops_at None p fault q h = absurd h
 stops_at (Some call) p fault q h = (fault, h.kept)
 
-module _ (Does : ℕ → Scan → Type 0) (site : Site) (pace : RunPace) where
+module _ (Does : List ℕ → Scan → Type 0) (site : Site) (pace : RunPace) where
   stops_scan : (first : Moment) (fault : LinkFault) (last : Moment) → StopsScan Does site first fault last → KeepsFault last.link
   stops_scan first fault last (inl h) = stops_at (read_of site (first.core).maps h.want) h.middle fault last.link h.stops
   stops_scan first fault last (inr h) = stops_at (write_of site.devices h.plan) ((h.scan).behind).link fault last.link h.stops

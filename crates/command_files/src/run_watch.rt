@@ -1,5 +1,6 @@
 //! Who looks on at the scans of a run.
 mod missing;
+mod outgoing;
 mod recorder;
 mod set_lines;
 mod set_player;
@@ -10,7 +11,7 @@ mod traced_spans;
 mod unwritten;
 
 use commands::{ClientTurn, DEPTH, ScanClients, ScanWatch, Unwatched};
-use gateway::Core;
+use gateway::{Core, WriteOrder};
 pub use missing::MissingWatch;
 pub use recorder::Recorder;
 pub use set_lines::{SetsFault, Setting, read_settings};
@@ -24,7 +25,7 @@ pub use unwritten::UnwrittenWatch;
 /// Looks on at the scans of a run, and hears of the writes that were refused.
 pub trait RunLook: ScanWatch {
     /// After the last scan, once for each write that a device refused, in order: which one it is of all that the scans sent,
-    /// counted from 0, and by which exception. A scan sends those of its outputs in the order of the site file.
+    /// counted from 0, and by which exception. A scan sends those of its outputs in the order of their turns.
     fn refused(&mut self, write: usize, exception: u8);
 
     /// What clients were to set and couldn't, as soon as that is known, and why.
@@ -76,10 +77,10 @@ impl<R: Eprint, V: RunLook> ScanClients for RunWatch<'_, R, V> {
 }
 
 impl<R: Eprint, V: ScanWatch> ScanWatch for RunWatch<'_, R, V> {
-    fn scanned(&mut self, core: &Core<DEPTH>, scan: u32) {
-        self.missing.scanned(core, scan);
-        self.unwritten.scanned(core, scan);
-        self.beside.scanned(core, scan);
+    fn scanned(&mut self, core: &Core<DEPTH>, order: &WriteOrder, scan: u32) {
+        self.missing.scanned(core, order, scan);
+        self.unwritten.scanned(core, order, scan);
+        self.beside.scanned(core, order, scan);
     }
 }
 

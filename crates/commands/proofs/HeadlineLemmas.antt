@@ -32,7 +32,7 @@ use Rattle.verifier.proofs.Images.{by_both, ok_is}
 use Rattle.gateway.specs.event_core.Control.{IsPlanned, steps_of, after_wait}
 use Rattle.gateway.specs.event_core.Core.{Gateway, IsSame, gateway_of, numbers_of}
 use Rattle.gateway.specs.event_core.Driving.{TakesEvent}
-use Rattle.gateway.specs.poller.Cycle.{RunsTo, Scans, TakesBlocks, WritesFirst}
+use Rattle.gateway.specs.poller.Cycle.{RunsTo, Scans, TakesBlocks, WritesUpTo}
 use Rattle.gateway.specs.poller.Cycle as gateway
 use Rattle.gateway.specs.poller.Polling.{Polling}
 use Rattle.gateway.specs.event_core.SiteRun.{none_of, stored_at}
@@ -44,7 +44,7 @@ use Rattle.gateway.proofs.Parts.{same_then}
 use Rattle.commands.specs.Accepted.{Accepts, most_deferred}
 use Rattle.commands.specs.Headline.{DoesRun, DoesScan, StopsAfter, Tells}
 use Rattle.commands.specs.Printed.{EndsEarly, LineLost, LinkDown}
-use Rattle.commands.specs.Scans.{AreScans, DoesScans, End, IsBroken, IsWhole, PartsAreTheRun, RunsScans, series_of}
+use Rattle.commands.specs.Scans.{AreScans, DoesScans, End, IsBroken, PartsAreTheRun, RunsScans, series_of}
 use Rattle.commands.specs.Clients.{ClientsAsk}
 use Rattle.commands.specs.Series.{AreInOrder, Moment, Scan, at_core, waited}
 use Rattle.commands.specs.declared.pace.RunPace.{RunPace}
@@ -113,7 +113,7 @@ module _ (site : Site) (a : Acceptance) (p : Program) where
     pub on_program : g.machine.accepted ≡ a
     pub held : IsHeld g
 
-  module _ (n : ℕ) (scan : Scan) (of : IsOf (scan.before).core) (h : DoesScan site a p n scan) where
+  module _ (left : List ℕ) (scan : Scan) (of : IsOf (scan.before).core) (h : DoesScan site a p left scan) where
     abbrev before : Gateway
     before = (scan.taken).core
 
@@ -159,13 +159,12 @@ module _ (site : Site) (a : Acceptance) (p : Program) where
         (subst (λ (x : Site). AreSettings x.tags (stored_at (numbers_of before.machine.accepted) (scan.end).outputs (none_of x.tags))) (sym on_site)
         (subst (λ (x : Acceptance). AreSettings site.tags (stored_at (numbers_of x) (scan.end).outputs (none_of site.tags))) (sym on_program) (h.safe).outputs))
 
-    written : WritesFirst IsPlanned site n behind (scan.taken).link (scan.behind).link (scan.report).writes (scan.report).refused
+    written : WritesUpTo IsPlanned site left behind (scan.taken).link (scan.behind).link (scan.report).writes (scan.report).refused
     written = record {
-      plans = (h.writes).plans;
-      planned = planned_all behind 0 (h.writes).plans ranged (h.writes).set_points;
-      all = (h.writes).each;
+      turns = (h.writes).turns;
+      planned = planned_all site behind (h.writes).turns ranged (h.writes).set_points;
       es = (h.writes).calls;
-      points = (h.writes).in_order;
+      in_turn = (h.writes).in_turn;
       talks = (h.writes).went;
       sent = (h.writes).sent;
       unacknowledged = (h.writes).refused;
@@ -177,17 +176,16 @@ module _ (site : Site) (a : Acceptance) (p : Program) where
       (own : List Event) × (whole : Scans (TakesEvent most_deferred) IsPlanned steps_of (m.core).site (m.core).maps m.link m.core (scan.behind).link (scan.behind).core scan.report)
       × (own ≡ event.Time pace.every ∷ ((whole.taken).events ++ event.Scan ∷ []))
 
-  whole_again : (pace : RunPace) (scan : Scan) → IsOf (scan.before).core → DoesScan site a p (length site.outs) scan → IsWholeFrom pace scan scan.before
+  whole_again : (pace : RunPace) (scan : Scan) → IsOf (scan.before).core → DoesScan site a p [] scan → IsWholeFrom pace scan scan.before
   whole_again pace scan of h =
-      let n = length site.outs in
       let whole : Scans (TakesEvent most_deferred) IsPlanned steps_of ((scan.before).core).site ((scan.before).core).maps (scan.before).link (scan.before).core (scan.behind).link (scan.behind).core scan.report = record {
         middle = (scan.taken).link;
         before = (scan.taken).core;
-        taken = took n scan of h;
+        taken = took [] scan of h;
         answer = reply.Writes (length ((scan.taken).core).site.outs);
-        scan = stepped n scan of h;
-        written = subst (λ (x : Site). WritesFirst IsPlanned x (length x.outs) (scan.behind).core (scan.taken).link (scan.behind).link (scan.report).writes (scan.report).refused) (sym of.on_site) (written n scan of h);
-        steps = counted n scan of h;
+        scan = stepped [] scan of h;
+        written = subst (λ (x : Site). WritesUpTo IsPlanned x [] (scan.behind).core (scan.taken).link (scan.behind).link (scan.report).writes (scan.report).refused) (sym of.on_site) (written [] scan of h);
+        steps = counted [] scan of h;
       } in
       (event.Time pace.every ∷ ((whole.taken).events ++ event.Scan ∷ []), whole, refl)
 
@@ -203,13 +201,13 @@ module _ (site : Site) (a : Acceptance) (p : Program) where
       let same = same_asked asked g h asks in
       record { on_site = same.site ∙ of.on_site; on_program = same.accepted ∙ of.on_program; held = held_asked asked g h asks of.held }
 
-  scans_again : (pace : RunPace) (first : Moment) (scans : List Scan) (last : Moment) → IsOf first.core → AreInOrder pace (DoesScan site a p (length site.outs)) first scans last
+  scans_again : (pace : RunPace) (first : Moment) (scans : List Scan) (last : Moment) → IsOf first.core → AreInOrder pace (DoesScan site a p []) first scans last
       → ((events : List Event) × AreScans (TakesEvent most_deferred) pace first.link first.core (reports_of scans) events last.link last.core) × IsOf last.core
   scans_again pace first [] last of h = (([], (refl, ap (λ (m : Moment). m.link) h, ap (λ (m : Moment). m.core) h)), subst (λ (m : Moment). IsOf m.core) (sym h) of)
   scans_again pace first (scan ∷ scans) last of (heard, asks, here, does, rest) =
       let there = subst (λ (m : Moment). IsOf m.core) (sym here) (waited_of pace (at_core first heard) (asked_of pace.asked first.core heard asks of)) in
       let (own, whole, is) = subst (IsWholeFrom pace scan) here (whole_again pace scan there does) in
-      let m = scans_again pace scan.behind scans last (of_behind (length site.outs) scan there does) rest in
+      let m = scans_again pace scan.behind scans last (of_behind [] scan there does) rest in
       let all : List Event = asks.events ++ own in
       ((all ++ m.0.0, ((scan.behind).link, (scan.behind).core, all, m.0.0, refl, (heard, asks.events, asks.own, asks.runs, whole, ap (λ es. asks.events ++ es) is), m.0.1)), m.1)
 
@@ -245,18 +243,19 @@ module _ (site : Site) (a : Acceptance) (p : Program) where
         middle = (scan.taken).link;
         before = (scan.taken).core;
         lost = (scan.report).lost;
-        taken = took h.n scan there h.does;
+        taken = took (h.output ∷ h.left) scan there h.does;
         answer = reply.Writes (length ((scan.taken).core).site.outs);
-        scan = stepped h.n scan there h.does;
+        scan = stepped (h.output ∷ h.left) scan there h.does;
         stops = subst (λ (x : Site). gateway.StopsWriting IsPlanned x (scan.behind).core (scan.taken).link fault last.link) (sym there.on_site) (record {
-          n = h.n;
+          output = h.output;
           within = h.within;
+          left = h.left;
           middle = (scan.behind).link;
           writes = (scan.report).writes;
           refused = (scan.report).refused;
-          written = written h.n scan there h.does;
+          written = written (h.output ∷ h.left) scan there h.does;
           plan = h.plan;
-          planned = planned_one (scan.behind).core h.n h.plan (ranged h.n scan there h.does) h.due;
+          planned = planned_one (scan.behind).core h.output h.plan (ranged (h.output ∷ h.left) scan there h.does) h.due;
           stops = h.stops;
         });
       } in

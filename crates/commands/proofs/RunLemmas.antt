@@ -1,5 +1,5 @@
 -- Scans over a link, each of which does what the program means.
-use Rattle.std.proofs.Common.{◌≡◌, ℕ, ◌<◌, ◌≤◌, inl, inr, List, [], ◌∷◌, length, map, Option, Ok, refl, sym, ap, subst, ◌∙◌, arith}
+use Rattle.std.proofs.Common.{◌≡◌, ℕ, ◌<◌, ◌≤◌, inl, inr, List, [], ◌∷◌, length, map, Option, Ok, refl, sym, ap, subst, ◌∙◌}
 use Rattle.point_types.specs.declared.reading.Reading.{Reading}
 use Rattle.modbus_frame.specs.declared.link.LinkFault.{LinkFault}
 use Rattle.register_map.specs.Layout.{Layout}
@@ -16,7 +16,7 @@ use Rattle.verifier.specs.Verified.{Acceptance, HasLinks}
 use Rattle.gateway.specs.event_core.Control.{IsPlanned, after_scan, after_wait}
 use Rattle.gateway.specs.event_core.Core.{Gateway, gateway_of, numbers_of}
 use Rattle.gateway.specs.event_core.Driving.{TakesEvent}
-use Rattle.gateway.specs.poller.Cycle.{RunsTo, StopsTaking, StopsWriting, TakesBlocks, WritesFirst}
+use Rattle.gateway.specs.poller.Cycle.{RunsTo, StopsTaking, StopsWriting, TakesBlocks, WritesUpTo}
 use Rattle.gateway.specs.poller.Finding.{FindsAll}
 use Rattle.gateway.specs.poller.Polling.{Polling}
 use Rattle.gateway.specs.event_core.SiteRun.{IsScan, Standing, Steps, scanned}
@@ -31,9 +31,8 @@ use Rattle.commands.specs.Headline.{DoesRun, DoesScan, Tells, StopsAfter}
 use Rattle.commands.specs.Printed.{LineLost, LinkDown}
 use Rattle.commands.specs.Meant.{AdvancesAsMeant, StepsAsMeant}
 use Rattle.commands.specs.Scans.{AreScans, DoesScans, End, IsBroken, IsWhole, series_of}
-use Rattle.commands.specs.Series.{AreInOrder, Course, Moment, Scan, waited}
+use Rattle.commands.specs.Series.{AreInOrder, Course, Moment, Scan}
 use Rattle.commands.specs.declared.pace.RunPace.{RunPace}
-use Rattle.commands.specs.Stopped.{StopsScan}
 use Rattle.commands.proofs.MeaningLemmas.{IsKept, left_variables, means_end, opening_kept, step_meant, stored_ranged}
 use Rattle.commands.proofs.ScanLemmas.{unlinked_never_well, unprinted_never_well}
 use Rattle.commands.specs.Clients.{AreOfClients, ClientsAsk}
@@ -217,20 +216,20 @@ module _ (site : Site) (p : Program) (a : Acceptance) (right : DoesWhatItMeans p
     report = report;
   }
 
-  -- a scan up to the writes for the first n outputs
-  record IsPart (o : Polling) (s : Gateway) (q : Polling) (t : Gateway) (n : ℕ) (report : Report) : Type 0 where
+  -- a scan but for the writes of the outputs that are left
+  record IsPart (o : Polling) (s : Gateway) (q : Polling) (t : Gateway) (left : List ℕ) (report : Report) : Type 0 where
     pub asked : Polling
     pub taken : Gateway
     pub readings : List Reading
     pub end : State
-    pub does : DoesScan site a p n (scan_of o s asked taken q t readings end report)
+    pub does : DoesScan site a p left (scan_of o s asked taken q t readings end report)
     pub on : IsOn t
     pub held : IsHeld t
 
-  scan_parts : (o : Polling) (s : Gateway) (asked : Polling) (before t : Gateway) (answer : Answer) (q : Polling) (n : ℕ) (report : Report) → IsOn s → IsHeld s
+  scan_parts : (o : Polling) (s : Gateway) (asked : Polling) (before t : Gateway) (answer : Answer) (q : Polling) (left : List ℕ) (report : Report) → IsOn s → IsHeld s
       → TakesBlocks (TakesEvent most_deferred) s.site s.maps s.site.wants o s asked before report.lost → TakesEvent most_deferred before event.Scan answer t → report.steps ≡ (t.standing.last).steps
-      → WritesFirst IsPlanned site n t asked q report.writes report.refused → n ≤ length site.outs → IsPart o s q t n report
-  scan_parts o s asked before t answer q n report on held taken last count written within =
+      → WritesUpTo IsPlanned site left t asked q report.writes report.refused → IsPart o s q t left report
+  scan_parts o s asked before t answer q left report on held taken last count written =
       let middle = (runs s taken.events before on taken.runs).1 in
       let blocks = notes_blocks most_deferred site s.maps site.wants o s asked before report.lost (subst (λ (x : Site). TakesBlocks (TakesEvent most_deferred) x s.maps x.wants o s asked before report.lost) on.on_site taken) in
       let held_there = held_all s blocks.events before blocks.runs held in
@@ -238,8 +237,6 @@ module _ (site : Site) (p : Program) (a : Acceptance) (right : DoesWhatItMeans p
       let behind = behind_here before answer t middle held_there last h in
       let counted : h.steps ≡ report.steps = sym (count ∙ ap (λ (x : Standing). (x.last).steps) h.after) in
       let on_end = (advance before event.Scan answer t middle last).1 in
-      let few : n ≤ length t.site.outs = subst (λ (x : Site). n ≤ length x.outs) (sym on_end.on_site) within in
-      let planned : length written.plans ≤ length t.site.outs = subst (λ (k : ℕ). k ≤ length t.site.outs) (sym written.all) few in
       record {
         asked = asked;
         taken = before;
@@ -257,11 +254,10 @@ module _ (site : Site) (p : Program) (a : Acceptance) (right : DoesWhatItMeans p
           means = record { each = h.each; read = h.read; computed = means_end site p a right linked proper verdict matched before.standing t.standing middle.kept h };
           leaves = subst (λ (k : ℕ). t ≡ after_scan before h.readings k h.end) counted behind.core;
           writes = record {
-            plans = written.plans;
-            each = written.all;
-            set_points = due_all t 0 written.plans (omega (arith, planned)) written.planned;
+            turns = written.turns;
+            set_points = due_all site t written.turns on_end.on_site written.planned;
             calls = written.es;
-            in_order = written.points;
+            in_turn = written.in_turn;
             went = written.talks;
             sent = written.sent;
             refused = written.unacknowledged;
@@ -272,20 +268,20 @@ module _ (site : Site) (p : Program) (a : Acceptance) (right : DoesWhatItMeans p
       }
 
   whole_scan : (pace : RunPace) (o : Polling) (s : Gateway) (q : Polling) (t : Gateway) (report : Report) (own : List Event) → IsOn s → IsHeld s → IsWhole (TakesEvent most_deferred) pace o s q t report own
-      → (heard : Gateway) × ClientsAsk pace.asked s heard × IsPart o (after_wait pace.every heard) q t (length site.outs) report
+      → (heard : Gateway) × ClientsAsk pace.asked s heard × IsPart o (after_wait pace.every heard) q t [] report
   whole_scan pace o s q t report own on held (heard, asked, of, asks, scan, e) =
       let all = asked_by pace s heard asked of asks in
       let first = (runs s asked heard on asks).1 in (
         heard,
         all,
-        scan_parts o (after_wait pace.every heard) scan.middle scan.before t scan.answer q (length site.outs) report (waited_on pace heard first) (held_asked pace.asked s heard all held) scan.taken scan.scan scan.steps
-            (subst (λ (x : Site). WritesFirst IsPlanned x (length x.outs) t scan.middle q report.writes report.refused) first.on_site scan.written) (omega arith),
+        scan_parts o (after_wait pace.every heard) scan.middle scan.before t scan.answer q [] report (waited_on pace heard first) (held_asked pace.asked s heard all held) scan.taken scan.scan scan.steps
+            (subst (λ (x : Site). WritesUpTo IsPlanned x [] t scan.middle q report.writes report.refused) first.on_site scan.written),
       )
 
   -- scans, one after another
   record ArePart (pace : RunPace) (o : Polling) (s : Gateway) (reports : List Report) (q : Polling) (t : Gateway) : Type 0 where
     pub scans : List Scan
-    pub done : AreInOrder pace (DoesScan site a p (length site.outs)) (record { link = o; core = s }) scans (record { link = q; core = t })
+    pub done : AreInOrder pace (DoesScan site a p []) (record { link = o; core = s }) scans (record { link = q; core = t })
     pub reported : map (λ (scan : Scan). scan.report) scans ≡ reports
     pub on : IsOn t
     pub held : IsHeld t
@@ -340,17 +336,18 @@ module _ (site : Site) (p : Program) (a : Acceptance) (right : DoesWhatItMeans p
       let first = (runs s asked heard on asks).1 in
       let here = subst (λ (x : Site). StopsWriting IsPlanned x t stop.middle fault q) first.on_site stop.stops in
       let report : Report = record { steps = (t.standing.last).steps; writes = here.writes; refused = here.refused; lost = stop.lost } in
-      let k = scan_parts o (after_wait pace.every heard) stop.middle stop.before t stop.answer here.middle here.n report (waited_on pace heard first) (held_asked pace.asked s heard all held) stop.taken stop.scan refl here.written (let w = here.within in omega (arith, w)) in (
+      let k = scan_parts o (after_wait pace.every heard) stop.middle stop.before t stop.answer here.middle (here.output ∷ here.left) report (waited_on pace heard first) (held_asked pace.asked s heard all held) stop.taken stop.scan refl here.written in (
         heard,
         all,
         inr (record {
-          n = here.n;
+          output = here.output;
           within = here.within;
+          left = here.left;
           scan = scan_of o (after_wait pace.every heard) k.asked k.taken here.middle t k.readings k.end report;
           before = refl;
           does = k.does;
           plan = here.plan;
-          due = due_one t here.n here.plan (subst (λ (x : Site). here.n < length x.outs) (sym (k.on).on_site) here.within) here.planned;
+          due = due_one t here.output here.plan (subst (λ (x : Site). here.output < length x.outs) (sym (k.on).on_site) here.within) here.planned;
           stops = here.stops;
           core = refl;
         }),

@@ -1,5 +1,5 @@
 -- What the blocks and the scan make of a core, the machine included, and back.
-use Rattle.std.proofs.Common.{◌≡◌, ℕ, ◌+◌, ◌≤◌, ◌<◌, List, [], ◌∷◌, length, map, Option, Some, None, Result, Ok, Err, refl, sym, ap, subst, ◌∙◌, arith}
+use Rattle.std.proofs.Common.{◌≡◌, ℕ, ◌≤◌, ◌<◌, List, [], ◌∷◌, length, map, Option, Some, None, Result, Ok, Err, refl, sym, ap, subst, ◌∙◌}
 use Rattle.std.specs.Prelude.{⊤, ℤ, slice_get}
 use Rattle.point_types.specs.declared.reading.Reading.{Reading}
 use Rattle.register_map.specs.Layout.{Layout}
@@ -27,7 +27,7 @@ use Rattle.gateway.specs.event_core.Control.{HasItsCompanions, IsDue, IsPlanned,
 use Rattle.gateway.specs.event_core.Core.{Gateway, IsSame, numbers_of}
 use Rattle.gateway.specs.event_core.Driving.{ScansOnce, TakesEvent}
 use Rattle.gateway.specs.event_core.SiteRun.{Standing, after_time, reading_at, scanned}
-use Rattle.gateway.specs.poller.Cycle.{ArePlans, ReadsBlock, ReadsBlocks, RunsTo, TakesBlocks, event_by, read_of}
+use Rattle.gateway.specs.poller.Cycle.{ArePlans, Turn, ReadsBlock, ReadsBlocks, RunsTo, TakesBlocks, event_by, read_of}
 use Rattle.gateway.specs.poller.LinkRun.{Exchange}
 use Rattle.gateway.specs.poller.Polling.{Polling}
 
@@ -215,9 +215,10 @@ due_of : (g : Gateway) (i : ℕ) (r : Result Write NoWrite) → i < length g.sit
 due_of g i (Ok w) within h = (are_set_points g i w within h, with_companions g i w within h)
 due_of g i (Err cause) within h = h.plan
 
-pub due_all : (g : Gateway) (i : ℕ) (plans : List (Result Write NoWrite)) → i + length plans ≤ length g.site.outs → ArePlans IsPlanned g i plans → ArePlans IsDue g i plans
-due_all g i [] within h = tt
-due_all g i (plan ∷ plans) within h = (due_of g i plan (omega (arith, within)) h.0, due_all g (i + 1) plans (omega (arith, within)) h.1)
+pub due_all : (site : Site) (g : Gateway) (turns : List Turn) → g.site ≡ site → ArePlans IsPlanned site g turns → ArePlans IsDue site g turns
+due_all site g [] same h = tt
+due_all site g (turn ∷ turns) same (within, planned, rest) =
+    (within, due_of g turn.output turn.plan (subst (λ (x : Site). turn.output < length x.outs) (sym same) within) planned, due_all site g turns same rest)
 
 pub due_one : (g : Gateway) (i : ℕ) (r : Result Write NoWrite) → i < length g.site.outs → IsPlanned g i r → IsDue g i r
 due_one g i r within h = due_of g i r within h
@@ -249,9 +250,9 @@ planned_of g i (Ok w) ranged h = record {
 }
 planned_of g i (Err cause) ranged h = record { plan = h; set_point = λ number t v out tag same. absurd (cc); ranged = ranged }
 
-pub planned_all : (g : Gateway) (i : ℕ) (plans : List (Result Write NoWrite)) → AreSettings g.site.tags (g.standing.last).outputs → ArePlans IsDue g i plans → ArePlans IsPlanned g i plans
-planned_all g i [] ranged h = tt
-planned_all g i (plan ∷ plans) ranged h = (planned_of g i plan ranged h.0, planned_all g (i + 1) plans ranged h.1)
+pub planned_all : (site : Site) (g : Gateway) (turns : List Turn) → AreSettings g.site.tags (g.standing.last).outputs → ArePlans IsDue site g turns → ArePlans IsPlanned site g turns
+planned_all site g [] ranged h = tt
+planned_all site g (turn ∷ turns) ranged (within, due, rest) = (within, planned_of g turn.output turn.plan ranged due, planned_all site g turns ranged rest)
 
 pub planned_one : (g : Gateway) (i : ℕ) (r : Result Write NoWrite) → AreSettings g.site.tags (g.standing.last).outputs → IsDue g i r → IsPlanned g i r
 planned_one g i r ranged h = planned_of g i r ranged h

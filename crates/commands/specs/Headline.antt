@@ -4,11 +4,9 @@
 -- stated ranges.
 -- Accepted: `IsAccepted`. Safe, within the number: `IsSafe` and `IsShallow`. Means: `IsMeant`. Writes: `Writes`. Told: `Tells`.
 -- IEC 61131-3 edition 2, 3.2 (instruction list; one scan after another); MODBUS Messaging on TCP/IP Implementation Guide, section 4.2.
-use Rattle.std.specs.Prelude.{◌≡◌, ◌≢◌, ℕ, ◌≤◌, List, length, map, count_by, Result}
+use Rattle.std.specs.Prelude.{◌≡◌, ◌≢◌, ℕ, ◌≤◌, List, [], length, map, count_by}
 use Rattle.modbus_frame.specs.declared.link.LinkFault.{LinkFault}
 use Rattle.site_model.specs.declared.site.Site.{Site}
-use Rattle.point_writer.specs.declared.write.Write.{Write}
-use Rattle.point_writer.specs.declared.write.NoWrite.{NoWrite}
 use Rattle.scan_code.specs.Machine.{State, Unfinished}
 use Rattle.scan_vm.specs.Machine as vm
 use Rattle.il_assemble.specs.Meaning.{Program}
@@ -16,7 +14,7 @@ use Rattle.verifier.specs.Safe.{NeverGoesWrong}
 use Rattle.verifier.specs.Verified.{Acceptance}
 use Rattle.gateway.specs.event_core.Control.{IsDue, Notes, after_scan}
 use Rattle.gateway.specs.event_core.Core.{Gateway, gateway_of}
-use Rattle.gateway.specs.poller.Cycle.{ArePlans, TakesBlocks, WritesPoints, is_refused}
+use Rattle.gateway.specs.poller.Cycle.{ArePlans, TakesBlocks, Turn, WritesInTurn, is_refused}
 use Rattle.gateway.specs.poller.Finding.{FindsAll}
 use Rattle.gateway.specs.poller.LinkRun.{Exchange}
 use Rattle.gateway.specs.poller.Polling.{Polling, Talks}
@@ -48,25 +46,25 @@ pub record IsAccepted (site_text program_text : List ℕ) (texts : List (List �
 abbrev pub IsShallow : Acceptance → Scan → Type 0
 IsShallow a scan = (n : ℕ) (s : State) → run_of a scan.readings ((scan.taken).core).standing.variables n ≡ Unfinished s → length s.deferred ≤ most_deferred
 
--- for the site's first n outputs, in order, its tag's set point goes out where it has one, and nothing else does
-pub record Writes (site : Site) (n : ℕ) (scan : Scan) : Type 0 where
-  pub plans : List (Result Write NoWrite)
-  pub each : length plans ≡ n
-  pub set_points : ArePlans IsDue (scan.behind).core 0 plans
+-- in turn, for each output its tag's set point goes out where it has one, and nothing else does: first for those that go with no
+-- other one, in the site's order, and after one that was acknowledged for those that go with it; these are left
+pub record Writes (site : Site) (left : List ℕ) (scan : Scan) : Type 0 where
+  pub turns : List Turn
+  pub set_points : ArePlans IsDue site (scan.behind).core turns
   pub calls : List Exchange
-  pub in_order : WritesPoints site.devices plans calls
+  pub in_turn : WritesInTurn site turns calls left
   pub went : Talks (scan.taken).link calls (scan.behind).link
   pub sent : (scan.report).writes ≡ length calls
   pub refused : (scan.report).refused ≡ count_by is_refused calls
 
--- what comes of the wanted blocks is taken, the program runs once and the core is left at that, and then its first n outputs go out
-pub record DoesScan (site : Site) (a : Acceptance) (p : Program) (n : ℕ) (scan : Scan) : Type 0 where
+-- what comes of the wanted blocks is taken, the program runs once and the core is left at that, and then its outputs go out, but for those that are left
+pub record DoesScan (site : Site) (a : Acceptance) (p : Program) (left : List ℕ) (scan : Scan) : Type 0 where
   pub takes : TakesBlocks Notes site ((scan.before).core).maps site.wants (scan.before).link (scan.before).core (scan.taken).link (scan.taken).core (scan.report).lost
   pub safe : IsSafe site a scan.readings ((scan.taken).core).standing.variables (scan.report).steps scan.end
   pub shallow : IsShallow a scan
   pub means : IsMeant site a p ((scan.taken).core).standing scan.readings scan.end
   pub leaves : (scan.behind).core ≡ after_scan (scan.taken).core scan.readings (scan.report).steps scan.end
-  pub writes : Writes site n scan
+  pub writes : Writes site left scan
 
 -- with status 0 all scans were done, each with its line; else the run ended early: a line was lost, or the link failed
 pub record Tells (Fails : Moment → LinkFault → Moment → Type 0) (series : Series) : Type 0 where
@@ -74,7 +72,7 @@ pub record Tells (Fails : Moment → LinkFault → Moment → Type 0) (series : 
   pub badly : series.status ≢ 0 → EndsEarly Fails series
 
 -- the link fails at a scan that begins so, once clients asked and time went by
-abbrev pub StopsAfter : RunPace → (ℕ → Scan → Type 0) → Site → Moment → LinkFault → Moment → Type 0
+abbrev pub StopsAfter : RunPace → (List ℕ → Scan → Type 0) → Site → Moment → LinkFault → Moment → Type 0
 StopsAfter pace Does site first fault last = (heard : Gateway) × ClientsAsk pace.asked first.core heard × StopsScan Does site (waited pace.every (at_core first heard)) fault last
 
 -- from this start on, with the maps that were found, at most so many scans are done, one after another, so far apart
@@ -85,7 +83,7 @@ pub record DoesRun (start : Gateway) (program_text : List ℕ) (pace : RunPace) 
   pub found : FindsAll (start.site).devices course.link_before start.maps found_by
   pub scans : List Scan
   pub last : Moment
-  pub done : AreInOrder pace (DoesScan start.site (start.machine).accepted program (length (start.site).outs)) (record { link = found_by; core = start }) scans last
+  pub done : AreInOrder pace (DoesScan start.site (start.machine).accepted program []) (record { link = found_by; core = start }) scans last
   pub told : Tells (StopsAfter pace (DoesScan start.site (start.machine).accepted program) start.site) (record {
     most = pace.scans;
     reports = map (λ (scan : Scan). scan.report) scans;

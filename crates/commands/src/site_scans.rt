@@ -25,7 +25,7 @@ use crate::refusal::CommandRefusal;
 use crate::report::no_core;
 use crate::scan_watch::{ScanWatch, Unwatched};
 use file_keys::TomlFile;
-use gateway::{Core, CoreFault, Event, Poller, run_scan};
+use gateway::{Core, CoreFault, Event, Poller, WriteOrder, run_scan};
 use modbus_frame::{Link, LinkFault};
 use register_map::Map;
 use scan_vm::Machine;
@@ -106,13 +106,14 @@ fn scan_times<L: Link, V: ScanWatch + ScanClients, W: Write>(
     requires { poller.old.fault ≡ None }
     ensures { LeavesOff pace poller.old core.old poller.new core.new (W.contents out.old) (W.contents out.new) result }
 {
+    let mut order = WriteOrder::new();
     for k in 0..pace.scans {
         ask(pace.asked, core, watch, k + 1);
-        let status = scan_once(alloc, core, poller, pace, k + 1, out);
+        let status = scan_once(alloc, core, poller, &mut order, pace, k + 1, out);
         if status != 0 {
             return status;
         }
-        watch.scanned(core, k + 1);
+        watch.scanned(core, &order, k + 1);
     }
     0
 }
@@ -122,6 +123,7 @@ fn scan_once<L: Link, W: Write>(
     alloc: Global,
     core: &mut Core<DEPTH>,
     poller: &mut Poller<L>,
+    order: &mut WriteOrder,
     pace: RunPace,
     k: u32,
     out: &mut W,
@@ -131,7 +133,7 @@ fn scan_once<L: Link, W: Write>(
     ensures last { result ≢ 0 → (first : Gateway) → ClientsAsk pace.asked first core.old → IsLast pace k poller.old first poller.new core.new (W.contents out.old) (W.contents out.new) result }
 {
     wait(core, pace.every);
-    match run_scan(core, poller) {
+    match run_scan(core, poller, order) {
         Ok(report) => match report.told(alloc, u64::from(k)) {
             Ok(line) => write_lines(out, line.as_bytes(), 0),
             Err(_) => tell_no_memory(out),

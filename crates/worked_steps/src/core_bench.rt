@@ -5,7 +5,7 @@ use crate::link_bench::LinkBench;
 use crate::page::Page;
 use crate::sites::{machine, site};
 use crate::texts::Texts;
-use gateway::{Answer, Core, CoreFault, DEPTH, Event, run_scan, serve_client};
+use gateway::{Answer, Core, CoreFault, DEPTH, Event, WriteOrder, run_scan, serve_client};
 use modbus_frame::{Words, request_pdu};
 use register_map::Map;
 use scan_vm::Machine;
@@ -169,12 +169,13 @@ impl CoreBench {
     }
 
     fn run_scan(&mut self, links: &mut LinkBench, page: &mut Page) -> Shown<()> {
-        match run_scan(&mut self.core, links.poller()?) {
+        let mut order = WriteOrder::new();
+        match run_scan(&mut self.core, links.poller()?, &mut order) {
             Ok(report) => page.tell(format_args!("{report:?}")),
             Err(fault) => {
                 page.tell(fault)?;
                 let counts = links.counts()?;
-                let again = run_scan(&mut self.core, links.poller()?);
+                let again = run_scan(&mut self.core, links.poller()?, &mut order);
                 let stays = again == Err(fault) && links.counts()? == counts;
                 page.tell(if stays { "it stays" } else { "it doesn't stay" })
             }

@@ -6,7 +6,7 @@ use crate::run_watch::{Recorder, RunLook, Setting, Trace};
 use crate::runtimes::RunRuntime;
 use crate::warnings::warn_of_site;
 use commands::{DEPTH, ScanWatch, tell_no_memory};
-use gateway::Core;
+use gateway::{Core, WriteOrder};
 use std::alloc::{AllocError, Global};
 use std::fs;
 use std::io::Write;
@@ -36,12 +36,12 @@ struct RunFiles<W: Write + Drop> {
 }
 
 impl<W: Write + Drop> ScanWatch for RunFiles<W> {
-    fn scanned(&mut self, core: &Core<DEPTH>, scan: u32) {
+    fn scanned(&mut self, core: &Core<DEPTH>, order: &WriteOrder, scan: u32) {
         if let Some(trace) = &mut self.trace {
-            trace.scanned(core, scan);
+            trace.scanned(core, order, scan);
         }
         if let Some(report) = &mut self.report {
-            report.scanned(core, scan);
+            report.scanned(core, order, scan);
         }
     }
 }

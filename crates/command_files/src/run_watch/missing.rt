@@ -1,6 +1,6 @@
 //! What the scans of a run didn't read, and what they don't show.
 use commands::{DEPTH, ScanWatch};
-use gateway::Core;
+use gateway::{Core, WriteOrder};
 use point_types::Items;
 use service_alarms::{
     Alarm, Watch, cause_text, mend, missing_now, subject_text, why_hidden, why_missing,
@@ -58,7 +58,7 @@ impl<'r, R: Eprint> MissingWatch<'r, R> {
 
 impl<R: Eprint> ScanWatch for MissingWatch<'_, R> {
     /// Where memory is refused, the next scan is told of in its place.
-    fn scanned(&mut self, core: &Core<DEPTH>, scan: u32) {
+    fn scanned(&mut self, core: &Core<DEPTH>, _order: &WriteOrder, scan: u32) {
         if self.quiet {
             return;
         }

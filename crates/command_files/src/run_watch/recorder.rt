@@ -4,12 +4,13 @@ ghost use Rattle.std.specs.Prelude.{◌<◌, length};
 use crate::files::WriteFault;
 use crate::run::PlantRun;
 use crate::run_watch::RunLook;
+use crate::run_watch::outgoing::outgoing;
 use crate::run_watch::set_lines::{Said, Setting};
 use crate::run_watch::set_player::LATE;
 use crate::run_watch::tag_points::TagPoints;
 use crate::run_watch::trace_rows::variables;
 use commands::{DEPTH, ScanWatch};
-use gateway::Core;
+use gateway::{Core, WriteOrder};
 use point_types::{Reading, Var};
 use refusal_notes::escaped;
 use run_report::{Measure, Role, RunFile, RunReport, Sample, ScanSeries, Unset, page_of};
@@ -70,19 +71,19 @@ impl<W: Write + Drop> Recorder<W> {
         Ok(())
     }
 
-    fn record(&mut self, core: &Core<DEPTH>) -> Result<(), AllocError> {
+    fn record(&mut self, core: &Core<DEPTH>, order: &WriteOrder) -> Result<(), AllocError> {
         if !self.has_lines {
             push_lines(self.alloc, &mut self.report, &self.points, core)?;
             self.has_lines = true;
         }
-        push_scan(&mut self.report, &mut self.sent, core)
+        push_scan(&mut self.report, &mut self.sent, core, order)
     }
 }
 
 impl<W: Write + Drop> ScanWatch for Recorder<W> {
-    fn scanned(&mut self, core: &Core<DEPTH>, _scan: u32) {
+    fn scanned(&mut self, core: &Core<DEPTH>, order: &WriteOrder, _scan: u32) {
         if self.hindered.is_ok() {
-            self.hindered = self.record(core);
+            self.hindered = self.record(core, order);
         }
     }
 }
@@ -277,11 +278,13 @@ fn push_scan(
     report: &mut RunReport,
     sent: &mut Vec<Sent>,
     core: &Core<DEPTH>,
+    order: &WriteOrder,
 ) -> Result<(), AllocError> {
     let scan = report.steps.samples.len();
     push_tag_samples(&mut report.series, core)?;
     push_variable_samples(&mut report.series, core)?;
-    push_writes(report.series.as_mut_slice(), sent, core, scan)?;
+    push_sent(sent, core, order, scan)?;
+    mark_unwritten(report.series.as_mut_slice(), core, order, scan);
     let steps = Sample::Number(i64::from(core.steps()));
     report.steps.samples.push(steps)?;
     Ok(())
@@ -336,37 +339,39 @@ fn stored_sample(core: &Core<DEPTH>, i: usize) -> Sample {
     }
 }
 
-/// Records which writes the last scan sends, and marks what it stored and doesn't write.
-fn push_writes(
-    series: &mut [ScanSeries],
+/// Records which writes the last scan sent, in the order of their turns.
+fn push_sent(
     sent: &mut Vec<Sent>,
     core: &Core<DEPTH>,
+    order: &WriteOrder,
     scan: usize,
 ) -> Result<(), AllocError> {
-    for i in 0..core.site().outs().len() {
-        push_write(series, sent, core, scan, i)?;
+    for i in order.outputs() {
+        if let Some(line) = sent_line(core, *i) {
+            sent.push(Sent { line, scan })?;
+        }
     }
     Ok(())
 }
 
-fn push_write(
-    series: &mut [ScanSeries],
-    sent: &mut Vec<Sent>,
-    core: &Core<DEPTH>,
-    scan: usize,
-    i: usize,
-) -> Result<(), AllocError>
-    requires { i < length core.now.site.outs }
-{
-    let Some(line) = core.site().outs().get(i) else {
-        return Ok(());
-    };
-    let write = Sent { line: *line, scan };
-    match core.write(i) {
-        Ok(_) => sent.push(write)?,
-        Err(cause) => mark_sample(series, write, cause.word()),
+/// The line of an output that was written in its turn.
+fn sent_line(core: &Core<DEPTH>, i: usize) -> Option<usize> {
+    let outs = core.site().outs();
+    if i >= outs.len() || core.write(i).is_err() {
+        return None;
     }
-    Ok(())
+    Some(outs[i])
+}
+
+/// Marks what the last scan stored and didn't write.
+fn mark_unwritten(series: &mut [ScanSeries], core: &Core<DEPTH>, order: &WriteOrder, scan: usize) {
+    let outs = core.site().outs();
+    for i in 0..outs.len() {
+        if let Err(cause) = outgoing(core, order, i) {
+            let line = outs[i];
+            mark_sample(series, Sent { line, scan }, cause.word());
+        }
+    }
 }
 
 /// Marks a number that was stored as not written.

@@ -3,7 +3,7 @@ use crate::files::WriteFault;
 use crate::run_watch::trace_rows::{write_heads, write_row};
 use commands::{DEPTH, ScanWatch};
 use csv::{Writer, WriterBuilder};
-use gateway::Core;
+use gateway::{Core, WriteOrder};
 use std::alloc::Global;
 use std::io::Write;
 
@@ -35,19 +35,24 @@ impl<W: Write + Drop> Trace<W> {
         Ok(())
     }
 
-    fn write(&mut self, core: &Core<DEPTH>, scan: u32) -> Result<(), WriteFault> {
+    fn write(
+        &mut self,
+        core: &Core<DEPTH>,
+        order: &WriteOrder,
+        scan: u32,
+    ) -> Result<(), WriteFault> {
         if !self.has_heads {
             write_heads(self.alloc, &mut self.rows, core)?;
             self.has_heads = true;
         }
-        write_row(self.alloc, &mut self.rows, core, scan)
+        write_row(self.alloc, &mut self.rows, core, order, scan)
     }
 }
 
 impl<W: Write + Drop> ScanWatch for Trace<W> {
-    fn scanned(&mut self, core: &Core<DEPTH>, scan: u32) {
+    fn scanned(&mut self, core: &Core<DEPTH>, order: &WriteOrder, scan: u32) {
         if self.hindered.is_ok() {
-            self.hindered = self.write(core, scan);
+            self.hindered = self.write(core, order, scan);
         }
     }
 }

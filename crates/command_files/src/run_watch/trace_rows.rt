@@ -2,9 +2,10 @@
 ghost use Rattle.std.specs.Prelude.{◌≡◌, ◌<◌, length};
 
 use crate::files::WriteFault;
+use crate::run_watch::outgoing::outgoing;
 use commands::DEPTH;
 use csv::Writer;
-use gateway::Core;
+use gateway::{Core, WriteOrder};
 use note_text::decimal;
 use point_types::{Reading, Var};
 use service_alarms::{fitted_number, missing_word, output_name};
@@ -99,6 +100,7 @@ pub(crate) fn write_row<W: Write + Drop>(
     alloc: Global,
     rows: &mut Writer<W>,
     core: &Core<DEPTH>,
+    order: &WriteOrder,
     scan: u32,
 ) -> Result<(), WriteFault> {
     let scan = decimal(alloc, i128::from(scan), 0)?;
@@ -107,9 +109,9 @@ pub(crate) fn write_row<W: Write + Drop>(
         let number = number_of(alloc, core, i, tag)?;
         rows.write_field(number.as_bytes())?;
     }
-    write_writes(rows, core)?;
+    write_writes(rows, core, order)?;
     write_variables(alloc, rows, core)?;
-    write_fitted(alloc, rows, core)?;
+    write_fitted(alloc, rows, core, order)?;
     rows.end_record()?;
     Ok(())
 }
@@ -131,9 +133,10 @@ fn write_variables<W: Write + Drop>(
 fn write_writes<W: Write + Drop>(
     rows: &mut Writer<W>,
     core: &Core<DEPTH>,
+    order: &WriteOrder,
 ) -> Result<(), WriteFault> {
     for i in 0..core.site().outs().len() {
-        rows.write_field(write_word(core, i).as_bytes())?;
+        rows.write_field(write_word(core, order, i).as_bytes())?;
     }
     Ok(())
 }
@@ -143,10 +146,11 @@ fn write_fitted<W: Write + Drop>(
     alloc: Global,
     rows: &mut Writer<W>,
     core: &Core<DEPTH>,
+    order: &WriteOrder,
 ) -> Result<(), WriteFault> {
     for i in 0..core.site().outs().len() {
         if let Some(tag) = fitted_tag(core.site(), i) {
-            let number = fitted_text(alloc, core, i, tag.exponent)?;
+            let number = fitted_text(alloc, core, order, i, tag.exponent)?;
             rows.write_field(number.as_bytes())?;
         }
     }
@@ -156,20 +160,26 @@ fn write_fitted<W: Write + Drop>(
 fn fitted_text(
     alloc: Global,
     core: &Core<DEPTH>,
+    order: &WriteOrder,
     i: usize,
     exponent: i8,
-) -> Result<String, AllocError> {
+) -> Result<String, AllocError>
+    requires { i < length core.now.site.outs }
+{
+    if outgoing(core, order, i).is_err() {
+        return Ok(String::new(alloc));
+    }
     match fitted_number(core, i) {
         Some(number) => decimal(alloc, i128::from(number), exponent),
         None => Ok(String::new(alloc)),
     }
 }
 
-/// `yes` where the last scan writes the i-th output, and else the cause why not.
-fn write_word(core: &Core<DEPTH>, i: usize) -> &'static str
+/// `yes` where the last scan wrote the i-th output, and else the cause why not.
+fn write_word(core: &Core<DEPTH>, order: &WriteOrder, i: usize) -> &'static str
     requires { i < length core.now.site.outs }
 {
-    match core.write(i) {
+    match outgoing(core, order, i) {
         Ok(_) => "yes",
         Err(cause) => cause.word(),
     }

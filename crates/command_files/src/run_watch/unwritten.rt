@@ -1,8 +1,9 @@
 //! What the scans of a run stored and didn't write.
 ghost use Rattle.std.specs.Prelude.{◌<◌, length};
 
+use crate::run_watch::outgoing::outgoing;
 use commands::{DEPTH, ScanWatch};
-use gateway::Core;
+use gateway::{Core, WriteOrder};
 use point_writer::NoWrite;
 use refusal_notes::{escaped, unwritten_help};
 use site_model::{SiteTag, raw_range};
@@ -30,10 +31,10 @@ impl<'r, R: Eprint> UnwrittenWatch<'r, R> {
     }
 
     /// Tells of an output where its cause isn't the one that was told last.
-    fn look(&mut self, core: &Core<DEPTH>, scan: u32, i: usize)
+    fn look(&mut self, core: &Core<DEPTH>, order: &WriteOrder, scan: u32, i: usize)
         requires { i < length core.now.site.outs }
     {
-        let cause = unwritten(core, i);
+        let cause = unwritten(core, order, i);
         if !self.is_news(i, cause) {
             return;
         }
@@ -60,21 +61,21 @@ impl<'r, R: Eprint> UnwrittenWatch<'r, R> {
 }
 
 impl<R: Eprint> ScanWatch for UnwrittenWatch<'_, R> {
-    fn scanned(&mut self, core: &Core<DEPTH>, scan: u32) {
+    fn scanned(&mut self, core: &Core<DEPTH>, order: &WriteOrder, scan: u32) {
         if self.quiet {
             return;
         }
         for i in 0..core.site().outs().len() {
-            self.look(core, scan, i);
+            self.look(core, order, scan, i);
         }
     }
 }
 
 /// Why a scan doesn't write an output that it stored; None where it writes it, or stored nothing.
-fn unwritten(core: &Core<DEPTH>, i: usize) -> Option<NoWrite>
+fn unwritten(core: &Core<DEPTH>, order: &WriteOrder, i: usize) -> Option<NoWrite>
     requires { i < length core.now.site.outs }
 {
-    match core.write(i) {
+    match outgoing(core, order, i) {
         Ok(_) | Err(NoWrite::NotSet) => None,
         Err(cause) => Some(cause),
     }
