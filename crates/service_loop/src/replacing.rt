@@ -1,15 +1,16 @@
 //! Files that are replaced whole.
 use service_edges::{Lasting, SystemFile, WrittenDown};
 use std::alloc::{AllocError, Global};
-use std::fs::OpenFile;
-use std::io::{ErrorKind, Read};
+use std::fs::{File, OpenFile};
+use std::io::{ErrorKind, Read, Write};
 use std::rt::Files;
 use std::{fs, io};
 
 /// Replaces a file by these bytes: whoever reads it finds the old ones or the new ones.
 pub(crate) fn replace<R: Files>(rt: &R, alloc: Global, path: &str, bytes: &[u8]) -> io::Result<()> {
     let beside = beside(alloc, path)?;
-    fs::write(rt, beside.as_str(), bytes)?;
+    let mut file = new_file(rt, beside.as_str())?;
+    file.write_all(bytes)?;
     fs::rename(rt, beside.as_str(), path)
 }
 
@@ -22,7 +23,7 @@ pub(crate) fn replace_for_good<R: Files>(
     bytes: &[u8],
 ) -> io::Result<()> {
     let beside = beside(alloc, path)?;
-    let file = SystemFile::new(fs::create(rt, beside.as_str())?);
+    let file = SystemFile::new(new_file(rt, beside.as_str())?);
     take_place(rt, WrittenDown::with(file, bytes)?, beside.as_str(), path)?;
     sync_folder(rt, path);
     Ok(())
@@ -41,8 +42,16 @@ fn take_place<R: Files, F: Lasting>(
 /// Looks whether a new file can be written where one stands before it takes the place of the file at a path.
 pub(crate) fn try_place<R: Files>(rt: &R, alloc: Global, path: &str) -> io::Result<()> {
     let beside = beside(alloc, path)?;
-    fs::create(rt, beside.as_str())?;
+    new_file(rt, beside.as_str())?;
     fs::remove_file(rt, beside.as_str())
+}
+
+// A file of its own at a path, in place of what an earlier write left there: no link is followed, and nothing waits.
+fn new_file<R: Files>(rt: &R, path: &str) -> io::Result<R::File> {
+    match fs::remove_file(rt, path) {
+        Err(fault) if fault.kind() != ErrorKind::NotFound => Err(fault),
+        _ => File::create_new(rt, path),
+    }
 }
 
 /// Whether the file at a path holds just this text; one that isn't there holds an empty one.

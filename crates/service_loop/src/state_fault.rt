@@ -8,6 +8,8 @@ pub enum StateFault {
     InUse,
     /// It was written after it was read for this start.
     Changed,
+    /// Something else than a file stands there, or at the path of its lock.
+    NotAFile,
     /// A folder of its path isn't there.
     NoFolder,
     /// The system doesn't allow to write there.
@@ -31,6 +33,7 @@ impl StateFault {
         match self {
             StateFault::InUse => "InUse",
             StateFault::Changed => "Changed",
+            StateFault::NotAFile => "NotAFile",
             StateFault::NoFolder => "NoFolder",
             StateFault::Denied => "Denied",
             StateFault::Failed => "Failed",
@@ -42,6 +45,9 @@ impl StateFault {
         match self {
             StateFault::InUse => "another service keeps its set values there",
             StateFault::Changed => "it was written after it was read for this start",
+            StateFault::NotAFile => {
+                "something else than a file stands there, or at that path with .lock after it"
+            }
             StateFault::NoFolder => "a folder of its path isn't there",
             StateFault::Denied => "the system doesn't allow to write files in its folder",
             StateFault::Failed => "the system can't write files in its folder",
@@ -53,6 +59,7 @@ impl StateFault {
         match self {
             StateFault::InUse => "end the other service, or give a file of its own by --state",
             StateFault::Changed => "start again",
+            StateFault::NotAFile => "give the path of a file of its own by --state",
             StateFault::NoFolder => {
                 "make the folder, or look for a slip in the path, which begins at the folder where you are"
             }
