@@ -4,20 +4,20 @@ use crate::file_command::obey_on;
 use crate::map_run::{MapRun, run_map};
 use crate::run_command::run_on;
 use crate::runtimes::{CommandRuntime, LoopRuntime};
-use crate::serve::{ServiceRun, run_service};
+use crate::serve::{ServiceRun, run_service, tell_unkept};
 use crate::sources::{SourceRefusal, Sources, read_sources, read_state};
 use crate::survey::{SurveyRun, run_survey};
 use crate::words::{
-    Misuse, command, file_command, keeping_of, map_form, misuse, misuse_of_definitions,
-    misuse_of_files, probe_address, service_limits, service_words, serving_of, survey_devices,
-    tell_misuse, tell_unparsed, version,
+    Misuse, command, file_command, is_no_state, keeping_of, map_form, misuse,
+    misuse_of_definitions, misuse_of_files, probe_address, service_limits, service_words,
+    serving_of, survey_devices, tell_misuse, tell_unparsed, version,
 };
 use clap::ArgMatches;
 use command_files::{trial_of, warn_of_none, warn_of_site};
 use commands::{USUAL_PERIOD, tell_no_memory};
 use file_keys::TomlFile;
 use refusal_notes::{FileFault, Notes, explain_unusable};
-use service_loop::seconds_of_day;
+use service_loop::{StateFault, seconds_of_day};
 use service_texts::{DeviceSource, Start};
 use std::alloc::{AllocError, Global};
 use std::fs::File;
@@ -95,23 +95,52 @@ fn obey_matches<W: Write>(
     let Some((name, matches)) = matches.subcommand() else {
         return BAD_COMMAND_LINE;
     };
-    if let Some(why) = misuse_of(name, matches) {
-        return tell_misuse(rt, alloc, why, out);
-    }
-    match read_sources(rt, alloc, matches) {
-        Ok(sources) => obey_on_sources(rt, alloc, path_of(words), name, matches, &sources, out),
-        Err(refusal) => unread(rt, alloc, matches, &refusal, out),
+    match misuse_of(rt, alloc, name, matches) {
+        Ok(None) => obey_words(rt, alloc, path_of(words), name, matches, out),
+        Ok(Some(why)) => tell_misuse(rt, alloc, why, out),
+        Err(AllocError) => tell_no_memory(out),
     }
 }
 
 /// Why the words, which have their form, ask for nothing that can be done.
-fn misuse_of(name: &str, matches: &ArgMatches<'_>) -> Option<&'static str> {
+fn misuse_of<R: Files>(
+    rt: &R,
+    alloc: Global,
+    name: &str,
+    matches: &ArgMatches<'_>,
+) -> Result<Option<&'static str>, AllocError> {
     match misuse(name, matches) {
         None if name == "probe" && probe_address(matches).is_none() => {
-            Some("PORT is no port, and no HOST:PORT")
+            Ok(Some("PORT is no port, and no HOST:PORT"))
         }
-        None => misuse_of_files(matches),
-        why => why,
+        None => misuse_of_files(rt, alloc, matches),
+        why => Ok(why),
+    }
+}
+
+/// Does what words ask for that can be done, unless set values were to be kept where no file can be; `itself` is this
+/// program's path.
+fn obey_words<W: Write>(
+    rt: &impl CommandRuntime,
+    alloc: Global,
+    itself: &str,
+    name: &str,
+    matches: &ArgMatches<'_>,
+    out: &mut W,
+) -> u8 {
+    if let Some(path) = matches.get_str("state") {
+        match is_no_state(rt, alloc, path) {
+            Ok(false) => {}
+            Ok(true) => {
+                let quiet = matches.get_flag("quiet");
+                return tell_unkept(rt, alloc, quiet, path, StateFault::NotAFile, out);
+            }
+            Err(AllocError) => return tell_no_memory(out),
+        }
+    }
+    match read_sources(rt, alloc, matches) {
+        Ok(sources) => obey_on_sources(rt, alloc, itself, name, matches, &sources, out),
+        Err(refusal) => unread(rt, alloc, matches, &refusal, out),
     }
 }
 
@@ -189,10 +218,10 @@ fn obey_on_notes<W: Write>(
     notes: &Notes<'_>,
     out: &mut W,
 ) -> u8 {
+    if let Some(why) = misuse_of_definitions(rt, matches, notes.def_paths) {
+        return tell_misuse(rt, alloc, why, out);
+    }
     if name == "run" {
-        if let Some(why) = misuse_of_definitions(matches, notes.def_paths) {
-            return tell_misuse(rt, alloc, why, out);
-        }
         return run_on(
             rt,
             alloc,

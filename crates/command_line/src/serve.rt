@@ -13,3 +13,4 @@ mod unkept;
 pub use last_program::RefusedText;
 pub(crate) use refusing::{tell_no_core, tell_no_identities, tell_unreachable};
 pub use service_run::{ServiceRun, run_service};
+pub(crate) use unkept::tell_unkept;

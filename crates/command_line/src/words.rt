@@ -13,7 +13,7 @@ pub use arguments::command;
 pub(crate) use command_words::{file_command, probe_address};
 pub(crate) use help::version;
 pub(crate) use map_words::map_form;
-pub(crate) use overwritten::{misuse_of_definitions, misuse_of_files};
+pub(crate) use overwritten::{is_no_state, misuse_of_definitions, misuse_of_files};
 pub(crate) use serve_words::{Misuse, keeping_of, service_limits, service_words, serving_of};
 pub(crate) use standard_input::misuse;
 pub(crate) use survey_words::survey_devices;

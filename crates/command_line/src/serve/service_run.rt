@@ -377,7 +377,14 @@ fn serve_over<R: LoopRuntime + Files<File = File>, W: Write>(
             tell_unserved(rt, alloc, &run.notes, page_address(&run.serving), kind, out)
         },
         Err(End::State(fault)) => {
-            tell_unkept(rt, alloc, &run.notes, state_path(&run.keeping), fault, out)
+            tell_unkept(
+                rt,
+                alloc,
+                run.notes.quiet,
+                state_path(&run.keeping),
+                fault,
+                out,
+            )
         },
     }
 }

@@ -2,7 +2,7 @@
 ghost use Rattle.command_files.specs.Printing.{Fails};
 
 use commands::{tell_no_memory, write_lines};
-use refusal_notes::{Notes, escaped};
+use refusal_notes::escaped;
 use service_loop::StateFault;
 use std::alloc::{AllocError, Global};
 use std::io::Write;
@@ -14,7 +14,7 @@ const UNKEPT: u8 = 1;
 pub(crate) fn tell_unkept<R: Eprint, W: Write>(
     rt: &R,
     alloc: Global,
-    notes: &Notes<'_>,
+    quiet: bool,
     path: &str,
     fault: StateFault,
     out: &mut W,
@@ -24,7 +24,7 @@ pub(crate) fn tell_unkept<R: Eprint, W: Write>(
     match unkept_line(alloc, path, fault.word()) {
         Ok(line) => {
             let status = write_lines(out, line.as_bytes(), UNKEPT);
-            if !notes.quiet {
+            if !quiet {
                 explain_unkept(rt, alloc, path, fault);
             }
             status

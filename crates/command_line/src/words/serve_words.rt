@@ -9,8 +9,8 @@ use point_types::Items;
 use service::Limits;
 use service_loop::{Keeping, KeptState, PageWindow, Serving};
 use service_texts::{
-    DeviceSource, DevicesFault, Start, Times, Writer, WriterFault, devices_of, limits,
-    program_path, times_of, writers_of,
+    DeviceSource, DevicesFault, Start, Times, Writer, WriterFault, devices_of, limits, times_of,
+    writers_of,
 };
 use std::alloc::{AllocError, Global};
 use std::net::{Net, SocketAddr, ToSocketAddrs};
@@ -23,11 +23,6 @@ const USUAL_TIMES: &str = "seconds";
 
 /// What is wrong with another address.
 const UNKNOWN_LISTEN: Misuse = Misuse::Words("'--listen' is no HOST:PORT that is known");
-
-/// What is wrong with a file of set values beside which the program can't be kept.
-const KEPT_OVER: Misuse = Misuse::Words(
-    "'--state PATH' keeps the program in PATH.program, and that is another file of the command",
-);
 
 /// What is wrong with the address of all devices.
 pub(crate) const NO_PORT: &str = "'--devices' is no HOST:PORT";
@@ -269,13 +264,6 @@ pub(crate) fn service_words<'a, R: Net>(
     alloc: Global,
     matches: &ArgMatches<'a>,
 ) -> Result<ServiceWords<'a>, Misuse> {
-    let (state, status) = (matches.get_str("state"), matches.get_str("status-file"));
-    if state.is_some() && state == status {
-        return Err(Misuse::Words("'--state' and '--status-file' are one file"));
-    }
-    if is_kept_over(alloc, matches, state)? {
-        return Err(KEPT_OVER);
-    }
     let listen = listen_address(rt, matches)?;
     let page = page_address(rt, matches)?;
     let page_hosts = texts_of(alloc, matches.get_strs("page-host").unwrap_or(&[]))?;
@@ -304,34 +292,6 @@ fn texts_of(alloc: Global, words: &[&str]) -> Result<Vec<String>, Misuse> {
         }
     }
     Ok(texts)
-}
-
-/// Whether the file in which the program is kept, beside that of set values, is another one of the command.
-fn is_kept_over(
-    alloc: Global,
-    matches: &ArgMatches<'_>,
-    state: Option<&str>,
-) -> Result<bool, Misuse> {
-    let Some(state) = state else {
-        return Ok(false);
-    };
-    let Ok(path) = program_path(alloc, state) else {
-        return Err(Misuse::OutOfMemory);
-    };
-    let path = path.as_str();
-    Ok(
-        is_at(matches.get_str("SITE"), path)
-            || is_at(matches.get_str("PROGRAM"), path)
-            || is_at(matches.get_str("status-file"), path),
-    )
-}
-
-/// Whether a file is named, and by this path.
-fn is_at(file: Option<&str>, path: &str) -> bool {
-    match file {
-        Some(file) => file == path,
-        None => false,
-    }
 }
 
 /// By which time lines are told.
