@@ -67,7 +67,7 @@ def play_folders(counts, program, folder):
     for path, cause in (
         (f"{folder}/none/state", "NoFolder"),
         (f"{folder}/full/state", "Failed"),
-        (f"{folder}/locked/state", "Failed"),
+        (f"{folder}/locked/state", "NotAFile"),
         ("/sys/state", "Denied"),
     ):
         ran = start(program, "--devices", device.address(), "--state", path)
