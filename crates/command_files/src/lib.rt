@@ -24,7 +24,7 @@ pub use files::{
 pub use links::{
     ProbeAddress, ProbeRun, WatchedLink, cause_of_link, link_over, loopback, probe_over,
 };
-pub use page_texts::{SitePart, program_text, site_text};
+pub use page_texts::{SitePart, program_text, site_text, tag_units};
 pub use processes::{NoPort, start_plant, tell_no_port, told_port};
 pub use run::{PlantRun, RunPaths, run_into_files, run_plant, run_watched};
 pub use run_watch::{

@@ -4,4 +4,4 @@ mod members;
 mod site_part;
 
 pub use listed::program_text;
-pub use site_part::{SitePart, site_text};
+pub use site_part::{SitePart, site_text, tag_units};

@@ -16,6 +16,8 @@ pub struct Metrics<'a> {
     pub start: &'a Start,
     /// What the site is called.
     pub name: Option<&'a str>,
+    /// Of each tag the unit of its values; empty where it isn't known.
+    pub units: &'a [String],
     pub service: &'a Service,
     /// What is wrong after the last scan.
     pub standing: &'a [StandingAlarm],
@@ -41,7 +43,7 @@ pub fn metrics_text(alloc: Global, metrics: &Metrics<'_>) -> Result<String, Allo
     let mut sheet = Sheet::new(alloc);
     push_program(&mut sheet, metrics)?;
     push_devices(&mut sheet, metrics.service)?;
-    push_tags(&mut sheet, metrics.service.core())?;
+    push_tags(&mut sheet, metrics.service.core(), metrics.units)?;
     push_alarms(&mut sheet, metrics)?;
     Ok(sheet.into_text())
 }

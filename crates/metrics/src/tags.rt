@@ -7,13 +7,17 @@ use service_alarms::missing_word;
 use site_model::{Access, SiteTag};
 use std::alloc::AllocError;
 
-pub(crate) fn push_tags(sheet: &mut Sheet, core: &Core<DEPTH>) -> Result<(), AllocError> {
+pub(crate) fn push_tags(
+    sheet: &mut Sheet,
+    core: &Core<DEPTH>,
+    units: &[String],
+) -> Result<(), AllocError> {
     sheet.gauge(
         "sunsite_tag_value",
         "What a tag was in the last scan, or what the program stored in it. A tag that has no value isn't here.",
     )?;
     for (place, tag) in core.site().tags().iter().enumerate() {
-        push_value(sheet, core, tag, place)?;
+        push_value(sheet, core, tag, place, unit_at(units, place))?;
     }
     sheet.gauge(
         "sunsite_tag_missing",
@@ -37,14 +41,23 @@ fn push_value(
     core: &Core<DEPTH>,
     tag: &SiteTag,
     place: usize,
+    unit: &str,
 ) -> Result<(), AllocError> {
     match tag_number(core, tag, place) {
         Some(number) => {
             let value = decimal(sheet.alloc, i128::from(number), tag.exponent)?;
-            let labels = [("tag", tag.name.as_str())];
+            let labels = [("tag", tag.name.as_str()), ("unit", unit)];
             sheet.labelled("sunsite_tag_value", &labels, value.as_str())
         }
         None => Ok(()),
+    }
+}
+
+/// The unit of the tag of this place; empty where it isn't known.
+fn unit_at(units: &[String], place: usize) -> &str {
+    match units.get(place) {
+        Some(unit) => unit.as_str(),
+        None => "",
     }
 }
 

@@ -17,6 +17,8 @@ pub struct PageWindow<'a> {
     pub site: &'a str,
     /// And such an object of the program of the start.
     pub program: &'a str,
+    /// Of each tag of the site the unit of its values; empty where it isn't known.
+    pub units: &'a [String],
     /// The most bytes for the last hour.
     pub memory: u64,
 }

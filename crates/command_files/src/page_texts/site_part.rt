@@ -51,6 +51,20 @@ pub fn site_text(alloc: Global, part: &SitePart<'_>) -> Result<String, AllocErro
     members.into_value().to_string(alloc)
 }
 
+/// Of each tag the unit of its values; empty where they have none, or none of the shipped definitions and those of these texts says it.
+pub fn tag_units(
+    alloc: Global,
+    tags: &[SiteTag],
+    defs: &[String],
+) -> Result<Vec<String>, AllocError> {
+    let points = TagPoints::read(alloc, defs)?;
+    let mut units = Vec::new(alloc);
+    for tag in tags {
+        units.push(String::from_str(alloc, points.unit_at(tag).unwrap_or(""))?)?;
+    }
+    Ok(units)
+}
+
 /// Who may write, by the words that name them.
 fn writers_value(alloc: Global, writers: &[Writer]) -> Result<Value, AllocError> {
     let mut values = Vec::new(alloc);

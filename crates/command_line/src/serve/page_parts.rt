@@ -1,15 +1,16 @@
 //! What those who look at a service are told once.
 use crate::serve::service_run::ServiceRun;
-use command_files::{SitePart, program_text, site_text};
+use command_files::{SitePart, program_text, site_text, tag_units};
 use commands::Accepted;
 use service_loop::PageWindow;
 use std::alloc::{AllocError, Global};
 
-/// The site and the program of the start, as JSON.
+/// The site and the program of the start, as JSON, and the units of the site's tags.
 #[derive(Drop)]
 pub(crate) struct PageParts {
     site: String,
     program: String,
+    units: Vec<String>,
 }
 
 impl PageParts {
@@ -23,6 +24,7 @@ impl PageParts {
             return Ok(PageParts {
                 site: String::new(alloc),
                 program: String::new(alloc),
+                units: Vec::new(alloc),
             });
         }
         let part = SitePart {
@@ -41,6 +43,7 @@ impl PageParts {
         Ok(PageParts {
             site: site_text(alloc, &part)?,
             program: program_text(alloc, path, text, &given.site, &given.verified)?,
+            units: tag_units(alloc, given.site.tags(), run.notes.defs)?,
         })
     }
 
@@ -50,6 +53,7 @@ impl PageParts {
             Some(window) => Some(PageWindow {
                 site: self.site.as_str(),
                 program: self.program.as_str(),
+                units: self.units.as_slice(),
                 ..window
             }),
             None => None,

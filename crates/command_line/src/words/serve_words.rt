@@ -349,6 +349,7 @@ fn window_of<'a>(matches: &ArgMatches<'_>, words: &'a ServiceWords<'_>) -> Optio
             names: words.page_hosts.as_slice(),
             site: "",
             program: "",
+            units: &[],
             memory: matches.get_one("page-memory").unwrap_or(USUAL_MEMORY),
         }),
         None => None,

@@ -104,6 +104,7 @@ impl<W: Write> ServeLoop<'_, W> {
         let metrics = Metrics {
             start,
             name: serving.name,
+            units: units_of(serving),
             service,
             standing: self.alarm_watch.standing()?,
             began_at: self.line_writer.began_at(),
@@ -117,5 +118,13 @@ impl<W: Write> ServeLoop<'_, W> {
         };
         let metrics = metrics_text(self.alloc, &metrics)?;
         Ok(ScanTexts::new(status, metrics, service.scans()))
+    }
+}
+
+// Of each tag the unit of its values, as those who look are told.
+fn units_of<'a>(serving: &Serving<'a>) -> &'a [String] {
+    match serving.page {
+        Some(window) => window.units,
+        None => &[],
     }
 }
