@@ -69,18 +69,19 @@ def play_one_file(counts, program, folder):
 def play_links(counts, program, folder):
     """Files that are made go through no link, and nothing waits for a pipe."""
     state, other = f"{folder}/state", f"{folder}/other"
-    with open(other, "w", encoding="utf-8") as it:
-        it.write("of another one\n")
     for name in ("state.new", "status.new", "state.program.new"):
-        os.symlink(other, f"{folder}/{name}")
+        with open(f"{other}.{name}", "w", encoding="utf-8") as it:
+            it.write("of another one\n")
+        os.symlink(f"{other}.{name}", f"{folder}/{name}")
     ran = start(program, *PLANT, "--state", state, "--status-file", f"{folder}/status")
     counts.note("a link where a file is made is taken away", ran.returncode == 0, ran)
-    counts.note("and what it led to stays", text_of(other) == "of another one\n" and not os.path.islink(f"{folder}/status"), text_of(other))
+    stays = all(text == "of another one\n" for name, text in files_of(folder).items() if name.startswith("other"))
+    counts.note("and what it led to stays", stays and not os.path.islink(f"{folder}/status"), files_of(folder))
     os.mkfifo(f"{folder}/state.new")
     ran = start(program, *PLANT, "--state", state)
     counts.note("so is a pipe", ran.returncode == 0 and not os.path.exists(f"{folder}/state.new"), ran)
     os.remove(f"{folder}/state.lock")
-    os.symlink(other, f"{folder}/state.lock")
+    os.symlink(f"{other}.state.new", f"{folder}/state.lock")
     ran = start(program, *PLANT, "--state", state)
     counts.note("a link in place of the lock", is_refused(ran, state, "NotAFile"), ran)
     os.remove(f"{folder}/state.lock")

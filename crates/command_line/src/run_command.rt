@@ -9,6 +9,7 @@ use command_files::{
 use commands::{tell_no_memory, write_lines};
 use refusal_notes::{Notes, escaped};
 use std::alloc::{AllocError, Global};
+use std::fs;
 use std::io::Write;
 use std::rt::Files;
 
@@ -34,7 +35,10 @@ where
     };
     let settings = match read_settings(alloc, sets) {
         Ok(settings) => settings,
-        Err(fault) => return tell_bad_sets(rt, alloc, matches, notes, fault, out),
+        Err(fault) => {
+            leave_empty(rt, matches);
+            return tell_bad_sets(rt, alloc, matches, notes, fault, out);
+        }
     };
     if !notes.quiet {
         tell_late(rt, alloc, settings.as_slice(), pace.scans);
@@ -55,6 +59,18 @@ where
     }
     warn_of_site(rt, notes);
     run_plant(rt, alloc, &run, out)
+}
+
+/// Leaves the files of a run empty that isn't begun, as far as they can be written: what an earlier one left there isn't its own.
+fn leave_empty<R: Files>(rt: &R, matches: &ArgMatches<'_>)
+where
+    R::File: Drop,
+{
+    for option in ["trace", "report"] {
+        if let Some(path) = matches.get_str(option) {
+            let _ = fs::create(rt, path);
+        }
+    }
 }
 
 /// Tells which line of the set values isn't one, with a note on it, and gives the status.

@@ -1,0 +1,7 @@
+PROGRAM der
+VAR_EXTERNAL w, string_1 : DINT; lim1 : INT; ena1 : BOOL; END_VAR
+LD 60
+ST lim1
+LD TRUE
+ST ena1
+END_PROGRAM
