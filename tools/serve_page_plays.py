@@ -151,9 +151,9 @@ def play_numbers(counts, program, folder):
     window = Window(program, folder, "numbers")
     client = Client(window.service.port())
     counts.note("a client writes", client.write(LIMIT, 30)[0] == 6)
-    wanted = 'sunsite_tag_value{tag="lim1"} 30'
+    wanted = 'sunsite_tag_value{tag="lim1",unit="% WMax"} 30'
     counts.note("what the program stored", until(lambda: wanted in window.numbers(), True), window.numbers())
-    until(lambda: {'sunsite_tag_value{tag="w1"} 1500', 'sunsite_alarms{kind="output_unwritten"} 0'} <= set(window.numbers()), True)
+    until(lambda: {'sunsite_tag_value{tag="w1",unit="W"} 1500', 'sunsite_alarms{kind="output_unwritten"} 0'} <= set(window.numbers()), True)
     numbers = window.numbers()
     value = lambda name: [line.rsplit(" ", 1)[1] for line in numbers if line.startswith(name)]
     named = [line for line in numbers if line.startswith("sunsite_info{") and line.endswith(f',name="{NAME}"}} 1')]
@@ -164,7 +164,7 @@ def play_numbers(counts, program, folder):
     counts.note("how long a round takes", 0 <= float(value("sunsite_round_duration_seconds")[0]) <= within(0.1), numbers)
     counts.note("the budget", value("sunsite_program_steps") <= value("sunsite_program_budget_steps") == ["3"], numbers)
     counts.note("a device by its name, letter by letter", 'sunsite_device_up{device="in\\"v\\\\1",number="0"} 1' in numbers, numbers)
-    counts.note("an input", 'sunsite_tag_value{tag="w1"} 1500' in numbers, numbers)
+    counts.note("an input", 'sunsite_tag_value{tag="w1",unit="W"} 1500' in numbers, numbers)
     counts.note("for how long a tag is set", value('sunsite_set_age_seconds{tag="target"}')[0] in ("0", "1", "2"), numbers)
     counts.note("a client is there", value("sunsite_clients") == ["1"], numbers)
     counts.note("no alarm", {line for line in numbers if line.startswith("sunsite_alarms") and not line.endswith(" 0")} == set() and len(value("sunsite_alarms")) == 13, numbers)

@@ -1,5 +1,6 @@
 //! The command `serve`: a service on a site, and why there is none.
 mod last_program;
+mod open_writers;
 mod page_parts;
 mod program_file;
 mod refused_words;

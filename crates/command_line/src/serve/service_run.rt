@@ -1,6 +1,7 @@
 //! The command `serve`: a program on a site, scan by scan, by the clock.
 use crate::runtimes::LoopRuntime;
 use crate::serve::last_program::{ProgramFault, RefusedText};
+use crate::serve::open_writers::warn_of_everybody;
 use crate::serve::page_parts::PageParts;
 use crate::serve::program_file::ProgramFile;
 use crate::serve::refusing::{tell_no_core, tell_unreachable, tell_unretained};
@@ -308,6 +309,9 @@ fn prepared<R: Print + Eprint + AllocGlobal, W: Write>(
         Ok(addresses) => match tell_begun(alloc, &run.serving, given.verified.budget(), out) {
             0 => {
                 warn_unkept(rt, run, retained);
+                if !run.notes.quiet {
+                    warn_of_everybody(rt, run.serving.writers);
+                }
                 warn_of_names(
                     rt,
                     &run.notes,
