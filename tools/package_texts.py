@@ -172,7 +172,7 @@ def try_unit(counts, root, folder):
         return
     path, more = f"{folder}/units/sunsite.service", f"{folder}/units/sunsite.service.d/override.conf"
     os.makedirs(os.path.dirname(more))
-    write(path, read(f"{root}/{UNIT}").replace("=/usr/bin/", f"={root}/usr/bin/"))
+    write(path, read(f"{root}/{UNIT}").replace("/usr/bin/sunsite", f"{root}/usr/bin/sunsite"))
     it = ran("systemd-analyze", "verify", "--man=no", path)
     counts.note("the unit is well", it.returncode == 0 and not it.stdout + it.stderr, it)
     it = ran("systemd-analyze", "security", "--offline=yes", f"--threshold={EXPOSURE}", "--no-pager", path)
